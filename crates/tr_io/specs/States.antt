@@ -1,0 +1,35 @@
+-- What contracts see of the sources and sinks in memory.
+use Rattle.std.specs.Prelude.{ℕ, List}
+
+-- a source with planned failures
+pub record SourceState : Type 0 where
+  -- the bytes still to come
+  pub left : List ℕ
+  -- how many reads there were
+  pub reads : ℕ
+  -- the numbers of the reads that fail, counted from 1
+  pub fails : List ℕ
+  -- how many reads failed
+  pub faults : ℕ
+
+-- a sink that never fails
+pub record SteadyState : Type 0 where
+  -- the bytes that it has taken
+  pub written : List ℕ
+  -- how many bytes it can take with no further memory
+  pub room : ℕ
+
+-- a sink with planned failures
+pub record SinkState : Type 0 where
+  -- the bytes that it has taken
+  pub written : List ℕ
+  -- how many bytes it can take with no further memory
+  pub room : ℕ
+  -- the most bytes that one write takes
+  pub piece : ℕ
+  -- how many writes there were
+  pub writes : ℕ
+  -- the numbers of the writes that fail, counted from 1
+  pub fails : List ℕ
+  -- how many writes failed
+  pub faults : ℕ

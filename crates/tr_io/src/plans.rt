@@ -1,0 +1,45 @@
+ghost use Rattle.std.specs.Prelude.{◌≡◌, ◌≤◌, ◌↔◌, Contains, IsErr, if◌then◌else◌, is_ok};
+ghost use Rattle.tr_io.specs.Faults.{next_count};
+
+use crate::streams::Failed;
+
+/// Which calls of a source or a sink fail.
+#[derive(Drop)]
+pub(crate) struct FailurePlan {
+    /// The numbers of the calls that fail, counted from 1.
+    pub(crate) fails: Vec<u64>,
+    /// How many calls there were. It stands still at its last value.
+    pub(crate) calls: u64,
+    /// How many calls failed. It stands still at its last value.
+    pub(crate) faults: u64,
+}
+
+impl FailurePlan {
+    pub(crate) fn new(fails: Vec<u64>) -> FailurePlan
+        ensures fails { result.fails ≡ fails }
+        ensures calls { result.calls ≡ 0 }
+        ensures faults { result.faults ≡ 0 }
+    {
+        FailurePlan {
+            fails,
+            calls: 0,
+            faults: 0,
+        }
+    }
+
+    /// Counts one more call, and fails where the plan says so.
+    pub(crate) fn count_call(&mut self) -> Result<(), Failed>
+        ensures planned { IsErr result ↔ Contains self.old.fails.items (next_count self.old.calls) }
+        ensures fails { self.new.fails ≡ self.old.fails }
+        ensures calls { self.new.calls ≡ next_count self.old.calls }
+        ensures faults { self.new.faults ≡ (if is_ok result then self.old.faults else next_count self.old.faults) }
+        ensures rising { self.old.faults ≤ self.new.faults }
+    {
+        self.calls = self.calls.saturating_add(1);
+        if self.fails.contains(&self.calls) {
+            self.faults = self.faults.saturating_add(1);
+            return Err(Failed);
+        }
+        Ok(())
+    }
+}

@@ -1,0 +1,60 @@
+ghost use Rattle.std.specs.Prelude.{◌≡◌, ◌+◌, ◌<◌, ◌≤◌, ◌↔◌, [], ◌++◌, ℕ, List, Option, length, take, IfOk, OnOk, OnErr, IfSome};
+ghost use Rattle.std.specs.Option.{option_map};
+ghost use Rattle.tr_io.specs.Faults.{HasFault};
+
+use tr_base::NoMemory;
+
+/// A fault of reading or writing.
+#[derive(Clone, Copy, Debug, PartialEq, Eq)]
+pub struct Failed;
+
+/// Where bytes come from.
+pub trait Source {
+    /// The bytes still to come, where the source tells them.
+    ghost left: { Self → Option (List ℕ) };
+
+    /// How many faults it has had. The count stands still at 2^64 - 1.
+    ghost faults: { Self → ℕ };
+
+    /// Takes the next bytes into the front of the buffer, and answers how many. In a buffer with
+    /// room, 0 says that there are no more.
+    fn read(&mut self, buf: &mut [u8]) -> Result<usize, Failed>
+        ensures count { IfOk result (λ n. n ≤ length buf.new) }
+        // The bytes are the first of those that were left, and gone from them.
+        ensures taken { IfOk result (λ n. left self.old ≡ option_map (λ rest. take n buf.new ++ rest) (left self.new)) }
+        ensures end { IfOk result (λ n. 0 < length buf.old → IfSome (left self.old) (λ bytes. (n ≡ 0) ↔ (bytes ≡ []))) }
+        ensures failed { OnErr result (HasFault (faults self.old) (faults self.new)) }
+        ensures unchanged { OnErr result (left self.new ≡ left self.old) }
+        ensures rising { faults self.old ≤ faults self.new };
+}
+
+/// Where bytes go.
+pub trait Sink {
+    /// The bytes that it has taken, where it tells them.
+    ghost written: { Self → Option (List ℕ) };
+
+    /// How many bytes it can take with no further memory.
+    ghost room: { Self → ℕ };
+
+    /// How many faults it has had. The count stands still at 2^64 - 1.
+    ghost faults: { Self → ℕ };
+
+    /// Makes room for `n` bytes.
+    fn reserve(&mut self, n: usize) -> Result<(), NoMemory>
+        ensures room { OnOk result (n ≤ room self.new) }
+        ensures unchanged { written self.new ≡ written self.old }
+        ensures rising { faults self.old ≤ faults self.new }
+        ensures no_memory { OnErr result (faults self.new ≡ faults self.old) };
+
+    /// Takes bytes from the front of the piece, and answers how many: at least 1, unless the piece
+    /// is empty.
+    fn write(&mut self, piece: &[u8]) -> Result<usize, Failed>
+        requires { length piece.now ≤ room self.old }
+        ensures count { IfOk result (λ n. n ≤ length piece.now) }
+        ensures progress { 0 < length piece.now → IfOk result (λ n. 0 < n) }
+        ensures appended { IfOk result (λ n. written self.new ≡ option_map (λ bytes. bytes ++ take n piece.now) (written self.old)) }
+        ensures room { IfOk result (λ n. room self.old ≤ room self.new + n) }
+        ensures failed { OnErr result (HasFault (faults self.old) (faults self.new)) }
+        ensures unchanged { OnErr result (written self.new ≡ written self.old) }
+        ensures rising { faults self.old ≤ faults self.new };
+}
