@@ -1,0 +1,9 @@
+//! Cages: where the cursor may go before a window is told of its position.
+#![tactic(auto)]
+
+mod cages;
+
+pub use cages::{Cage, holds};
+
+#[cfg(test)]
+mod tests;

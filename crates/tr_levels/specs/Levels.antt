@@ -1,0 +1,27 @@
+-- The order in which a thread takes locks.
+use Rattle.std.specs.Prelude.{ℕ, ◌<◌, ⊤, List, All, AllPairs}
+use Rattle.tr_levels.specs.declared.levels.Level.{Level}
+use Rattle.tr_levels.specs.declared.levels.Level.TheVariants.{Mu, Share, Win}
+
+-- the kinds of levels in order: the tree's lock, then shares, then windows
+abbrev pub kind_of : Level → ℕ
+kind_of Mu = 0
+kind_of (Share leaf) = 1
+kind_of (Win leaf) = 2
+
+-- a level comes before another: the tree's lock before all others, then shares by their number, then windows by theirs
+abbrev pub IsBelow : Level → Level → Type 0
+IsBelow Mu (Share b) = ⊤
+IsBelow Mu (Win b) = ⊤
+IsBelow (Share a) (Share b) = a.0 < b.0
+IsBelow (Share a) (Win b) = ⊤
+IsBelow (Win a) (Win b) = a.0 < b.0
+IsBelow a b = ⊥
+
+-- each level comes before all that follow it
+abbrev pub IsRising : List Level → Type 0
+IsRising levels = AllPairs IsBelow levels
+
+-- no level of this one's kind or of a later kind is held
+abbrev pub Admits : List Level → Level → Type 0
+Admits held level = All (λ l. kind_of l < kind_of level) held

@@ -1,0 +1,42 @@
+ghost use Rattle.std.specs.Prelude.{◌≡◌, []};
+
+use crate::held_levels::Held;
+use std::marker::Model;
+
+/// The token of a thread, which says what the thread holds. It must be spent, and `end` asks that
+/// nothing is held.
+pub struct Ladder {
+    held: Held,
+}
+
+impl Model for Ladder {
+    ghost use Rattle.std.specs.Prelude.{List};
+    ghost use Rattle.tr_levels.specs.declared.levels.Level.{Level};
+
+    ghost Value = { List Level };
+
+    ghost view = { λ l. l.held };
+}
+
+impl Ladder {
+    /// The token of a thread that holds nothing.
+    pub fn ground() -> Ladder
+        ensures { result ≡ [] }
+    {
+        Ladder { held: Held::none() }
+    }
+
+    /// What the thread holds.
+    pub fn held(&self) -> Held
+        ensures { result ≡ self.now }
+    {
+        self.held
+    }
+
+    /// Spends the token of a thread that holds nothing.
+    pub fn end(self)
+        requires { self ≡ [] }
+    {
+        let Ladder { held: _ } = self;
+    }
+}
