@@ -1,3 +1,7 @@
 pub mod Texts
 pub mod Scripts
 pub mod Outputs
+pub mod Windows
+pub mod Answers
+pub mod Replies
+pub mod Reading

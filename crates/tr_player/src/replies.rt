@@ -1,0 +1,106 @@
+ghost use Rattle.std.specs.Prelude.{◌≡◌, ◌≢◌, ◌↔◌, IsTrue, IfOk, codes};
+ghost use Rattle.tr_player.specs.Answers.{Seen, IsDue, accepted_words, texts_of, status_of, text_of};
+ghost use Rattle.tr_player.specs.Replies.{due_of};
+ghost use Rattle.tr_base.specs.declared.ops.Kind.TheVariants.{Map8};
+ghost use Rattle.tr_screen.specs.Pictures.{IsScreenSize};
+ghost use Rattle.tr_player.specs.Texts.{dump_text};
+ghost use Rattle.tr_player.specs.Outputs.{pic, picture_by};
+
+use crate::dumps::dump_of;
+use crate::errors::ReadStop;
+use crate::screens::render;
+use crate::scripts::{OneWindow, read_script};
+use crate::streams::read_all;
+use std::alloc::Global;
+use tr_base::NoMemory;
+use tr_io::Source;
+
+/// What a call is to answer, before it is written.
+#[derive(Debug, Drop)]
+pub enum Reply {
+    /// The words are not the accepted ones.
+    Usage,
+    /// A read failed.
+    ReadFault,
+    /// The bytes read are in no script's form.
+    Refused,
+    /// The text that the script prints.
+    Output(Vec<u8>),
+}
+
+impl Reply {
+    pub fn status(&self) -> u8
+        ensures { result ≡ status_of (due_of self.now) }
+    {
+        match self {
+            Reply::Usage => 2,
+            Reply::ReadFault => 4,
+            Reply::Refused => 3,
+            Reply::Output(_) => 0,
+        }
+    }
+
+    pub fn text(&self) -> &[u8]
+        ensures { result.now ≡ text_of (due_of self.now) }
+    {
+        match self {
+            Reply::Usage => b"usage: trestle play|serial|check|gen N\n",
+            Reply::ReadFault => b"read fault\n",
+            Reply::Refused => b"refused: line 0 B11\n",
+            Reply::Output(text) => text,
+        }
+    }
+}
+
+/// The reply to the words and to what the source has left. Other words than the accepted ones leave
+/// the source alone.
+pub fn reply_to<S: Source>(
+    alloc: Global,
+    words: &[String],
+    source: &mut S,
+) -> Result<Reply, NoMemory>
+    ensures due { IfOk result (λ reply. IsDue (record {
+      words = texts_of words.now;
+      left = S.left source.old;
+      left_new = S.left source.new;
+      faults = S.faults source.old;
+      faults_new = S.faults source.new;
+    }) (due_of reply)) }
+    ensures unread { texts_of words.now ≢ accepted_words → (S.left source.new ≡ S.left source.old) × (S.faults source.new ≡ S.faults source.old) }
+{
+    if !are_accepted(words) {
+        return Ok(Reply::Usage);
+    }
+    match read_all(alloc, source) {
+        Ok(bytes) => match read_script(&bytes) {
+            Some(window) => Ok(Reply::Output(output(alloc, window)?)),
+            None => Ok(Reply::Refused),
+        },
+        Err(ReadStop::Failed) => Ok(Reply::ReadFault),
+        Err(ReadStop::NoMemory) => Err(NoMemory),
+    }
+}
+
+fn are_accepted(words: &[String]) -> bool
+    ensures { IsTrue result ↔ (texts_of words.now ≡ accepted_words) }
+{
+    match words {
+        [word] => is_serial(word.as_str()),
+        _ => false,
+    }
+}
+
+fn is_serial(word: &str) -> bool
+    ensures { IsTrue result ↔ (word.now ≡ codes "serial") }
+{
+    word == "serial"
+}
+
+/// The text that a script with this window prints.
+fn output(alloc: Global, window: OneWindow) -> Result<Vec<u8>, NoMemory>
+    requires { IsScreenSize window.size }
+    ensures { IfOk result (λ text. text.items ≡ dump_text (picture_by window.size Map8 (pic Map8 window.tint))) }
+{
+    let screen = render(alloc, window)?;
+    dump_of(alloc, &screen)
+}
