@@ -1,5 +1,5 @@
 -- The words of a call, the reply to a script, and how long a script can be.
-use Rattle.std.proofs.Common.{◌≡◌, ℕ, ◌+◌, ◌*◌, ◌<◌, ◌≤◌, List, [], ◌∷◌, ◌++◌, length, take, drop, get_or, sym, ◌∙◌, ap, subst, arith, length-append, inl, inr}
+use Rattle.std.proofs.Common.{◌≡◌, ◌≢◌, ◌↔◌, ℕ, ◌+◌, ◌*◌, ◌<◌, ◌≤◌, List, [], ◌∷◌, ◌++◌, length, take, drop, get_or, sym, ◌∙◌, ap, subst, arith, length-append, inl, inr}
 use Rattle.std.specs.Prelude.{Option, Some, None, IfSome, codes, decimal, String, string_bytes}
 use Rattle.std.specs.Option.{option_map}
 use Rattle.std.specs.List.{AllByRecursion, join_with_byte}
@@ -10,10 +10,10 @@ use Rattle.tr_base.specs.declared.sizes.Size.{Size}
 use Rattle.tr_base.specs.declared.ops.Kind.TheVariants.{Map8}
 use Rattle.tr_base.specs.Shapes.{Lengths, IsShape}
 use Rattle.tr_player.specs.Texts.{line_text, lines_text, dump_text}
-use Rattle.tr_player.specs.Scripts.{Script, IsScript, IsInRange, IsName, shape_words, command_lines, script_lines}
+use Rattle.tr_player.specs.Scripts.{Script, IsScript, IsInRange, IsInForm, IsName, shape_words, command_lines, script_lines}
 use Rattle.tr_player.specs.Outputs.{pic, picture_by, out}
 use Rattle.tr_player.specs.Windows.{Shows}
-use Rattle.tr_player.specs.Answers.{texts_of, bytes_read, left_after, OfBytesRead, IsReadThrough, Seen, Due, usage, read_fault, refused, output, IsDue, IsDelivered}
+use Rattle.tr_player.specs.Answers.{texts_of, bytes_read, left_after, OfBytesRead, IsReadThrough, Seen, Due, usage, read_fault, refused, output, IsDue, IsDelivered, Yields}
 use Rattle.tr_player.specs.declared.scripts.OneWindow.{OneWindow}
 
 -- one word is the accepted one where it has its bytes
@@ -36,7 +36,7 @@ shows_out s w h =
 pub output_due : (left : Option (List ℕ)) (bytes text : List ℕ) (w : OneWindow) → OfBytesRead left (λ read. bytes ≡ read) →
     ((s : Script) × IsScript bytes s × Shows s w) → text ≡ dump_text (picture_by w.size Map8 (pic Map8 w.tint)) →
     OfBytesRead left (λ read. (s : Script) × IsScript read s × (text ≡ out s))
-output_due None bytes text w e (s, is, shows) t = tt
+output_due None bytes text w e (s, is, shows) t = (bytes, (s, is, t ∙ shows_out s w shows))
 output_due (Some xs) bytes text w e (s, is, shows) t =
     (s, subst (λ (b : List ℕ). IsScript b s) e is, t ∙ shows_out s w shows)
 
@@ -174,11 +174,15 @@ read_to_end left left_new is e = subst (λ (x : Option (List ℕ)). IfSome x (λ
     by_cases None h = tt
     by_cases (Some xs) (s, h) = all_read 4194305 xs (script_short _ s h)
 
+-- what follows of the bytes that were read
+of_read : (P Q : List ℕ → Type 0) → ((bytes : List ℕ) → P bytes → Q bytes) → (left : Option (List ℕ)) → OfBytesRead left P → OfBytesRead left Q
+of_read P Q f None (bytes, p) = (bytes, f bytes p)
+of_read P Q f (Some xs) p = f (bytes_read xs) p
+
 -- the bytes of a script whose text is due are in form
 script_read : (left : Option (List ℕ)) (text : List ℕ) → OfBytesRead left (λ read. (s : Script) × IsScript read s × (text ≡ out s)) →
     OfBytesRead left (λ read. (s : Script) × IsScript read s)
-script_read None text h = tt
-script_read (Some xs) text h = (h.0, h.1)
+script_read left text h = of_read _ _ (λ bytes x. (x.0, x.1)) left h
 
 -- at status 0 the source was read to its end
 pub at_zero : (seen : Seen) (due : Due) (status : ℕ) (before after : Option (List ℕ)) (faults faults_new : ℕ) → IsDue seen due →
@@ -190,3 +194,16 @@ at_zero seen read_fault status before after faults faults_new d (inl w) e = absu
 at_zero seen refused status before after faults faults_new d (inl w) e = absurd (omega arith)
 at_zero seen (output text) status before after faults faults_new d (inl w) e =
     read_to_end seen.left seen.left_new (script_read seen.left text d.2) d.1
+
+-- of the answers to a script that was read, 3 comes exactly where the bytes are in no form
+pub refused_exactly : (seen : Seen) (due : Due) (status : ℕ) (before after : Option (List ℕ)) (faults faults_new : ℕ) → IsDue seen due →
+    IsDelivered due status before after faults faults_new →
+    Yields status (status ≢ 2 → status ≢ 4 → OfBytesRead seen.left (λ bytes. (status ≡ 3) ↔ (IsInForm bytes → ⊥)))
+refused_exactly seen due status before after faults faults_new d (inr (inl w)) = λ n5 n6 n2 n4. absurd (n5 w.0)
+refused_exactly seen due status before after faults faults_new d (inr (inr w)) = λ n5 n6 n2 n4. absurd (n6 w.0)
+refused_exactly seen usage status before after faults faults_new d (inl w) = λ n5 n6 n2 n4. absurd (n2 w.0)
+refused_exactly seen read_fault status before after faults faults_new d (inl w) = λ n5 n6 n2 n4. absurd (n4 w.0)
+refused_exactly seen refused status before after faults faults_new d (inl w) = λ n5 n6 n2 n4.
+    of_read _ _ (λ bytes none. (λ _. none, λ _. w.0)) seen.left d.2
+refused_exactly seen (output text) status before after faults faults_new d (inl w) = λ n5 n6 n2 n4.
+    of_read _ _ (λ bytes x. (λ three. absurd (omega arith), λ none. absurd (none (x.0, x.1)))) seen.left d.2

@@ -51,7 +51,7 @@ unfolding bytes_read
 are_read left left_new bytes n len e h k = subst (λ (x : Option (List ℕ)). OfBytesRead x (λ read. bytes ≡ read)) e (by_cases left_new k)
   where
     by_cases : (x : Option (List ℕ)) → (n < 4194305 → IfSome x (λ rest. rest ≡ [])) → OfBytesRead (whole_of bytes x) (λ read. bytes ≡ read)
-    by_cases None k = tt
+    by_cases None k = (bytes, refl)
     by_cases (Some rest) k = sym (take_all 4194305 bytes rest (omega arith) (λ small. k (omega arith)))
 
 pub is_read_through : (left left_new : Option (List ℕ)) (bytes : List ℕ) (n : ℕ) → length bytes ≡ n → whole_of bytes left_new ≡ left → n ≤ 4194305 →

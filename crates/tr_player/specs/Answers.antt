@@ -1,5 +1,5 @@
 -- What a call answers, and when.
-use Rattle.std.specs.Prelude.{◌≡◌, ◌≢◌, ◌⊎◌, ℕ, List, [], ◌∷◌, ◌++◌, take, drop, Option, None, Some, codes, ⊤, map, String, string_bytes}
+use Rattle.std.specs.Prelude.{◌≡◌, ◌≢◌, ◌⊎◌, ℕ, List, [], ◌∷◌, ◌++◌, take, drop, Option, None, Some, codes, map, String, string_bytes}
 use Rattle.std.specs.declared.alloc.Global.{Global}
 use Rattle.std.specs.Option.{option_map}
 use Rattle.tr_io.specs.Faults.{HasFault}
@@ -31,9 +31,9 @@ bytes_read left = take 4194305 left
 unfoldable pub left_after : List ℕ → List ℕ
 left_after left = drop 4194305 left
 
--- a fact of the bytes that are read, where the source tells what it has left
+-- a fact of the bytes that are read; where the source doesn't tell what it has left, of some bytes
 abbrev pub OfBytesRead : Option (List ℕ) → (List ℕ → Type 0) → Type 0
-OfBytesRead None P = ⊤
+OfBytesRead None P = (bytes : List ℕ) × P bytes
 OfBytesRead (Some left) P = P (bytes_read left)
 
 -- the bytes read so far, and then what is left

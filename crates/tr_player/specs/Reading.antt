@@ -8,6 +8,7 @@ use Rattle.tr_player.specs.declared.scripts.OneWindow.{OneWindow}
 use Rattle.tr_player.specs.Scripts.{Script, is_letter, is_name_byte}
 use Rattle.tr_player.specs.Outputs.{tint_of}
 
+-- go on with what a step gave, if it gave something
 infixl 10 ◌>>=◌
 abbrev pub ◌>>=◌ : {A B : Type 0} → Option A → (A → Option B) → Option B
 o >>= f = option_and_then f o
@@ -34,6 +35,7 @@ number_of low high word =
     let n = digits_value 10 word in
     if nat_le low n && (nat_le n high && bytes_eq word (decimal n)) then Some n else None
 
+-- the number that the first word spells, and the bytes after the word
 unfoldable pub number_at : ℕ → ℕ → List ℕ → Option (ℕ × List ℕ)
 number_at low high bytes = do
   n ← number_of low high (word_at bytes).0
@@ -44,10 +46,11 @@ unfoldable pub is_name : List ℕ → Bool
 is_name [] = false
 is_name (c ∷ cs) = is_letter c && (nat_le (length cs) 15 && list_all is_name_byte cs)
 
+-- the name that is the first word, and the bytes after it
 unfoldable pub name_at : List ℕ → Option (List ℕ × List ℕ)
 name_at bytes = if is_name (word_at bytes).0 then Some (word_at bytes) else None
 
--- the first two lines
+-- the size of the screen, from the first two lines
 unfoldable pub screen_at : List ℕ → Option (Size × List ℕ)
 screen_at bytes = do
   a ← after (codes "trestle 1\nscreen ") bytes
@@ -57,7 +60,7 @@ screen_at bytes = do
   c ← after (codes " map8\n") high.1
   Some (record { wide = wide.0; high = high.0 }, c)
 
--- lengths that rise
+-- a shape: three lengths, each no less than the one before
 unfoldable pub shape_at : List ℕ → Option (Lengths × List ℕ)
 shape_at bytes = do
   lo ← number_at 0 4096 bytes
@@ -78,6 +81,7 @@ pub record Leaf : Type 0 where
 abbrev pub used : Leaf × List ℕ → List ℕ × ℕ × List ℕ
 used x = (x.0.name, x.0.tint, x.1)
 
+-- the third line
 unfoldable pub leaf_at : List ℕ → Option (Leaf × List ℕ)
 leaf_at bytes = do
   a ← after (codes "leaf ") bytes
@@ -98,7 +102,7 @@ root_at name bytes = do
   b ← after name a
   after (codes "\nbegin\n") b
 
--- a tint line and a sync line
+-- a tint line after its @, and a sync line
 unfoldable pub tint_at : List ℕ → List ℕ → Option (ℕ × List ℕ)
 tint_at name bytes = do
   a ← after name bytes
@@ -107,17 +111,18 @@ tint_at name bytes = do
   c ← after (codes "\nsync\n") tint.1
   Some (tint.0, c)
 
--- those two lines, or neither
+-- the same where an @ stands first, and else no command and the same bytes
 abbrev pub command_from : List ℕ → List ℕ → Option (List ℕ) → Option (Option ℕ × List ℕ)
 command_from name bytes None = Some (None, bytes)
 command_from name bytes (Some a) = do
   tint ← tint_at name a
   Some (Some tint.0, tint.1)
 
+-- those two lines, or neither
 unfoldable pub command_at : List ℕ → List ℕ → Option (Option ℕ × List ℕ)
 command_at name bytes = command_from name bytes (after (codes "@") bytes)
 
--- all of the bytes
+-- all of the bytes, to the last line feed
 unfoldable pub script_at : List ℕ → Option Script
 script_at bytes = do
   size ← screen_at bytes
