@@ -1,0 +1,15 @@
+pub mod ListLemmas
+pub mod BandLemmas
+pub mod Steps
+pub mod Unique
+pub mod SpanLemmas
+pub mod EdgeLemmas
+pub mod MergeLemmas
+pub mod RestLemmas
+pub mod SweepLemmas
+pub mod JoinLemmas
+pub mod StripLemmas
+pub mod RegionLemmas
+pub mod CountLemmas
+pub mod ShiftLemmas
+pub mod BoundLemmas
