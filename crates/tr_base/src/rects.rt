@@ -1,4 +1,4 @@
-ghost use Rattle.std.specs.Prelude.{◌≡◌, ◌&&◌, ◌↔◌, ◌+ℤ◌, IsTrue};
+ghost use Rattle.std.specs.Prelude.{◌≡◌, ◌&&◌, ◌↔◌, ◌+ℤ◌, IsTrue, pos, false};
 ghost use Rattle.std.specs.Int.{int_min, int_max};
 ghost use Rattle.tr_base.specs.declared.points.Point.{Point};
 ghost use Rattle.tr_base.specs.Rects.{InReach, AreInReach, IsRect, between, has_point, empty_rect, rect_of, meet_of, shifted, before_shift, sides_of, whole_of};
@@ -118,6 +118,14 @@ impl Rect {
     /// Whether it holds no point.
     pub fn is_empty(&self) -> bool
         ensures value { IsTrue result ↔ (self.now ≡ empty_rect) }
+        ensures points { IsTrue result ↔ ((p : Point) → has_point self.now p ≡ false) }
+        ensures rect { IsRect self.now }
+    {
+        self.is_flat()
+    }
+
+    fn is_flat(&self) -> bool
+        ensures value { IsTrue result ↔ (self.now ≡ empty_rect) }
         ensures rect { IsRect self.now }
     {
         self.west == self.east
@@ -188,7 +196,8 @@ fn is_between(low: i32, high: i32, x: i32) -> bool
 
 /// The rectangle of a window of this size, in its own coordinates.
 pub fn whole(size: Size) -> Rect
-    ensures { result ≡ whole_of size }
+    ensures edges { result ≡ whole_of size }
+    ensures points { (p : Point) → has_point result p ≡ between (pos 0) (pos size.wide) p.h && between (pos 0) (pos size.high) p.v }
 {
     Rect::edges(0, i32::from(size.wide), 0, i32::from(size.high))
 }

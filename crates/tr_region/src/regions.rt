@@ -73,6 +73,7 @@ impl Region {
         self.combined(Rule::MINUS, other)
     }
 
+    // The points that the rule keeps of the two sets.
     fn combined(&self, rule: Rule, other: &Region) -> Result<Region, NoMemory>
         ensures points { IfOk result (λ r. (p : Point) → holds r p ≡ keeps rule (holds self.now p) (holds other.now p)) }
     {
@@ -80,6 +81,7 @@ impl Region {
         Ok(Region { rects })
     }
 
+    /// The same points.
     pub fn copy(&self) -> Result<Region, NoMemory>
         ensures { IfOk result (λ r. r ≡ self.now) }
     {
@@ -100,6 +102,7 @@ impl Region {
         Ok(Region { rects })
     }
 
+    /// Whether it holds the point.
     pub fn has(&self, p: Point) -> bool
         ensures { result ≡ holds self.now p }
     {
@@ -144,6 +147,7 @@ impl Region {
     }
 }
 
+// How many points the rectangles hold, each counted for itself.
 fn total_area(rects: &[Rect]) -> u64
     requires { sum_by area_of rects.now < 2 ^ 64 }
     ensures { result ≡ sum_by area_of rects.now }

@@ -1,4 +1,4 @@
-use Rattle.std.proofs.Common.{inl, inr, arith}
+use Rattle.std.proofs.Common.{inl, inr}
 use Rattle.tr_region.proofs.SweepLemmas.{first_count-is, north_read, other_north, some_length}
 use Rattle.tr_region.proofs.sweeps.first_band.Goals as goal
 
