@@ -1,7 +1,9 @@
 -- Pictures of one colour, and the text of a picture.
-use Rattle.std.proofs.Common.{◌≡◌, ℕ, zero, suc, ◌+◌, ◌/◌, ◌%◌, List, [], ◌∷◌, ◌++◌, length, replicate, refl, sym, ◌∙◌, ap}
+use Rattle.std.proofs.Common.{◌≡◌, ℕ, ◌/◌, ◌%◌, List, [], ◌∷◌, ◌++◌, replicate, refl, sym, ◌∙◌, ap}
 use Rattle.std.specs.Prelude.{map, flat_map}
 use Rattle.std.specs.List.{range_with_len}
+use Rattle.std.proofs.lemmas.List.FromFn.{length-range_with_len}
+use Rattle.std.proofs.lemmas.Simd.{splat_is_map}
 use mathlib.Core.List.{append_assoc}
 use Rattle.tr_base.specs.declared.sizes.Size.{Size}
 use Rattle.tr_base.specs.declared.ops.Kind.{Kind}
@@ -10,25 +12,16 @@ use Rattle.hex.specs.Hex.{encode_with, encode_lower}
 use Rattle.tr_player.specs.Texts.{digit_of, pixel_text, row_text}
 use Rattle.tr_player.specs.Outputs.{picture_by}
 
--- what is the same at each place is a row of copies
-pub map-same : {X Y : Type 0} (y : Y) (xs : List X) → map (λ _. y) xs ≡ replicate (length xs) y
-map-same y [] = refl
-map-same y (x ∷ xs) = ap (λ ys. y ∷ ys) (map-same y xs)
-
-pub length-range : (a n : ℕ) → length (range_with_len a n) ≡ n
-length-range a zero = refl
-length-range a (suc n) = ap (λ k. suc k) (length-range (a + 1) n)
-
 -- a picture of one colour
-pub picture_by-same : (size : Size) (kind : Kind) (pixel : ℕ) →
+picture_by-same : (size : Size) (kind : Kind) (pixel : ℕ) →
     picture_by size kind (λ _. pixel) ≡ record { size = size; kind = kind; rows = replicate size.high (replicate size.wide pixel) }
 picture_by-same size kind pixel =
-    let one_row : map {A = ℕ} {B = ℕ} (λ _. pixel) (range_with_len 0 size.wide) ≡ replicate size.wide pixel =
-    map-same {X = ℕ} pixel (range_with_len 0 size.wide) ∙ ap (λ n. replicate n pixel) (length-range 0 size.wide) in
-    let all_rows : map {A = ℕ} {B = List ℕ} (λ _. replicate size.wide pixel) (range_with_len 0 size.high) ≡ replicate size.high (replicate size.wide pixel) =
-    map-same {X = ℕ} (replicate size.wide pixel) (range_with_len 0 size.high) ∙ ap (λ n. replicate n (replicate size.wide pixel)) (length-range 0 size.high) in
-    ap (λ (row : List ℕ). record { size = size; kind = kind; rows = map {A = ℕ} {B = List ℕ} (λ _. row) (range_with_len 0 size.high) }) one_row
-    ∙ ap (λ (rows : List (List ℕ)). record { size = size; kind = kind; rows = rows }) all_rows
+    let one_row : replicate size.wide pixel ≡ map {A = ℕ} {B = ℕ} (λ _. pixel) (range_with_len 0 size.wide) =
+    splat_is_map _ _ pixel (length-range_with_len 0 size.wide) in
+    let all_rows : replicate size.high (replicate size.wide pixel) ≡ map {A = ℕ} {B = List ℕ} (λ _. replicate size.wide pixel) (range_with_len 0 size.high) =
+    splat_is_map _ _ (replicate size.wide pixel) (length-range_with_len 0 size.high) in
+    ap (λ (row : List ℕ). record { size = size; kind = kind; rows = map {A = ℕ} {B = List ℕ} (λ _. row) (range_with_len 0 size.high) }) (sym one_row)
+    ∙ ap (λ (rows : List (List ℕ)). record { size = size; kind = kind; rows = rows }) (sym all_rows)
 
 -- the hex digits of a row, pixel by pixel
 pub row_text-encoded : (row : List ℕ) → flat_map pixel_text row ≡ encode_lower row

@@ -1,43 +1,28 @@
 -- What is read in pieces, and what is written in pieces.
-use Rattle.std.proofs.Common.{◌≡◌, ℕ, ◌+◌, ◌<◌, ◌≤◌, inl, inr, List, [], ◌∷◌, ◌++◌, length, take, drop, refl, sym, ◌∙◌, ap, subst, arith, append-nil, zero-add, suc-add, zero, suc, Bool, true, false, nat_lt}
-use Rattle.std.proofs.Math.Seq.{take-append_seam, drop-append_seam}
+use Rattle.std.proofs.Common.{◌≡◌, ℕ, ◌+◌, ◌<◌, ◌≤◌, List, [], ◌++◌, length, take, drop, refl, sym, ◌∙◌, ap, subst, arith, append-nil, Bool, true, false, nat_lt}
+use Rattle.std.proofs.Math.Seq.{take-add, take-append_seam, drop-append_seam}
 use Rattle.std.proofs.lemmas.Bool.Decides.{nat_tests}
 use Rattle.std.specs.Prelude.{Option, Some, None, IfSome}
 use Rattle.std.proofs.lemmas.Grind.{common_steps}
 use mathlib.Core.List.{append_assoc}
-use Rattle.tr_io.specs.Faults.{HasFault}
 use Rattle.tr_player.specs.Answers.{Grew, IsReadThrough, OfBytesRead, bytes_read, left_after, whole_of}
-
--- a fault stays one where the counts are wider apart
-pub fault_earlier : (a b c : ℕ) → a ≤ b → HasFault b c → HasFault a c
-fault_earlier a b c h (inl k) = inl (omega arith)
-fault_earlier a b c h (inr k) = inr k
-
-pub take-nothing : (k : ℕ) → (let none : List ℕ = [] in take k none ≡ none)
-take-nothing zero = refl
-take-nothing (suc k) = refl
-
--- the first m of a list, and the next n
-pub take-two : (m n : ℕ) (xs : List ℕ) → take (m + n) xs ≡ take m xs ++ take n (drop m xs)
-take-two zero n xs = rw zero-add refl
-take-two (suc m) n [] = take-nothing (suc m + n) ∙ sym (take-nothing n)
-take-two (suc m) n (x ∷ xs) = rw suc-add (ap (λ part. x ∷ part) (take-two m n xs))
 
 -- text that a sink took in two parts
 pub grew_twice : (x y z : Option (List ℕ)) (text : List ℕ) (m n : ℕ) → Grew x y (take m text) → Grew y z (take n (drop m text)) → Grew x z (take (m + n) text)
 grew_twice None y z text m n e f = rw e at f
 grew_twice (Some bytes) y z text m n e f =
     let k = rw e at f in
-    k ∙ ap Some (append_assoc bytes (take m text) (take n (drop m text)) ∙ ap (λ part. bytes ++ part) (sym (take-two m n text)))
+    k ∙ ap Some (append_assoc bytes (take m text) (take n (drop m text)) ∙ ap (λ part. bytes ++ part) (sym (take-add m n text)))
 
-pub take_all : (most : ℕ) (bytes rest : List ℕ) → length bytes ≤ most → (length bytes < most → rest ≡ []) → take most (bytes ++ rest) ≡ bytes
+-- bytes that are as many as may be read, or all there are
+take_all : (most : ℕ) (bytes rest : List ℕ) → length bytes ≤ most → (length bytes < most → rest ≡ []) → take most (bytes ++ rest) ≡ bytes
 take_all most bytes rest h k = by_test (nat_lt (length bytes) most) refl
   where
     by_test : (b : Bool) → nat_lt (length bytes) most ≡ b → take most (bytes ++ rest) ≡ bytes
     by_test true t = let none : rest ≡ [] = k (grind (arith, nat_tests)) in rw (none, append-nil) (grind (arith, common_steps))
     by_test false t = let full : most ≡ length bytes = grind (arith, nat_tests) in rw full (take-append_seam bytes rest)
 
-pub drop_all : (most : ℕ) (bytes rest : List ℕ) → length bytes ≤ most → (length bytes < most → rest ≡ []) → rest ≡ drop most (bytes ++ rest)
+drop_all : (most : ℕ) (bytes rest : List ℕ) → length bytes ≤ most → (length bytes < most → rest ≡ []) → rest ≡ drop most (bytes ++ rest)
 drop_all most bytes rest h k = by_test (nat_lt (length bytes) most) refl
   where
     by_test : (b : Bool) → nat_lt (length bytes) most ≡ b → rest ≡ drop most (bytes ++ rest)
