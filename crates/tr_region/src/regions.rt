@@ -1,7 +1,7 @@
-ghost use Rattle.std.specs.Prelude.{◌≡◌, ◌&&◌, ◌||◌, ◌↔◌, ◌<◌, ◌^◌, not, pos, false, [], map, IsTrue, IfOk};
+ghost use Rattle.std.specs.Prelude.{◌≡◌, ◌≢◌, ◌∷◌, ◌&&◌, ◌||◌, ◌↔◌, ◌<◌, ◌^◌, not, pos, false, [], map, IsTrue, IfOk};
 ghost use Rattle.std.specs.List.{AllByRecursion, sum_by};
 ghost use Rattle.tr_base.specs.declared.Point.{Point};
-ghost use Rattle.tr_base.specs.Rects.{Edges, AreInReach, has_point, shifted, before_shift};
+ghost use Rattle.tr_base.specs.Rects.{AreInReach, empty_rect, has_point, shifted, before_shift};
 ghost use Rattle.tr_region.specs.Points.{holds, count_in_square, IsInSquare};
 ghost use Rattle.tr_region.specs.Areas.{area_of};
 ghost use Rattle.tr_region.specs.Bands.{IsCanonical};
@@ -44,6 +44,8 @@ impl Region {
     /// The points of a rectangle.
     pub fn of_rect(alloc: Global, rect: Rect) -> Result<Region, NoMemory>
         ensures points { IfOk result (λ r. (p : Point) → holds r p ≡ has_point rect p) }
+        ensures none { rect ≡ empty_rect → IfOk result (λ r. r ≡ []) }
+        ensures one { rect ≢ empty_rect → IfOk result (λ r. r ≡ rect ∷ []) }
     {
         let mut rects = Vec::new(alloc);
         if !rect.is_empty() {
