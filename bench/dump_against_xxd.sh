@@ -10,7 +10,7 @@ command -v xxd >/dev/null || { echo "dump_against_xxd: xxd is not installed" >&2
 
 printf '%s\n' 'trestle 1' 'screen 1024 1024 map8' 'leaf w 0 0 0 0 0 0 solid 171' \
     'root w' 'begin' 'dump' 'end' >"$folder/script"
-"$top/trestle" serial <"$folder/script" >"$folder/dump"
+"$top/trestle" serial <"$folder/script" >/dev/null
 program=$top/crates/trestle/out/trestle
 head -c 1048576 /dev/zero | tr '\0' '\253' >"$folder/screen"
 

@@ -4,7 +4,7 @@ ghost use Rattle.tr_cage.specs.Cages as spec;
 
 use tr_base::{Point, Rect};
 
-/// Where the cursor may be without a word to the window. The window is told once the cage doesn't
+/// Where the cursor may be without the window being told. The window is told once the cage doesn't
 /// hold the cursor.
 #[derive(Clone, Copy, Debug, PartialEq, Eq)]
 pub enum Cage {

@@ -23,6 +23,7 @@ impl Model for SteadySink {
 }
 
 impl SteadySink {
+    /// A sink that has taken no byte.
     pub fn new(alloc: Global) -> SteadySink
         ensures { result.written ≡ [] }
     {
@@ -88,8 +89,8 @@ impl Model for MemorySink {
 }
 
 impl MemorySink {
-    /// A sink that takes at most `piece` bytes at once. The k-th write, counted from 1, fails where
-    /// k is in `fails`.
+    /// A sink that takes at most `piece` bytes at once, at least 1. The k-th write, counted from 1,
+    /// fails where k is in `fails`.
     pub fn new(alloc: Global, piece: usize, fails: Vec<u64>) -> MemorySink
         requires { 1 ≤ piece }
         ensures { result ≡ record { written = []; room = result.room; piece = piece; writes = 0; fails = fails.items; faults = 0 } }

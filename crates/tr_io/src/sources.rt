@@ -24,6 +24,7 @@ impl Model for SteadySource {
 }
 
 impl SteadySource {
+    /// A source of these bytes.
     pub fn new(bytes: Vec<u8>) -> SteadySource
         ensures { result ≡ bytes.items }
     {

@@ -28,6 +28,7 @@ impl Model for StdSource {
 }
 
 impl StdSource {
+    /// The source that reads standard input.
     pub fn new(input: Stdin) -> StdSource
         ensures { result ≡ 0 }
     {
@@ -88,6 +89,7 @@ impl Model for StdSink {
 }
 
 impl StdSink {
+    /// The sink that writes to standard output.
     pub fn new(output: Stdout) -> StdSink
         ensures { result ≡ 0 }
     {

@@ -16,8 +16,8 @@ pub trait Source {
     /// How many faults it has had. The count stands still at 2^64 - 1.
     ghost faults: { Self → ℕ };
 
-    /// Takes the next bytes into the front of the buffer, and answers how many. In a buffer with
-    /// room, 0 says that there are no more.
+    /// Takes the next bytes into the front of the buffer, and answers how many. In a buffer that is
+    /// not empty, 0 says that there are no more.
     fn read(&mut self, buf: &mut [u8]) -> Result<usize, Failed>
         ensures count { IfOk result (λ n. n ≤ length buf.new) }
         // The bytes are the first of those that were left, and gone from them.
@@ -47,7 +47,7 @@ pub trait Sink {
         ensures no_memory { OnErr result (faults self.new ≡ faults self.old) };
 
     /// Takes bytes from the front of the piece, and answers how many: at least 1, unless the piece
-    /// is empty.
+    /// is empty. The piece is no longer than the room: call `reserve` first.
     fn write(&mut self, piece: &[u8]) -> Result<usize, Failed>
         requires { length piece.now ≤ room self.old }
         ensures count { IfOk result (λ n. n ≤ length piece.now) }

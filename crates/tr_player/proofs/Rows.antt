@@ -1,4 +1,4 @@
--- Worked rows, computed by the definitions.
+-- Worked examples, computed by the definitions.
 use Rattle.std.proofs.Common.{◌≡◌, [], refl}
 use Rattle.std.specs.Prelude.{Some, None, codes}
 use Rattle.std.specs.Fmt.{digits}

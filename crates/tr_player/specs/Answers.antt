@@ -14,12 +14,15 @@ texts_of words = map string_bytes words
 abbrev pub accepted_words : List (List ℕ)
 accepted_words = codes "serial" ∷ []
 
+-- what is written for other words
 abbrev pub usage_text : List ℕ
 usage_text = codes "usage: trestle play|serial|check|gen N\n"
 
+-- what is written where the source had a fault
 abbrev pub read_fault_text : List ℕ
 read_fault_text = codes "read fault\n"
 
+-- what is written where the bytes are no script
 abbrev pub refused_text : List ℕ
 refused_text = codes "refused: line 0 B11\n"
 
@@ -40,7 +43,7 @@ OfBytesRead (Some left) P = P (bytes_read left)
 abbrev pub whole_of : List ℕ → Option (List ℕ) → Option (List ℕ)
 whole_of bytes left = option_map (λ rest. bytes ++ rest) left
 
--- the reading came to its end: to that of the source, or to the most bytes that are read
+-- the reading came to its end: to that of the source, or at the first 4 MiB and one byte
 abbrev pub IsReadThrough : Option (List ℕ) → Option (List ℕ) → Type 0
 IsReadThrough before after = after ≡ option_map left_after before
 
@@ -59,12 +62,14 @@ pub data Due : Type 0 where
   refused : Due
   output : List ℕ → Due
 
+-- the status of each of these answers
 abbrev pub status_of : Due → ℕ
 status_of usage = 2
 status_of read_fault = 4
 status_of refused = 3
 status_of (output text) = 0
 
+-- what is written for each of them
 abbrev pub text_of : Due → List ℕ
 text_of usage = usage_text
 text_of read_fault = read_fault_text

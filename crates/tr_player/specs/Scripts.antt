@@ -1,4 +1,4 @@
--- Scripts of the first form: one window that fills the screen, at most one command, and a dump.
+-- Scripts of one window: it fills the screen, has at most one command, and is shown by a dump.
 use Rattle.std.specs.Prelude.{◌≡◌, ℕ, ◌<◌, ◌≤◌, ◌&&◌, ◌||◌, ◌==◌, nat_le, Bool, IsTrue, List, [], ◌∷◌, ◌++◌, length, Option, Some, None, IfSome, codes, decimal}
 use Rattle.std.specs.List.{AllPass}
 use Rattle.tr_base.specs.declared.sizes.Size.{Size}
@@ -16,9 +16,11 @@ pub record Script : Type 0 where
   pub tint : ℕ
   pub command : Option ℕ
 
+-- from a to z
 abbrev pub is_letter : ℕ → Bool
 is_letter c = nat_le 97 c && nat_le c 122
 
+-- a lower-case letter, a digit or an underscore
 abbrev pub is_name_byte : ℕ → Bool
 is_name_byte c = is_letter c || (nat_le 48 c && nat_le c 57) || c == 95
 
@@ -62,6 +64,6 @@ pub record IsScript (bytes : List ℕ) (s : Script) : Type 0 where
   pub in_range : IsInRange s
   pub text : bytes ≡ lines_text (script_lines s)
 
--- the bytes are in the first form
+-- the bytes are some script
 abbrev pub IsInForm : List ℕ → Type 0
 IsInForm bytes = (s : Script) × IsScript bytes s

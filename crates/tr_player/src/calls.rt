@@ -19,6 +19,7 @@ pub struct Outcome {
 }
 
 /// Plays the script that the source has, where the words are `serial`, and writes what it prints.
+/// Other words are answered with the usage.
 ///
 /// The causes are looked at in this order: usage, read fault, script. Want of memory may take the
 /// place of each answer before the first byte is written, and a write fault afterwards.

@@ -1,5 +1,5 @@
 ghost use Rattle.std.specs.Prelude.{◌≡◌, ◌≢◌, ◌↔◌, IsTrue, IfOk, codes};
-ghost use Rattle.tr_player.specs.Answers.{Seen, IsDue, accepted_words, texts_of, status_of, text_of};
+ghost use Rattle.tr_player.specs.Answers.{IsDue, accepted_words, texts_of, status_of, text_of};
 ghost use Rattle.tr_player.specs.Replies.{due_of};
 ghost use Rattle.tr_base.specs.declared.ops.Kind.TheVariants.{Map8};
 ghost use Rattle.tr_screen.specs.Pictures.{IsScreenSize};

@@ -1,4 +1,4 @@
-//! Scripts of the first form: one window of one tint, which fills the screen.
+//! Scripts of one window of one tint, which fills the screen.
 ghost use Rattle.std.specs.Prelude.{◌≡◌, IfSome, IsSomeAnd, option_map};
 ghost use Rattle.tr_player.specs.Scripts.{Script, IsScript};
 ghost use Rattle.tr_player.specs.Windows.{Shows};
@@ -7,7 +7,7 @@ ghost use Rattle.tr_player.specs.Reading.{number_at, screen_at, shape_at, leaf_a
 use crate::words::{after, read_name, read_number};
 use tr_base::Size;
 
-/// What a script of the first form shows: one window of one tint that fills a screen.
+/// What a script shows: one window of one tint that fills a screen.
 #[derive(Clone, Copy, Debug, PartialEq, Eq)]
 pub struct OneWindow {
     pub size: Size,
@@ -124,7 +124,7 @@ fn read_all(bytes: &[u8]) -> Option<OneWindow>
     })
 }
 
-/// Reads a script of the first form. None says that the bytes are not in that form.
+/// Reads a script. None says that the bytes are not in the form of one.
 pub fn read_script(bytes: &[u8]) -> Option<OneWindow>
     ensures found { IfSome result (λ w. (s : Script) × IsScript bytes.now s × Shows s w) }
     ensures only { (s : Script) → IsScript bytes.now s → IsSomeAnd result (λ w. Shows s w) }

@@ -6,7 +6,7 @@ use crate::errors::ReadStop;
 use std::alloc::Global;
 use tr_io::{Failed, Sink, Source};
 
-/// The most bytes that are read: a script may have 4 MiB, and one byte more shows that it has not.
+/// The most bytes that are read: a script may have 4 MiB, and one byte more shows that it is longer.
 const MOST_READ: usize = 4 * 1024 * 1024 + 1;
 
 /// How many bytes are asked for at once.

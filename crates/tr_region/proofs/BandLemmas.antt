@@ -18,10 +18,6 @@ pub AreBands-parts : (b : Band) (bands : List Band) → AreBands (b ∷ bands) �
 AreBands-parts b [] h = (h, tt, tt)
 AreBands-parts b (c ∷ bands) h = h
 
-pub AreBands-cons : (b : Band) (bands : List Band) → IsBand b → FollowsFirst b bands → AreBands bands → AreBands (b ∷ bands)
-AreBands-cons b [] h f t = h
-AreBands-cons b (c ∷ bands) h f t = (h, f, t)
-
 -- the rectangles of a band that is put before others
 pub rects_of-put_before : (r : Edges) (bands : List Band) → rects_of (put_before r bands) ≡ r ∷ rects_of bands
 unfolding put_before

@@ -1,14 +1,17 @@
--- The rest of a list of rectangles side by side, which is added one by one.
-use Rattle.std.proofs.Common.{◌≡◌, ℕ, zero, suc, ◌+◌, ◌-◌, ◌*◌, ◌<◌, ◌⊎◌, ◌≤◌, ℤ, ◌<ℤ◌, Bool, true, cond, List, [], ◌∷◌, ◌++◌, length, take, drop, get_or, sym, ap, ◌∙◌, w32, to_z, of_z, arith}
-use Rattle.std.proofs.lemmas.List.{take_more, take_all, take_rest, map-append, drop-map, length-map}
+-- Rectangles side by side that are added one by one.
+use Rattle.std.proofs.Common.{◌≡◌, ℕ, zero, suc, ◌+◌, ◌<◌, ◌≤◌, ℤ, ◌<ℤ◌, Bool, true, false, cond, ◌⊎◌, inl, inr, ⊎_elim, refl, List, [], ◌∷◌, ◌++◌, length, take, get_or, sym, ap, ◌∙◌, w32, to_z, of_z, arith}
+use Rattle.std.proofs.lemmas.List.{take_more, map-append, length-append, length-map}
 use Rattle.tr_base.specs.Rects.{Edges, InReach}
 use Rattle.tr_base.proofs.RectLemmas.{cast-in_reach}
 use Rattle.tr_region.specs.declared.rules.Rule.{Rule}
 use Rattle.tr_region.specs.declared.merging.Lists.{Lists}
-use Rattle.tr_region.specs.declared.merging.Lists.TheVariants.{Neither}
+use Rattle.tr_region.specs.declared.merging.Lists.TheVariants.{Neither, First, Second, Both}
+use Rattle.tr_region.specs.declared.merging.Walk.{Walk}
+use Rattle.tr_region.specs.Bands.{Span, AreApart, span_of, spans_of, rect_in, rects_in}
 use Rattle.tr_region.specs.Merges.{Merges}
-use Rattle.tr_region.specs.Bands.{Span, AreApart, span_of, spans_of, rects_in}
-use Rattle.tr_region.proofs.MergeLemmas.{strip_of, rects-append, IsMerging, Merges-done}
+use Rattle.tr_region.specs.Walks.{has_first, has_second, count_left, IsAhead}
+use Rattle.tr_region.proofs.SpanLemmas.{AreApart-from_rising, length-edges_of}
+use Rattle.tr_region.proofs.MergeLemmas.{strip_of, rects-append, left_in_first, left_in_second, IsMerging, Merges-done}
 
 AreApart-tail : (s : Span) (spans : List Span) → AreApart (s ∷ spans) → AreApart spans
 AreApart-tail s [] h = tt
@@ -18,55 +21,74 @@ AreApart-head : (s : Span) (spans : List Span) → AreApart (s ∷ spans) → s.
 AreApart-head s [] h = h
 AreApart-head s (t ∷ spans) h = h.0
 
-AreApart-drop : (n : ℕ) (rects : List Edges) → AreApart (spans_of rects) → AreApart (spans_of (drop n rects))
-AreApart-drop zero rects h = h
-AreApart-drop (suc n) [] h = tt
-AreApart-drop (suc n) (r ∷ rects) h = AreApart-drop n rects (AreApart-tail (span_of r) (spans_of rects) h)
-
 across_at : (rects : List Edges) (i : ℕ) (r : Edges) → AreApart (spans_of rects) → i < length rects → r ≡ get_or rects i r → r.west <ℤ r.east
 across_at [] i r h k e = absurd (omega arith)
 across_at (q ∷ rects) zero r h k e = rw e (AreApart-head (span_of q) (spans_of rects) h)
-across_at (q ∷ rects) (suc i) r h k e = across_at rects i r (AreApart-tail (span_of q) (spans_of rects) h) (omega arith) e
+across_at (q ∷ rects) (suc i) r h k e =
+    across_at rects i r (AreApart-tail (span_of q) (spans_of rects) h) (omega arith) e
 
--- a rectangle of the rest goes from west to east
-pub across_rest : (rects : List Edges) (n i : ℕ) (r : Edges) (w e : ℤ) → AreApart (spans_of rects) → i < length (take (length rects - n) (drop n rects)) → r ≡ get_or (take (length rects - n) (drop n rects)) i r →
-    w ≡ r.west → InReach w → e ≡ r.east → InReach e → to_z w32 (of_z w32 w) <ℤ to_z w32 (of_z w32 e)
-across_rest rects n i r w e h k f g gw m mw =
-    let l = across_at (drop n rects) i r (AreApart-drop n rects h) (rw take_rest at k) (rw take_rest at f) in
-    rw (cast-in_reach w gw, cast-in_reach e mw, g, m) l
+-- a rectangle goes from west to east
+pub across_item : (rects : List Edges) (i : ℕ) (r : Edges) (w e : ℤ) → AreApart (spans_of rects) → i < length rects → r ≡ get_or rects i r → w ≡ r.west → InReach w → e ≡ r.east → InReach e → to_z w32 (of_z w32 w) <ℤ to_z w32 (of_z w32 e)
+across_item rects i r w e h k f west_is west_reach east_is east_reach =
+    rw (cast-in_reach w west_reach, cast-in_reach e east_reach, west_is, east_is) (across_at rects i r h k f)
 
 -- one rectangle more
 pub rest_more : (xs : List Edges) (i : ℕ) (r : Edges) (w e north south : ℤ) (base old new : List Edges) → old ≡ base ++ rects_in (strip_of north south (spans_of (take i xs))) → i < length xs → r ≡ get_or xs i r →
     w ≡ r.west → InReach w → e ≡ r.east → InReach e → InReach north → InReach south →
     new ≡ old ++ record { west = to_z w32 (of_z w32 w); east = to_z w32 (of_z w32 e); north = to_z w32 (of_z w32 north); south = to_z w32 (of_z w32 south) } ∷ [] →
     new ≡ base ++ rects_in (strip_of north south (spans_of (take (i + 1) xs)))
-rest_more xs i r w e north south base old new g k f hw reach_w he re hn hs m =
-    let added = rw (cast-in_reach w reach_w, cast-in_reach e re, cast-in_reach north hn, cast-in_reach south hs, hw, he) at m in
+rest_more xs i r w e north south base old new g k f west_is west_reach east_is east_reach north_reach south_reach m =
+    let added = rw (cast-in_reach w west_reach, cast-in_reach e east_reach, cast-in_reach north north_reach, cast-in_reach south south_reach, west_is, east_is) at m in
     let one_more : spans_of (take (i + 1) xs) ≡ spans_of (take i xs) ++ span_of r ∷ [] = ap (λ (ys : List Edges). spans_of ys) (take_more xs i r k) ∙ map-append span_of (take i xs) (get_or xs i r ∷ []) ∙ ap (λ (q : Edges). spans_of (take i xs) ++ span_of q ∷ []) (sym f) in
     rw one_more (rects-append (spans_of (take i xs)) (span_of r ∷ []) north south base old new g added)
 
--- the whole rest
-pub rest_all : (rects : List Edges) (n i : ℕ) (kept : Bool) (north south : ℤ) (base now : List Edges) → kept ≡ true → length (take (length rects - n) (drop n rects)) ≤ i →
-    now ≡ base ++ rects_in (strip_of north south (spans_of (take i (take (length rects - n) (drop n rects))))) →
-    now ≡ base ++ rects_in (strip_of north south (cond kept (drop n (spans_of rects)) []))
-rest_all rects n i kept north south base now e h g =
-    let whole = rw (take_all, take_rest) at g in
-    rw (e, drop-map) whole
+-- ---- the end of the loop
 
--- the edges that are left become fewer
-pub fewer_left : (first second : List Edges) (m n m' n' : ℕ) → m + n < m' + n' → m' ≤ 2 * length (spans_of first) → n' ≤ 2 * length (spans_of second) → 2 * (length first + length second) - (m' + n') < 2 * (length first + length second) - (m + n)
-fewer_left first second m n m' n' h k l = omega (arith, length-map first span_of, length-map second span_of)
+pub apart_first : (rule : Rule) (w : Walk) (len cap : ℕ) → IsAhead rule w len cap → w.inside ≡ Neither → AreApart (spans_of w.first.now)
+apart_first rule w len cap k e = AreApart-from_rising (spans_of w.first.now) (rw e at k.first_rising)
+
+pub apart_second : (rule : Rule) (w : Walk) (len cap : ℕ) → IsAhead rule w len cap → w.inside ≡ Neither → AreApart (spans_of w.second.now)
+apart_second rule w len cap k e = AreApart-from_rising (spans_of w.second.now) (rw e at k.second_rising)
+
+pub room_for_rest : (rule : Rule) (w : Walk) (len cap : ℕ) → IsAhead rule w len cap → w.inside ≡ Neither → len + (length w.first.now + length w.second.now) ≤ cap
+room_for_rest rule w len cap k e =
+    let room = rw e at k.room in
+    omega (arith, length-edges_of (spans_of w.first.now), length-edges_of (spans_of w.second.now), length-map w.first.now span_of, length-map w.second.now span_of)
+
+-- what was added of the one rest leaves room for the other
+pub room_for_second : (kept : Bool) (rects : List Edges) (north south : ℤ) (old new : List Edges) (m len len' cap : ℕ) → new ≡ old ++ rects_in (strip_of north south (cond kept (spans_of rects) [])) → len ≡ length old → len' ≡ length new → len + (length rects + m) ≤ cap → len' + m ≤ cap
+room_for_second true rects north south old new m len len' cap e f g h =
+    omega (arith, ap length e, length-append old (rects_in (strip_of north south (spans_of rects))), length-map (spans_of rects) (rect_in (strip_of north south (spans_of rects))), length-map rects span_of)
+room_for_second false rects north south old new m len len' cap e f g h = omega (arith, ap length e, length-append {A = Edges} old [])
+
+-- some edge is left, unless the walk is done
+pub left_unless_done : (rule : Rule) (w : Walk) (len cap : ℕ) (is_done : Bool) → IsAhead rule w len cap → (((w.inside ≡ Neither) × ((w.first.now ≡ []) ⊎ (w.second.now ≡ []))) → is_done ≡ true) → is_done ≡ false → 0 < count_left w
+left_unless_done rule w len cap is_done k done not_done = by_place w.inside refl
+  where
+    contradiction : is_done ≡ true → ⊥
+    contradiction h = cc
+
+    some_first : (rects : List Edges) → w.first.now ≡ rects → w.inside ≡ Neither → 0 < count_left w
+    some_first [] e h = absurd (contradiction (done (h, inl e)))
+    some_first (r ∷ rects) e h = rw (h, e) (omega arith)
+
+    by_place : (i : Lists) → w.inside ≡ i → 0 < count_left w
+    by_place Neither h = some_first w.first.now refl h
+    by_place First h = left_in_first w k.first_entered (ap has_first h)
+    by_place Second h = left_in_second w k.second_entered (ap has_second h)
+    by_place Both h = left_in_first w k.first_entered (ap has_first h)
 
 -- what the walk and the rests leave is the merge
-pub Merges-from_walk : (rule : Rule) (first second : List Edges) (inside : Lists) (i j : ℕ) (west north south : ℤ) (base now mid items : List Edges) → AreApart (spans_of first) → AreApart (spans_of second) → InReach north → InReach south →
-    IsMerging rule (spans_of first) (spans_of second) (to_z w32 (of_z w32 north)) (to_z w32 (of_z w32 south)) (record { inside = inside; first = i; second = j; west = west }) base now →
-    (inside ≡ Neither) × ((i ≡ length first) ⊎ (j ≡ length second)) →
-    mid ≡ now ++ rects_in (strip_of (to_z w32 (of_z w32 north)) (to_z w32 (of_z w32 south)) (cond rule.first (drop i (spans_of first)) [])) →
-    items ≡ mid ++ rects_in (strip_of (to_z w32 (of_z w32 north)) (to_z w32 (of_z w32 south)) (cond rule.second (drop j (spans_of second)) [])) →
+pub Merges-at_end : (rule : Rule) (first second : List Edges) (w : Walk) (north south : ℤ) (len cap : ℕ) (start base now mid items : List Edges) → AreApart (spans_of first) → AreApart (spans_of second) → InReach north → InReach south → IsAhead rule w len cap →
+    IsMerging rule (spans_of first) (spans_of second) (to_z w32 (of_z w32 north)) (to_z w32 (of_z w32 south)) w start now → (w.inside ≡ Neither) × ((w.first.now ≡ []) ⊎ (w.second.now ≡ [])) →
+    mid ≡ now ++ rects_in (strip_of (to_z w32 (of_z w32 north)) (to_z w32 (of_z w32 south)) (cond rule.first (spans_of w.first.now) [])) →
+    items ≡ mid ++ rects_in (strip_of (to_z w32 (of_z w32 north)) (to_z w32 (of_z w32 south)) (cond rule.second (spans_of w.second.now) [])) → start ≡ base →
     Merges rule (spans_of first) (spans_of second) north south base items
-Merges-from_walk rule first second inside i j west north south base now mid items fa sa hn hs k done f g =
-    let end : (i ≡ length (spans_of first)) ⊎ (j ≡ length (spans_of second)) = rw (length-map, length-map) done.1 in
-    let stands = rw (done.0, cast-in_reach north hn, cast-in_reach south hs) at k in
-    let mid_is = rw (cast-in_reach north hn, cast-in_reach south hs) at f in
-    let items_is = rw (cast-in_reach north hn, cast-in_reach south hs) at g in
-    Merges-done rule (spans_of first) (spans_of second) north south i j west base now mid items fa sa stands end mid_is items_is
+Merges-at_end rule first second w north south len cap start base now mid items fa sa north_reach south_reach k m done f g e =
+    let place = done.0 in
+    let none : (spans_of w.first.now ≡ []) ⊎ (spans_of w.second.now ≡ []) = ⊎_elim (λ h. inl (ap (λ (r : List Edges). spans_of r) h)) (λ h. inr (ap (λ (r : List Edges). spans_of r) h)) done.1 in
+    let walk = rw place at m.walk in
+    let mid_is = rw (cast-in_reach north north_reach, cast-in_reach south south_reach) at f in
+    let items_is = rw (cast-in_reach north north_reach, cast-in_reach south south_reach) at g in
+    let grown = rw (cast-in_reach north north_reach, cast-in_reach south south_reach, e) at m.grown in
+    Merges-done rule (spans_of first) (spans_of second) (spans_of w.first.now) (spans_of w.second.now) north south m.spans base now mid items fa sa (rw place at k.first_rising) (rw place at k.second_rising) grown walk none mid_is items_is

@@ -59,11 +59,6 @@ pub south_of-begun_at : (bands : List Band) (n : ℤ) → south_of (begun_at n b
 south_of-begun_at [] n = refl
 south_of-begun_at (b ∷ bands) n = refl
 
--- two rows of the first band have the same spans
-pub spans_at-in_first : (bands : List Band) (y z : ℤ) → north_of bands ≤ℤ y → y <ℤ south_of bands → north_of bands ≤ℤ z → z <ℤ south_of bands → spans_at bands y ≡ spans_at bands z
-spans_at-in_first [] y z hy ky hz kz = refl
-spans_at-in_first (b ∷ bands) y z hy ky hz kz = spans_at-first b bands y hy ky ∙ sym (spans_at-first b bands z hz kz)
-
 -- to begin the first band at a later row leaves out the rows before that
 pub spans_at-begun_at : (bands : List Band) (m n : ℤ) (y : ℤ) → IsInFirst m bands → m ≤ℤ n → IsInFirst n bands → AreBands bands →
     spans_at (begun_at n bands) y ≡ cond (int_lt y n) [] (spans_at (begun_at m bands) y)

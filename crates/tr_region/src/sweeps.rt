@@ -225,6 +225,7 @@ fn join_last(out: &mut Vec<Rect>, last: usize, at: usize, north: i32, south: i32
 
 /// Appends, for the rows from `north` to `south`, what the rule keeps of two lists of spans, so that
 /// the list stays canonical. The answer is where its last band begins then.
+#[inline(always)]
 fn add_rows(
     rule: Rule,
     first: &[Rect],
@@ -272,6 +273,7 @@ fn lesser(a: i32, b: i32) -> i32
 }
 
 /// Adds to a list what the rule keeps in the next rows of two lists, up to where either changes.
+#[inline(always)]
 fn next_strip(
     rule: Rule,
     first: &mut Bands,
@@ -304,6 +306,7 @@ fn next_strip(
 
 /// The canonical list of the points that the rule keeps of two canonical lists. It goes through
 /// both in step, from north to south, by strips in which neither changes.
+#[inline(always)]
 pub fn combine(
     alloc: Global,
     rule: Rule,

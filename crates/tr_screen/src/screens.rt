@@ -42,6 +42,7 @@ impl Screen {
         })
     }
 
+    /// How many pixels it has from west to east, and from north to south.
     pub fn size(&self) -> Size
         ensures value { result ≡ self.now.size }
         ensures picture { IsPicture self.now }
@@ -49,6 +50,7 @@ impl Screen {
         self.size
     }
 
+    /// Which values its pixels take.
     pub fn kind(&self) -> Kind
         ensures value { result ≡ self.now.kind }
         ensures picture { IsPicture self.now }

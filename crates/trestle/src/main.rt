@@ -23,7 +23,7 @@ fn main(rt: HostRuntime) -> ExitCode {
     exit_code(serial_call(rt.alloc(), &words, &mut source, &mut sink))
 }
 
-/// The words behind the program's name.
+/// The words after the program's name.
 fn words_of<R: Env + AllocGlobal>(rt: &R) -> io::Result<Vec<String>> {
     let mut words = Vec::new(rt.alloc());
     for word in env::args(rt)?.skip(1) {
