@@ -7,7 +7,7 @@ use Rattle.std.proofs.lemmas.Simd.{splat_is_map}
 use mathlib.Core.List.{append_assoc}
 use Rattle.tr_base.specs.declared.sizes.Size.{Size}
 use Rattle.tr_base.specs.declared.ops.Kind.{Kind}
-use Rattle.tr_screen.specs.Pictures.{Picture, blank_of}
+use Rattle.tr_screen.specs.Pictures.{Picture, filled_of, blank_of}
 use Rattle.hex.specs.Hex.{encode_with, encode_lower}
 use Rattle.tr_player.specs.Texts.{digit_of, pixel_text, row_text}
 use Rattle.tr_player.specs.Outputs.{picture_by}
@@ -35,8 +35,8 @@ row_text-appended out digits row e = append_assoc out digits (10 ∷ []) ∙ ap 
 
 -- a blank screen, filled with one colour, is the picture of that colour
 pub filled : (s : Picture) (size : Size) (kind : Kind) (pixel tint : ℕ) → s ≡ blank_of size kind → pixel ≡ tint →
-    record s { rows = replicate s.size.high (replicate s.size.wide pixel) } ≡ picture_by size kind (λ _. tint)
+    filled_of s.size s.kind pixel ≡ picture_by size kind (λ _. tint)
 filled s size kind pixel tint e f =
-    ap (λ (t : Picture). record t { rows = replicate t.size.high (replicate t.size.wide pixel) }) e
+    ap (λ (t : Picture). filled_of t.size t.kind pixel) e
     ∙ ap (λ (n : ℕ). record { size = size; kind = kind; rows = replicate size.high (replicate size.wide n) }) f
     ∙ sym (picture_by-same size kind tint)

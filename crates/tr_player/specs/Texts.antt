@@ -2,7 +2,7 @@
 use Rattle.std.specs.Prelude.{ℕ, ◌/◌, ◌%◌, List, [], ◌∷◌, ◌++◌, flat_map, slice_index, codes, decimal}
 use Rattle.std.specs.List.{join_with_byte}
 use Rattle.tr_base.specs.declared.ops.Kind.{Kind}
-use Rattle.tr_base.specs.declared.ops.Kind.TheVariants.{Mono, Map8}
+use Rattle.tr_base.specs.declared.ops.Kind.TheVariants.{Mono, Map4, Map8}
 use Rattle.tr_screen.specs.Pictures.{Picture}
 
 -- a line: its words with one space between two of them, and a line feed
@@ -16,6 +16,7 @@ lines_text lines = flat_map line_text lines
 -- the word for a kind of pixels
 abbrev pub kind_word : Kind → List ℕ
 kind_word Mono = codes "mono"
+kind_word Map4 = codes "map4"
 kind_word Map8 = codes "map8"
 
 -- the hex digit of a number below 16

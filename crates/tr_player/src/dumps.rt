@@ -27,6 +27,7 @@ fn kind_name(kind: Kind) -> &'static str
 {
     match kind {
         Kind::Mono => "mono",
+        Kind::Map4 => "map4",
         Kind::Map8 => "map8",
     }
 }

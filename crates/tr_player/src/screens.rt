@@ -1,4 +1,4 @@
-ghost use Rattle.std.specs.Prelude.{◌≡◌, length, replicate, IfOk};
+ghost use Rattle.std.specs.Prelude.{◌≡◌, IfOk};
 ghost use Rattle.tr_base.specs.declared.ops.Kind.TheVariants.{Map8};
 ghost use Rattle.tr_screen.specs.Pictures.{IsScreenSize};
 ghost use Rattle.tr_player.specs.Outputs.{pic, picture_by};
@@ -14,23 +14,6 @@ pub fn render(alloc: Global, window: OneWindow) -> Result<Screen, NoMemory>
     ensures { IfOk result (λ s. s ≡ picture_by window.size Map8 (pic Map8 window.tint)) }
 {
     let mut screen = Screen::blank(alloc, window.size, Kind::Map8)?;
-    fill_all(&mut screen, eff(Kind::Map8, Op::Set(window.tint), 0));
+    screen.fill(eff(Kind::Map8, Op::Set(window.tint), 0));
     Ok(screen)
-}
-
-fn fill_all(screen: &mut Screen, pixel: u8)
-    ensures { screen.new ≡ record screen.old {
-      rows = replicate screen.old.size.high (replicate screen.old.size.wide pixel);
-    } }
-{
-    let high = screen.size().high;
-    for v in 0..high {
-        fill_row(screen.row_mut(v), pixel);
-    }
-}
-
-fn fill_row(row: &mut [u8], pixel: u8)
-    ensures { row.new ≡ replicate (length row.old) pixel }
-{
-    row.fill(pixel);
 }

@@ -12,7 +12,7 @@ use Rattle.tr_base.specs.declared.points.Point.{Point}
 use Rattle.tr_base.specs.declared.sizes.Size.{Size}
 use Rattle.tr_base.specs.Rects.{has_point, whole_of, between}
 use Rattle.tr_base.proofs.RectLemmas.{has_point-rect_of}
-use Rattle.tr_screen.specs.Pictures.{IsScreenSize, IsPicture, blank_of, row_of, pixel_of, with_row, picture_of, written_at, overwritten}
+use Rattle.tr_screen.specs.Pictures.{IsScreenSize, IsPicture, filled_of, row_of, pixel_of, with_row, picture_of, written_at, overwritten}
 
 -- the place of row v, of n pixels, when there are k rows
 row_fits : (n k v : ℕ) → v < k → v * n + n ≤ k * n
@@ -73,8 +73,10 @@ written_at-is xs w n i long within =
     let same : ys ≡ take i xs ++ (w ++ drop (i + length w) xs) = ap (λ l. take i xs ++ (w ++ l)) (drop-drop (length w) i xs) in
     take-append-le n ys (drop (length ys) xs) covers ∙ ap (λ l. take n l) same ∙ ap (λ m. take m (take i xs ++ (w ++ drop (i + length w) xs))) long
 
-pub picture_of-replicate : (size : Size) (kind : Kind) (pixels : List ℕ) → pixels ≡ replicate (size.high * size.wide) 0 → picture_of size kind pixels ≡ blank_of size kind
-picture_of-replicate size kind pixels same = ap (λ l. picture_of size kind l) same ∙ ap (λ rows. record { size = size; kind = kind; rows = rows }) (first_chunks-replicate size.wide size.high 0)
+pub picture_of-replicate : (size : Size) (kind : Kind) (pixel : ℕ) (pixels : List ℕ) →
+    pixels ≡ replicate (size.high * size.wide) pixel → picture_of size kind pixels ≡ filled_of size kind pixel
+picture_of-replicate size kind pixel pixels same =
+    ap (λ l. picture_of size kind l) same ∙ ap (λ rows. record { size = size; kind = kind; rows = rows }) (first_chunks-replicate size.wide size.high pixel)
 
 both_true : (a b : Bool) → a && b ≡ true → (a ≡ true) × (b ≡ true)
 both_true true b h = (refl, h)
@@ -156,8 +158,3 @@ module _ (size : Size) (kind : Kind) (pixels : List ℕ) where
   overwritten-view v n w below long count =
       let fits = row_fits size.wide size.high v below in
       ap (λ l. picture_of size kind l) (written_at-is pixels w n (v * size.wide) long (omega arith)) ∙ sym (overwritten-picture_of v w (omega arith))
-
--- rows that are replaced one after another: those so far, and the old ones after them
-pub set-rows_so_far : {X : Type 0} (done old : List X) (v : ℕ) (w : X) → length done ≡ v → v < length old → set (done ++ drop v old) v w ≡ (done ++ w ∷ []) ++ drop (v + 1) old
-set-rows_so_far done old v w count below =
-    rw (drop_more old v w below, set_at done (get_or old v w) (drop (v + 1) old) w v count, append_assoc) refl

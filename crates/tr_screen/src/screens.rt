@@ -1,7 +1,7 @@
 ghost use Rattle.std.specs.Prelude.{◌≡◌, ◌<◌, ℕ, List, length, IsTrue, IfOk};
 ghost use Rattle.std.specs.Borrow.{sem};
 ghost use Rattle.tr_base.specs.Rects.{has_point, whole_of};
-ghost use Rattle.tr_screen.specs.Pictures.{IsScreenSize, IsPicture, blank_of, row_of, pixel_of, with_row, overwritten};
+ghost use Rattle.tr_screen.specs.Pictures.{IsScreenSize, IsPicture, blank_of, filled_of, row_of, pixel_of, with_row, overwritten};
 ghost use Rattle.tr_screen.specs.Lending.{LendsRow};
 
 use std::alloc::Global;
@@ -42,10 +42,17 @@ impl Screen {
         })
     }
 
+    /// Gives every pixel this value.
+    pub fn fill(&mut self, pixel: u8)
+        ensures { self.new ≡ filled_of self.old.size self.old.kind pixel }
+    {
+        self.pixels.fill(pixel);
+    }
+
     /// How many pixels it has from west to east, and from north to south.
     pub fn size(&self) -> Size
         ensures value { result ≡ self.now.size }
-        ensures picture { IsPicture self.now }
+        ensures invariant { IsPicture self.now }
     {
         self.size
     }
@@ -53,7 +60,7 @@ impl Screen {
     /// Which values its pixels take.
     pub fn kind(&self) -> Kind
         ensures value { result ≡ self.now.kind }
-        ensures picture { IsPicture self.now }
+        ensures invariant { IsPicture self.now }
     {
         self.kind
     }
@@ -62,7 +69,7 @@ impl Screen {
     pub fn at(&self, p: Point) -> u8
         requires { IsTrue (has_point (whole_of self.now.size) p) }
         ensures value { result ≡ pixel_of self.now p }
-        ensures picture { IsPicture self.now }
+        ensures invariant { IsPicture self.now }
     {
         let v = p.v as usize;
         let h = p.h as usize;
@@ -74,14 +81,14 @@ impl Screen {
         requires { v < self.now.size.high }
         ensures value { result.now ≡ row_of self.now v }
         ensures wide { length result.now ≡ self.now.size.wide }
-        ensures picture { IsPicture self.now }
+        ensures invariant { IsPicture self.now }
     {
         let wide = usize::from(self.size.wide);
         let start = usize::from(v) * wide;
         &self.pixels[start..start + wide]
     }
 
-    /// The pixels of row `v`, to be written.
+    /// The pixels of row `v`, counted from the north, to be written.
     pub fn row_mut(&mut self, v: u16) -> &mut [u8]
         requires { v < self.old.size.high }
         ensures* writes_back { sem 𝓛 (LendsRow self.entry v result) }
@@ -91,7 +98,7 @@ impl Screen {
             overwritten self.old v w ≡ with_row self.old v w }
         ensures value { result.now ≡ row_of self.old v }
         ensures wide { length result.now ≡ self.old.size.wide }
-        ensures picture { IsPicture self.old }
+        ensures invariant { IsPicture self.old }
     {
         let wide = usize::from(self.size.wide);
         let start = usize::from(v) * wide;
