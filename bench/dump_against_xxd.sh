@@ -2,7 +2,7 @@
 # Times the dump of a 1024 by 1024 screen against `xxd -p` of as many bytes, in one run, and prints
 # both times and their ratio: below 1 trestle is the faster one. It wants xxd and date with %N.
 set -eu
-top=$(cd "$(dirname "$0")/.." && pwd)
+top=$(CDPATH= cd -P -- "$(dirname -- "$0")/.." && pwd)
 rounds=${1:-40}
 folder=$(mktemp -d)
 trap 'rm -rf "$folder"' EXIT
@@ -11,7 +11,7 @@ command -v xxd >/dev/null || { echo "dump_against_xxd: xxd is not installed" >&2
 printf '%s\n' 'trestle 1' 'screen 1024 1024 map8' 'leaf w 0 0 0 0 0 0 solid 171' \
     'root w' 'begin' 'dump' 'end' >"$folder/script"
 "$top/trestle" serial <"$folder/script" >/dev/null
-program=$top/crates/trestle/out/trestle
+program=$top/.build/trestle
 head -c 1048576 /dev/zero | tr '\0' '\253' >"$folder/screen"
 
 # Nanoseconds that so many rounds of a command take.
