@@ -6,8 +6,9 @@
 #     bench/regions_against_pixman.sh [ROUNDS] [PROGRAM]
 #
 # The two programs run in turn, ROUNDS times each (5 if left out, some 10 seconds a round), and each
-# row has the best of its rounds, which a busy machine disturbs least. PROGRAM is a linked
-# bench_regions; where it is left out, `rt run` proves and builds it.
+# row has the best of its rounds, which a busy machine disturbs least (`nice -n -19` before the call
+# keeps others away). PROGRAM is a linked bench_regions; where it is left out, `rt run` proves and
+# builds it.
 # It wants cc and pixman's headers (Debian's libpixman-1-dev).
 set -eu
 top=$(CDPATH= cd -- "$(dirname -- "$0")/.." && pwd)
