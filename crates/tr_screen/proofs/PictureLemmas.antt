@@ -11,12 +11,8 @@ use Rattle.tr_base.specs.declared.ops.Kind.{Kind}
 use Rattle.tr_base.specs.declared.points.Point.{Point}
 use Rattle.tr_base.specs.declared.sizes.Size.{Size}
 use Rattle.tr_base.specs.Rects.{has_point, whole_of, between}
-use Rattle.tr_base.proofs.RectLemmas.{has_point-rect_of}
+use Rattle.tr_base.proofs.PlaceLemmas.{row_fits, in_whole}
 use Rattle.tr_screen.specs.Pictures.{IsScreenSize, IsPicture, filled_of, row_of, pixel_of, with_row, picture_of, written_at, overwritten}
-
--- the place of row v, of n pixels, when there are k rows
-row_fits : (n k v : ℕ) → v < k → v * n + n ≤ k * n
-row_fits n k v h = grind (arith, rows)
 
 pub length-first_chunks : {X : Type 0} (n k : ℕ) (xs : List X) → length (first_chunks n k xs) ≡ k
 length-first_chunks n zero xs = refl
@@ -78,29 +74,6 @@ pub picture_of-replicate : (size : Size) (kind : Kind) (pixel : ℕ) (pixels : L
 picture_of-replicate size kind pixel pixels same =
     ap (λ l. picture_of size kind l) same ∙ ap (λ rows. record { size = size; kind = kind; rows = rows }) (first_chunks-replicate size.wide size.high pixel)
 
-both_true : (a b : Bool) → a && b ≡ true → (a ≡ true) × (b ≡ true)
-both_true true b h = (refl, h)
-both_true false b h = cc
-
--- a coordinate from 0 on, and before n
-from_zero : (n : ℕ) (x : ℤ) → between (pos 0) (pos n) x ≡ true → unsigned_abs x < n
-from_zero n (pos a) h = grind (arith, ints)
-from_zero n (negsuc a) h = cc
-
--- a point of the screen has its row and its column there
-pub on_screen : (size : Size) (p : Point) → IsTrue (has_point (whole_of size) p) → (unsigned_abs p.v < size.high) × (unsigned_abs p.h < size.wide)
-on_screen size p on =
-    let both = both_true _ _ (rw (has_point-rect_of (pos 0) (pos size.wide) (pos 0) (pos size.high) p) at on) in
-    (from_zero size.high p.v both.1, from_zero size.wide p.h both.0)
-
--- the place of a point of the screen among the pixels
-pub place_fits : (size : Size) (p : Point) → IsTrue (has_point (whole_of size) p) → unsigned_abs p.v * size.wide + unsigned_abs p.h < size.high * size.wide
-place_fits size p on =
-    let at = on_screen size p on in
-    let below : unsigned_abs p.v < size.high = at.0 in
-    let within : unsigned_abs p.h < size.wide = at.1 in
-    omega (arith, row_fits size.wide size.high (unsigned_abs p.v) below)
-
 module _ (size : Size) (kind : Kind) (pixels : List ℕ) where
   -- the rows of a screen's pixels are those of a screen
   pub IsPicture-picture_of : IsScreenSize size → length pixels ≡ size.high * size.wide → IsPicture (picture_of size kind pixels)
@@ -132,8 +105,8 @@ module _ (size : Size) (kind : Kind) (pixels : List ℕ) where
   pub pixel_of-picture_of : (p : Point) → IsTrue (has_point (whole_of size) p) → pixel_of (picture_of size kind pixels) p ≡ slice_index pixels (unsigned_abs p.v * size.wide + unsigned_abs p.h)
   pixel_of-picture_of p on =
       let start : ℕ = unsigned_abs p.v * size.wide in
-      ap (λ l. slice_index l (unsigned_abs p.h)) (row_of-picture_of (unsigned_abs p.v) (on_screen size p on).0)
-      ∙ get_or-take size.wide (drop start pixels) (unsigned_abs p.h) 0 (on_screen size p on).1 ∙ get_or-drop start pixels (unsigned_abs p.h) 0
+      ap (λ l. slice_index l (unsigned_abs p.h)) (row_of-picture_of (unsigned_abs p.v) (in_whole size p on).0)
+      ∙ get_or-take size.wide (drop start pixels) (unsigned_abs p.h) 0 (in_whole size p on).1 ∙ get_or-drop start pixels (unsigned_abs p.h) 0
 
   pub overwritten-picture_of : (v : ℕ) (w : List ℕ) → length pixels ≡ size.high * size.wide → overwritten (picture_of size kind pixels) v w ≡ picture_of size kind (written_at pixels (v * size.wide) w)
   unfolding overwritten

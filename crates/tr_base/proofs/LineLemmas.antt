@@ -1,0 +1,21 @@
+-- How a line keeps its text.
+use Rattle.std.proofs.Common.{◌≡◌, ℕ, ◌-◌, ◌≤◌, List, ◌++◌, length, take, drop, replicate, refl, sym, ap, ◌∙◌, arith}
+use Rattle.std.proofs.lemmas.List.{length-append, length-replicate, take_at, drop-replicate}
+use Rattle.tr_base.specs.Lines.{IsLine, KeepsLine, padded}
+
+-- a text and zeros behind it keep the text
+pub keeps-padded : (text : List ℕ) → IsLine text → KeepsLine (padded text) (length text)
+keeps-padded text is =
+    let zeros : List ℕ = replicate (80 - length text) 0 in
+    let front : take (length text) (padded text) ≡ text = take_at text zeros (length text) refl in
+    let fits : length text ≤ 80 = is.short in
+    record {
+      long = omega (arith, fits, length-append text zeros, length-replicate {A = ℕ} (80 - length text) 0);
+      line = rw front is;
+      count = sym (ap (λ t. length t) front);
+      kept = ap (λ t. padded t) (sym front);
+    }
+
+-- a text that is written over the front of 80 zeros
+pub padded-written : (text written : List ℕ) → written ≡ text → written ++ drop (length text) (replicate 80 0) ≡ padded text
+padded-written text written same = ap (λ t. t ++ drop (length text) (replicate 80 0)) same ∙ ap (λ zeros. text ++ zeros) (drop-replicate (length text) 80 0)

@@ -1,0 +1,16 @@
+-- Bits of a byte that stand for points side by side, and tiles of eight by eight of them.
+use Rattle.std.specs.Prelude.{ℕ, ℤ, pos, ◌-◌, ◌%◌, ◌==◌, Bool, slice_index, unsigned_abs}
+use Rattle.std.specs.Int.{bit_at, int_rem_euclid}
+use Rattle.tr_base.specs.declared.tiles.Tile.{Tile}
+
+-- the bit of a place is set: place 0 is the highest bit, which stands westmost, and place 8 is place 0 again
+abbrev pub is_set : ℕ → ℕ → Bool
+is_set byte place = bit_at byte (7 - place % 8) == 1
+
+-- the place of a coordinate in the tiles: its remainder by 8, which is never negative
+abbrev pub place_of : ℤ → ℕ
+place_of x = unsigned_abs (int_rem_euclid x (pos 8))
+
+-- the tile is repeated in all directions: the bit at a point
+abbrev pub tile_bit : Tile → ℤ → ℤ → Bool
+tile_bit tile h v = is_set (slice_index tile.rows (place_of v)) (place_of h)

@@ -1,0 +1,24 @@
+use crate::ids::{LeafId, NodeId};
+use crate::ops::Kind;
+use crate::points::Point;
+use crate::sizes::Size;
+
+/// What a point of the screen belongs to.
+#[derive(Clone, Copy, Debug, PartialEq, Eq)]
+pub enum Spot {
+    /// A leaf, of this size: `at` is the point relative to the leaf's north-west corner.
+    Leaf {
+        leaf: LeafId,
+        at: Point,
+        size: Size,
+        kind: Kind,
+    },
+    /// The part of a node that none of its children has.
+    Frame {
+        node: NodeId,
+        tint: u8,
+        kind: Kind,
+    },
+    /// No part of the screen.
+    Off,
+}
