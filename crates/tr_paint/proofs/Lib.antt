@@ -1,0 +1,3 @@
+pub mod NearLemmas
+pub mod TraceLemmas
+pub mod PatchLemmas

@@ -1,0 +1,11 @@
+use Rattle.std.proofs.Common.{◌<◌, rules}
+use Rattle.tr_paint.specs.Paints.{IsNearPoint}
+use Rattle.tr_paint.proofs.NearLemmas.{whole-in_reach}
+use Rattle.tr_paint.proofs.paints.Paint.area.Goals as goal
+
+pub shift-requires : goal.shift-requires
+shift-requires c =
+    let wide : c.size.result.wide < 65536 = search rules in
+    let high : c.size.result.high < 65536 = search rules in
+    let near : IsNearPoint c.in-Pixels.delta = (rw c.in-Pixels.is at c.requires).1 in
+    rw c.whole.ensures.edges (whole-in_reach c.size.result c.in-Pixels.delta wide high near)

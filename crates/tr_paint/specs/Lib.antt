@@ -1,0 +1,4 @@
+pub mod Paints
+pub mod Traces
+pub mod Batches
+pub mod Patches

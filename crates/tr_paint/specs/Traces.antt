@@ -1,0 +1,66 @@
+-- What paint commands do at a point of a window, and what is known of its colour after them.
+use Rattle.std.specs.Prelude.{ℕ, Bool, if◌then◌else◌, List, [], ◌∷◌, Option, Some, None}
+use mathlib.Core.List.{reverse}
+use Rattle.std.specs.Option.{option_map}
+use Rattle.tr_base.specs.declared.Point.{Point}
+use Rattle.tr_base.specs.declared.Kind.{Kind}
+use Rattle.tr_base.specs.declared.Op.{Op}
+use Rattle.tr_base.specs.Ops.{eff}
+use Rattle.tr_base.specs.Rects.{before_shift, has_point}
+use Rattle.tr_paint.specs.declared.paints.Paint.{Paint}
+use Rattle.tr_paint.specs.declared.paints.Paint.TheVariants.{Tint, Texture, Pixels, Text, Scroll, Spoil}
+use Rattle.tr_paint.specs.Paints.{area, is_opaque, op_at}
+
+-- what painting depends on beside the commands: the kind of the pixels, and the glyphs of the font
+pub record Look : Type 0 where
+  pub kind : Kind
+  pub font : List (List ℕ)
+
+-- what one command does at one point
+pub data Deed : Type 0 where
+  -- leaves it as it is
+  Keep : Deed
+  -- makes it unknown
+  Lose : Deed
+  -- gives it what another point had
+  From : Point → Deed
+  -- gives it a pixel, whatever it was
+  Value : ℕ → Deed
+  -- applies an operation to it
+  Change : Op → Deed
+
+-- the deed of a command at a point of its area: an opaque one gives a pixel, another one changes what is there
+abbrev pub deed_within : Look → Paint → Point → Deed
+deed_within look (Scroll clip delta) q = From (before_shift q delta)
+deed_within look (Spoil clip) q = Lose
+deed_within look c q = if is_opaque c then Value (eff look.kind (op_at look.font c q) 0) else Change (op_at look.font c q)
+
+-- the deed of a command at a point: outside its area it leaves all as it is
+abbrev pub deed : Look → Paint → Point → Deed
+deed look c q = if has_point (area c) q then deed_within look c q else Keep
+
+-- what there is before the commands: which points are visible, and the pixels that are known of some of them
+pub record Base : Type 0 where
+  pub visible : Point → Bool
+  pub known : Point → Option ℕ
+
+-- the colour of a point after a deed, by the colours before it
+abbrev pub done : Kind → Deed → (Point → Option ℕ) → Point → Option ℕ
+done kind Keep before q = before q
+done kind Lose before q = None
+done kind (From r) before q = before r
+done kind (Value x) before q = Some x
+done kind (Change op) before q = option_map (eff kind op) (before q)
+
+-- the colour of a point, if it is known, traced back through commands, the last one first; a point that isn't visible is never known
+abbrev pub trace : Look → Base → List Paint → Point → Option ℕ
+trace look base [] q = if base.visible q then base.known q else None
+trace look base (c ∷ before) q = if base.visible q then done look.kind (deed look c q) (trace look base before) q else None
+
+-- the colour of a point after the commands of a batch, in their order
+abbrev pub after : Look → Base → List Paint → Point → Option ℕ
+after look base batch q = trace look base (reverse batch) q
+
+-- what a batch leaves for the commands that come after it
+abbrev pub left_by : Look → Base → List Paint → Base
+left_by look base batch = record { visible = base.visible; known = λ q. after look base batch q }

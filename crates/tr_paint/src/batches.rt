@@ -1,0 +1,135 @@
+ghost use Rattle.std.specs.Prelude.{◌≡◌, ◌<◌, ◌↔◌, ◌++◌, [], length, slice_get, Some, IsTrue, IfOk, OnOk, OnErr};
+ghost use Rattle.tr_paint.specs.Paints.{IsNearPaint};
+ghost use Rattle.tr_base.specs.declared.Point.{Point};
+ghost use Rattle.tr_paint.specs.Traces.{Look, Base, after, left_by};
+ghost use Rattle.tr_paint.specs.Batches as spec;
+
+use crate::paints::Paint;
+use std::alloc::Global;
+use std::marker::Model;
+use tr_base::{NoMemory, Point};
+
+/// Paint commands in the order in which they are to be executed, seen as their list. Each has an area
+/// that isn't empty.
+#[derive(Debug, Drop)]
+pub struct Batch {
+    paints: Vec<Paint>,
+}
+
+impl Model for Batch {
+    ghost use Rattle.std.specs.Prelude.{List};
+    ghost use Rattle.tr_paint.specs.declared.paints.Paint.{Paint};
+    ghost use Rattle.tr_paint.specs.Batches.{IsBatch};
+
+    ghost Value = { List Paint };
+
+    ghost view = { λ b. b.paints.items };
+
+    ghost invariant = { λ b. IsBatch b.paints.items };
+}
+
+impl Batch {
+    /// A batch with no command.
+    pub fn new(alloc: Global) -> Batch
+        ensures { result ≡ [] }
+    {
+        Batch {
+            paints: Vec::new(alloc),
+        }
+    }
+
+    /// Puts a command at the end; one whose area is empty is left out.
+    pub fn push(&mut self, paint: Paint) -> Result<(), NoMemory>
+        requires { IsNearPaint paint }
+        ensures ok { OnOk result (self.new ≡ self.old ++ spec.kept paint) }
+        ensures err { OnErr result (self.new ≡ self.old) }
+    {
+        if !paint.area().is_empty() {
+            self.paints.push(paint)?;
+        }
+        Ok(())
+    }
+
+    /// Puts the commands of another batch at the end.
+    pub fn append(&mut self, other: &Batch) -> Result<(), NoMemory>
+        ensures ok { OnOk result (self.new ≡ self.old ++ other.now) }
+        ensures err { OnErr result (self.new ≡ self.old) }
+
+        // Two batches in a row do what the second does over what the first leaves.
+        ensures in_a_row { (look : Look) (base : Base) (q : Point) →
+            after look base (self.old ++ other.now) q ≡ after look (left_by look base self.old) other.now q }
+    {
+        let mut copies = copies_of(&other.paints)?;
+        self.paints.append(&mut copies)?;
+        Ok(())
+    }
+
+    /// How many commands it has.
+    pub fn len(&self) -> usize
+        ensures { result ≡ length self.now }
+    {
+        self.paints.len()
+    }
+
+    /// Whether it has no command.
+    pub fn is_empty(&self) -> bool
+        ensures { IsTrue result ↔ (self.now ≡ []) }
+    {
+        self.paints.is_empty()
+    }
+
+    /// The command that stands behind `i` others.
+    pub fn get(&self, i: usize) -> &Paint
+        requires { i < length self.now }
+        ensures { slice_get self.now i ≡ Some result.now }
+    {
+        &self.paints[i]
+    }
+
+    /// Its commands in their order.
+    pub fn paints(&self) -> &[Paint]
+        ensures value { result.now ≡ self.now }
+        ensures invariant { spec.IsBatch self.now }
+    {
+        &self.paints
+    }
+
+    /// Whether the point lies in the area of one of the commands.
+    pub fn touches(&self, q: Point) -> bool
+        ensures { result ≡ spec.touches self.now q }
+    {
+        for paint in &self.paints {
+            if paint.area().has(q) {
+                return true;
+            }
+        }
+        false
+    }
+
+    /// Lets all commands go.
+    pub fn clear(&mut self)
+        ensures { self.new ≡ [] }
+    {
+        self.paints.clear();
+    }
+
+    /// A batch with the same commands.
+    pub fn copy(&self) -> Result<Batch, NoMemory>
+        ensures { IfOk result (λ b. b ≡ self.now) }
+    {
+        Ok(Batch {
+            paints: copies_of(&self.paints)?,
+        })
+    }
+}
+
+/// The same commands.
+fn copies_of(paints: &Vec<Paint>) -> Result<Vec<Paint>, NoMemory>
+    ensures { IfOk result (λ copies. copies.items ≡ paints.now.items) }
+{
+    let mut copies = Vec::with_capacity(*paints.allocator(), paints.len())?;
+    for paint in paints {
+        copies.push(paint.copy()?)?;
+    }
+    Ok(copies)
+}

@@ -1,0 +1,14 @@
+//! Paint commands, and batches of them. A client never touches the screen: it hands over a batch, which
+//! is executed later, clipped to what is visible then.
+//!
+//! All coordinates are relative to the north-west corner of the client's window.
+#![tactic(auto)]
+
+mod batches;
+mod paints;
+
+pub use batches::Batch;
+pub use paints::{NEAR, Paint};
+
+#[cfg(test)]
+mod tests;

@@ -1,0 +1,151 @@
+ghost use Rattle.std.specs.Prelude.{◌≡◌, ◌*◌, ◌≤ℤ◌, pos, length, IfOk};
+ghost use Rattle.tr_paint.specs.Paints as spec;
+
+use tr_base::{Line, NoMemory, Op, Pair, Pixmap, Point, Rect, Tile, moved, opaque, whole};
+
+/// How far a coordinate of a paint command may be from 0.
+pub const NEAR: i32 = 16_384;
+
+/// The side of a text's cell.
+const CELL: i32 = 8;
+
+/// A paint command, in the coordinates of the window that it paints in. Each edge of a clip and each
+/// coordinate of `delta` and `at` lies within -16,384 to 16,384.
+#[derive(Debug, Drop)]
+pub enum Paint {
+    /// Applies the operation at each point.
+    Tint {
+        clip: Rect,
+        op: Op,
+    },
+    /// Applies the operation for the tile's bit, where the tile is repeated in all directions from
+    /// `delta` on.
+    Texture {
+        clip: Rect,
+        ops: Pair,
+        tile: Tile,
+        delta: Point,
+    },
+    /// Writes the pixels of a picture whose north-west corner lies at `delta`.
+    Pixels {
+        clip: Rect,
+        src: Pixmap,
+        delta: Point,
+    },
+    /// Applies the operation for the glyph's bit in each cell of a text, whose north-west corner lies
+    /// at `at`.
+    Text {
+        clip: Rect,
+        at: Point,
+        ops: Pair,
+        text: Line,
+    },
+    /// Gives each point what the point `delta` before it had.
+    Scroll {
+        clip: Rect,
+        delta: Point,
+    },
+    /// Makes what each point shows unknown.
+    Spoil {
+        clip: Rect,
+    },
+}
+
+impl Paint {
+    /// The points at which it does something: its clip, cut for a text by its cells of 8 by 8, and for
+    /// pixels by where they lie.
+    pub fn area(&self) -> Rect
+        requires { spec.IsNearPaint self.now }
+        ensures { result ≡ spec.area self.now }
+    {
+        match self {
+            Paint::Tint { clip, .. }
+            | Paint::Texture { clip, .. }
+            | Paint::Scroll { clip, .. }
+            | Paint::Spoil { clip } => *clip,
+            Paint::Pixels { clip, src, delta } => clip.meet(&whole(src.size()).shift(*delta)),
+            Paint::Text { clip, at, text, .. } => clip.meet(&cells(*at, text)),
+        }
+    }
+
+    /// Whether what it leaves doesn't depend on the pixels that were there.
+    pub fn is_opaque(&self) -> bool
+        ensures { result ≡ spec.is_opaque self.now }
+    {
+        match self {
+            Paint::Tint { op, .. } => opaque(*op),
+            Paint::Texture { ops, .. } | Paint::Text { ops, .. } => are_opaque(*ops),
+            Paint::Pixels { .. } => true,
+            Paint::Scroll { .. } | Paint::Spoil { .. } => false,
+        }
+    }
+
+    /// The same command.
+    pub fn copy(&self) -> Result<Paint, NoMemory>
+        ensures { IfOk result (λ c. c ≡ self.now) }
+    {
+        Ok(match self {
+            Paint::Tint { clip, op } => Paint::Tint {
+                clip: *clip,
+                op: *op,
+            },
+            Paint::Texture {
+                clip,
+                ops,
+                tile,
+                delta,
+            } => Paint::Texture {
+                clip: *clip,
+                ops: *ops,
+                tile: *tile,
+                delta: *delta,
+            },
+            Paint::Pixels { clip, src, delta } => Paint::Pixels {
+                clip: *clip,
+                src: src.copy()?,
+                delta: *delta,
+            },
+            Paint::Text {
+                clip,
+                at,
+                ops,
+                text,
+            } => Paint::Text {
+                clip: *clip,
+                at: *at,
+                ops: *ops,
+                text: *text,
+            },
+            Paint::Scroll { clip, delta } => Paint::Scroll {
+                clip: *clip,
+                delta: *delta,
+            },
+            Paint::Spoil { clip } => Paint::Spoil { clip: *clip },
+        })
+    }
+}
+
+/// Whether both operations are opaque.
+fn are_opaque(ops: Pair) -> bool
+    ensures { result ≡ spec.both_opaque ops }
+{
+    opaque(ops.zero) && opaque(ops.one)
+}
+
+/// The cells of a text that begins at a point.
+fn cells(at: Point, text: &Line) -> Rect
+    requires { spec.IsNearPoint at }
+    ensures { result ≡ spec.cells_of at (length text.now) }
+{
+    let east = moved(at.h, wide_of(text));
+    let south = moved(at.v, CELL);
+    Rect::edges(at.h, east, at.v, south)
+}
+
+/// How wide the cells of a text are together.
+fn wide_of(text: &Line) -> i32
+    ensures value { result ≡ pos (8 * length text.now) }
+    ensures limit { result ≤ℤ pos 640 }
+{
+    CELL * text.bytes().len() as i32
+}
