@@ -1,10 +1,14 @@
 -- Counts of calls and of faults, which are kept in 64 bits.
 use Rattle.std.specs.Prelude.{◌≡◌, ℕ, ◌+◌, ◌-◌, ◌^◌, ◌<◌, ◌⊎◌, min}
 
--- the count after one more; it stands still at its last value, 2^64 - 1
+-- the last value of a count, at which it stands still
+abbrev pub last_count : ℕ
+last_count = 2 ^ 64 - 1
+
+-- the count after one more
 abbrev pub next_count : ℕ → ℕ
-next_count n = min (n + 1) (2 ^ 64 - 1)
+next_count n = min (n + 1) last_count
 
 -- a fault was counted between the two counts, or the later one stands at its last value
 abbrev pub HasFault : ℕ → ℕ → Type 0
-HasFault before after = (before < after) ⊎ (after ≡ 2 ^ 64 - 1)
+HasFault before after = (before < after) ⊎ (after ≡ last_count)

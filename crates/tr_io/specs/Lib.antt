@@ -1,2 +1,4 @@
 pub mod Faults
+pub mod Streams
 pub mod States
+pub mod Attempts

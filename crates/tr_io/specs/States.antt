@@ -1,7 +1,7 @@
 -- What contracts see of the sources and sinks in memory.
 use Rattle.std.specs.Prelude.{ℕ, List}
 
--- a source with planned failures
+-- a source with planned faults
 pub record SourceState : Type 0 where
   -- the bytes still to come
   pub left : List ℕ
@@ -19,7 +19,7 @@ pub record SteadyState : Type 0 where
   -- how many bytes it can take with no further memory
   pub room : ℕ
 
--- a sink with planned failures
+-- a sink with planned faults
 pub record SinkState : Type 0 where
   -- the bytes that it has taken
   pub written : List ℕ
@@ -32,4 +32,10 @@ pub record SinkState : Type 0 where
   -- the numbers of the writes that fail, counted from 1
   pub fails : List ℕ
   -- how many writes failed
+  pub faults : ℕ
+
+-- a source or a sink over a stream of the system
+pub record StreamState (S : Type 0) : Type 0 where
+  pub stream : S
+  -- how many reads or writes failed
   pub faults : ℕ

@@ -1,16 +1,19 @@
 //! Where bytes come from and where they go: a source is read in pieces and a sink is written in
-//! pieces. Each of them counts its faults, so that a failure is answered only where there was one.
+//! pieces. Each of them counts its faults, so that `Failed` is answered only where there was one.
 #![tactic(auto)]
 
+mod attempts;
 mod plans;
 mod sinks;
 mod sources;
-mod standard;
+mod standard_input;
+mod standard_output;
 mod streams;
 #[cfg(test)]
 mod tests;
 
 pub use sinks::{MemorySink, SteadySink};
 pub use sources::{MemorySource, SteadySource};
-pub use standard::{StdSink, StdSource};
+pub use standard_input::StdSource;
+pub use standard_output::StdSink;
 pub use streams::{Failed, Sink, Source};

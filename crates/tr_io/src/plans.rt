@@ -5,7 +5,7 @@ use crate::streams::Failed;
 
 /// Which calls of a source or a sink fail.
 #[derive(Drop)]
-pub(crate) struct FailurePlan {
+pub(crate) struct FaultPlan {
     /// The numbers of the calls that fail, counted from 1.
     pub(crate) fails: Vec<u64>,
     /// How many calls there were. It stands still at its last value.
@@ -14,13 +14,13 @@ pub(crate) struct FailurePlan {
     pub(crate) faults: u64,
 }
 
-impl FailurePlan {
-    pub(crate) fn new(fails: Vec<u64>) -> FailurePlan
+impl FaultPlan {
+    pub(crate) fn new(fails: Vec<u64>) -> FaultPlan
         ensures fails { result.fails ≡ fails }
         ensures calls { result.calls ≡ 0 }
         ensures faults { result.faults ≡ 0 }
     {
-        FailurePlan {
+        FaultPlan {
             fails,
             calls: 0,
             faults: 0,

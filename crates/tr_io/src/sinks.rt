@@ -1,7 +1,7 @@
 ghost use Rattle.std.specs.Prelude.{◌≡◌, ◌+◌, ◌<◌, ◌≤◌, ◌↔◌, [], ◌++◌, length, take, min, Contains, IfOk, OnOk, OnErr, IsErr, IsOk};
 ghost use Rattle.tr_io.specs.Faults.{next_count};
 
-use crate::plans::FailurePlan;
+use crate::plans::FaultPlan;
 use crate::streams::{Failed, Sink};
 use std::alloc::Global;
 use std::marker::Model;
@@ -74,7 +74,7 @@ impl Sink for SteadySink {
 pub struct MemorySink {
     sink: SteadySink,
     piece: usize,
-    plan: FailurePlan,
+    plan: FaultPlan,
 }
 
 impl Model for MemorySink {
@@ -98,13 +98,14 @@ impl MemorySink {
         MemorySink {
             sink: SteadySink::new(alloc),
             piece,
-            plan: FailurePlan::new(fails),
+            plan: FaultPlan::new(fails),
         }
     }
 
     /// The bytes that it has taken, the first one first.
     pub fn written(&self) -> &[u8]
-        ensures { result.now ≡ self.now.written }
+        ensures value { result.now ≡ self.now.written }
+        ensures invariant { 1 ≤ self.now.piece }
     {
         self.sink.written()
     }

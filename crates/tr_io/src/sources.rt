@@ -1,7 +1,7 @@
 ghost use Rattle.std.specs.Prelude.{◌≡◌, ◌≤◌, ◌↔◌, length, take, drop, min, Contains, IfOk, OnErr, IsErr, IsOk};
 ghost use Rattle.tr_io.specs.Faults.{next_count};
 
-use crate::plans::FailurePlan;
+use crate::plans::FaultPlan;
 use crate::streams::{Failed, Source};
 use std::marker::Model;
 
@@ -64,7 +64,7 @@ impl Source for SteadySource {
 #[derive(Drop)]
 pub struct MemorySource {
     source: SteadySource,
-    plan: FailurePlan,
+    plan: FaultPlan,
 }
 
 impl Model for MemorySource {
@@ -82,7 +82,7 @@ impl MemorySource {
     {
         MemorySource {
             source: SteadySource::new(bytes),
-            plan: FailurePlan::new(fails),
+            plan: FaultPlan::new(fails),
         }
     }
 

@@ -1,11 +1,13 @@
-ghost use Rattle.std.specs.Prelude.{◌≡◌, ◌+◌, ◌<◌, ◌≤◌, ◌↔◌, [], ◌++◌, ℕ, List, Option, length, take, IfOk, OnOk, OnErr, IfSome};
-ghost use Rattle.std.specs.Option.{option_map};
+ghost use Rattle.std.specs.Prelude.{◌≡◌, ◌+◌, ◌<◌, ◌≤◌, ◌↔◌, [], ℕ, List, Option, length, take, IfOk, OnOk, OnErr, IfSome};
 ghost use Rattle.tr_io.specs.Faults.{HasFault};
+ghost use Rattle.tr_io.specs.Streams.{Fell, Grew};
 
+use thiserror::Error;
 use tr_base::NoMemory;
 
-/// A fault of reading or writing.
-#[derive(Clone, Copy, Debug, PartialEq, Eq)]
+/// The answer to a read or a write that a fault came in the way of.
+#[derive(Clone, Copy, Debug, PartialEq, Eq, Error)]
+#[error("a read or a write failed")]
 pub struct Failed;
 
 /// Where bytes come from.
@@ -20,8 +22,7 @@ pub trait Source {
     /// not empty, 0 says that there are no more.
     fn read(&mut self, buf: &mut [u8]) -> Result<usize, Failed>
         ensures count { IfOk result (λ n. n ≤ length buf.new) }
-        // The bytes are the first of those that were left, and gone from them.
-        ensures taken { IfOk result (λ n. left self.old ≡ option_map (λ rest. take n buf.new ++ rest) (left self.new)) }
+        ensures taken { IfOk result (λ n. Fell (left self.old) (left self.new) (take n buf.new)) }
         ensures end { IfOk result (λ n. 0 < length buf.old → IfSome (left self.old) (λ bytes. (n ≡ 0) ↔ (bytes ≡ []))) }
         ensures failed { OnErr result (HasFault (faults self.old) (faults self.new)) }
         ensures unchanged { OnErr result (left self.new ≡ left self.old) }
@@ -52,7 +53,7 @@ pub trait Sink {
         requires { length piece.now ≤ room self.old }
         ensures count { IfOk result (λ n. n ≤ length piece.now) }
         ensures progress { 0 < length piece.now → IfOk result (λ n. 0 < n) }
-        ensures appended { IfOk result (λ n. written self.new ≡ option_map (λ bytes. bytes ++ take n piece.now) (written self.old)) }
+        ensures appended { IfOk result (λ n. Grew (written self.old) (written self.new) (take n piece.now)) }
         ensures room { IfOk result (λ n. room self.old ≤ room self.new + n) }
         ensures failed { OnErr result (HasFault (faults self.old) (faults self.new)) }
         ensures unchanged { OnErr result (written self.new ≡ written self.old) }

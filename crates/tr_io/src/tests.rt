@@ -1,4 +1,6 @@
 use super::*;
+use crate::attempts::{Attempt, read_attempt, write_attempt};
+use std::io::Error;
 use std::test::Fail;
 use tr_base::NoMemory;
 
@@ -74,5 +76,28 @@ fn standard_streams_take_an_empty_piece(rt: HostRuntime) -> Result<(), Fail> {
     assert_eq!(rt; source.read(&mut []), Ok(0));
     let mut sink = StdSink::new(rt.stdout());
     assert_eq!(rt; write_piece(&mut sink, b"")?, Ok(0));
+    Ok(())
+}
+
+/// The numbers of the system's errors: an interrupted call, a fault of the device, a closed stream.
+#[test]
+fn errors_of_the_system_are_told_apart(rt: HostRuntime) -> Result<(), Fail> {
+    let cases = [
+        (4, Attempt::Again, Attempt::Again),
+        (5, Attempt::Fault, Attempt::Fault),
+        (9, Attempt::Moved(0), Attempt::Fault),
+    ];
+    for (number, read, write) in cases {
+        assert_eq!(rt; read_attempt(Err(Error::from_raw_os_error(number))), read);
+        assert_eq!(rt;
+            write_attempt(Err(Error::from_raw_os_error(number)), b"x"),
+            write
+        );
+    }
+    assert_eq!(rt; write_attempt(Ok(0), b"x"), Attempt::Fault);
+    assert_eq!(rt;
+        format!(in rt.alloc(); "{Failed}")?.as_str(),
+        "a read or a write failed"
+    );
     Ok(())
 }
