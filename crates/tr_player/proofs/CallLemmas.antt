@@ -13,7 +13,8 @@ use Rattle.tr_player.specs.Texts.{line_text, lines_text, dump_text}
 use Rattle.tr_player.specs.Scripts.{Script, IsScript, IsInRange, IsInForm, IsName, shape_words, command_lines, script_lines}
 use Rattle.tr_player.specs.Outputs.{pic, picture_by, out}
 use Rattle.tr_player.specs.Windows.{Shows}
-use Rattle.tr_player.specs.Answers.{texts_of, bytes_read, left_after, OfBytesRead, IsReadThrough, Seen, Due, usage, read_fault, refused, output, IsDue, IsDelivered, Yields}
+use Rattle.tr_io.specs.Streams.{Grew}
+use Rattle.tr_player.specs.Answers.{texts_of, longest_script, most_read, OfBytesRead, IsReadThrough, Prints, Seen, Delivery, Due, usage, read_fault, refused, output, IsDue, IsDelivered, Yields}
 use Rattle.tr_player.specs.declared.scripts.OneWindow.{OneWindow}
 
 -- one word is the accepted one where it has its bytes
@@ -32,13 +33,17 @@ shows_out s w h =
     ap (λ (size : Size). dump_text (picture_by size Map8 (pic Map8 w.tint))) h.size
     ∙ ap (λ (tint : ℕ). dump_text (picture_by s.size Map8 (pic Map8 tint))) h.tint
 
+-- what follows of the bytes that were read
+of_read : (P Q : List ℕ → Type 0) → ((bytes : List ℕ) → P bytes → Q bytes) → (left : Option (List ℕ)) → OfBytesRead left P → OfBytesRead left Q
+of_read P Q f None (bytes, p) = (bytes, f bytes p)
+of_read P Q f (Some xs) p = f (take most_read xs) p
+
 -- the text of the script that was read is due
-pub output_due : (left : Option (List ℕ)) (bytes text : List ℕ) (w : OneWindow) → OfBytesRead left (λ read. bytes ≡ read) →
-    ((s : Script) × IsScript bytes s × Shows s w) → text ≡ dump_text (picture_by w.size Map8 (pic Map8 w.tint)) →
-    OfBytesRead left (λ read. (s : Script) × IsScript read s × (text ≡ out s))
-output_due None bytes text w e (s, is, shows) t = (bytes, (s, is, t ∙ shows_out s w shows))
-output_due (Some xs) bytes text w e (s, is, shows) t =
-    (s, subst (λ (b : List ℕ). IsScript b s) e is, t ∙ shows_out s w shows)
+pub output_due : (left : Option (List ℕ)) (bytes text : List ℕ) (w : OneWindow) → OfBytesRead left (λ read. bytes ≡ read) → IsInForm bytes →
+    ((s : Script) → IsScript bytes s → Shows s w) → text ≡ dump_text (picture_by w.size Map8 (pic Map8 w.tint)) → OfBytesRead left (λ read. Prints read text)
+output_due left bytes text w e form shows t =
+    let prints : Prints bytes text = (form, λ s is. t ∙ shows_out s w (shows s is)) in
+    of_read _ _ (λ read (same : bytes ≡ read). subst (λ (b : List ℕ). Prints b text) same prints) left e
 
 -- words are counted with the space or the line feed behind each
 joined_short : (words : List (List ℕ)) → AllByRecursion (λ w. length w ≤ 20) words → length (join_with_byte 32 words) ≤ 21 * length words
@@ -153,7 +158,8 @@ few_lines name None = omega arith
 few_lines name (Some n) = omega arith
 
 -- a script has fewer bytes than are read at most
-pub script_short : (bytes : List ℕ) (s : Script) → IsScript bytes s → length bytes < 4194305
+pub script_short : (bytes : List ℕ) (s : Script) → IsScript bytes s → length bytes < most_read
+unfolding most_read longest_script
 script_short bytes s is =
     let most = lines_short (script_lines s) (script_lines_short s is.in_range) in
     let few = few_lines s.name s.command in
@@ -165,45 +171,39 @@ all_read : (most : ℕ) (xs : List ℕ) → length (take most xs) < most → dro
 all_read most xs h = grind (arith, common_steps)
 
 -- a source of a script in form is read to its end
-pub read_to_end : (left left_new : Option (List ℕ)) → OfBytesRead left (λ read. (s : Script) × IsScript read s) → IsReadThrough left left_new →
-    IfSome left_new (λ rest. rest ≡ [])
-unfolding bytes_read left_after
+pub read_to_end : (left left_new : Option (List ℕ)) → OfBytesRead left IsInForm → IsReadThrough left left_new → IfSome left_new (λ rest. rest ≡ [])
 read_to_end left left_new is e = subst (λ (x : Option (List ℕ)). IfSome x (λ rest. rest ≡ [])) (sym e) (by_cases left is)
   where
-    by_cases : (x : Option (List ℕ)) → OfBytesRead x (λ read. (s : Script) × IsScript read s) → IfSome (option_map left_after x) (λ rest. rest ≡ [])
+    by_cases : (x : Option (List ℕ)) → OfBytesRead x IsInForm → IfSome (option_map (λ bytes. drop most_read bytes) x) (λ rest. rest ≡ [])
     by_cases None h = tt
-    by_cases (Some xs) (s, h) = all_read 4194305 xs (script_short _ s h)
-
--- what follows of the bytes that were read
-of_read : (P Q : List ℕ → Type 0) → ((bytes : List ℕ) → P bytes → Q bytes) → (left : Option (List ℕ)) → OfBytesRead left P → OfBytesRead left Q
-of_read P Q f None (bytes, p) = (bytes, f bytes p)
-of_read P Q f (Some xs) p = f (bytes_read xs) p
-
--- the bytes of a script whose text is due are in form
-script_read : (left : Option (List ℕ)) (text : List ℕ) → OfBytesRead left (λ read. (s : Script) × IsScript read s × (text ≡ out s)) →
-    OfBytesRead left (λ read. (s : Script) × IsScript read s)
-script_read left text h = of_read _ _ (λ bytes x. (x.0, x.1)) left h
+    by_cases (Some xs) (s, h) = all_read most_read xs (script_short _ s h)
 
 -- at status 0 the source was read to its end
-pub at_zero : (seen : Seen) (due : Due) (status : ℕ) (before after : Option (List ℕ)) (faults faults_new : ℕ) → IsDue seen due →
-    IsDelivered due status before after faults faults_new → status ≡ 0 → IfSome seen.left_new (λ rest. rest ≡ [])
-at_zero seen due status before after faults faults_new d (inr (inl w)) e = absurd (omega arith)
-at_zero seen due status before after faults faults_new d (inr (inr w)) e = absurd (omega arith)
-at_zero seen usage status before after faults faults_new d (inl w) e = absurd (omega arith)
-at_zero seen read_fault status before after faults faults_new d (inl w) e = absurd (omega arith)
-at_zero seen refused status before after faults faults_new d (inl w) e = absurd (omega arith)
-at_zero seen (output text) status before after faults faults_new d (inl w) e =
-    read_to_end seen.left seen.left_new (script_read seen.left text d.2) d.1
+pub at_zero : (seen : Seen) (due : Due) (status : ℕ) (to : Delivery) → IsDue seen due → IsDelivered due status to → status ≡ 0 → IfSome seen.left_new (λ rest. rest ≡ [])
+at_zero seen due status to d (inr (inl w)) e = absurd (omega arith)
+at_zero seen due status to d (inr (inr w)) e = absurd (omega arith)
+at_zero seen usage status to d (inl w) e = absurd (omega arith)
+at_zero seen read_fault status to d (inl w) e = absurd (omega arith)
+at_zero seen refused status to d (inl w) e = absurd (omega arith)
+at_zero seen (output text) status to d (inl w) e = read_to_end seen.left seen.left_new (of_read _ _ (λ bytes x. x.0) seen.left d.2) d.1
+
+-- at status 0 the text of the script that was read is written
+pub output_written : (seen : Seen) (due : Due) (status : ℕ) (to : Delivery) → IsDue seen due → IsDelivered due status to → status ≡ 0 →
+    OfBytesRead seen.left (λ bytes. (text : List ℕ) × Prints bytes text × Grew to.written to.written_new text)
+output_written seen due status to d (inr (inl w)) e = absurd (omega arith)
+output_written seen due status to d (inr (inr w)) e = absurd (omega arith)
+output_written seen usage status to d (inl w) e = absurd (omega arith)
+output_written seen read_fault status to d (inl w) e = absurd (omega arith)
+output_written seen refused status to d (inl w) e = absurd (omega arith)
+output_written seen (output text) status to d (inl w) e = of_read _ _ (λ bytes x. (text, x, w.1)) seen.left d.2
 
 -- of the answers to a script that was read, 3 comes exactly where the bytes are in no form
-pub refused_exactly : (seen : Seen) (due : Due) (status : ℕ) (before after : Option (List ℕ)) (faults faults_new : ℕ) → IsDue seen due →
-    IsDelivered due status before after faults faults_new →
+pub refused_exactly : (seen : Seen) (due : Due) (status : ℕ) (to : Delivery) → IsDue seen due → IsDelivered due status to →
     Yields status (status ≢ 2 → status ≢ 4 → OfBytesRead seen.left (λ bytes. (status ≡ 3) ↔ (IsInForm bytes → ⊥)))
-refused_exactly seen due status before after faults faults_new d (inr (inl w)) = λ n5 n6 n2 n4. absurd (n5 w.0)
-refused_exactly seen due status before after faults faults_new d (inr (inr w)) = λ n5 n6 n2 n4. absurd (n6 w.0)
-refused_exactly seen usage status before after faults faults_new d (inl w) = λ n5 n6 n2 n4. absurd (n2 w.0)
-refused_exactly seen read_fault status before after faults faults_new d (inl w) = λ n5 n6 n2 n4. absurd (n4 w.0)
-refused_exactly seen refused status before after faults faults_new d (inl w) = λ n5 n6 n2 n4.
-    of_read _ _ (λ bytes none. (λ _. none, λ _. w.0)) seen.left d.2
-refused_exactly seen (output text) status before after faults faults_new d (inl w) = λ n5 n6 n2 n4.
-    of_read _ _ (λ bytes x. (λ three. absurd (omega arith), λ none. absurd (none (x.0, x.1)))) seen.left d.2
+refused_exactly seen due status to d (inr (inl w)) = λ n5 n6 n2 n4. absurd (n5 w.0)
+refused_exactly seen due status to d (inr (inr w)) = λ n5 n6 n2 n4. absurd (n6 w.0)
+refused_exactly seen usage status to d (inl w) = λ n5 n6 n2 n4. absurd (n2 w.0)
+refused_exactly seen read_fault status to d (inl w) = λ n5 n6 n2 n4. absurd (n4 w.0)
+refused_exactly seen refused status to d (inl w) = λ n5 n6 n2 n4. of_read _ _ (λ bytes none. (λ _. none, λ _. w.0)) seen.left d.2
+refused_exactly seen (output text) status to d (inl w) = λ n5 n6 n2 n4.
+    of_read _ _ (λ bytes x. (λ three. absurd (omega arith), λ none. absurd (none x.0))) seen.left d.2

@@ -5,7 +5,9 @@ use Rattle.std.proofs.lemmas.Bool.Decides.{nat_tests}
 use Rattle.std.specs.Prelude.{Option, Some, None, IfSome}
 use Rattle.std.proofs.lemmas.Grind.{common_steps}
 use mathlib.Core.List.{append_assoc}
-use Rattle.tr_player.specs.Answers.{Grew, IsReadThrough, OfBytesRead, bytes_read, left_after, whole_of}
+use Rattle.std.specs.Io.KnownBytes.{prepend_known}
+use Rattle.tr_io.specs.Streams.{Fell, Grew}
+use Rattle.tr_player.specs.Answers.{IsReadThrough, OfBytesRead, longest_script, most_read}
 
 -- text that a sink took in two parts
 pub grew_twice : (x y z : Option (List ℕ)) (text : List ℕ) (m n : ℕ) → Grew x y (take m text) → Grew y z (take n (drop m text)) → Grew x z (take (m + n) text)
@@ -30,20 +32,20 @@ drop_all most bytes rest h k = by_test (nat_lt (length bytes) most) refl
     by_test false t = let full : most ≡ length bytes = grind (arith, nat_tests) in rw full (sym (drop-append_seam bytes rest))
 
 -- where the source came to its end, or as many bytes came as may be read, the bytes are those read
-pub are_read : (left left_new : Option (List ℕ)) (bytes : List ℕ) (n : ℕ) → length bytes ≡ n → whole_of bytes left_new ≡ left → n ≤ 4194305 →
+pub are_read : (left left_new : Option (List ℕ)) (bytes : List ℕ) (n : ℕ) → length bytes ≡ n → Fell left left_new bytes → n ≤ 4194305 →
     (n < 4194305 → IfSome left_new (λ rest. rest ≡ [])) → OfBytesRead left (λ read. bytes ≡ read)
-unfolding bytes_read
-are_read left left_new bytes n len e h k = subst (λ (x : Option (List ℕ)). OfBytesRead x (λ read. bytes ≡ read)) e (by_cases left_new k)
+unfolding most_read longest_script
+are_read left left_new bytes n len e h k = subst (λ (x : Option (List ℕ)). OfBytesRead x (λ read. bytes ≡ read)) (sym e) (by_cases left_new k)
   where
-    by_cases : (x : Option (List ℕ)) → (n < 4194305 → IfSome x (λ rest. rest ≡ [])) → OfBytesRead (whole_of bytes x) (λ read. bytes ≡ read)
+    by_cases : (x : Option (List ℕ)) → (n < 4194305 → IfSome x (λ rest. rest ≡ [])) → OfBytesRead (prepend_known bytes x) (λ read. bytes ≡ read)
     by_cases None k = (bytes, refl)
     by_cases (Some rest) k = sym (take_all 4194305 bytes rest (omega arith) (λ small. k (omega arith)))
 
-pub is_read_through : (left left_new : Option (List ℕ)) (bytes : List ℕ) (n : ℕ) → length bytes ≡ n → whole_of bytes left_new ≡ left → n ≤ 4194305 →
+pub is_read_through : (left left_new : Option (List ℕ)) (bytes : List ℕ) (n : ℕ) → length bytes ≡ n → Fell left left_new bytes → n ≤ 4194305 →
     (n < 4194305 → IfSome left_new (λ rest. rest ≡ [])) → IsReadThrough left left_new
-unfolding left_after
-is_read_through left left_new bytes n len e h k = subst (λ (x : Option (List ℕ)). IsReadThrough x left_new) e (by_cases left_new k)
+unfolding most_read longest_script
+is_read_through left left_new bytes n len e h k = subst (λ (x : Option (List ℕ)). IsReadThrough x left_new) (sym e) (by_cases left_new k)
   where
-    by_cases : (x : Option (List ℕ)) → (n < 4194305 → IfSome x (λ rest. rest ≡ [])) → IsReadThrough (whole_of bytes x) x
+    by_cases : (x : Option (List ℕ)) → (n < 4194305 → IfSome x (λ rest. rest ≡ [])) → IsReadThrough (prepend_known bytes x) x
     by_cases None k = refl
     by_cases (Some rest) k = ap Some (drop_all 4194305 bytes rest (omega arith) (λ small. k (omega arith)))

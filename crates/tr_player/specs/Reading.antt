@@ -1,3 +1,4 @@
+-- Private contracts alone cite this file.
 -- Reading a script from its front: a reader gives a value and the bytes after it, or nothing.
 use Rattle.std.specs.Prelude.{ℕ, Bool, false, ◌&&◌, ◌||◌, ◌==◌, ◌≡◌, ◌≤◌, nat_le, slice_index, List, [], ◌∷◌, length, take, drop, Option, Some, None, option_and_then, if◌then◌else◌, bytes_eq, codes, decimal}
 use Rattle.std.specs.List.{list_all, position_or_len}

@@ -1,3 +1,4 @@
+-- Private contracts alone cite this file.
 -- The replies that the code makes, as the answers that are due.
 use Rattle.tr_player.specs.declared.replies.Reply.{Reply}
 use Rattle.tr_player.specs.declared.replies.Reply.TheVariants.{Usage, ReadFault, Refused, Output}

@@ -1,3 +1,4 @@
+-- Private contracts alone cite this file.
 -- The window that a script shows.
 use Rattle.std.specs.Prelude.{◌≡◌}
 use Rattle.tr_player.specs.declared.scripts.OneWindow.{OneWindow}

@@ -1,28 +1,31 @@
-ghost use Rattle.tr_player.specs.declared.errors.ReadStop.TheVariants.{NoMemory as OutOfMemory, Failed as Fault};
+ghost use Rattle.tr_player.specs.declared.errors.ReadError.TheVariants.{NoMemory as OutOfMemory, Failed as Fault};
 ghost use Rattle.std.specs.Prelude.{◌≡◌};
 
 use std::alloc::AllocError;
+use thiserror::Error;
 use tr_io::Failed;
 
-/// Why reading stopped before its end.
-#[derive(Clone, Copy, Debug, PartialEq, Eq)]
-pub enum ReadStop {
+/// Why the bytes of a source were not read to their end.
+#[derive(Clone, Copy, Debug, PartialEq, Eq, Error)]
+pub enum ReadError {
+    #[error("out of memory")]
     NoMemory,
+    #[error("a read failed")]
     Failed,
 }
 
-impl From<AllocError> for ReadStop {
+impl From<AllocError> for ReadError {
     ghost from_gives = { λ _ e. e ≡ OutOfMemory };
 
-    fn from(_e: AllocError) -> ReadStop {
-        ReadStop::NoMemory
+    fn from(_e: AllocError) -> ReadError {
+        ReadError::NoMemory
     }
 }
 
-impl From<Failed> for ReadStop {
+impl From<Failed> for ReadError {
     ghost from_gives = { λ _ e. e ≡ Fault };
 
-    fn from(_e: Failed) -> ReadStop {
-        ReadStop::Failed
+    fn from(_e: Failed) -> ReadError {
+        ReadError::Failed
     }
 }

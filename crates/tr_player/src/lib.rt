@@ -7,10 +7,12 @@ mod errors;
 mod replies;
 mod screens;
 mod scripts;
+mod statuses;
 mod streams;
 mod words;
 
 pub use calls::{Outcome, serial_call};
+pub use statuses::Status;
 
 #[cfg(test)]
 mod tests;

@@ -1,5 +1,5 @@
-ghost use Rattle.std.specs.Prelude.{◌≡◌, ◌≢◌, ◌↔◌, IsTrue, IfOk, codes};
-ghost use Rattle.tr_player.specs.Answers.{IsDue, accepted_words, texts_of, status_of, text_of};
+ghost use Rattle.std.specs.Prelude.{◌≡◌, ◌≢◌, ◌≤◌, ◌↔◌, IsTrue, IfOk, codes};
+ghost use Rattle.tr_player.specs.Answers.{IsDue, accepted_arguments, texts_of, status_of, text_of};
 ghost use Rattle.tr_player.specs.Replies.{due_of};
 ghost use Rattle.tr_base.specs.declared.ops.Kind.TheVariants.{Map8};
 ghost use Rattle.tr_screen.specs.Pictures.{IsScreenSize};
@@ -7,18 +7,28 @@ ghost use Rattle.tr_player.specs.Texts.{dump_text};
 ghost use Rattle.tr_player.specs.Outputs.{pic, picture_by};
 
 use crate::dumps::dump_of;
-use crate::errors::ReadStop;
+use crate::errors::ReadError;
 use crate::screens::render;
 use crate::scripts::{OneWindow, read_script};
+use crate::statuses::Status;
 use crate::streams::read_all;
 use std::alloc::Global;
 use tr_base::NoMemory;
 use tr_io::Source;
 
+/// What is written for other arguments than the accepted ones.
+const USAGE_TEXT: &[u8] = b"usage: trestle play|serial|check|gen N\n";
+
+/// What is written where the source had a fault.
+const READ_FAULT_TEXT: &[u8] = b"read fault\n";
+
+/// What is written where the bytes are no script.
+const REFUSED_TEXT: &[u8] = b"refused: line 0 B11\n";
+
 /// What a call is to answer, before it is written.
 #[derive(Debug, Drop)]
 pub enum Reply {
-    /// The words are not the accepted ones.
+    /// The arguments are not the accepted ones.
     Usage,
     /// A read failed.
     ReadFault,
@@ -29,14 +39,14 @@ pub enum Reply {
 }
 
 impl Reply {
-    pub fn status(&self) -> u8
+    pub fn status(&self) -> Status
         ensures { result ≡ status_of (due_of self.now) }
     {
         match self {
-            Reply::Usage => 2,
-            Reply::ReadFault => 4,
-            Reply::Refused => 3,
-            Reply::Output(_) => 0,
+            Reply::Usage => Status::Usage,
+            Reply::ReadFault => Status::ReadFault,
+            Reply::Refused => Status::Refused,
+            Reply::Output(_) => Status::Done,
         }
     }
 
@@ -44,29 +54,30 @@ impl Reply {
         ensures { result.now ≡ text_of (due_of self.now) }
     {
         match self {
-            Reply::Usage => b"usage: trestle play|serial|check|gen N\n",
-            Reply::ReadFault => b"read fault\n",
-            Reply::Refused => b"refused: line 0 B11\n",
+            Reply::Usage => USAGE_TEXT,
+            Reply::ReadFault => READ_FAULT_TEXT,
+            Reply::Refused => REFUSED_TEXT,
             Reply::Output(text) => text,
         }
     }
 }
 
-/// The reply to the words and to what the source has left. Other words than the accepted ones leave
-/// the source alone.
+/// The reply to the arguments and to what the source has left. Other arguments than the accepted
+/// ones leave the source alone.
 pub fn reply_to<S: Source>(
     alloc: Global,
     words: &[String],
     source: &mut S,
 ) -> Result<Reply, NoMemory>
     ensures due { IfOk result (λ reply. IsDue (record {
-      words = texts_of words.now;
+      arguments = texts_of words.now;
       left = S.left source.old;
       left_new = S.left source.new;
       faults = S.faults source.old;
       faults_new = S.faults source.new;
     }) (due_of reply)) }
-    ensures unread { texts_of words.now ≢ accepted_words → (S.left source.new ≡ S.left source.old) × (S.faults source.new ≡ S.faults source.old) }
+    ensures unread { texts_of words.now ≢ accepted_arguments → (S.left source.new ≡ S.left source.old) × (S.faults source.new ≡ S.faults source.old) }
+    ensures rising { S.faults source.old ≤ S.faults source.new }
 {
     if !are_accepted(words) {
         return Ok(Reply::Usage);
@@ -76,24 +87,24 @@ pub fn reply_to<S: Source>(
             Some(window) => Ok(Reply::Output(output(alloc, window)?)),
             None => Ok(Reply::Refused),
         },
-        Err(ReadStop::Failed) => Ok(Reply::ReadFault),
-        Err(ReadStop::NoMemory) => Err(NoMemory),
+        Err(ReadError::Failed) => Ok(Reply::ReadFault),
+        Err(ReadError::NoMemory) => Err(NoMemory),
     }
 }
 
-fn are_accepted(words: &[String]) -> bool
-    ensures { IsTrue result ↔ (texts_of words.now ≡ accepted_words) }
+fn are_accepted(arguments: &[String]) -> bool
+    ensures { IsTrue result ↔ (texts_of arguments.now ≡ accepted_arguments) }
 {
-    match words {
-        [word] => is_serial(word.as_str()),
+    match arguments {
+        [argument] => is_serial(argument.as_str()),
         _ => false,
     }
 }
 
-fn is_serial(word: &str) -> bool
-    ensures { IsTrue result ↔ (word.now ≡ codes "serial") }
+fn is_serial(argument: &str) -> bool
+    ensures { IsTrue result ↔ (argument.now ≡ codes "serial") }
 {
-    word == "serial"
+    argument == "serial"
 }
 
 /// The text that a script with this window prints.

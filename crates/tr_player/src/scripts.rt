@@ -7,6 +7,12 @@ ghost use Rattle.tr_player.specs.Reading.{number_at, screen_at, shape_at, leaf_a
 use crate::words::{after, read_name, read_number};
 use tr_base::Size;
 
+/// The most pixels that a screen has along one axis.
+const MOST_SIDE: u16 = 1024;
+
+/// The greatest length of a shape.
+const MOST_LENGTH: u16 = 4096;
+
 /// What a script shows: one window of one tint that fills a screen.
 #[derive(Clone, Copy, Debug, PartialEq, Eq)]
 pub struct OneWindow {
@@ -27,9 +33,9 @@ fn read_screen(bytes: &[u8]) -> Option<(Size, &[u8])>
     ensures { option_map (λ x. (x.0, x.1.now)) result ≡ screen_at bytes.now }
 {
     let rest = after(bytes, b"trestle 1\nscreen ")?;
-    let (wide, rest) = read_number(rest, 1, 1024)?;
+    let (wide, rest) = read_number(rest, 1, MOST_SIDE)?;
     let rest = after(rest, b" ")?;
-    let (high, rest) = read_number(rest, 1, 1024)?;
+    let (high, rest) = read_number(rest, 1, MOST_SIDE)?;
     let rest = after(rest, b" map8\n")?;
     Some((Size { wide, high }, rest))
 }
@@ -39,11 +45,11 @@ fn read_screen(bytes: &[u8]) -> Option<(Size, &[u8])>
 fn after_shape(bytes: &[u8]) -> Option<&[u8]>
     ensures { option_map (λ x. x.now) result ≡ option_map (λ x. x.1) (shape_at bytes.now) }
 {
-    let (lo, rest) = read_number(bytes, 0, 4096)?;
+    let (lo, rest) = read_number(bytes, 0, MOST_LENGTH)?;
     let rest = after(rest, b" ")?;
-    let (pref, rest) = read_number(rest, lo, 4096)?;
+    let (pref, rest) = read_number(rest, lo, MOST_LENGTH)?;
     let rest = after(rest, b" ")?;
-    let (_, rest) = read_number(rest, pref, 4096)?;
+    let (_, rest) = read_number(rest, pref, MOST_LENGTH)?;
     Some(rest)
 }
 
@@ -108,7 +114,7 @@ fn read_command<'a>(bytes: &'a [u8], name: &[u8]) -> Option<(Option<u8>, &'a [u8
 
 /// The one reader of all lines, whose answer is that of reading the bytes as a list.
 #[tactic(auto, unfolding(crate::specs::Reading::script_at))]
-fn read_all(bytes: &[u8]) -> Option<OneWindow>
+fn read_lines(bytes: &[u8]) -> Option<OneWindow>
     ensures { result ≡ option_map window_of (script_at bytes.now) }
 {
     let (size, rest) = read_screen(bytes)?;
@@ -129,7 +135,7 @@ pub fn read_script(bytes: &[u8]) -> Option<OneWindow>
     ensures found { IfSome result (λ w. (s : Script) × IsScript bytes.now s × Shows s w) }
     ensures only { (s : Script) → IsScript bytes.now s → IsSomeAnd result (λ w. Shows s w) }
 {
-    read_all(bytes)
+    read_lines(bytes)
 }
 
 #[cfg(test)]

@@ -1,22 +1,28 @@
 ghost use Rattle.std.specs.Prelude.{◌≡◌, ◌+◌, ◌<◌, ◌≤◌, length, take, drop, vec_len, [], Err, IfOk, IfSome, OnOk, OnErr};
 ghost use Rattle.tr_io.specs.Faults.{HasFault};
-ghost use Rattle.tr_player.specs.Answers.{Grew, GrewByPrefix, IsReadThrough, OfBytesRead, whole_of};
+ghost use Rattle.std.specs.Io.KnownBytes.{prepend_known};
+ghost use Rattle.tr_io.specs.Streams.{Fell, Grew, GrewByPrefix};
+ghost use Rattle.tr_player.specs.Answers.{IsReadThrough, OfBytesRead};
 
-use crate::errors::ReadStop;
+use crate::errors::ReadError;
 use std::alloc::Global;
 use tr_io::{Failed, Sink, Source};
 
-/// The most bytes that are read: a script may have 4 MiB, and one byte more shows that it is longer.
-const MOST_READ: usize = 4 * 1024 * 1024 + 1;
+/// The most bytes that a script may have.
+const LONGEST_SCRIPT: usize = 4 * 1024 * 1024;
+
+/// The most bytes that are read: one more shows that a script is too long.
+const MOST_READ: usize = LONGEST_SCRIPT + 1;
 
 /// How many bytes are asked for at once.
 const PIECE: usize = 64 * 1024;
 
 /// The bytes that a source has left, or the first `MOST_READ` of them.
-pub fn read_all<S: Source>(alloc: Global, source: &mut S) -> Result<Vec<u8>, ReadStop>
+pub fn read_all<S: Source>(alloc: Global, source: &mut S) -> Result<Vec<u8>, ReadError>
     ensures bytes { IfOk result (λ v. OfBytesRead (S.left source.old) (λ bytes. v.items ≡ bytes)) }
     ensures through { OnOk result (IsReadThrough (S.left source.old) (S.left source.new)) }
-    ensures failed { result ≡ Err ReadStop.Failed → HasFault (S.faults source.old) (S.faults source.new) }
+    ensures failed { result ≡ Err ReadError.Failed → HasFault (S.faults source.old) (S.faults source.new) }
+    ensures rising { S.faults source.old ≤ S.faults source.new }
 {
     let mut piece = vec![in alloc; 0u8; PIECE]?;
     let bytes = read_up_to(alloc, source, &mut piece, MOST_READ)?;
@@ -29,12 +35,13 @@ fn read_up_to<S: Source>(
     source: &mut S,
     piece: &mut [u8],
     most: usize,
-) -> Result<Vec<u8>, ReadStop>
+) -> Result<Vec<u8>, ReadError>
     requires { 0 < length piece.old }
-    ensures whole { IfOk result (λ v. whole_of v.items (S.left source.new) ≡ S.left source.old) }
+    ensures taken { IfOk result (λ v. Fell (S.left source.old) (S.left source.new) v.items) }
     ensures most { IfOk result (λ v. vec_len v ≤ most) }
     ensures end { IfOk result (λ v. vec_len v < most → IfSome (S.left source.new) (λ rest. rest ≡ [])) }
-    ensures failed { result ≡ Err ReadStop.Failed → HasFault (S.faults source.old) (S.faults source.new) }
+    ensures failed { result ≡ Err ReadError.Failed → HasFault (S.faults source.old) (S.faults source.new) }
+    ensures rising { S.faults source.old ≤ S.faults source.new }
 {
     let mut bytes = Vec::new(alloc);
     while bytes.len() < most {
@@ -51,12 +58,13 @@ fn append_piece<S: Source>(
     source: &mut S,
     piece: &mut [u8],
     bytes: &mut Vec<u8>,
-) -> Result<usize, ReadStop>
+) -> Result<usize, ReadError>
     requires { 0 < length piece.old }
     ensures count { IfOk result (λ n. (vec_len bytes.new ≡ vec_len bytes.old + n) × (n ≤ length piece.old)) }
-    ensures whole { OnOk result (whole_of bytes.new.items (S.left source.new) ≡ whole_of bytes.old.items (S.left source.old)) }
+    // What came and what is to come are the same bytes as before.
+    ensures whole { OnOk result (prepend_known bytes.new.items (S.left source.new) ≡ prepend_known bytes.old.items (S.left source.old)) }
     ensures end { IfOk result (λ n. n ≡ 0 → IfSome (S.left source.new) (λ rest. rest ≡ [])) }
-    ensures failed { result ≡ Err ReadStop.Failed → HasFault (S.faults source.old) (S.faults source.new) }
+    ensures failed { result ≡ Err ReadError.Failed → HasFault (S.faults source.old) (S.faults source.new) }
     ensures rising { S.faults source.old ≤ S.faults source.new }
 {
     let count = source.read(piece)?;
@@ -70,6 +78,7 @@ pub fn write_all<K: Sink>(sink: &mut K, text: &[u8]) -> Result<(), Failed>
     ensures ok { OnOk result (Grew (K.written sink.old) (K.written sink.new) text.now) }
     ensures err { OnErr result (GrewByPrefix (K.written sink.old) (K.written sink.new) text.now) }
     ensures failed { OnErr result (HasFault (K.faults sink.old) (K.faults sink.new)) }
+    ensures rising { K.faults sink.old ≤ K.faults sink.new }
 {
     let mut written = 0;
     while written < text.len() {

@@ -54,7 +54,7 @@ fn scripts_are_played_or_refused(rt: HostRuntime) -> Result<(), Fail> {
 }
 
 #[test]
-fn other_words_are_faulty(rt: HostRuntime) -> Result<(), Fail> {
+fn other_arguments_are_answered_with_the_usage(rt: HostRuntime) -> Result<(), Fail> {
     for texts in [
         [].as_slice(),
         &["serial", "x"],

@@ -1,5 +1,5 @@
 use Rattle.std.proofs.Common.{◌≤◌, ◌-◌, ◌+◌, length, take}
-use Rattle.tr_player.specs.Answers.{Grew}
+use Rattle.tr_io.specs.Streams.{Grew}
 use Rattle.tr_player.proofs.streams.write_all.Given as goal
 
 -- the sink has taken the text so far, and has room for the rest

@@ -1,0 +1,35 @@
+ghost use Rattle.std.specs.Prelude.{◌≡◌};
+ghost use Rattle.tr_player.specs.Statuses.{code};
+
+/// What a call ends in.
+#[derive(Clone, Copy, Debug, PartialEq, Eq)]
+pub enum Status {
+    /// The script was played, and what it prints is written.
+    Done,
+    /// The arguments are not the accepted ones.
+    Usage,
+    /// The script is in no form.
+    Refused,
+    /// The source had a fault.
+    ReadFault,
+    /// The sink had a fault.
+    WriteFault,
+    /// There was not enough memory.
+    NoMemory,
+}
+
+impl Status {
+    /// The number that the process ends with.
+    pub fn code(self) -> u8
+        ensures { result ≡ code self }
+    {
+        match self {
+            Status::Done => 0,
+            Status::Usage => 2,
+            Status::Refused => 3,
+            Status::ReadFault => 4,
+            Status::WriteFault => 5,
+            Status::NoMemory => 6,
+        }
+    }
+}
