@@ -1,0 +1,27 @@
+ghost use Rattle.std.specs.Prelude.{◌≡◌};
+ghost use Rattle.tr_region.specs.Operations as spec;
+
+/// An operation on two sets of points.
+#[derive(Clone, Copy, Debug, PartialEq, Eq)]
+pub enum Operation {
+    /// The points that are in one of the sets, or in both.
+    Union,
+    /// The points that are in both sets.
+    Meet,
+    /// The points of the first set that are not in the second.
+    Minus,
+}
+
+impl Operation {
+    /// Whether a point is kept, by whether it is in the first set and in the second.
+    #[inline(always)]
+    pub fn keeps(self, in_first: bool, in_second: bool) -> bool
+        ensures { result ≡ spec.keeps self in_first in_second }
+    {
+        match self {
+            Operation::Union => in_first || in_second,
+            Operation::Meet => in_first && in_second,
+            Operation::Minus => in_first && !in_second,
+        }
+    }
+}
