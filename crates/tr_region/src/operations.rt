@@ -25,3 +25,53 @@ impl Operation {
         }
     }
 }
+
+/// An operation as a type. It serves the compiler: what is generic in it is compiled once for each
+/// operation, and leaves out what that never keeps.
+pub trait Known {
+    ghost use Rattle.tr_region.specs.declared.operations.Operation.{Operation};
+
+    ghost operation: { Operation };
+
+    fn value() -> Operation
+        ensures { result ≡ operation };
+}
+
+pub struct Union;
+
+pub struct Meet;
+
+pub struct Minus;
+
+impl Known for Union {
+    ghost use Rattle.tr_region.specs.declared.operations.Operation.{Operation};
+
+    ghost operation = { Operation.Union };
+
+    #[inline(always)]
+    fn value() -> Operation {
+        Operation::Union
+    }
+}
+
+impl Known for Meet {
+    ghost use Rattle.tr_region.specs.declared.operations.Operation.{Operation};
+
+    ghost operation = { Operation.Meet };
+
+    #[inline(always)]
+    fn value() -> Operation {
+        Operation::Meet
+    }
+}
+
+impl Known for Minus {
+    ghost use Rattle.tr_region.specs.declared.operations.Operation.{Operation};
+
+    ghost operation = { Operation.Minus };
+
+    #[inline(always)]
+    fn value() -> Operation {
+        Operation::Minus
+    }
+}
