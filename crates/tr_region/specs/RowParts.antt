@@ -1,0 +1,39 @@
+-- Private contracts alone cite this: the order of a region's rectangles, and those of one row.
+use Rattle.std.specs.Prelude.{◌≡◌, ℕ, ◌≤◌, ℤ, pos, ◌⊎◌, ◌↔◌, ◌≤ℤ◌, ◌<ℤ◌, List, [], ◌∷◌, length}
+use Rattle.std.specs.List.{AllByRecursion, AllWithin}
+use Rattle.tr_base.specs.Rects.{Edges}
+use Rattle.tr_region.specs.declared.rows.Band.{Band}
+use Rattle.tr_region.specs.Rows.{HoldsRow}
+
+-- the rectangle holds points
+abbrev pub IsFull : Edges → Type 0
+IsFull r = (r.west <ℤ r.east) × (r.north <ℤ r.south)
+
+-- a rectangle lies north of another, or west of it in the same rows
+abbrev pub ComesBefore : Edges → Edges → Type 0
+ComesBefore a b = (a.south ≤ℤ b.north) ⊎ ((a.north ≡ b.north) × (a.south ≡ b.south) × (a.east <ℤ b.west))
+
+-- each rectangle holds points, and comes before all that follow it
+abbrev pub AreInOrder : List Edges → Type 0
+AreInOrder [] = Unit {0}
+AreInOrder (r ∷ rects) = IsFull r × AllByRecursion (ComesBefore r) rects × AreInOrder rects
+
+-- the rectangles from start on and before end have row v, those before lie north of it and those after south
+pub record IsRowPart (v : ℤ) (rects : List Edges) (start end : ℕ) : Type 0 where
+  pub order : start ≤ end
+  pub fits : end ≤ length rects
+  pub before : AllWithin (λ r. r.south ≤ℤ v) rects 0 start
+  pub within : AllWithin (λ r. (r.north ≤ℤ v) × (v <ℤ r.south)) rects start end
+  pub after : AllWithin (λ r. v <ℤ r.north) rects end (length rects)
+
+-- n is the number from low to high that is nearest to v: what lies from low on and before high lies from both on, or before both
+pub record IsNearest (v : ℤ) (low high n : ℕ) : Type 0 where
+  pub from : low ≤ n
+  pub to : n ≤ high
+  pub same : (y : ℤ) → pos low ≤ℤ y → y <ℤ pos high → (v ≤ℤ y ↔ pos n ≤ℤ y)
+
+-- the band has the rows of the rectangle that lie from low on and before high, and in the rows of the rectangle it holds what the region holds
+pub record IsBandOf (r : Edges) (region : List Edges) (low high : ℕ) (b : Band) : Type 0 where
+  pub north : IsNearest r.north low high b.north
+  pub south : IsNearest r.south low high b.south
+  pub rows : (y : ℤ) → r.north ≤ℤ y → y <ℤ r.south → HoldsRow region b.rects.now y

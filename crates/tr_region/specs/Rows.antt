@@ -1,0 +1,14 @@
+-- What a region holds in one row, and in rows that hold the same.
+use Rattle.std.specs.Prelude.{◌≡◌, ℕ, ℤ, pos, Bool, ◌&&◌, List}
+use Rattle.tr_base.specs.declared.Point.{Point}
+use Rattle.tr_base.specs.Rects.{Edges, between}
+use Rattle.tr_region.specs.Points.{holds}
+use Rattle.tr_region.specs.Bands.{in_spans, spans_of}
+
+-- of row y the region holds the points in the columns of these rectangles, and no others
+abbrev pub HoldsRow : List Edges → List Edges → ℤ → Type 0
+HoldsRow region row y = (p : Point) → p.v ≡ y → holds region p ≡ in_spans (spans_of row) p.h
+
+-- the point lies in one of the rows from north to before south, and in a column of one of the rectangles
+abbrev pub in_band : ℕ → ℕ → List Edges → Point → Bool
+in_band north south row p = between (pos north) (pos south) p.v && in_spans (spans_of row) p.h

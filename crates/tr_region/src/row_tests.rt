@@ -1,0 +1,60 @@
+use super::*;
+use std::alloc::Global;
+use std::test::Fail;
+use tr_base::{NoMemory, Rect};
+
+/// Two rectangles side by side in rows 2 to 4, and one in rows 6 to 9.
+fn three(alloc: Global) -> Result<Region, NoMemory> {
+    let west = Region::of_rect(alloc, Rect::edges(0, 2, 2, 5))?;
+    let east = Region::of_rect(alloc, Rect::edges(4, 6, 2, 5))?;
+    let south = Region::of_rect(alloc, Rect::edges(1, 9, 6, 10))?;
+    west.union(&east)?.union(&south)
+}
+
+#[test]
+fn rows_have_their_rectangles(rt: HostRuntime) -> Result<(), Fail> {
+    let region = three(rt.alloc())?;
+    for (v, count) in [
+        (-1, 0),
+        (1, 0),
+        (2, 2),
+        (4, 2),
+        (5, 0),
+        (6, 1),
+        (9, 1),
+        (10, 0),
+    ] {
+        assert_eq!(rt; region.row(v).len(), count, "row {v}");
+    }
+    Ok(())
+}
+
+#[test]
+fn bands_are_met_from_both_ends(rt: HostRuntime) -> Result<(), Fail> {
+    let region = three(rt.alloc())?;
+    // the rows that are asked for, the first band in them, and the last one
+    for (rows, first, last) in [
+        ((0, 20), (2, 5, 2), (6, 10, 1)),
+        ((3, 4), (3, 4, 2), (3, 4, 2)),
+        ((4, 8), (4, 5, 2), (6, 8, 1)),
+        ((5, 7), (6, 7, 1), (6, 7, 1)),
+    ] {
+        let band = region.first_band(rows.0, rows.1);
+        assert_eq!(rt;
+            (band.north, band.south, band.rects.len()),
+            first,
+            "first in {rows:?}"
+        );
+        let band = region.last_band(rows.0, rows.1);
+        assert_eq!(rt;
+            (band.north, band.south, band.rects.len()),
+            last,
+            "last in {rows:?}"
+        );
+    }
+    let none = region.first_band(12, 20);
+    assert_eq!(rt; (none.north, none.south, none.rects.len()), (20, 20, 0));
+    let none = region.last_band(0, 2);
+    assert_eq!(rt; (none.north, none.south, none.rects.len()), (0, 0, 0));
+    Ok(())
+}

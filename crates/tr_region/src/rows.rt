@@ -1,0 +1,127 @@
+ghost use Rattle.std.specs.Prelude.{◌≡◌, ◌≢◌, ◌<◌, ◌≤◌, ℤ, pos, ◌≤ℤ◌, ◌<ℤ◌, [], All, length, slice_index_or};
+ghost use Rattle.tr_base.specs.declared.Point.{Point};
+ghost use Rattle.tr_base.specs.Rects.{Edges};
+ghost use Rattle.tr_region.specs.Points.{holds};
+ghost use Rattle.tr_region.specs.Bands.{AreApart, spans_of};
+ghost use Rattle.tr_region.specs.Rows.{HoldsRow, in_band};
+ghost use Rattle.tr_region.specs.RowParts.{AreInOrder, IsRowPart, IsNearest, IsBandOf};
+
+use crate::regions::Region;
+use tr_base::Rect;
+
+/// Rows in which a region holds the same columns: those from `north` on and before `south`, and in
+/// each of them the columns of the rectangles, from west to east.
+#[derive(Clone, Copy, Debug)]
+pub struct Band<'a> {
+    pub north: u16,
+    pub south: u16,
+    pub rects: &'a [Rect],
+}
+
+impl Region {
+    /// Its rectangles that have row `v`, from west to east.
+    pub fn row(&self, v: i32) -> &[Rect]
+        ensures points { HoldsRow self.now result.now v }
+        ensures apart { AreApart (spans_of result.now) }
+
+        // A rectangle that has the row holds in all its rows the same columns of the region.
+        ensures alike { All (λ r. r.north ≤ℤ v → v <ℤ r.south →
+            (y : ℤ) → r.north ≤ℤ y → y <ℤ r.south → HoldsRow self.now result.now y) self.now }
+    {
+        let rects = self.rects();
+        let (start, end) = row_part(rects, v);
+        &rects[start..end]
+    }
+
+    /// The first of its bands that has a row from `north` on and before `south`, cut to these rows.
+    /// Where there is none it begins and ends at `south`.
+    pub fn first_band(&self, north: u16, south: u16) -> Band<'_>
+        requires { north ≤ south }
+        ensures from { north ≤ result.north }
+        ensures order { result.north ≤ result.south }
+        ensures to { result.south ≤ south }
+        ensures further { north < south → north < result.south }
+        ensures points { (p : Point) → pos north ≤ℤ p.v → p.v <ℤ pos result.south →
+            holds self.now p ≡ in_band result.north result.south result.rects.now p }
+        ensures apart { AreApart (spans_of result.rects.now) }
+        ensures some { result.rects.now ≡ [] → result.north ≡ south }
+    {
+        let rects = self.rects();
+        let at = rects.partition_point(|rect| rect.south() <= i32::from(north));
+        if at == rects.len() {
+            return Band {
+                north: south,
+                south,
+                rects: &rects[at..],
+            };
+        }
+        self.band_at(at, north, south)
+    }
+
+    /// The last of its bands that has a row from `north` on and before `south`, cut to these rows.
+    /// Where there is none it begins and ends at `north`.
+    pub fn last_band(&self, north: u16, south: u16) -> Band<'_>
+        requires { north ≤ south }
+        ensures from { north ≤ result.north }
+        ensures order { result.north ≤ result.south }
+        ensures to { result.south ≤ south }
+        ensures further { north < south → result.north < south }
+        ensures points { (p : Point) → pos result.north ≤ℤ p.v → p.v <ℤ pos south →
+            holds self.now p ≡ in_band result.north result.south result.rects.now p }
+        ensures apart { AreApart (spans_of result.rects.now) }
+        ensures some { result.rects.now ≡ [] → result.south ≡ north }
+    {
+        let rects = self.rects();
+        let count = rects.partition_point(|rect| rect.north() < i32::from(south));
+        if count == 0 {
+            return Band {
+                north,
+                south: north,
+                rects: &rects[..0],
+            };
+        }
+        self.band_at(count - 1, north, south)
+    }
+
+    /// The band of the rectangle at a place of its list, cut to the rows from `north` on and before
+    /// `south`.
+    fn band_at(&self, at: usize, north: u16, south: u16) -> Band<'_>
+        requires place { at < length self.now }
+        requires order { north ≤ south }
+        ensures band { (d : Edges) → IsBandOf (slice_index_or self.now at d) self.now north south result }
+        ensures order { result.north ≤ result.south }
+        ensures apart { AreApart (spans_of result.rects.now) }
+        ensures some { result.rects.now ≢ [] }
+    {
+        let rect = &self.rects()[at];
+        Band {
+            north: nearest(rect.north(), north, south),
+            south: nearest(rect.south(), north, south),
+            rects: self.row(rect.north()),
+        }
+    }
+}
+
+/// The row of those from `low` to `high` that is nearest to `v`.
+fn nearest(v: i32, low: u16, high: u16) -> u16
+    requires { low ≤ high }
+    ensures { IsNearest v low high result }
+{
+    if v <= i32::from(low) {
+        low
+    } else if v < i32::from(high) {
+        v as u16
+    } else {
+        high
+    }
+}
+
+/// Where the rectangles that have row `v` begin and end.
+fn row_part(rects: &[Rect], v: i32) -> (usize, usize)
+    requires { AreInOrder rects.now }
+    ensures { IsRowPart v rects.now result.0 result.1 }
+{
+    let start = rects.partition_point(|rect| rect.south() <= v);
+    let end = rects.partition_point(|rect| rect.north() <= v);
+    (start, end)
+}
