@@ -1,0 +1,11 @@
+//! Shapes and places of the nodes of the window tree whose children don't stand side by side: a Z,
+//! whose children lie over one another, a T, which shows one of them, and a Page, which shows so
+//! many of them at a time in strips of one height.
+#![tactic(auto)]
+
+mod stacks;
+
+pub use stacks::{max_shape, page_place, page_shape, t_place, z_place};
+
+#[cfg(test)]
+mod tests;
