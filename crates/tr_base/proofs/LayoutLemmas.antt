@@ -1,5 +1,5 @@
 -- Sums and maxima of lengths, and where children stand: parts of a node's rectangle, or near it.
-use Rattle.std.proofs.Common.{◌≡◌, ℕ, ◌+◌, ◌<◌, ◌≤◌, max, ℤ, pos, neg_ℤ, ◌+ℤ◌, ◌-ℤ◌, ◌<ℤ◌, ◌≤ℤ◌, Bool, true, false, ◌&&◌, inl, inr, cond, List, [], ◌∷◌, ◌++◌, map, take, length, get_or, refl, sym, ap, ◌∙◌, arith, w32, to_z, of_z}
+use Rattle.std.proofs.Common.{◌≡◌, ℕ, ◌+◌, ◌<◌, ◌≤◌, max, ℤ, pos, neg_ℤ, ◌+ℤ◌, ◌-ℤ◌, ◌<ℤ◌, ◌≤ℤ◌, Bool, true, false, ◌&&◌, ◌⊎◌, inl, inr, cond, List, [], ◌∷◌, ◌++◌, map, take, length, get_or, refl, sym, ap, ◌∙◌, arith, w32, to_z, of_z}
 use Rattle.std.specs.Prelude.{All, AllPairs, int_lt, unsigned_abs, sum_by}
 use Rattle.std.proofs.lemmas.Int.{ints}
 use Rattle.std.proofs.lemmas.List.{map_more, take_more}
@@ -7,10 +7,10 @@ use Rattle.std.proofs.lemmas.List.FromFn.{length-map-range_with_len, get_or-map-
 use Rattle.std.proofs.lemmas.List.Sums.{sum_by-cons}
 use Rattle.tr_base.specs.declared.points.Point.{Point}
 use Rattle.tr_base.specs.declared.shapes.Shapes.{Shapes}
-use Rattle.tr_base.specs.Rects.{Edges, InReach, between, has_point, empty_rect, rect_of, sides_of}
+use Rattle.tr_base.specs.Rects.{Edges, InReach, IsRect, between, has_point, empty_rect, rect_of, sides_of}
 use Rattle.tr_base.specs.Shapes.{Lengths}
-use Rattle.tr_base.specs.Layouts.{places_by, longest, greatest_by, maxima_of, along, turned, placed, IsDomain, IsOffset, IsBetween, IsPartOf, ShareNoPoint, IsNear}
-use Rattle.tr_base.proofs.RectLemmas.{false-true, empty-has_point, has_point-rect_of, cast-in_reach}
+use Rattle.tr_base.specs.Layouts.{places_by, longest, greatest_by, maxima_of, along, turned, placed, preferred_place, IsDomain, IsOffset, IsBetween, IsPartOf, ShareNoPoint, IsNear}
+use Rattle.tr_base.proofs.RectLemmas.{rect_cases, false-true, empty-has_point, has_point-rect_of, cast-in_reach}
 
 -- one more item
 pub greatest_by_push : {X : Type 0} (f : X → ℕ) (xs : List X) (x : X) → greatest_by f (xs ++ x ∷ []) ≡ max (greatest_by f xs) (f x)
@@ -118,10 +118,28 @@ pub turned_empty : (down : Bool) (e : Edges) → e ≡ empty_rect → turned dow
 turned_empty true e h = ap (turned true) h
 turned_empty false e h = h
 
+-- the edges of a rectangle are in order
+pub ordered : (e : Edges) → IsRect e → (e.west ≤ℤ e.east) × (e.north ≤ℤ e.south)
+ordered e is = by_case (rect_cases e is)
+  where
+    by_case : (e ≡ empty_rect) ⊎ ((e.west <ℤ e.east) × (e.north <ℤ e.south)) → (e.west ≤ℤ e.east) × (e.north ≤ℤ e.south)
+    by_case (inl h) = rw h (omega (arith, ints), omega (arith, ints))
+    by_case (inr h) = (omega (arith, ints, h.0), omega (arith, ints, h.1))
+
+-- the empty rectangle is one
+pub empty_is_rect : IsRect empty_rect
+empty_is_rect = record { edges = refl; reach = record { west = zero_reach; east = zero_reach; north = zero_reach; south = zero_reach } }
+  where
+    zero_reach : InReach (pos 0)
+    zero_reach = record { low = omega (arith, ints); high = omega (arith, ints) }
+
 -- what is placed within the sides of a rectangle is a part of it
-pub part-placed : (r : Edges) (a b : ℕ) (size : ℕ × ℕ) → r.west ≤ℤ r.east → r.north ≤ℤ r.south →
+pub part-placed : (r : Edges) (a b : ℕ) (size : ℕ × ℕ) → IsRect r →
     a + size.0 ≤ (sides_of r).0 → b + size.1 ≤ (sides_of r).1 → IsPartOf (placed r (pos a) (pos b) size) r
-part-placed r a b size across down wide high =
+part-placed r a b size is wide high =
+    let both = ordered r is in
+    let across : r.west ≤ℤ r.east = both.0 in
+    let down : r.north ≤ℤ r.south = both.1 in
     part-rect_of r (r.west +ℤ pos a) (r.west +ℤ pos a +ℤ pos size.0) (r.north +ℤ pos b) (r.north +ℤ pos b +ℤ pos size.1)
     (omega (arith, ints)) (within-side r.west r.east a size.0 across wide) (omega (arith, ints)) (within-side r.north r.south b size.1 down high)
   where
@@ -157,9 +175,9 @@ corner : (low high a b : ℤ) → low ≤ℤ a → a ≤ℤ b → b ≤ℤ high 
 corner low high a b h i j k = grind (arith, ints)
 
 -- a part of a domain stands near its corner
-pub near_part : (c r : Edges) → c.west ≤ℤ c.east → c.north ≤ℤ c.south → IsDomain r → IsPartOf c r → IsNear longest c r
-near_part c r across down d (inl h) = inl h
-near_part c r across down d (inr h) = inr (record {
+pub near_part : (c r : Edges) → IsRect c → IsDomain r → IsPartOf c r → IsNear longest c r
+near_part c r is d (inl h) = inl h
+near_part c r is d (inr h) = let both = ordered c is in let across : c.west ≤ℤ c.east = both.0 in let down : c.north ≤ℤ c.south = both.1 in inr (record {
   west = omega (arith, ints, h.west);
   east = corner r.west r.east c.west c.east h.west across h.east d.wide;
   north = omega (arith, ints, h.north);
@@ -202,3 +220,22 @@ pairs_of_places place count items e each i j d lt below =
 
 pub part_itself : (e : Edges) → IsPartOf e e
 part_itself e = inr (record { west = omega (arith, ints); east = omega (arith, ints); north = omega (arith, ints); south = omega (arith, ints) })
+
+-- in a node with points a child has its preferred size
+pub preferred_in_full : (e : Edges) (by : Point) (child : Shapes) (size : ℕ × ℕ) → (e.west <ℤ e.east) × (e.north <ℤ e.south) →
+    size ≡ (child.across.pref, child.down.pref) → placed e by.h by.v size ≡ preferred_place e by child
+preferred_in_full e by child size full is =
+    let across : int_lt e.west e.east ≡ true = grind (arith, ints, full.0) in
+    let down : int_lt e.north e.south ≡ true = grind (arith, ints, full.1) in
+    rw (across, down, is) refl
+
+pub turned_turned : (down : Bool) (e : Edges) → turned down (turned down e) ≡ e
+turned_turned true e = refl
+turned_turned false e = refl
+
+pub turned_is_rect : (down : Bool) (e : Edges) → IsRect e → IsRect (turned down e)
+turned_is_rect true e is = record {
+    edges = sym (turned-rect_of e.west e.east e.north e.south) ∙ ap (turned true) is.edges;
+    reach = record { west = is.reach.north; east = is.reach.south; north = is.reach.west; south = is.reach.east };
+}
+turned_is_rect false e is = is

@@ -56,7 +56,8 @@ impl Paint {
     /// pixels by where they lie.
     pub fn area(&self) -> Rect
         requires { spec.IsNearPaint self.now }
-        ensures { result ≡ spec.area self.now }
+        ensures value { result ≡ spec.area self.now }
+        ensures near { spec.IsNearRect result }
     {
         match self {
             Paint::Tint { clip, .. }

@@ -9,7 +9,7 @@ pub returns-clause-order : goal.returns-clause-order
 returns-clause-order c =
     let rects = c.rects.result.now in
     let r = c.index-rects-at.result in
-    let order : AreInOrder rects = rw c.rects.ensures.value (AreInOrder-canonical c.args.self.now c.rects.ensures.canonical) in
+    let order : AreInOrder rects = rw c.rects.ensures.value (AreInOrder-canonical c.args.self.now c.rects.ensures.invariant) in
     let full : IsFull r = subst IsFull (sym c.index-rects-at.is) (full_at rects c.args.at r order (rw c.rects.ensures.value c.requires.place)) in
     let north = rw (cast-in_reach _ c.north.ensures.reach, c.north.ensures.value) at c.nearest.ensures in
     let south = rw (cast-in_reach _ c.south.ensures.reach, c.south.ensures.value) at c.nearest-2.ensures in
@@ -19,6 +19,6 @@ pub returns-clause-some : goal.returns-clause-some
 returns-clause-some c =
     let rects = c.rects.result.now in
     let r = c.index-rects-at.result in
-    let order : AreInOrder rects = rw c.rects.ensures.value (AreInOrder-canonical c.args.self.now c.rects.ensures.canonical) in
+    let order : AreInOrder rects = rw c.rects.ensures.value (AreInOrder-canonical c.args.self.now c.rects.ensures.invariant) in
     let points = rw (cast-in_reach _ c.north-2.ensures.reach, c.north-2.ensures.value, ← c.rects.ensures.value, c.index-rects-at.is) at c.row.ensures.points in
     row_some rects c.row.result.now c.args.at r order (rw c.rects.ensures.value c.requires.place) points

@@ -13,7 +13,7 @@ use Rattle.tr_region.proofs.regions.Region.first_band.Goals as goal
 pub returns-then-at-rects-clause-points : goal.returns-then-at-rects-clause-points
 returns-then-at-rects-clause-points c = λ p from to.
     let rects = c.rects-rects.result.now in
-    let order : AreInOrder rects = rw c.rects-rects.ensures.value (AreInOrder-canonical c.args.self.now c.rects-rects.ensures.canonical) in
+    let order : AreInOrder rects = rw c.rects-rects.ensures.value (AreInOrder-canonical c.args.self.now c.rects-rects.ensures.invariant) in
     let parted = IsPartitionPoint-from_clause (λ (r : Edges). int_le r.south (pos c.args.north)) rects _ c.partition_point-at.ensures.partitioned (parted_by_south (pos c.args.north) rects order) (λ a r f' k. search rules) in
     rw (← c.rects-rects.ensures.value, between-before (pos c.args.south) (pos c.args.south) p.v to)
     (none_before rects c.partition_point-at.result p.v order c.partition_point-at.ensures.bound (pos c.args.north) parted from (λ d lt. absurd (omega (arith, c.if-at-rects.true))) p refl)
@@ -29,7 +29,7 @@ returns-clause-further c = λ some.
     let rects = c.rects-rects.result.now in
     let at = c.partition_point-at.result in
     let r = get_or rects at empty_rect in
-    let order : AreInOrder rects = rw c.rects-rects.ensures.value (AreInOrder-canonical c.args.self.now c.rects-rects.ensures.canonical) in
+    let order : AreInOrder rects = rw c.rects-rects.ensures.value (AreInOrder-canonical c.args.self.now c.rects-rects.ensures.invariant) in
     let parted = IsPartitionPoint-from_clause (λ (r : Edges). int_le r.south (pos c.args.north)) rects _ c.partition_point-at.ensures.partitioned (parted_by_south (pos c.args.north) rects order) (λ a r f' k. search rules) in
     let fits : at < length rects = search rules in
     let full = full_at rects at empty_rect order fits in
@@ -43,7 +43,7 @@ returns-clause-points c = λ p from to.
     let rects = c.rects-rects.result.now in
     let at = c.partition_point-at.result in
     let r = get_or rects at empty_rect in
-    let order : AreInOrder rects = rw c.rects-rects.ensures.value (AreInOrder-canonical c.args.self.now c.rects-rects.ensures.canonical) in
+    let order : AreInOrder rects = rw c.rects-rects.ensures.value (AreInOrder-canonical c.args.self.now c.rects-rects.ensures.invariant) in
     let parted = IsPartitionPoint-from_clause (λ (r : Edges). int_le r.south (pos c.args.north)) rects _ c.partition_point-at.ensures.partitioned (parted_by_south (pos c.args.north) rects order) (λ a r f' k. search rules) in
     let band = rw (← c.rects-rects.ensures.value) at (c.band_at.ensures.band empty_rect) in
     let high : p.v <ℤ pos c.args.south = omega (arith, ints, band.south.to, to) in

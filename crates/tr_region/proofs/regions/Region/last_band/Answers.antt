@@ -13,7 +13,7 @@ use Rattle.tr_region.proofs.regions.Region.last_band.Goals as goal
 pub returns-then-count-eq0-clause-points : goal.returns-then-count-eq0-clause-points
 returns-then-count-eq0-clause-points c = λ p from to.
     let rects = c.rects-rects.result.now in
-    let order : AreInOrder rects = rw c.rects-rects.ensures.value (AreInOrder-canonical c.args.self.now c.rects-rects.ensures.canonical) in
+    let order : AreInOrder rects = rw c.rects-rects.ensures.value (AreInOrder-canonical c.args.self.now c.rects-rects.ensures.invariant) in
     let parted = IsPartitionPoint-from_clause (λ (r : Edges). int_lt r.north (pos c.args.south)) rects _ c.partition_point-count.ensures.partitioned (parted_before_north (pos c.args.south) rects order) (λ a r f' k. search rules) in
     rw (← c.rects-rects.ensures.value, between-beyond (pos c.args.north) (pos c.args.north) p.v from)
     (none_after rects c.partition_point-count.result p.v order c.partition_point-count.ensures.bound (pos c.args.south) parted to (λ d lt. absurd (omega (arith, c.if-count-eq0.true))) p refl)
@@ -29,7 +29,7 @@ returns-clause-further c = λ some.
     let rects = c.rects-rects.result.now in
     let at = c.partition_point-count.result - 1 in
     let r = get_or rects at empty_rect in
-    let order : AreInOrder rects = rw c.rects-rects.ensures.value (AreInOrder-canonical c.args.self.now c.rects-rects.ensures.canonical) in
+    let order : AreInOrder rects = rw c.rects-rects.ensures.value (AreInOrder-canonical c.args.self.now c.rects-rects.ensures.invariant) in
     let parted = IsPartitionPoint-from_clause (λ (r : Edges). int_lt r.north (pos c.args.south)) rects _ c.partition_point-count.ensures.partitioned (parted_before_north (pos c.args.south) rects order) (λ a r f' k. search rules) in
     let begun = parted.0 at empty_rect (omega arith) (omega (arith, c.if-count-eq0.false)) in
     let north : r.north <ℤ pos c.args.south = grind (arith, ints, begun) in
@@ -42,7 +42,7 @@ returns-clause-points c = λ p from to.
     let rects = c.rects-rects.result.now in
     let count = c.partition_point-count.result in
     let r = get_or rects (count - 1) empty_rect in
-    let order : AreInOrder rects = rw c.rects-rects.ensures.value (AreInOrder-canonical c.args.self.now c.rects-rects.ensures.canonical) in
+    let order : AreInOrder rects = rw c.rects-rects.ensures.value (AreInOrder-canonical c.args.self.now c.rects-rects.ensures.invariant) in
     let parted = IsPartitionPoint-from_clause (λ (r : Edges). int_lt r.north (pos c.args.south)) rects _ c.partition_point-count.ensures.partitioned (parted_before_north (pos c.args.south) rects order) (λ a r f' k. search rules) in
     let band = rw (← c.rects-rects.ensures.value) at (c.band_at.ensures.band empty_rect) in
     let low : pos c.args.north ≤ℤ p.v = omega (arith, ints, band.north.from, from) in
