@@ -1,0 +1,33 @@
+use crate::kernels::{Kernel, Rows};
+use std::hint::black_box;
+use std::io;
+use std::rt::Clock;
+use std::time::Instant;
+use tr_base::Op;
+
+/// How many spans are measured. The best one counts.
+const SPANS: u32 = 300;
+
+/// How often a kernel runs in a span.
+const ROUND: u64 = 512;
+
+/// How many hundredths of a billion bytes a second the kernel does, at best.
+pub fn speed<R: Clock>(
+    rt: &R,
+    kernel: Kernel,
+    rows: &mut Rows,
+    one: Op,
+    zero: Op,
+) -> io::Result<u64> {
+    let mut best = u64::MAX;
+    for _ in 0..SPANS {
+        let start = Instant::now(rt)?;
+        for i in 0..ROUND {
+            let number = black_box((i % 256) as u8);
+            black_box(kernel.run(rows, number, one, zero));
+        }
+        let nanos = start.elapsed(rt)?.as_nanos();
+        best = best.min(u64::try_from(nanos).unwrap_or(u64::MAX));
+    }
+    Ok((rows.width() as u64).wrapping_mul(ROUND * 100) / best.max(1))
+}

@@ -1,0 +1,4 @@
+pub mod Rows
+pub mod Differences
+pub mod Masks
+pub mod Steps

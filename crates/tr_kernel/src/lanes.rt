@@ -1,0 +1,103 @@
+//! Two operations on 16 pixels at once.
+ghost use Rattle.std.specs.Prelude.{◌≡◌, ◌<◌, ◌^◌, ◌==◌, ℕ, not, false, length, slice_index};
+ghost use Rattle.std.specs.Bool.{OnFalse};
+ghost use Rattle.tr_base.specs.Ops.{eff, exchanged};
+ghost use Rattle.tr_kernel.specs.Steps.{flipped, stepped, stepped_by, AreStill};
+
+use std::simd::prelude::*;
+use tr_base::{Kind, Op, resolved};
+
+/// An operation with no test: the pixels `x` and `y` change places, then all bits go but those of
+/// `kept`, and those of `written` come.
+#[derive(Clone, Copy)]
+pub(crate) struct Step {
+    pub x: u8,
+    pub y: u8,
+    pub kept: u8,
+    pub written: u8,
+}
+
+/// What is done to a pixel whose bit is set, and to one whose bit isn't.
+#[derive(Clone, Copy)]
+pub(crate) struct Steps {
+    pub one: Step,
+    pub zero: Step,
+}
+
+/// The operation as a step.
+pub(crate) fn step_of(kind: Kind, op: Op) -> Step
+    ensures { (old : ℕ) → old < 2 ^ 8 → stepped result old ≡ eff kind op old }
+{
+    match op {
+        Op::Bg => write(0),
+        Op::Fg => write(1),
+        Op::Transparent => exchange(0, 0),
+        Op::Set(pixel) => write(resolved(kind, pixel)),
+        Op::Exchange(a, b) => exchange(resolved(kind, a), resolved(kind, b)),
+    }
+}
+
+fn write(pixel: u8) -> Step
+    ensures { (old : ℕ) → stepped result old ≡ pixel }
+{
+    Step {
+        x: 0,
+        y: 0,
+        kept: 0,
+        written: pixel,
+    }
+}
+
+fn exchange(x: u8, y: u8) -> Step
+    ensures { (old : ℕ) → old < 2 ^ 8 → stepped result old ≡ exchanged x y old }
+{
+    Step {
+        x,
+        y,
+        kept: 255,
+        written: 0,
+    }
+}
+
+impl Steps {
+    /// Whether either step exchanges pixels.
+    pub fn exchange(&self) -> bool
+        ensures { result ≡ false → AreStill self.now }
+    {
+        self.one.x != self.one.y || self.zero.x != self.zero.y
+    }
+
+    /// What becomes of 16 pixels, where `bits` has a byte for each that isn't 0 where its bit is
+    /// set. What doesn't depend on the pixels is computed before a loop that calls this, since it
+    /// has no branch: `EXCHANGES` is known when it is compiled.
+    #[inline(always)]
+    pub fn lanes<const EXCHANGES: bool>(self, old: u8x16, bits: u8x16) -> u8x16
+        requires { OnFalse EXCHANGES (AreStill self) }
+        ensures lanes { length result ≡ 16 }
+        ensures each { (k : ℕ) → k < 16 → slice_index result k ≡ stepped_by self (not (slice_index bits k == 0)) (slice_index old k) }
+    {
+        let unset = bits.simd_eq(u8x16::splat(0));
+        let x = unset.select(u8x16::splat(self.zero.x), u8x16::splat(self.one.x));
+        let y = unset.select(u8x16::splat(self.zero.y), u8x16::splat(self.one.y));
+        let kept = unset.select(u8x16::splat(self.zero.kept), u8x16::splat(self.one.kept));
+        let written = unset.select(
+            u8x16::splat(self.zero.written),
+            u8x16::splat(self.one.written),
+        );
+        (exchanged_lanes::<EXCHANGES>(old, x, y) & kept) | written
+    }
+}
+
+/// Where a pixel is that of x, it becomes that of y, and the other way round.
+#[inline(always)]
+fn exchanged_lanes<const EXCHANGES: bool>(old: u8x16, x: u8x16, y: u8x16) -> u8x16
+    requires { OnFalse EXCHANGES (x ≡ y) }
+    ensures lanes { length result ≡ 16 }
+    ensures each { (k : ℕ) → k < 16 → slice_index result k ≡ flipped (slice_index x k) (slice_index y k) (slice_index old k) }
+{
+    if !EXCHANGES {
+        return old;
+    }
+    let hit = old.simd_eq(x) | old.simd_eq(y);
+    old ^ hit.select(x ^ y, u8x16::splat(0))
+}

@@ -1,0 +1,16 @@
+//! Work on rows of pixels, by lanes: fills, copies, exchanges, painting through a pattern of bits,
+//! and comparisons. A row is a slice of bytes, a pixel each.
+#![tactic(auto)]
+
+mod differences;
+mod lanes;
+mod masks;
+mod patterns;
+mod rows;
+
+pub use differences::{count_row, first_difference, last_difference};
+pub use masks::{Mask, mask_row};
+pub use rows::{copy_row, copy_rows_within, exchange_row, fill_row};
+
+#[cfg(test)]
+mod tests;
