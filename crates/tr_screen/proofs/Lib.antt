@@ -1,1 +1,4 @@
 pub mod PictureLemmas
+pub mod CopyLemmas
+pub mod RunLemmas
+pub mod Repainting

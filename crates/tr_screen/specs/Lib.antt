@@ -1,2 +1,5 @@
 pub mod Pictures
 pub mod Lending
+pub mod Runs
+pub mod RunLending
+pub mod Copies

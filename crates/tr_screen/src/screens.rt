@@ -1,9 +1,14 @@
-ghost use Rattle.std.specs.Prelude.{◌≡◌, ◌<◌, ℕ, List, length, IsTrue, IfOk};
+ghost use Rattle.std.specs.Prelude.{◌≡◌, ◌<◌, ◌≤◌, ℕ, List, length, pos, ◌-ℤ◌, ◌≤ℤ◌, slice_index, true, IsTrue, IfOk};
 ghost use Rattle.std.specs.Borrow.{sem};
-ghost use Rattle.tr_base.specs.Rects.{has_point, whole_of};
+ghost use Rattle.tr_base.specs.declared.points.Point.{Point};
+ghost use Rattle.tr_base.specs.Rects.{before_shift, has_point, whole_of};
 ghost use Rattle.tr_screen.specs.Pictures.{IsScreenSize, IsPicture, blank_of, filled_of, row_of, pixel_of, with_row, overwritten};
 ghost use Rattle.tr_screen.specs.Lending.{LendsRow};
+ghost use Rattle.tr_screen.specs.RunLending.{LendsRun, run_overwritten};
+ghost use Rattle.tr_screen.specs.Runs.{in_run, in_rows, run_before, width_of, column_in, IsRun, Repaints};
 
+use crate::copies::copy_pixels;
+use crate::runs::{Run, row_before, source_of, start_of, width_of};
 use std::alloc::Global;
 use std::marker::Model;
 use tr_base::{Kind, NoMemory, Point, Size};
@@ -103,5 +108,51 @@ impl Screen {
         let wide = usize::from(self.size.wide);
         let start = usize::from(v) * wide;
         self.pixels.slice_mut(start..start + wide)
+    }
+
+    /// The pixels of the run, to be written.
+    pub fn run_mut(&mut self, run: Run) -> &mut [u8]
+        requires { IsRun self.old.size run }
+        ensures* writes_back { sem 𝓛 (LendsRun self.entry run result) }
+
+        // A slice keeps its length, so what is last behind the result is what is painted.
+        ensures paints { (w : List ℕ) → length w ≡ width_of run →
+            Repaints (in_run run) (λ p. slice_index w (column_in run p)) self.old (run_overwritten self.old run w) }
+        ensures value { (p : Point) → in_run run p ≡ true →
+            slice_index result.now (column_in run p) ≡ pixel_of self.old p }
+        ensures wide { length result.now ≡ width_of run }
+    {
+        let start = start_of(self.size, run);
+        let count = width_of(self.size, run);
+        self.pixels.slice_mut(start..start + count)
+    }
+
+    /// Gives each point of the run the pixel that lay `delta` before it.
+    pub fn move_run(&mut self, run: Run, delta: Point)
+        requires to { IsRun self.old.size run }
+        requires from { IsRun self.old.size (run_before run delta) }
+        ensures { Repaints (in_run run) (λ p. pixel_of self.old (before_shift p delta)) self.old self.new }
+    {
+        let to = start_of(self.size, run);
+        let from = start_of(self.size, source_of(self.size, run, delta));
+        let count = width_of(self.size, run);
+        copy_pixels(&mut self.pixels, from, to, count);
+    }
+
+    /// Gives each point of the rows from `north` on and before `south` the pixel that lay `delta`
+    /// before it, straight north or south of it. Rows are one block of pixels, and move as one.
+    pub fn move_rows(&mut self, north: u16, south: u16, delta: Point)
+        requires order { north ≤ south }
+        requires to { south ≤ self.old.size.high }
+        requires straight { delta.h ≡ pos 0 }
+        requires from_north { pos 0 ≤ℤ (pos north -ℤ delta.v) }
+        requires from_south { (pos south -ℤ delta.v) ≤ℤ pos self.old.size.high }
+        ensures { Repaints (in_rows north south) (λ p. pixel_of self.old (before_shift p delta)) self.old self.new }
+    {
+        let wide = usize::from(self.size.wide);
+        let from = row_before(north, delta) * wide;
+        let to = usize::from(north) * wide;
+        let count = usize::from(south - north) * wide;
+        copy_pixels(&mut self.pixels, from, to, count);
     }
 }

@@ -1,0 +1,19 @@
+use Rattle.std.proofs.Common.{◌≡◌, ◌∙◌, ◌+◌, ◌*◌, ◌-◌, ◌/◌, ◌%◌, suc, ap, arith}
+use Rattle.std.proofs.Math.Nat.{suc-mul}
+use Rattle.tr_screen.proofs.CopyLemmas.{copied_back}
+use Rattle.tr_screen.proofs.copies.copy_up.Goals as goal
+
+pub loop-i-preserved : goal.loop-i-preserved
+loop-i-preserved c =
+    let from = c.args.from in
+    let to = c.args.to in
+    let d = to - from in
+    let rest = c.args.count % d in
+    let i = c.loop-i.i in
+    let last : i ≡ suc (i - 1) = omega (arith, c.loop-i-test.true) in
+    let left : c.args.count / d - (i - 1) ≡ suc (c.args.count / d - i) = omega (arith, c.loop-i-test.true, c.loop-i.auto.i) in
+    let start : i * d ≡ (i - 1) * d + d = ap (λ n. n * d) last ∙ suc-mul (i - 1) d in
+    let source : from + (rest + i * d) ≡ from + (rest + (i - 1) * d) + d = omega (arith, start) in
+    let target : to + (rest + i * d) ≡ to + (rest + (i - 1) * d) + d = omega (arith, start) in
+    let more : (c.args.count / d - (i - 1)) * d ≡ d + (c.args.count / d - i) * d = ap (λ n. n * d) left ∙ suc-mul (c.args.count / d - i) d ∙ omega arith in
+    rw more (copied_back _ _ _ (from + (rest + (i - 1) * d)) (to + (rest + (i - 1) * d)) _ d (omega (arith, c.requires.up)) (rw (source, target) at c.loop-i.invariant) c.copy_part.ensures)

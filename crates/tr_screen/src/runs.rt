@@ -1,0 +1,55 @@
+ghost use Rattle.std.specs.Prelude.{◌≡◌, ◌+◌, ◌*◌, ◌≤◌, pos, ◌-ℤ◌, ◌≤ℤ◌};
+ghost use Rattle.tr_screen.specs.Pictures.{IsScreenSize};
+ghost use Rattle.tr_screen.specs.Runs as spec;
+
+use tr_base::{Point, Size};
+
+/// Points side by side in a row: those of row `v` with `west <= h < east`.
+#[derive(Clone, Copy, Debug, PartialEq, Eq)]
+pub struct Run {
+    pub v: i32,
+    pub west: i32,
+    pub east: i32,
+}
+
+/// The place of the run's first point among the pixels of a screen, row after row.
+pub fn start_of(size: Size, run: Run) -> usize
+    requires size { IsScreenSize size }
+    requires run { spec.IsRun size run }
+    ensures value { result ≡ spec.start_of size run }
+    ensures fits { result + spec.width_of run ≤ size.high * size.wide }
+{
+    run.v.unsigned_abs() as usize * usize::from(size.wide) + run.west.unsigned_abs() as usize
+}
+
+/// How many points the run holds.
+pub fn width_of(size: Size, run: Run) -> usize
+    requires size { IsScreenSize size }
+    requires run { spec.IsRun size run }
+    ensures value { result ≡ spec.width_of run }
+    ensures small { result ≤ 1024 }
+{
+    (run.east - run.west).unsigned_abs() as usize
+}
+
+/// The run that comes to lie here by a move of `delta`.
+pub fn source_of(size: Size, run: Run, delta: Point) -> Run
+    requires size { IsScreenSize size }
+    requires run { spec.IsRun size (spec.run_before run delta) }
+    ensures { result ≡ spec.run_before run delta }
+{
+    Run {
+        v: run.v - delta.v,
+        west: run.west - delta.h,
+        east: run.east - delta.h,
+    }
+}
+
+/// The row that comes to lie at row `v` by a move of `delta`.
+pub fn row_before(v: u16, delta: Point) -> usize
+    requires low { pos 0 ≤ℤ (pos v -ℤ delta.v) }
+    requires high { (pos v -ℤ delta.v) ≤ℤ pos 1024 }
+    ensures { pos result ≡ pos v -ℤ delta.v }
+{
+    (i32::from(v) - delta.v) as usize
+}
