@@ -2,10 +2,10 @@
 #![tactic(auto)]
 
 mod copies;
-mod runs;
-mod screens;
 #[cfg(test)]
 mod run_tests;
+mod runs;
+mod screens;
 #[cfg(test)]
 mod tests;
 
