@@ -13,12 +13,13 @@ use Rattle.tr_base.specs.declared.points.Point.{Point}
 use Rattle.tr_base.specs.declared.sizes.Size.{Size}
 use Rattle.tr_base.specs.Rects.{between, before_shift}
 use Rattle.tr_base.proofs.RectLemmas.{has_point-rect_of}
+use Rattle.tr_base.proofs.PlaceLemmas.{row_fits, in_whole}
 use Rattle.tr_screen.specs.declared.runs.Run.{Run}
 use Rattle.tr_screen.specs.Pictures.{pixel_of, picture_of, written_at}
 use Rattle.tr_screen.specs.Runs.{in_run, in_rows, run_before, start_of, width_of, column_in, point_in, IsRun, IsOn, Repaints}
 use Rattle.tr_screen.specs.RunLending.{run_overwritten}
 use Rattle.tr_screen.specs.Copies.{IsCopied}
-use Rattle.tr_screen.proofs.PictureLemmas.{on_screen, pixel_of-picture_of, concat-first_chunks, written_at-is}
+use Rattle.tr_screen.proofs.PictureLemmas.{pixel_of-picture_of, concat-first_chunks, written_at-is}
 
 -- a coordinate from 0 on is a number
 abs_is : (x : ℤ) → pos 0 ≤ℤ x → x ≡ pos (unsigned_abs x)
@@ -142,7 +143,7 @@ place_outside size r p h on out = by_order (cases_lt (place size p) (start_of si
         let row = abs_is r.v h.north in
         let west = abs_is r.west h.west in
         let east = abs_is r.east (omega (arith, ints, h.west, h.some)) in
-        let same = same_row size.wide (unsigned_abs p.v) (unsigned_abs p.h) (unsigned_abs r.v) (unsigned_abs r.west) (width_of r) (on_screen size p on).1 n.across ge lt in
+        let same = same_row size.wide (unsigned_abs p.v) (unsigned_abs p.h) (unsigned_abs r.v) (unsigned_abs r.west) (width_of r) (in_whole size p on).1 n.across ge lt in
         absurd (true≢false (sym (test_of_run r p (omega (arith, ints, same.0)) (omega (arith, ints, same.1)) (omega (arith, ints, same.2, n.east))) ∙ out))
 
 -- the points of a test have their places from start on, count of them, and all others elsewhere
@@ -171,7 +172,7 @@ rows_places size north south order = record { inside = within; outside = beyond 
     within p on t =
         let at = there size p on in
         let v = abs_is p.v at.north in
-        let column = (on_screen size p on).1 in
+        let column = (in_whole size p on).1 in
         let low : north ≤ unsigned_abs p.v = grind (arith, ints) in
         let high : unsigned_abs p.v < south = grind (arith, ints) in
         (omega (arith, mul-le-mul_right size.wide low), omega (arith, row_fits size.wide south (unsigned_abs p.v) high, whole))
@@ -180,7 +181,7 @@ rows_places size north south order = record { inside = within; outside = beyond 
     beyond p on t = by_order (cases_lt (unsigned_abs p.v) north) (cases_lt (unsigned_abs p.v) south)
       where
         by_order : (unsigned_abs p.v < north) ⊎ (north ≤ unsigned_abs p.v) → (unsigned_abs p.v < south) ⊎ (south ≤ unsigned_abs p.v) → (place size p < north * size.wide) ⊎ (north * size.wide + (south - north) * size.wide ≤ place size p)
-        by_order (inl lt) k = let column = (on_screen size p on).1 in inl (omega (arith, row_fits size.wide north (unsigned_abs p.v) lt))
+        by_order (inl lt) k = let column = (in_whole size p on).1 in inl (omega (arith, row_fits size.wide north (unsigned_abs p.v) lt))
         by_order (inr ge) (inr past) = inr (omega (arith, mul-le-mul_right size.wide past, whole))
         by_order (inr ge) (inl lt) =
             let v = abs_is p.v (there size p on).north in
