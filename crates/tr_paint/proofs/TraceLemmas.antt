@@ -18,7 +18,7 @@ done-same kind (Value x) f g q same = refl
 done-same kind (Change op) f g q same = ap (λ o. option_map (eff kind op) o) (same q)
 
 -- a point that isn't visible is unknown
-trace-unseen : (look : Look) (base : Base) (batch : List Paint) (q : Point) → base.visible q ≡ false → trace look base batch q ≡ None
+pub trace-unseen : (look : Look) (base : Base) (batch : List Paint) (q : Point) → base.visible q ≡ false → trace look base batch q ≡ None
 trace-unseen look base [] q unseen = rw unseen refl
 trace-unseen look base (c ∷ before) q unseen = rw unseen refl
 
