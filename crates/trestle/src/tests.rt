@@ -1,0 +1,56 @@
+use super::*;
+use std::io;
+use std::io::ErrorKind;
+use std::test::Fail;
+use tr_io::{SteadySink, SteadySource};
+
+const ONE_PIXEL: &[u8] =
+    b"trestle 1\nscreen 1 1 map8\nleaf a 1 1 1 1 1 1 solid 7\nroot a\nbegin\ndump\nend\n";
+
+const USAGE: &[u8] = b"usage: trestle play|serial|check|gen N\n";
+
+/// The text that is written for arguments that the system hands out.
+#[test]
+fn arguments_after_the_name_are_heard(rt: HostRuntime) -> Result<(), Fail> {
+    for (texts, text) in [
+        (
+            ["trestle", "serial"].as_slice(),
+            b"dump 1 1 map8\n07\n".as_slice(),
+        ),
+        (&["serial"], USAGE),
+        (&["trestle", "serial", "x"], USAGE),
+        (&[], USAGE),
+    ] {
+        let mut all = Vec::new(rt.alloc());
+        for argument in texts {
+            all.push(String::from_str(rt.alloc(), argument)?)?;
+        }
+        let mut source = SteadySource::new(Vec::from_slice(rt.alloc(), ONE_PIXEL)?);
+        let mut sink = SteadySink::new(rt.alloc());
+        let _ = run(rt.alloc(), Ok(all.into_iter()), &mut source, &mut sink);
+        assert_eq!(rt; sink.written(), text);
+    }
+    Ok(())
+}
+
+/// The text that is written where the system hands out none.
+#[test]
+fn arguments_may_be_missing(rt: HostRuntime) -> Result<(), Fail> {
+    for (kind, text) in [
+        (ErrorKind::InvalidData, USAGE),
+        (ErrorKind::OutOfMemory, b"".as_slice()),
+        (ErrorKind::PermissionDenied, b""),
+    ] {
+        let mut source = SteadySource::new(Vec::from_slice(rt.alloc(), ONE_PIXEL)?);
+        let mut sink = SteadySink::new(rt.alloc());
+        let _ = run(
+            rt.alloc(),
+            Err(io::Error::from(kind)),
+            &mut source,
+            &mut sink,
+        );
+        assert_eq!(rt; sink.written(), text);
+        assert_eq!(rt; source.left().len(), ONE_PIXEL.len());
+    }
+    Ok(())
+}
