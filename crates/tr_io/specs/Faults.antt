@@ -1,5 +1,5 @@
 -- Counts of calls and of faults, which are kept in 64 bits.
-use Rattle.std.specs.Prelude.{◌≡◌, ℕ, ◌+◌, ◌-◌, ◌^◌, ◌<◌, ◌⊎◌, min}
+use Rattle.std.specs.Prelude.{◌≡◌, ℕ, ◌+◌, ◌-◌, ◌^◌, ◌<◌, ◌⊎◌, min, Result, Ok, Err}
 
 -- the last value of a count, at which it stands still
 abbrev pub last_count : ℕ
@@ -8,6 +8,11 @@ last_count = 2 ^ 64 - 1
 -- the count after one more
 abbrev pub next_count : ℕ → ℕ
 next_count n = min (n + 1) last_count
+
+-- the count of faults after a call with this result
+abbrev pub faults_after : {T E : Type 0} → Result T E → ℕ → ℕ
+faults_after (Ok x) faults = faults
+faults_after (Err e) faults = next_count faults
 
 -- a fault was counted between the two counts, or the later one stands at its last value
 abbrev pub HasFault : ℕ → ℕ → Type 0

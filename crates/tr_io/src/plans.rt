@@ -1,5 +1,5 @@
-ghost use Rattle.std.specs.Prelude.{◌≡◌, ◌≤◌, ◌↔◌, Contains, IsErr, if◌then◌else◌, is_ok};
-ghost use Rattle.tr_io.specs.Faults.{next_count};
+ghost use Rattle.std.specs.Prelude.{◌≡◌, ◌≤◌, ◌↔◌, Contains, IsErr};
+ghost use Rattle.tr_io.specs.Faults.{next_count, faults_after};
 
 use crate::streams::Failed;
 
@@ -32,7 +32,7 @@ impl FaultPlan {
         ensures planned { IsErr result ↔ Contains self.old.fails.items (next_count self.old.calls) }
         ensures fails { self.new.fails ≡ self.old.fails }
         ensures calls { self.new.calls ≡ next_count self.old.calls }
-        ensures faults { self.new.faults ≡ (if is_ok result then self.old.faults else next_count self.old.faults) }
+        ensures faults { self.new.faults ≡ faults_after result self.old.faults }
         ensures rising { self.old.faults ≤ self.new.faults }
     {
         self.calls = self.calls.saturating_add(1);

@@ -83,7 +83,14 @@ impl Model for MemorySink {
 
     ghost Value = { SinkState };
 
-    ghost view = { λ s. record { written = s.sink.written; room = s.sink.room; piece = s.piece; writes = s.plan.calls; fails = s.plan.fails.items; faults = s.plan.faults } };
+    ghost view = { λ s. record {
+      written = s.sink.written;
+      room = s.sink.room;
+      piece = s.piece;
+      writes = s.plan.calls;
+      fails = s.plan.fails.items;
+      faults = s.plan.faults;
+    } };
 
     ghost invariant = { λ s. 1 ≤ s.piece };
 }
@@ -93,7 +100,14 @@ impl MemorySink {
     /// fails where k is in `fails`.
     pub fn new(alloc: Global, piece: usize, fails: Vec<u64>) -> MemorySink
         requires { 1 ≤ piece }
-        ensures { result ≡ record { written = []; room = result.room; piece = piece; writes = 0; fails = fails.items; faults = 0 } }
+        ensures { result ≡ record {
+          written = [];
+          room = result.room;
+          piece = piece;
+          writes = 0;
+          fails = fails.items;
+          faults = 0;
+        } }
     {
         MemorySink {
             sink: SteadySink::new(alloc),
@@ -140,9 +154,16 @@ impl Sink for MemorySink {
         ensures planned { IsErr result ↔ Contains self.old.fails (next_count self.old.writes) }
         ensures count { IfOk result (λ n. n ≡ min (length piece.now) self.old.piece) }
         ensures progress { 0 < length piece.now → IfOk result (λ n. 0 < n) }
-        ensures ok { IfOk result (λ n. self.new ≡ record self.old { written = self.old.written ++ take n piece.now; room = self.new.room; writes = next_count self.old.writes }) }
+        ensures ok { IfOk result (λ n. self.new ≡ record self.old {
+          written = self.old.written ++ take n piece.now;
+          room = self.new.room;
+          writes = next_count self.old.writes;
+        }) }
         ensures room { IfOk result (λ n. self.old.room ≤ self.new.room + n) }
-        ensures err { OnErr result (self.new ≡ record self.old { writes = next_count self.old.writes; faults = next_count self.old.faults }) }
+        ensures err { OnErr result (self.new ≡ record self.old {
+          writes = next_count self.old.writes;
+          faults = next_count self.old.faults;
+        }) }
         ensures rising { self.old.faults ≤ self.new.faults }
     {
         self.plan.count_call()?;

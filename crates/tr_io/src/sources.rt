@@ -72,7 +72,12 @@ impl Model for MemorySource {
 
     ghost Value = { SourceState };
 
-    ghost view = { λ s. record { left = s.source; reads = s.plan.calls; fails = s.plan.fails.items; faults = s.plan.faults } };
+    ghost view = { λ s. record {
+      left = s.source;
+      reads = s.plan.calls;
+      fails = s.plan.fails.items;
+      faults = s.plan.faults;
+    } };
 }
 
 impl MemorySource {
@@ -112,8 +117,14 @@ impl Source for MemorySource {
         ensures planned { IsErr result ↔ Contains self.old.fails (next_count self.old.reads) }
         ensures count { IfOk result (λ n. n ≡ min (length buf.old) (length self.old.left)) }
         ensures taken { IfOk result (λ n. take n buf.new ≡ take n self.old.left) }
-        ensures ok { IfOk result (λ n. self.new ≡ record self.old { left = drop n self.old.left; reads = next_count self.old.reads }) }
-        ensures err { OnErr result (self.new ≡ record self.old { reads = next_count self.old.reads; faults = next_count self.old.faults }) }
+        ensures ok { IfOk result (λ n. self.new ≡ record self.old {
+          left = drop n self.old.left;
+          reads = next_count self.old.reads;
+        }) }
+        ensures err { OnErr result (self.new ≡ record self.old {
+          reads = next_count self.old.reads;
+          faults = next_count self.old.faults;
+        }) }
         ensures rising { self.old.faults ≤ self.new.faults }
     {
         self.plan.count_call()?;

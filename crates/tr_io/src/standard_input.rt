@@ -2,7 +2,7 @@
 ghost use Rattle.std.specs.Prelude.{◌≡◌, ◌<◌, ◌≤◌, length, ◌-◌, ◌^◌, ◌++◌, ◌∷◌, [], ℕ, List, Option, Result, IfOk, IsOk, is_ok, if◌then◌else◌};
 ghost use Rattle.std.specs.Io.{ReadsAtMost, WritesAtMost};
 ghost use Rattle.std.specs.declared.io.Error.{Error};
-ghost use Rattle.tr_io.specs.Faults.{next_count};
+ghost use Rattle.tr_io.specs.Faults.{faults_after};
 ghost use Rattle.tr_io.specs.Attempts.{OfKnown, Answered, Asked, read_attempt, write_attempt};
 
 use crate::attempts::{Attempt, MOST_TRIES, read_attempt};
@@ -50,7 +50,7 @@ impl<I: Input + Drop> Source for InputSource<I> {
         ensures count { IfOk result (λ n. n ≤ length buf.new) }
         ensures asked { OfKnown (I.answers self.old.stream) (I.answers self.new.stream)
             (Asked read_attempt result) }
-        ensures counted { self.new.faults ≡ (if is_ok result then self.old.faults else next_count self.old.faults) }
+        ensures counted { self.new.faults ≡ faults_after result self.old.faults }
         ensures rising { self.old.faults ≤ self.new.faults }
     {
         let answer = read_from(&mut self.input, buf);

@@ -2,7 +2,7 @@
 ghost use Rattle.std.specs.Prelude.{◌≡◌, ◌<◌, ◌≤◌, length, ◌-◌, ◌^◌, ◌++◌, ◌∷◌, [], ℕ, List, Option, Result, IfOk, IsOk, is_ok, if◌then◌else◌};
 ghost use Rattle.std.specs.Io.{ReadsAtMost, WritesAtMost};
 ghost use Rattle.std.specs.declared.io.Error.{Error};
-ghost use Rattle.tr_io.specs.Faults.{next_count};
+ghost use Rattle.tr_io.specs.Faults.{faults_after};
 ghost use Rattle.tr_io.specs.Attempts.{OfKnown, Answered, Asked, read_attempt, write_attempt};
 
 use crate::attempts::{Attempt, MOST_TRIES, write_attempt};
@@ -63,7 +63,7 @@ impl<O: Output + Drop> Sink for OutputSink<O> {
         ensures progress { 0 < length piece.now → IfOk result (λ n. 0 < n) }
         ensures asked { OfKnown (O.answers self.old.stream) (O.answers self.new.stream)
             (Asked (write_attempt piece.now) result) }
-        ensures counted { self.new.faults ≡ (if is_ok result then self.old.faults else next_count self.old.faults) }
+        ensures counted { self.new.faults ≡ faults_after result self.old.faults }
         ensures rising { self.old.faults ≤ self.new.faults }
     {
         let answer = write_to(&mut self.output, piece);

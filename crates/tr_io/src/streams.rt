@@ -23,7 +23,8 @@ pub trait Source {
     fn read(&mut self, buf: &mut [u8]) -> Result<usize, Failed>
         ensures count { IfOk result (λ n. n ≤ length buf.new) }
         ensures taken { IfOk result (λ n. Fell (left self.old) (left self.new) (take n buf.new)) }
-        ensures end { IfOk result (λ n. 0 < length buf.old → IfSome (left self.old) (λ bytes. (n ≡ 0) ↔ (bytes ≡ []))) }
+        ensures end { IfOk result (λ n. 0 < length buf.old →
+            IfSome (left self.old) (λ bytes. (n ≡ 0) ↔ (bytes ≡ []))) }
         ensures failed { OnErr result (HasFault (faults self.old) (faults self.new)) }
         ensures unchanged { OnErr result (left self.new ≡ left self.old) }
         ensures rising { faults self.old ≤ faults self.new };

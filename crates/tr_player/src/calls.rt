@@ -58,31 +58,38 @@ pub fn serial_call<S: Source, K: Sink>(
     }) }
 
     // Usage: exactly where the arguments are not the accepted ones. Then nothing is read.
-    ensures usage { Yields result.status ((result.status ≡ code Status.Usage) ↔ (texts_of words.now ≢ accepted_arguments)) }
+    ensures usage { Yields result.status
+        ((result.status ≡ code Status.Usage) ↔ (texts_of words.now ≢ accepted_arguments)) }
     ensures unread { texts_of words.now ≢ accepted_arguments →
         (S.left source.new ≡ S.left source.old) × (S.faults source.new ≡ S.faults source.old) }
-    ensures usage_text { result.status ≡ code Status.Usage → Grew (K.written sink.old) (K.written sink.new) usage_text }
+    ensures usage_text { result.status ≡ code Status.Usage →
+        Grew (K.written sink.old) (K.written sink.new) usage_text }
 
     // Read fault: only where the source had one.
-    ensures read_fault { result.status ≡ code Status.ReadFault → HasFault (S.faults source.old) (S.faults source.new) }
+    ensures read_fault { result.status ≡ code Status.ReadFault →
+        HasFault (S.faults source.old) (S.faults source.new) }
     ensures read_fault_text { result.status ≡ code Status.ReadFault →
         Grew (K.written sink.old) (K.written sink.new) read_fault_text }
 
     // Refused: of the answers to a script that was read, exactly where the bytes are in no script's form.
-    ensures refused { Yields result.status (result.status ≢ code Status.Usage → result.status ≢ code Status.ReadFault →
-        OfBytesRead (S.left source.old) (λ bytes. (result.status ≡ code Status.Refused) ↔ (IsInForm bytes → ⊥))) }
-    ensures refused_text { result.status ≡ code Status.Refused → Grew (K.written sink.old) (K.written sink.new) refused_text }
+    ensures refused { Yields result.status (result.status ≢ code Status.Usage →
+        result.status ≢ code Status.ReadFault → OfBytesRead (S.left source.old) (λ bytes.
+        (result.status ≡ code Status.Refused) ↔ (IsInForm bytes → ⊥))) }
+    ensures refused_text { result.status ≡ code Status.Refused →
+        Grew (K.written sink.old) (K.written sink.new) refused_text }
     ensures read_through { (result.status ≡ code Status.Done) ⊎ (result.status ≡ code Status.Refused) →
         IsReadThrough (S.left source.old) (S.left source.new) }
 
     // Done: the source was read to its end. The bytes read are a script, and what is written is the
     // text of each script that they spell.
-    ensures read_to_end { result.status ≡ code Status.Done → IfSome (S.left source.new) (λ rest. rest ≡ []) }
+    ensures read_to_end { result.status ≡ code Status.Done →
+        IfSome (S.left source.new) (λ rest. rest ≡ []) }
     ensures output { result.status ≡ code Status.Done → OfBytesRead (S.left source.old) (λ bytes.
         (text : List ℕ) × Prints bytes text × Grew (K.written sink.old) (K.written sink.new) text) }
 
     // Write fault: only where the sink had one. What is written is a prefix of the text that is due.
-    ensures write_fault { result.status ≡ code Status.WriteFault → HasFault (K.faults sink.old) (K.faults sink.new) }
+    ensures write_fault { result.status ≡ code Status.WriteFault →
+        HasFault (K.faults sink.old) (K.faults sink.new) }
     ensures prefix { result.status ≡ code Status.WriteFault → (due : Due) × IsDue (record {
       arguments = texts_of words.now;
       left = S.left source.old;
@@ -92,12 +99,14 @@ pub fn serial_call<S: Source, K: Sink>(
     }) due × GrewByPrefix (K.written sink.old) (K.written sink.new) (text_of due) }
 
     // Want of memory: nothing is written.
-    ensures no_memory { result.status ≡ code Status.NoMemory → K.written sink.new ≡ K.written sink.old }
+    ensures no_memory { result.status ≡ code Status.NoMemory →
+        K.written sink.new ≡ K.written sink.old }
 
     // A script in form is played, where no fault is counted.
     ensures complete { texts_of words.now ≡ accepted_arguments →
         IsSomeAnd (S.left source.old) (λ left. IsInForm (take most_read left)) →
-        (HasFault (S.faults source.old) (S.faults source.new) → ⊥) → (HasFault (K.faults sink.old) (K.faults sink.new) → ⊥) →
+        (HasFault (S.faults source.old) (S.faults source.new) → ⊥) →
+        (HasFault (K.faults sink.old) (K.faults sink.new) → ⊥) →
         (result.status ≡ code Status.Done) ⊎ (result.status ≡ code Status.NoMemory) }
 {
     let Ok(reply) = reply_to(alloc, words, source) else {

@@ -66,20 +66,21 @@ impl Reply {
 /// ones leave the source alone.
 pub fn reply_to<S: Source>(
     alloc: Global,
-    words: &[String],
+    arguments: &[String],
     source: &mut S,
 ) -> Result<Reply, NoMemory>
     ensures due { IfOk result (λ reply. IsDue (record {
-      arguments = texts_of words.now;
+      arguments = texts_of arguments.now;
       left = S.left source.old;
       left_new = S.left source.new;
       faults = S.faults source.old;
       faults_new = S.faults source.new;
     }) (due_of reply)) }
-    ensures unread { texts_of words.now ≢ accepted_arguments → (S.left source.new ≡ S.left source.old) × (S.faults source.new ≡ S.faults source.old) }
+    ensures unread { texts_of arguments.now ≢ accepted_arguments →
+        (S.left source.new ≡ S.left source.old) × (S.faults source.new ≡ S.faults source.old) }
     ensures rising { S.faults source.old ≤ S.faults source.new }
 {
-    if !are_accepted(words) {
+    if !are_accepted(arguments) {
         return Ok(Reply::Usage);
     }
     match read_all(alloc, source) {

@@ -62,7 +62,8 @@ fn append_piece<S: Source>(
     requires { 0 < length piece.old }
     ensures count { IfOk result (λ n. (vec_len bytes.new ≡ vec_len bytes.old + n) × (n ≤ length piece.old)) }
     // What came and what is to come are the same bytes as before.
-    ensures whole { OnOk result (prepend_known bytes.new.items (S.left source.new) ≡ prepend_known bytes.old.items (S.left source.old)) }
+    ensures whole { OnOk result (prepend_known bytes.new.items (S.left source.new)
+        ≡ prepend_known bytes.old.items (S.left source.old)) }
     ensures end { IfOk result (λ n. n ≡ 0 → IfSome (S.left source.new) (λ rest. rest ≡ [])) }
     ensures failed { result ≡ Err ReadError.Failed → HasFault (S.faults source.old) (S.faults source.new) }
     ensures rising { S.faults source.old ≤ S.faults source.new }
@@ -92,7 +93,8 @@ fn write_from<K: Sink>(sink: &mut K, text: &[u8], start: usize) -> Result<usize,
     requires start { start < length text.now }
     requires room { length text.now ≤ K.room sink.old + start }
     ensures count { IfOk result (λ n. (0 < n) × (start + n ≤ length text.now)) }
-    ensures grew { IfOk result (λ n. Grew (K.written sink.old) (K.written sink.new) (take n (drop start text.now))) }
+    ensures grew { IfOk result (λ n.
+        Grew (K.written sink.old) (K.written sink.new) (take n (drop start text.now))) }
     ensures room { IfOk result (λ n. K.room sink.old ≤ K.room sink.new + n) }
     ensures failed { OnErr result (HasFault (K.faults sink.old) (K.faults sink.new)) }
     ensures unchanged { OnErr result (K.written sink.new ≡ K.written sink.old) }

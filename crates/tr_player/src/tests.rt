@@ -14,12 +14,12 @@ const LARGEST: &[u8] =
 
 const USAGE: &[u8] = b"usage: trestle play|serial|check|gen N\n";
 
-fn words_of(alloc: Global, texts: &[&str]) -> Result<Vec<String>, AllocError> {
-    let mut words = Vec::new(alloc);
+fn arguments_of(alloc: Global, texts: &[&str]) -> Result<Vec<String>, AllocError> {
+    let mut arguments = Vec::new(alloc);
     for text in texts {
-        words.push(String::from_str(alloc, text)?)?;
+        arguments.push(String::from_str(alloc, text)?)?;
     }
-    Ok(words)
+    Ok(arguments)
 }
 
 /// The status of a call whose reads and writes never fail, what it wrote, and what it left unread.
@@ -28,10 +28,10 @@ fn played(
     texts: &[&str],
     script: &[u8],
 ) -> Result<(u8, Vec<u8>, usize), AllocError> {
-    let words = words_of(alloc, texts)?;
+    let arguments = arguments_of(alloc, texts)?;
     let mut source = SteadySource::new(Vec::from_slice(alloc, script)?);
     let mut sink = SteadySink::new(alloc);
-    let outcome = serial_call(alloc, &words, &mut source, &mut sink);
+    let outcome = serial_call(alloc, &arguments, &mut source, &mut sink);
     let written = Vec::from_slice(alloc, sink.written())?;
     Ok((outcome.status, written, source.left().len()))
 }
@@ -78,11 +78,11 @@ fn other_arguments_are_answered_with_the_usage(rt: HostRuntime) -> Result<(), Fa
 /// The status of a call on the script of one pixel, and what was written, where the given reads and
 /// writes fail and a write takes 4 bytes at most.
 fn with_faults(alloc: Global, reads: &[u64], writes: &[u64]) -> Result<(u8, Vec<u8>), AllocError> {
-    let words = words_of(alloc, &["serial"])?;
+    let arguments = arguments_of(alloc, &["serial"])?;
     let script = Vec::from_slice(alloc, ONE_PIXEL)?;
     let mut source = MemorySource::new(script, Vec::from_slice(alloc, reads)?);
     let mut sink = MemorySink::new(alloc, 4, Vec::from_slice(alloc, writes)?);
-    let outcome = serial_call(alloc, &words, &mut source, &mut sink);
+    let outcome = serial_call(alloc, &arguments, &mut source, &mut sink);
     Ok((outcome.status, Vec::from_slice(alloc, sink.written())?))
 }
 

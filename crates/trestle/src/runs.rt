@@ -50,12 +50,16 @@ pub fn run<S: Source, K: Sink>(
         ((exit_status result ≡ code Status.Usage) ↔ (arguments ≢ accepted_arguments))) }
     ensures output { exit_status result ≡ code Status.Done → OfBytesRead (S.left source.old) (λ bytes.
         (text : List ℕ) × Prints bytes text × Grew (K.written sink.old) (K.written sink.new) text) }
-    ensures read_fault { exit_status result ≡ code Status.ReadFault → HasFault (S.faults source.old) (S.faults source.new) }
-    ensures write_fault { exit_status result ≡ code Status.WriteFault → HasFault (K.faults sink.old) (K.faults sink.new) }
-    ensures no_memory { exit_status result ≡ code Status.NoMemory → K.written sink.new ≡ K.written sink.old }
+    ensures read_fault { exit_status result ≡ code Status.ReadFault →
+        HasFault (S.faults source.old) (S.faults source.new) }
+    ensures write_fault { exit_status result ≡ code Status.WriteFault →
+        HasFault (K.faults sink.old) (K.faults sink.new) }
+    ensures no_memory { exit_status result ≡ code Status.NoMemory →
+        K.written sink.new ≡ K.written sink.old }
     ensures complete { IfSome (heard all) (λ arguments. arguments ≡ accepted_arguments →
         IsSomeAnd (S.left source.old) (λ left. IsInForm (take most_read left)) →
-        (HasFault (S.faults source.old) (S.faults source.new) → ⊥) → (HasFault (K.faults sink.old) (K.faults sink.new) → ⊥) →
+        (HasFault (S.faults source.old) (S.faults source.new) → ⊥) →
+        (HasFault (K.faults sink.old) (K.faults sink.new) → ⊥) →
         (exit_status result ≡ code Status.Done) ⊎ (exit_status result ≡ code Status.NoMemory)) }
 {
     match all {
@@ -118,12 +122,16 @@ fn play<S: Source, K: Sink>(
         ((exit_status result ≡ code Status.Usage) ↔ (texts_of arguments.now ≢ accepted_arguments)) }
     ensures output { exit_status result ≡ code Status.Done → OfBytesRead (S.left source.old) (λ bytes.
         (text : List ℕ) × Prints bytes text × Grew (K.written sink.old) (K.written sink.new) text) }
-    ensures read_fault { exit_status result ≡ code Status.ReadFault → HasFault (S.faults source.old) (S.faults source.new) }
-    ensures write_fault { exit_status result ≡ code Status.WriteFault → HasFault (K.faults sink.old) (K.faults sink.new) }
-    ensures no_memory { exit_status result ≡ code Status.NoMemory → K.written sink.new ≡ K.written sink.old }
+    ensures read_fault { exit_status result ≡ code Status.ReadFault →
+        HasFault (S.faults source.old) (S.faults source.new) }
+    ensures write_fault { exit_status result ≡ code Status.WriteFault →
+        HasFault (K.faults sink.old) (K.faults sink.new) }
+    ensures no_memory { exit_status result ≡ code Status.NoMemory →
+        K.written sink.new ≡ K.written sink.old }
     ensures complete { texts_of arguments.now ≡ accepted_arguments →
         IsSomeAnd (S.left source.old) (λ left. IsInForm (take most_read left)) →
-        (HasFault (S.faults source.old) (S.faults source.new) → ⊥) → (HasFault (K.faults sink.old) (K.faults sink.new) → ⊥) →
+        (HasFault (S.faults source.old) (S.faults source.new) → ⊥) →
+        (HasFault (K.faults sink.old) (K.faults sink.new) → ⊥) →
         (exit_status result ≡ code Status.Done) ⊎ (exit_status result ≡ code Status.NoMemory) }
 {
     ExitCode::from(serial_call(alloc, arguments, source, sink).status)
