@@ -36,14 +36,27 @@ module _ (a b : List ℕ) (same : length a ≡ length b) (at : ℕ) (room : at +
   all_agree : bits ≡ 0 → (k : ℕ) → at ≤ k → k < at + 64 → get_or a k 0 ≡ get_or b k 0
   all_agree none k le lt =
       let e : at + (k - at) ≡ k = omega arith in
-      ap (λ i. get_or a i 0) (sym e) ∙ bit_agrees a b same at room (k - at) (omega arith) (ap (λ n. bit_at n (k - at)) none ∙ bit_at-zero (k - at)) ∙ ap (λ i. get_or b i 0) e
+      ap (λ i. get_or a i 0) (sym e) ∙ bit_agrees a b same at room (k - at) (omega arith) (ap (λ n. bit_at n (k - at)) none ∙ bit_at-zero (k - at))
+      ∙ ap (λ i. get_or b i 0) e
 
   -- where no bit is set, the rows agree 64 places further
   pub agree_further : bits ≡ 0 → (next : ℕ) → next ≡ at + 64 → AgreeBefore a b at → AgreeBefore a b next
-  agree_further none next e so_far = record { same = λ k lt. elim (cases_lt k at) [ inl before ↦ so_far.same k before | inr behind ↦ all_agree none k behind (omega arith) ] }
+  agree_further none next e so_far =
+      record {
+        same = λ k lt. elim (cases_lt k at) [
+          | inl before ↦ so_far.same k before
+          | inr behind ↦ all_agree none k behind (omega arith)
+        ];
+      }
 
   pub agree_earlier : bits ≡ 0 → (next : ℕ) → next ≡ at + 64 → AgreeFrom a b next → AgreeFrom a b at
-  agree_earlier none next e so_far = record { same = λ k le within. elim (cases_lt k (at + 64)) [ inl before ↦ all_agree none k le before | inr behind ↦ so_far.same k (omega arith) within ] }
+  agree_earlier none next e so_far =
+      record {
+        same = λ k le within. elim (cases_lt k (at + 64)) [
+          | inl before ↦ all_agree none k le before
+          | inr behind ↦ so_far.same k (omega arith) within
+        ];
+      }
 
   -- the lowest bit that is set is the first difference
   pub lowest : (0 < bits) → AgreeBefore a b at → IsFirstDifference a b (at + trailing_zeros w64 bits)
@@ -56,7 +69,8 @@ module _ (a b : List ℕ) (same : length a ≡ length b) (at : ℕ) (room : at +
           | inl before ↦ so_far.same j before
           | inr behind ↦
               let e : at + (j - at) ≡ j = omega arith in
-              ap (λ i. get_or a i 0) (sym e) ∙ bit_agrees a b same at room (j - at) (omega (arith, k.0)) (k.2 (j - at) (omega arith)) ∙ ap (λ i. get_or b i 0) e
+              ap (λ i. get_or a i 0) (sym e) ∙ bit_agrees a b same at room (j - at) (omega (arith, k.0)) (k.2 (j - at) (omega arith))
+              ∙ ap (λ i. get_or b i 0) e
         ];
       }
 
@@ -69,7 +83,8 @@ module _ (a b : List ℕ) (same : length a ≡ length b) (at : ℕ) (room : at +
         behind = λ j gt within. elim (cases_lt j (at + 64)) [
           | inl before ↦
               let e : at + (j - at) ≡ j = omega arith in
-              ap (λ i. get_or a i 0) (sym e) ∙ bit_agrees a b same at room (j - at) (omega arith) (bit_above bits r (j - at) below (omega arith)) ∙ ap (λ i. get_or b i 0) e
+              ap (λ i. get_or a i 0) (sym e) ∙ bit_agrees a b same at room (j - at) (omega arith) (bit_above bits r (j - at) below (omega arith))
+              ∙ ap (λ i. get_or b i 0) e
           | inr behind ↦ so_far.same j (omega arith) within
         ];
       }

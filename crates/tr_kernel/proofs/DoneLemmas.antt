@@ -30,7 +30,8 @@ module _ (f : ℕ → ℕ) (old row : List ℕ) (i : ℕ) (so_far : IsDoneTo f o
       left k le = get_or-set_other row i k y 0 (λ h. omega arith) ∙ so_far.left k (omega arith)
 
   -- many pixels are replaced from a place on that is done already, or comes next
-  pub many_done : (at : ℕ) (ys : List ℕ) (next : ℕ) → at + length ys ≡ next → at ≤ i → i ≤ next → next ≤ length row → ((j : ℕ) → j < length ys → get_or ys j 0 ≡ f (at + j))
+  pub many_done : (at : ℕ) (ys : List ℕ) (next : ℕ) → at + length ys ≡ next → at ≤ i → i ≤ next → next ≤ length row → ((j : ℕ) → j < length ys
+      → get_or ys j 0 ≡ f (at + j))
       → IsDoneTo f old (put_chunk at row ys) next
   many_done at ys next sum behind reached room here = record { done = done; left = left }
     where
@@ -39,7 +40,8 @@ module _ (f : ℕ → ℕ) (old row : List ℕ) (i : ℕ) (so_far : IsDoneTo f o
         | inl before ↦ get_or-put_chunk_below at row ys k 0 before ∙ so_far.done k (omega arith)
         | inr not_before ↦
             let e : at + (k - at) ≡ k = omega arith in
-            ap (λ j. get_or (put_chunk at row ys) j 0) (sym e) ∙ get_or-put_chunk_at at row ys (k - at) 0 (omega arith) (omega arith) ∙ here (k - at) (omega arith) ∙ ap f e
+            ap (λ j. get_or (put_chunk at row ys) j 0) (sym e) ∙ get_or-put_chunk_at at row ys (k - at) 0 (omega arith) (omega arith)
+            ∙ here (k - at) (omega arith) ∙ ap f e
       ]
 
       left : (k : ℕ) → next ≤ k → get_or (put_chunk at row ys) k 0 ≡ get_or old k 0
@@ -48,4 +50,5 @@ module _ (f : ℕ → ℕ) (old row : List ℕ) (i : ℕ) (so_far : IsDoneTo f o
 -- two lists with the same numbers are one
 pub same_list : (xs ys : List ℕ) → length xs ≡ length ys → ((k : ℕ) → k < length xs → get_or xs k 0 ≡ get_or ys k 0) → xs ≡ ys
 same_list xs ys long each =
-    fill_by_all (λ k. get_or ys k 0) xs (length ys) 0 long (λ k lt. each k (omega arith)) ∙ sym (fill_by_all (λ k. get_or ys k 0) ys (length ys) 0 refl (λ k lt. refl))
+    fill_by_all (λ k. get_or ys k 0) xs (length ys) 0 long (λ k lt. each k (omega arith))
+    ∙ sym (fill_by_all (λ k. get_or ys k 0) ys (length ys) 0 refl (λ k lt. refl))

@@ -107,7 +107,8 @@ step_by_case s old false = refl
 
 -- a lane of the whole
 pub step_at : (s : Steps) (bits old e : List ℕ) → length bits ≡ 16 → length e ≡ 16
-    → ((k : ℕ) → k < 16 → get_or e k 0 ≡ flipped (get_or (choice_lanes bits s.zero.x s.one.x) k 0) (get_or (choice_lanes bits s.zero.y s.one.y) k 0) (get_or old k 0))
+    → ((k : ℕ) → k < 16 → get_or e k 0 ≡ flipped (get_or (choice_lanes bits s.zero.x s.one.x) k 0) (get_or (choice_lanes bits s.zero.y s.one.y) k 0)
+    (get_or old k 0))
     → (k : ℕ) → k < 16 → get_or (step_lanes s bits e) k 0 ≡ stepped_by s (not (eqb (get_or bits k 0) 0)) (get_or old k 0)
 step_at s bits old e long_bits long_e each k lt =
     let unset = eqb (get_or bits k 0) 0 in
@@ -124,4 +125,5 @@ pub lanes_painted : (s : Steps) (bit : ℕ → Bool) (old bits here ys : List �
     → ((k : ℕ) → k < 16 → eqb (get_or bits k 0) 0 ≡ not (bit (at + k)))
     → ((k : ℕ) → k < 16 → get_or here k 0 ≡ get_or old (at + k) 0)
     → (k : ℕ) → k < 16 → get_or ys k 0 ≡ stepped_by s (bit (at + k)) (get_or old (at + k) 0)
-lanes_painted s bit old bits here ys at each bits_are here_is k lt = each k lt ∙ ap₂ (stepped_by s) (ap not (bits_are k lt) ∙ not-not (bit (at + k))) (here_is k lt)
+lanes_painted s bit old bits here ys at each bits_are here_is k lt = each k lt ∙ ap₂ (stepped_by s) (ap not (bits_are k lt)
+    ∙ not-not (bit (at + k))) (here_is k lt)

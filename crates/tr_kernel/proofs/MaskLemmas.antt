@@ -6,7 +6,8 @@ use Rattle.tr_kernel.specs.Masks.{Painting, painted, masked}
 use Rattle.tr_kernel.specs.Steps.{stepped_by, AreStepsOf}
 
 -- a row that was painted by the steps is the masked one
-pub stepped-masked : (m : Painting) (s : Steps) → AreStepsOf m s → (bit : ℕ → Bool) (old new : List ℕ) → length new ≡ length old → ((k : ℕ) → Fits w8 (get_or old k 0))
+pub stepped-masked : (m : Painting) (s : Steps) → AreStepsOf m s → (bit : ℕ → Bool) (old new : List ℕ) → length new ≡ length old → ((k : ℕ)
+    → Fits w8 (get_or old k 0))
     → ((k : ℕ) → k < length old → get_or new k 0 ≡ stepped_by s (bit k) (get_or old k 0)) → new ≡ masked m bit old
 stepped-masked m s same bit old new long fits each =
     fill_by_all (λ k. painted m (bit k) (get_or old k 0)) new (length old) 0 long (λ k lt. each k lt ∙ same.same (bit k) (get_or old k 0) (fits k).fits)

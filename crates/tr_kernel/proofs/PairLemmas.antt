@@ -65,7 +65,8 @@ module _ (a b : List ℕ) (same : length a ≡ length b) (at : ℕ) (room : at +
   -- the number that the lanes give
   pub bitmask-differing : mask_l (map (top 7) (zip2 (λ x y. cond (not (eqb x y)) 255 0) (chunk at 64 a) (chunk at 64 b))) % 2 ^ 64 ≡ differing
   bitmask-differing =
-      ap (λ ms. mask_l ms % 2 ^ 64) (tops_compared w8 (λ x y. not (eqb x y)) (chunk at 64 a) (chunk at 64 b) ∙ zip2-differ (chunk at 64 a) (chunk at 64 b) ∙ ap (map differ) (sym (chunk-zip at 64 a b)))
+      ap (λ ms. mask_l ms % 2 ^ 64) (tops_compared w8 (λ x y. not (eqb x y)) (chunk at 64 a) (chunk at 64 b)
+      ∙ zip2-differ (chunk at 64 a) (chunk at 64 b) ∙ ap (map differ) (sym (chunk-zip at 64 a b)))
       ∙ mask_l-mod (map differ (chunk at 64 (zip a b))) 64 (omega (arith, length-map (chunk at 64 (zip a b)) differ, long))
 
   pub differing_fits : differing < 2 ^ 64
@@ -77,7 +78,8 @@ module _ (a b : List ℕ) (same : length a ≡ length b) (at : ℕ) (room : at +
   bit_of_pair j lt =
       bit_mask_l (map differ (chunk at 64 (zip a b))) j
       ∙ ap (λ t. cond t 1 0)
-      (get_or-map differ (chunk at 64 (zip a b)) j (0, 0) false (omega (arith, long)) ∙ ap differ (get_or-chunk at 64 (zip a b) j (0, 0) lt) ∙ differ_at a b (at + j) (omega arith) same)
+      (get_or-map differ (chunk at 64 (zip a b)) j (0, 0) false (omega (arith, long)) ∙ ap differ (get_or-chunk at 64 (zip a b) j (0, 0) lt)
+      ∙ differ_at a b (at + j) (omega arith) same)
 
   -- where a bit is 0 the pair agrees, and where it is 1 the pair differs
   pub bit_agrees : (j : ℕ) → j < 64 → bit_at differing j ≡ 0 → get_or a (at + j) 0 ≡ get_or b (at + j) 0
@@ -90,7 +92,9 @@ module _ (a b : List ℕ) (same : length a ≡ length b) (at : ℕ) (room : at +
       absurd (omega arith)
 
   -- as many more differ as bits are set
-  pub count_further : (count ones : ℕ) → count ≡ count_by differ (take at (zip a b)) → ones ≡ count_ones differing → count + ones ≡ count_by differ (take (at + 64) (zip a b))
+  pub count_further : (count ones : ℕ) → count ≡ count_by differ (take at (zip a b)) → ones ≡ count_ones differing
+      → count + ones ≡ count_by differ (take (at + 64) (zip a b))
   count_further count ones so_far e =
-      ap₂ (λ n m. n + m) so_far (e ∙ ones-mask_l differ (chunk at 64 (zip a b))) ∙ sym (sum_by-append (λ x. cond (differ x) 1 0) (take at (zip a b)) (chunk at 64 (zip a b)))
+      ap₂ (λ n m. n + m) so_far (e ∙ ones-mask_l differ (chunk at 64 (zip a b)))
+      ∙ sym (sum_by-append (λ x. cond (differ x) 1 0) (take at (zip a b)) (chunk at 64 (zip a b)))
       ∙ ap (count_by differ) (sym (take-add at 64 (zip a b)))

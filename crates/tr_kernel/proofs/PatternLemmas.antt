@@ -16,7 +16,8 @@ use Rattle.tr_kernel.proofs.LaneLemmas.{sixteen, lanes_made, lane_made, sel_of_m
 abbrev pub window : ℕ → List ℕ → List ℕ
 window p table = chunk 0 16 (mid_of p (24 - p) table)
 
-window_made : (f : ℕ → ℕ) (table : List ℕ) (p : ℕ) → length table ≡ 24 → p ≤ 8 → ((i : ℕ) → i < 24 → get_or table i 0 ≡ f i) → window p table ≡ map (λ k. f (p + k)) sixteen
+window_made : (f : ℕ → ℕ) (table : List ℕ) (p : ℕ) → length table ≡ 24 → p ≤ 8 → ((i : ℕ) → i < 24 → get_or table i 0 ≡ f i)
+    → window p table ≡ map (λ k. f (p + k)) sixteen
 window_made f table p long le each =
     let left = take (24 - p) (drop p table) in
     let enough : 16 ≤ length left = omega (arith, length-take-le (24 - p) (drop p table), length-drop p table) in
@@ -37,11 +38,13 @@ abbrev bit_value : ℕ → ℕ
 bit_value i = 2 ^ (7 - i % 8)
 
 bits_made : (p : ℕ) → p ≤ 8 → window p BITS ≡ map (λ k. bit_value (p + k)) sixteen
-bits_made p le = window_made bit_value BITS p refl le (λ i lt. eqb-true _ _ (agree_below_at (λ j. eqb (get_or BITS j 0) (bit_value j)) (λ _. true) 24 i refl lt))
+bits_made p le = window_made bit_value BITS p refl le (λ i lt. eqb-true _ _ (agree_below_at (λ j. eqb (get_or BITS j 0) (bit_value j))
+    (λ _. true) 24 i refl lt))
 
 -- which of three bytes a place lies in
 numbers_made : (p : ℕ) → p ≤ 8 → window p CELLS ≡ map (λ k. (p + k) / 8) sixteen
-numbers_made p le = window_made (λ i. i / 8) CELLS p refl le (λ i lt. eqb-true _ _ (agree_below_at (λ j. eqb (get_or CELLS j 0) (j / 8)) (λ _. true) 24 i refl lt))
+numbers_made p le = window_made (λ i. i / 8) CELLS p refl le (λ i lt. eqb-true _ _ (agree_below_at (λ j. eqb (get_or CELLS j 0) (j / 8))
+    (λ _. true) 24 i refl lt))
 
 -- the lanes of one byte
 abbrev pub byte_lanes : ℕ → ℕ → List ℕ
@@ -108,6 +111,7 @@ cell_bit cells phase at next far is_next is_far k lt low within =
     let inside : first + q < length cells = omega arith in
     let here = picked cells first next far is_next is_far q (omega arith) inside ∙ ap (λ i. get_or cells i 0) whole in
     let at_lane = λ (j : ℕ). bit_and (three near (get_or cells next 0) (get_or cells far 0) ((p + j) / 8)) (bit_value (p + j)) in
-    ap (λ n. eqb n 0) (lane_made at_lane (cell_lanes p near (get_or cells next 0) (get_or cells far 0)) (cells_made p near (get_or cells next 0) (get_or cells far 0) (omega arith)) k 0 lt)
+    ap (λ n. eqb n 0) (lane_made at_lane (cell_lanes p near (get_or cells next 0) (get_or cells far 0)) (cells_made p near (get_or cells next 0)
+    (get_or cells far 0) (omega arith)) k 0 lt)
     ∙ ap (λ n. eqb (bit_and n (bit_value (p + k))) 0) here
     ∙ tested (get_or cells ((at + k + phase) / 8) 0) (7 - (p + k) % 8) ∙ ap (λ j. not (bit_at (get_or cells ((at + k + phase) / 8) 0) (7 - j) == 1)) same

@@ -62,7 +62,8 @@ fn exchange(x: u8, y: u8) -> Step
 impl Steps {
     /// Whether either step exchanges pixels.
     pub fn exchange(&self) -> bool
-        ensures { result ≡ false → AreStill self.now }
+        ensures still { result ≡ false → AreStill self.now }
+        ensures moving { AreStill self.now → result ≡ false }
     {
         self.one.x != self.one.y || self.zero.x != self.zero.y
     }
@@ -74,7 +75,8 @@ impl Steps {
     pub fn lanes<const EXCHANGES: bool>(self, old: u8x16, bits: u8x16) -> u8x16
         requires { OnFalse EXCHANGES (AreStill self) }
         ensures lanes { length result ≡ 16 }
-        ensures each { (k : ℕ) → k < 16 → slice_index result k ≡ stepped_by self (not (slice_index bits k == 0)) (slice_index old k) }
+        ensures each { (k : ℕ) → k < 16 → slice_index result k
+            ≡ stepped_by self (not (slice_index bits k == 0)) (slice_index old k) }
     {
         let unset = bits.simd_eq(u8x16::splat(0));
         let x = unset.select(u8x16::splat(self.zero.x), u8x16::splat(self.one.x));
@@ -93,7 +95,8 @@ impl Steps {
 fn exchanged_lanes<const EXCHANGES: bool>(old: u8x16, x: u8x16, y: u8x16) -> u8x16
     requires { OnFalse EXCHANGES (x ≡ y) }
     ensures lanes { length result ≡ 16 }
-    ensures each { (k : ℕ) → k < 16 → slice_index result k ≡ flipped (slice_index x k) (slice_index y k) (slice_index old k) }
+    ensures each { (k : ℕ) → k < 16 → slice_index result k
+        ≡ flipped (slice_index x k) (slice_index y k) (slice_index old k) }
 {
     if !EXCHANGES {
         return old;

@@ -34,17 +34,21 @@ impl Model for Mask {
     ghost invariant = { λ m. AreStepsOf (record { ops = m.ops; kind = m.kind }) m.steps };
 }
 
-/// Paints a row of pixels of the kind: each takes `ops.one` where its bit is 1, and else `ops.zero`. The
-/// bits are those of `bits`, the highest first, again and again; the first pixel has the bit `phase`.
+/// Paints a row of pixels of the kind: each takes `ops.one` where its bit is 1, and else `ops.zero`.
+/// The bits are those of `bits`, the highest first, again and again; the first pixel has the bit
+/// `phase`.
 pub fn mask_row(row: &mut [u8], bits: u8, phase: u8, ops: Pair, kind: Kind)
     requires { phase < 8 }
-    ensures whole { row.new ≡ masked (record { ops = ops; kind = kind }) (bit_in_byte bits phase) row.old }
-    ensures each { (k : ℕ) → k < length row.old → slice_index row.new k ≡ eff kind (if is_set bits (k + phase) then ops.one else ops.zero) (slice_index row.old k) }
+    ensures whole { row.new
+        ≡ masked (record { ops = ops; kind = kind }) (bit_in_byte bits phase) row.old }
+    ensures each { (k : ℕ) → k < length row.old → slice_index row.new k
+        ≡ eff kind (if is_set bits (k + phase) then ops.one else ops.zero) (slice_index row.old k) }
 {
     Mask::of(ops, kind).row(row, bits, phase);
 }
 
 impl Mask {
+    /// The mask of these operations on pixels of the kind.
     pub fn of(ops: Pair, kind: Kind) -> Mask
         ensures { result ≡ record { ops = ops; kind = kind } }
     {
@@ -62,7 +66,8 @@ impl Mask {
     pub fn row(&self, row: &mut [u8], bits: u8, phase: u8)
         requires { phase < 8 }
         ensures whole { row.new ≡ masked self.now (bit_in_byte bits phase) row.old }
-        ensures each { (k : ℕ) → k < length row.old → slice_index row.new k ≡ painted self.now (is_set bits (k + phase)) (slice_index row.old k) }
+        ensures each { (k : ℕ) → k < length row.old → slice_index row.new k
+            ≡ painted self.now (is_set bits (k + phase)) (slice_index row.old k) }
     {
         let pattern = Byte { bits, phase };
         paint(row, self.steps, &pattern);
@@ -74,7 +79,9 @@ impl Mask {
         requires phase { phase < 8 }
         requires enough { length row.old + phase ≤ 8 * length cells.now }
         ensures whole { row.new ≡ masked self.now (bit_in_cells cells.now phase) row.old }
-        ensures each { (k : ℕ) → k < length row.old → slice_index row.new k ≡ painted self.now (is_set (slice_index cells.now ((k + phase) / 8)) (k + phase)) (slice_index row.old k) }
+        ensures each { (k : ℕ) → k < length row.old →
+            let byte = slice_index cells.now ((k + phase) / 8) in
+            slice_index row.new k ≡ painted self.now (is_set byte (k + phase)) (slice_index row.old k) }
     {
         let pattern = Cells { cells, phase };
         paint(row, self.steps, &pattern);
@@ -84,7 +91,8 @@ impl Mask {
 /// Paints a row by a pattern.
 fn paint<P: Pattern>(row: &mut [u8], steps: Steps, pattern: &P)
     requires { (k : ℕ) → k < length row.old → P.Reaches pattern.now k }
-    ensures { (k : ℕ) → k < length row.old → slice_index row.new k ≡ stepped_by steps (P.bit_for pattern.now k) (slice_index row.old k) }
+    ensures { (k : ℕ) → k < length row.old → slice_index row.new k
+        ≡ stepped_by steps (P.bit_for pattern.now k) (slice_index row.old k) }
 {
     if steps.exchange() {
         paint_by::<P, true>(row, steps, pattern);
@@ -98,7 +106,8 @@ fn paint<P: Pattern>(row: &mut [u8], steps: Steps, pattern: &P)
 fn paint_by<P: Pattern, const EXCHANGES: bool>(row: &mut [u8], steps: Steps, pattern: &P)
     requires still { OnFalse EXCHANGES (AreStill steps) }
     requires reached { (k : ℕ) → k < length row.old → P.Reaches pattern.now k }
-    ensures { (k : ℕ) → k < length row.old → slice_index row.new k ≡ stepped_by steps (P.bit_for pattern.now k) (slice_index row.old k) }
+    ensures { (k : ℕ) → k < length row.old → slice_index row.new k
+        ≡ stepped_by steps (P.bit_for pattern.now k) (slice_index row.old k) }
 {
     if row.len() < LANES {
         paint_few::<P, EXCHANGES>(row, steps, pattern);
@@ -113,7 +122,8 @@ fn paint_many<P: Pattern, const EXCHANGES: bool>(row: &mut [u8], steps: Steps, p
     requires still { OnFalse EXCHANGES (AreStill steps) }
     requires many { LANES ≤ length row.old }
     requires reached { (k : ℕ) → k < length row.old → P.Reaches pattern.now k }
-    ensures { (k : ℕ) → k < length row.old → slice_index row.new k ≡ stepped_by steps (P.bit_for pattern.now k) (slice_index row.old k) }
+    ensures { (k : ℕ) → k < length row.old → slice_index row.new k
+        ≡ stepped_by steps (P.bit_for pattern.now k) (slice_index row.old k) }
 {
     let start = row.len() - LANES;
     let last_bits = pattern.bits_at(start);
@@ -135,7 +145,8 @@ fn paint_few<P: Pattern, const EXCHANGES: bool>(row: &mut [u8], steps: Steps, pa
     requires still { OnFalse EXCHANGES (AreStill steps) }
     requires few { length row.old < LANES }
     requires reached { (k : ℕ) → k < length row.old → P.Reaches pattern.now k }
-    ensures { (k : ℕ) → k < length row.old → slice_index row.new k ≡ stepped_by steps (P.bit_for pattern.now k) (slice_index row.old k) }
+    ensures { (k : ℕ) → k < length row.old → slice_index row.new k
+        ≡ stepped_by steps (P.bit_for pattern.now k) (slice_index row.old k) }
 {
     let n = row.len();
     if n == 0 {

@@ -26,7 +26,8 @@ pub(crate) trait Pattern {
     fn bits_at(&self, at: usize) -> u8x16
         requires { Reaches self.now at }
         ensures lanes { length result ≡ 16 }
-        ensures bits { (k : ℕ) → k < 16 → Reaches self.now (at + k) → (slice_index result k == 0) ≡ not (bit_for self.now (at + k)) };
+        ensures bits { (k : ℕ) → k < 16 → Reaches self.now (at + k) →
+            (slice_index result k == 0) ≡ not (bit_for self.now (at + k)) };
 }
 
 /// The bits of one byte, again and again. The first pixel has the bit `phase`.

@@ -16,7 +16,8 @@ pub fn fill_row(row: &mut [u8], value: u8)
 /// Each `x` becomes `y`, each `y` becomes `x`, and others stay.
 pub fn exchange_row(row: &mut [u8], x: u8, y: u8)
     ensures whole { row.new ≡ map (spec.exchanged x y) row.old }
-    ensures each { (k : ℕ) → k < length row.old → slice_index row.new k ≡ spec.exchanged x y (slice_index row.old k) }
+    ensures each { (k : ℕ) → k < length row.old → slice_index row.new k
+        ≡ spec.exchanged x y (slice_index row.old k) }
 {
     for pixel in row.iter_mut() {
         *pixel = exchanged(x, y, *pixel);

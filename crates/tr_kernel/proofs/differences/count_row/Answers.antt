@@ -27,8 +27,10 @@ loop-at-preserved c =
     let i = c.loop-at.at in
     let long : length (zip a b) ≡ length a = length_pairs _ _ c.requires in
     elim c.if-a-at.branch [
-      | then-a-at w ↦ w.count-is ∙ ap (λ n. n + 1) c.loop-at.invariant ∙ sym (count_by_more_yes differ (zip a b) i (0, 0) (omega arith) (pair_differs a b i (omega arith) c.requires w.if-a-at.true))
-      | else-a-at w ↦ w.count-is ∙ c.loop-at.invariant ∙ sym (count_by_more_no differ (zip a b) i (0, 0) (omega arith) (pair_agrees a b i (omega arith) c.requires w.if-a-at.false))
+      | then-a-at w ↦ w.count-is ∙ ap (λ n. n + 1) c.loop-at.invariant
+          ∙ sym (count_by_more_yes differ (zip a b) i (0, 0) (omega arith) (pair_differs a b i (omega arith) c.requires w.if-a-at.true))
+      | else-a-at w ↦ w.count-is ∙ c.loop-at.invariant ∙ sym (count_by_more_no differ (zip a b) i (0, 0) (omega arith) (pair_agrees a b i
+          (omega arith) c.requires w.if-a-at.false))
     ]
 
 pub returns : goal.returns

@@ -5,12 +5,14 @@ use Rattle.tr_kernel.proofs.differences.last_difference.Goals as goal
 
 pub returns-then-found-ne0-clause-found : goal.returns-then-found-ne0-clause-found
 returns-then-found-ne0-clause-found c =
-    highest c.args.a.now c.args.b.now c.requires ((c.loop-chunk.chunk - 1) * 64) (omega arith) c.ilog2.result c.ilog2.ensures.bound (rw c.differences_at-found.ensures at c.ilog2.ensures.power_le)
+    highest c.args.a.now c.args.b.now c.requires ((c.loop-chunk.chunk - 1) * 64) (omega arith) c.ilog2.result c.ilog2.ensures.bound
+    (rw c.differences_at-found.ensures at c.ilog2.ensures.power_le)
     (rw c.differences_at-found.ensures at c.ilog2.ensures.next_power_gt) (c.loop-chunk.chunk * 64) (omega arith) c.loop-chunk.invariant
 
 pub loop-chunk-preserved : goal.loop-chunk-preserved
 loop-chunk-preserved c =
-    agree_earlier c.args.a.now c.args.b.now c.requires ((c.loop-chunk.chunk - 1) * 64) (omega arith) (sym c.differences_at-found.ensures ∙ c.if-found-ne0.false) (c.loop-chunk.chunk * 64)
+    agree_earlier c.args.a.now c.args.b.now c.requires ((c.loop-chunk.chunk - 1) * 64) (omega arith) (sym c.differences_at-found.ensures
+    ∙ c.if-found-ne0.false) (c.loop-chunk.chunk * 64)
     (omega arith) c.loop-chunk.invariant
 
 pub returns-clause-equal : goal.returns-clause-equal

@@ -31,6 +31,7 @@ returns g c =
     (λ k lt. c.bits_at-last_bits.ensures.bits k lt (c.requires.reached (start + k) (omega arith)))
     (λ k lt. get_or-chunk start 16 old k 0 lt) in
     let whole =
-    many_done (λ k. stepped_by c.args.steps (bit k) (get_or old k 0)) old c.loop-chunk.row (c.loop-chunk.chunk * 16) c.loop-chunk.invariant start ys (length old)
+    many_done (λ k. stepped_by c.args.steps (bit k) (get_or old k 0)) old c.loop-chunk.row (c.loop-chunk.chunk * 16) c.loop-chunk.invariant start ys
+    (length old)
     (omega arith) (omega arith) (omega arith) (omega arith) (λ j lt. painted j (omega arith)) in
     whole.done

@@ -16,4 +16,5 @@ pub returns-clause-whole : goal.returns-clause-whole
 returns-clause-whole c =
     let f = exchanged c.args.x c.args.y in
     let old = c.args.row.now in
-    same_list c.loop-pixel.row (map f old) (omega (arith, length-map old f)) (λ k lt. c.loop-pixel.invariant.done k (omega arith) ∙ sym (get_or-map f old k 0 0 (omega arith)))
+    same_list c.loop-pixel.row (map f old) (omega (arith, length-map old f)) (λ k lt. c.loop-pixel.invariant.done k (omega arith)
+    ∙ sym (get_or-map f old k 0 0 (omega arith)))

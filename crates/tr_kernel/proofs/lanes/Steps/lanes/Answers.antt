@@ -4,7 +4,8 @@ use Rattle.tr_kernel.proofs.lanes.Steps.lanes.Goals as goal
 pub returns-clause-lanes : goal.returns-clause-lanes
 returns-clause-lanes g c =
     let e = c.exchanged_lanes.result in
-    lanes_made (merge_at c.args.self c.args.bits e) (step_lanes c.args.self c.args.bits e) (steps_made c.args.self c.args.bits e c.fits-bits.0 c.exchanged_lanes.ensures.lanes)
+    lanes_made (merge_at c.args.self c.args.bits e) (step_lanes c.args.self c.args.bits e)
+    (steps_made c.args.self c.args.bits e c.fits-bits.0 c.exchanged_lanes.ensures.lanes)
 
 pub returns-clause-each : goal.returns-clause-each
 returns-clause-each g c =

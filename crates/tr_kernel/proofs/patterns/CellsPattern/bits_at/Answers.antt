@@ -10,4 +10,5 @@ returns-clause-lanes c =
 
 pub returns-clause-bits : goal.returns-clause-bits
 returns-clause-bits c k lt reach =
-    rw c.from.ensures (cell_bit c.args.self.now.cells.now c.args.self.now.phase c.args.at c.min.result c.min-2.result (omega arith) (omega arith) k lt reach.0 reach.1)
+    rw c.from.ensures (cell_bit c.args.self.now.cells.now c.args.self.now.phase c.args.at c.min.result c.min-2.result (omega arith)
+    (omega arith) k lt reach.0 reach.1)
