@@ -235,7 +235,7 @@ turned_turned false e = refl
 
 pub turned_is_rect : (down : Bool) (e : Edges) → IsRect e → IsRect (turned down e)
 turned_is_rect true e is = record {
-    edges = sym (turned-rect_of e.west e.east e.north e.south) ∙ ap (turned true) is.edges;
-    reach = record { west = is.reach.north; east = is.reach.south; north = is.reach.west; south = is.reach.east };
+  edges = sym (turned-rect_of e.west e.east e.north e.south) ∙ ap (turned true) is.edges;
+  reach = record { west = is.reach.north; east = is.reach.south; north = is.reach.west; south = is.reach.east };
 }
 turned_is_rect false e is = is

@@ -68,8 +68,8 @@ pub fn translate_place(rect: Rect, by: Point, child: Shapes) -> Rect
 }
 
 fn raised(edge: i32, by: u8) -> i32
-    requires low { neg_ℤ (pos 65536) ≤ℤ edge }
-    requires high { edge ≤ℤ pos 65536 }
+    requires low { neg_ℤ (pos 131072) ≤ℤ edge }
+    requires high { edge ≤ℤ pos 131072 }
     ensures value { result ≡ edge +ℤ pos by }
     ensures reach { InReach result }
 {
@@ -77,8 +77,8 @@ fn raised(edge: i32, by: u8) -> i32
 }
 
 fn lowered(edge: i32, by: u8) -> i32
-    requires low { neg_ℤ (pos 65536) ≤ℤ edge }
-    requires high { edge ≤ℤ pos 65536 }
+    requires low { neg_ℤ (pos 131072) ≤ℤ edge }
+    requires high { edge ≤ℤ pos 131072 }
     ensures value { result ≡ edge -ℤ pos by }
     ensures reach { InReach result }
 {

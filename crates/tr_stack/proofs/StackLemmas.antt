@@ -8,9 +8,9 @@ use Rattle.std.proofs.lemmas.Bool.Decides.{nat_tests}
 use Rattle.std.proofs.Math.Nat.{mul-le-mul_right, mul-div-le}
 use Rattle.tr_base.specs.declared.points.Point.{Point}
 use Rattle.tr_base.specs.declared.shapes.Shapes.{Shapes}
-use Rattle.tr_base.specs.Rects.{Edges, empty_rect, sides_of}
+use Rattle.tr_base.specs.Rects.{Edges, IsRect, empty_rect, sides_of}
 use Rattle.tr_base.specs.Layouts.{preferred_place, IsPartOf, ShareNoPoint}
-use Rattle.tr_base.proofs.LayoutLemmas.{part_of_empty, part-placed, part_itself, apart_down, apart_empty_left, apart_empty_right}
+use Rattle.tr_base.proofs.LayoutLemmas.{empty_is_rect, part_of_empty, part-placed, part_itself, apart_down, apart_empty_left, apart_empty_right}
 use Rattle.tr_stack.specs.Stacks.{z_places, t_place, strip, page_place}
 
 pub length-z_places : (e : Edges) (ats : List Point) (cs : List Shapes) → length ats ≡ length cs → length (z_places e ats cs) ≡ length cs
@@ -62,10 +62,10 @@ strip_within high per k lt = omega (arith, mul-le-mul_right (high / per) (suc_le
     suc_le : (k per : ℕ) → k < per → k + 1 ≤ per
     suc_le k per lt = omega arith
 
-pub strip_part : (e : Edges) (per k : ℕ) → e.west ≤ℤ e.east → e.north ≤ℤ e.south → k < per → IsPartOf (strip e per k) e
-strip_part e per k across down lt =
+pub strip_part : (e : Edges) (per k : ℕ) → IsRect e → k < per → IsPartOf (strip e per k) e
+strip_part e per k is lt =
     let height = (sides_of e).1 / per in
-    part-placed e 0 (k * height) ((sides_of e).0, height) across down (omega arith) (strip_within (sides_of e).1 per k lt)
+    part-placed e 0 (k * height) ((sides_of e).0, height) is (omega arith) (strip_within (sides_of e).1 per k lt)
 
 -- a later strip begins where the earlier one ends, or beyond
 pub strips_apart : (e : Edges) (per a b : ℕ) → a < b → ShareNoPoint (strip e per a) (strip e per b)
@@ -90,9 +90,9 @@ by_page_place P e per page k on off = by_test (eqb (k / per) page)
     by_test true = on
     by_test false = off
 
-pub page_part : (e : Edges) (per page k : ℕ) → e.west ≤ℤ e.east → e.north ≤ℤ e.south → 1 ≤ per → IsPartOf (page_place e per page k) e
-page_part e per page k across down some =
-    by_page_place (λ (r : Edges). IsPartOf r e) e per page k (strip_part e per (k % per) across down (mod_below k per some)) (inl refl)
+pub page_part : (e : Edges) (per page k : ℕ) → IsRect e → 1 ≤ per → IsPartOf (page_place e per page k) e
+page_part e per page k is some =
+    by_page_place (λ (r : Edges). IsPartOf r e) e per page k (strip_part e per (k % per) is (mod_below k per some)) (inl refl)
 
 pub page_apart : (e : Edges) (per page i j : ℕ) → 1 ≤ per → i < j → ShareNoPoint (page_place e per page i) (page_place e per page j)
 page_apart e per page i j some lt = by_tests (eqb (i / per) page) (eqb (j / per) page) refl refl
@@ -116,7 +116,7 @@ page_empty e per page k some h =
     none : (i : ℕ) → i < per → strip empty_rect per i ≡ empty_rect
     none i lt =
         part_of_empty (pos 0 +ℤ pos 0) (pos 0 +ℤ pos 0 +ℤ pos 0) (pos 0 +ℤ pos (i * (0 / per))) (pos 0 +ℤ pos (i * (0 / per)) +ℤ pos (0 / per))
-        (strip_part empty_rect per i (omega (arith, ints)) (omega (arith, ints)) lt)
+        (strip_part empty_rect per i empty_is_rect lt)
 
 -- nothing of an empty Z is shown
 pub z_empty : (e : Edges) (ats : List Point) (cs : List Shapes) → e ≡ empty_rect → All (λ (r : Edges). r ≡ empty_rect) (z_places e ats cs)

@@ -131,7 +131,7 @@ fn strip_size(rect: &Rect, per: u8) -> (u32, u32)
     requires domain { IsDomain rect.now }
     requires per { 1 ≤ per }
     ensures size { result ≡ strip_size rect.now per }
-    ensures rect { IsRect rect.now }
+    ensures invariant { IsRect rect.now }
 {
     let (wide, high) = sides(rect);
     (wide, high / u32::from(per))

@@ -16,9 +16,8 @@ returns-clause-count c =
 
 pub returns-clause-part : goal.returns-clause-part
 returns-clause-part c =
-    let rect = c.strip_size-size.ensures.rect in
     all_places (λ (child : Edges). IsPartOf child c.args.rect) (page_place c.args.rect c.args.per c.args.page) _ _ c.loop-k.invariant
-    (λ k _. page_part c.args.rect c.args.per c.args.page k rect.across rect.down c.requires.per)
+    (λ k _. page_part c.args.rect c.args.per c.args.page k c.strip_size-size.ensures.invariant c.requires.per)
 
 pub returns-clause-apart : goal.returns-clause-apart
 returns-clause-apart c =

@@ -1,0 +1,157 @@
+ghost use Rattle.std.specs.Prelude.{◌≡◌, ◌+◌, ◌-◌, ◌*◌, ◌≤◌, min, pos, length, vec_len, map, sum_by, All, AllPairs, IfOk};
+ghost use Rattle.tr_base.specs.Rects.{IsRect, empty_rect, sides_of};
+ghost use Rattle.tr_base.specs.Layouts.{longest, along as along_of, turned, placed as placed_at, IsDomain, IsPartOf, ShareNoPoint};
+ghost use Rattle.tr_hv.specs.Places.{shape, places};
+ghost use Rattle.tr_hv.specs.Sums.{IsWithin};
+
+use std::alloc::Global;
+use tr_base::{
+    NoMemory, Point, Rect, Shape, Shapes, along, maxima, placed, shapes_of, sides, sums,
+};
+
+/// The shape of a V, or of an H where `vertical` is false: along it the sums of the children's
+/// lengths, which stop at 4096, and beside it the greatest ones. Without children it is 0.
+pub fn shape(vertical: bool, children: &[Shapes]) -> Shapes
+    ensures { result ≡ shape vertical children.now }
+{
+    shapes_of(
+        vertical,
+        sums(vertical, children),
+        maxima(!vertical, children),
+    )
+}
+
+/// Where a V, or an H where `vertical` is false, has its children. First each gets its `lo` as far
+/// as length is left, then what it lacks to its `pref`, then what it lacks to its `hi`. They stand
+/// without space between them, and what is left over is the node's own.
+pub fn place(
+    alloc: Global,
+    vertical: bool,
+    rect: Rect,
+    children: &[Shapes],
+) -> Result<Vec<Rect>, NoMemory>
+    requires domain { IsDomain rect }
+    requires count { length children.now ≤ 255 }
+    ensures places { IfOk result (λ v. v.items ≡ places vertical rect children.now) }
+    ensures count { IfOk result (λ v. vec_len v ≡ length children.now) }
+    ensures part { IfOk result (λ v. All (λ child. IsPartOf child rect) v.items) }
+    ensures apart { IfOk result (λ v. AllPairs ShareNoPoint v.items) }
+    ensures empty { rect ≡ empty_rect → IfOk result (λ v. All (λ child. child ≡ empty_rect) v.items) }
+{
+    let (room, beside) = sides_along(vertical, &rect);
+    let mut before = first_before(&totals(vertical, children));
+    let mut start = 0;
+    let mut places = Vec::with_capacity(alloc, children.len())?;
+    for child in children {
+        let wishes = wishes_of(&along(vertical, child));
+        let length = granted(room, &before, &wishes);
+        places.push(placed_along(vertical, &rect, start, (length, beside)))?;
+        before = sum_of(&before, &wishes);
+        start += length;
+    }
+    Ok(places)
+}
+
+/// A child's wishes: its `lo`, what it then lacks to its `pref`, and what it then lacks to its
+/// `hi`. Or sums of the wishes of some children, each group by itself.
+#[derive(Clone, Copy, Debug, PartialEq, Eq)]
+struct Wishes {
+    lo: u32,
+    pref: u32,
+    hi: u32,
+}
+
+fn wishes_of(lengths: &Shape) -> Wishes
+    ensures lo { result.lo ≡ lengths.now.lo }
+    ensures pref { result.pref ≡ lengths.now.pref - lengths.now.lo }
+    ensures hi { result.hi ≡ lengths.now.hi - lengths.now.pref }
+    ensures small { IsWithin longest result }
+{
+    Wishes {
+        lo: u32::from(lengths.lo),
+        pref: u32::from(lengths.pref - lengths.lo),
+        hi: u32::from(lengths.hi - lengths.pref),
+    }
+}
+
+fn sum_of(a: &Wishes, b: &Wishes) -> Wishes
+    requires first { IsWithin (longest * 1000) a.now }
+    requires second { IsWithin longest b.now }
+    ensures { result ≡ record { lo = a.now.lo + b.now.lo; pref = a.now.pref + b.now.pref; hi = a.now.hi + b.now.hi } }
+{
+    Wishes {
+        lo: a.lo + b.lo,
+        pref: a.pref + b.pref,
+        hi: a.hi + b.hi,
+    }
+}
+
+/// The sums of all children's wishes.
+fn totals(vertical: bool, children: &[Shapes]) -> Wishes
+    requires { length children.now ≤ 255 }
+    ensures lo { result.lo ≡ sum_by (λ c. c.lo) (map (along_of vertical) children.now) }
+    ensures pref { result.pref ≡ sum_by (λ c. c.pref - c.lo) (map (along_of vertical) children.now) }
+    ensures small { IsWithin (longest * length children.now) result }
+{
+    let mut all = Wishes {
+        lo: 0,
+        pref: 0,
+        hi: 0,
+    };
+    for child in children {
+        all = sum_of(&all, &wishes_of(&along(vertical, child)));
+    }
+    all
+}
+
+/// The sums of the wishes that come before the first child's three.
+fn first_before(all: &Wishes) -> Wishes
+    requires { IsWithin (longest * 255) all.now }
+    ensures { result ≡ record { lo = 0; pref = all.now.lo; hi = all.now.lo + all.now.pref } }
+{
+    Wishes {
+        lo: 0,
+        pref: all.lo,
+        hi: all.lo + all.pref,
+    }
+}
+
+/// What a child's wishes get of the room, after the sums of wishes that come before each of them.
+fn granted(room: u32, before: &Wishes, wishes: &Wishes) -> u32
+    requires { IsWithin longest wishes.now }
+    ensures { result ≡ min wishes.now.lo (room - before.now.lo) + min wishes.now.pref (room - before.now.pref) + min wishes.now.hi (room - before.now.hi) }
+{
+    wishes.lo.min(room.saturating_sub(before.lo))
+        + wishes.pref.min(room.saturating_sub(before.pref))
+        + wishes.hi.min(room.saturating_sub(before.hi))
+}
+
+/// The sides of a rectangle: the one along a node, and the one beside it.
+fn sides_along(vertical: bool, rect: &Rect) -> (u32, u32)
+    requires { IsDomain rect.now }
+    ensures sides { result ≡ sides_of (turned vertical rect.now) }
+    ensures room { result.0 ≤ longest }
+    ensures beside { result.1 ≤ longest }
+    ensures invariant { IsRect rect.now }
+{
+    let (wide, high) = sides(rect);
+    if vertical { (high, wide) } else { (wide, high) }
+}
+
+/// The rectangle that begins at `start` along a node, with the node's corner on the other axis. Of
+/// its sides the one along the node comes first.
+fn placed_along(vertical: bool, rect: &Rect, start: u32, size: (u32, u32)) -> Rect
+    requires domain { IsDomain rect.now }
+    requires start { start ≤ longest }
+    requires length { size.0 ≤ longest }
+    requires beside { size.1 ≤ longest }
+    ensures { result ≡ turned vertical (placed_at (turned vertical rect.now) (pos start) (pos 0) size) }
+{
+    let start = start as i32;
+    let (length, beside) = size;
+    if vertical {
+        placed(rect, Point { h: 0, v: start }, (beside, length))
+    } else {
+        placed(rect, Point { h: start, v: 0 }, (length, beside))
+    }
+}
