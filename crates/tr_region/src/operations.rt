@@ -14,7 +14,6 @@ pub enum Operation {
 
 impl Operation {
     /// Whether a point is kept, by whether it is in the first set and in the second.
-    #[inline(always)]
     pub fn keeps(self, in_first: bool, in_second: bool) -> bool
         ensures { result ≡ spec.keeps self in_first in_second }
     {
@@ -48,7 +47,6 @@ impl Known for Union {
 
     ghost operation = { Operation.Union };
 
-    #[inline(always)]
     fn value() -> Operation {
         Operation::Union
     }
@@ -59,7 +57,6 @@ impl Known for Meet {
 
     ghost operation = { Operation.Meet };
 
-    #[inline(always)]
     fn value() -> Operation {
         Operation::Meet
     }
@@ -70,7 +67,6 @@ impl Known for Minus {
 
     ghost operation = { Operation.Minus };
 
-    #[inline(always)]
     fn value() -> Operation {
         Operation::Minus
     }

@@ -12,11 +12,11 @@ returns-then-covers c =
     let theirs = c.args.other.now in
     record { points = holds-answer c.copy.result theirs (λ p. holds mine p && holds theirs p) c.copy.ensures (λ p. meet_within (holds mine p) (holds theirs p) (c.covers.ensures c.if-covers.true p)) }
 
-pub returns-then-covers-2 : goal.returns-then-covers-2
-returns-then-covers-2 c =
+pub returns-then-surrounds : goal.returns-then-surrounds
+returns-then-surrounds c =
     let mine = c.args.self.now in
     let theirs = c.args.other.now in
-    record { points = holds-answer c.copy-then-covers-2.result mine (λ p. holds mine p && holds theirs p) c.copy-then-covers-2.ensures (λ p. meet_around (holds mine p) (holds theirs p) (c.covers-2.ensures c.if-covers-2.true p)) }
+    record { points = holds-answer c.copy-then-surrounds.result mine (λ p. holds mine p && holds theirs p) c.copy-then-surrounds.ensures (λ p. meet_around (holds mine p) (holds theirs p) (c.surrounds.ensures c.if-surrounds.true p)) }
 
 pub returns-then-is_single-2 : goal.returns-then-is_single-2
 returns-then-is_single-2 c =
