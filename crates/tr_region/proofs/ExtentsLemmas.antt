@@ -122,7 +122,8 @@ south-last (r ∷ s ∷ rects) zero d h e = absurd (omega arith)
 south-last (r ∷ s ∷ rects) (suc n) d h e =
     let last = get_or (s ∷ rects) n d in
     ap (int_max r.south) (south-last (s ∷ rects) n d h.2 (omega arith))
-    ∙ greatest r last (IsFull-at (s ∷ rects) n d h.2 (omega arith)) (All-get_or (Precedes r) (s ∷ rects) n d (omega arith) (All-from_recursion (Precedes r) (s ∷ rects) h.1))
+    ∙ greatest r last (IsFull-at (s ∷ rects) n d h.2 (omega arith))
+    (All-get_or (Precedes r) (s ∷ rects) n d (omega arith) (All-from_recursion (Precedes r) (s ∷ rects) h.1))
   where
     greatest : (r s : Edges) → IsFull s → Precedes r s → int_max r.south s.south ≡ s.south
     greatest r s f (inl south) = let down : s.north <ℤ s.south = f.down in omega (arith, ints, clamps)
@@ -130,7 +131,8 @@ south-last (r ∷ s ∷ rects) (suc n) d h e =
 
 -- ---- a walk over a list that widens the extents
 
-pub extents_of-more : (first : Edges) (rects : List Edges) (i : ℕ) (r : Edges) → i < length rects → r ≡ get_or rects i r → extents_of (first ∷ take (i + 1) rects) ≡ hull_of (extents_of (first ∷ take i rects)) r
+pub extents_of-more : (first : Edges) (rects : List Edges) (i : ℕ) (r : Edges) → i < length rects → r ≡ get_or rects i r →
+    extents_of (first ∷ take (i + 1) rects) ≡ hull_of (extents_of (first ∷ take i rects)) r
 extents_of-more first rects i r h e =
     ap (λ (rs : List Edges). extents_of (first ∷ rs)) (take_more rects i r h)
     ∙ extents_of-push first (take i rects) (get_or rects i r)
@@ -149,11 +151,13 @@ pub north-at : (rects : List Edges) (first : Edges) → rects ≢ [] → AreInOr
 north-at [] first some h e = absurd (some refl)
 north-at (r ∷ rects) first some h e = ap (λ (s : Edges). s.north) e ∙ sym (north-first r rects h)
 
-pub south-at : (rects : List Edges) (last : Edges) → rects ≢ [] → AreInOrder rects → last ≡ get_or rects (length rects - 1) last → last.south ≡ (extents_of rects).south
+pub south-at : (rects : List Edges) (last : Edges) → rects ≢ [] → AreInOrder rects → last ≡ get_or rects (length rects - 1) last →
+    last.south ≡ (extents_of rects).south
 south-at rects last some h e =
     ap (λ (s : Edges). s.south) e ∙ sym (south-last rects (length rects - 1) last h (omega (arith, some_length rects some)))
 
-pub edges_are : (e : Edges) (west east north south : ℤ) → west ≡ e.west → east ≡ e.east → north ≡ e.north → south ≡ e.south → (let r : Edges = record { west = west; east = east; north = north; south = south } in r ≡ e)
+pub edges_are : (e : Edges) (west east north south : ℤ) → west ≡ e.west → east ≡ e.east → north ≡ e.north → south ≡ e.south →
+    (let r : Edges = record { west = west; east = east; north = north; south = south } in r ≡ e)
 edges_are e west east north south w x n s = rw (w, x, n, s) refl
 
 -- ---- lists in which one lies north of the other

@@ -40,7 +40,8 @@ beyond x s (t ∷ spans) h k =
     let gap : s.east <ℤ t.west = h.1 in
     (k, beyond x t spans h.2 (omega (arith, ints)))
 
-preceded : (b : Band) (s : Span) (spans : List Span) → AllByRecursion (λ (t : Span). s.east <ℤ t.west) spans → AllByRecursion (Precedes (rect_in b s)) (map (rect_in b) spans)
+preceded : (b : Band) (s : Span) (spans : List Span) → AllByRecursion (λ (t : Span). s.east <ℤ t.west) spans →
+    AllByRecursion (Precedes (rect_in b s)) (map (rect_in b) spans)
 preceded b s [] h = tt
 preceded b s (t ∷ spans) h = (inr (refl, refl, h.0), preceded b s spans h.1)
 
@@ -68,7 +69,8 @@ southwards y (b ∷ bands) h f =
     AllByRecursion-append (λ (r : Edges). y ≤ℤ r.north) (rects_in b) (rects_of bands) (in_rows y b b.spans f)
     (southwards y bands parts.2 (BeginsFrom-earlier y b.south bands (omega (arith, ints)) (BeginsFrom-after b bands parts.1)))
 
-across_bands : (b : Band) (spans : List Span) (ys : List Edges) → AllByRecursion (λ (r : Edges). b.south ≤ℤ r.north) ys → AllByRecursion (λ x. AllByRecursion (Precedes x) ys) (map (rect_in b) spans)
+across_bands : (b : Band) (spans : List Span) (ys : List Edges) → AllByRecursion (λ (r : Edges). b.south ≤ℤ r.north) ys →
+    AllByRecursion (λ x. AllByRecursion (Precedes x) ys) (map (rect_in b) spans)
 across_bands b [] ys h = tt
 across_bands b (s ∷ spans) ys h =
     (AllByRecursion-weaker (λ (r : Edges). b.south ≤ℤ r.north) (Precedes (rect_in b s)) (λ r k. inl k) ys h, across_bands b spans ys h)
@@ -101,11 +103,13 @@ precedes_before r s p f g (inr same) e =
     let west : r.east <ℤ s.west = same.2 in
     grind (arith, ints)
 
-pub before_earlier : (rects : List Edges) (p : Point) → AreInOrder rects → (i j : ℕ) (d : Edges) → i ≤ j → j < length rects → lies_before (get_or rects j d) p ≡ true → lies_before (get_or rects i d) p ≡ true
+pub before_earlier : (rects : List Edges) (p : Point) → AreInOrder rects → (i j : ℕ) (d : Edges) → i ≤ j → j < length rects →
+    lies_before (get_or rects j d) p ≡ true → lies_before (get_or rects i d) p ≡ true
 before_earlier [] p h i j d le lt e = absurd (omega arith)
 before_earlier (r ∷ rects) p h zero zero d le lt e = e
 before_earlier (r ∷ rects) p h zero (suc j) d le lt e =
-    precedes_before r (get_or rects j d) p h.0 (IsFull-at rects j d h.2 (omega arith)) (All-get_or (Precedes r) rects j d (omega arith) (All-from_recursion (Precedes r) rects h.1)) e
+    precedes_before r (get_or rects j d) p h.0 (IsFull-at rects j d h.2 (omega arith))
+    (All-get_or (Precedes r) rects j d (omega arith) (All-from_recursion (Precedes r) rects h.1)) e
 before_earlier (r ∷ rects) p h (suc i) zero d le lt e = absurd (omega arith)
 before_earlier (r ∷ rects) p h (suc i) (suc j) d le lt e = before_earlier rects p h.2 i j d (omega arith) (omega arith) e
 
@@ -127,7 +131,8 @@ none_after r [] p f h e = refl
 none_after r (s ∷ rects) p f h e = rw (no_point_after r s p f h.0 e) (none_after r rects p f h.1 e)
 
 -- the first rectangle that doesn't lie before a point decides whether the list holds it
-pub holds_at : (rects : List Edges) (at : ℕ) (d : Edges) (p : Point) → AreInOrder rects → AllWithin (λ (r : Edges). lies_before r p ≡ true) rects 0 at × AllWithin (λ (r : Edges). lies_before r p ≡ false) rects at (length rects) →
+pub holds_at : (rects : List Edges) (at : ℕ) (d : Edges) (p : Point) → AreInOrder rects →
+    AllWithin (λ (r : Edges). lies_before r p ≡ true) rects 0 at × AllWithin (λ (r : Edges). lies_before r p ≡ false) rects at (length rects) →
     at < length rects → holds rects p ≡ has_point (get_or rects at d) p
 holds_at [] at d p h w k = absurd (omega arith)
 holds_at (r ∷ rects) zero d p h w k =
@@ -137,7 +142,8 @@ holds_at (r ∷ rects) (suc at) d p h w k =
     (holds_at rects at d p h.2 (λ i e lo hi. w.0 (suc i) e (omega arith) (omega arith), λ i e lo hi. w.1 (suc i) e (omega arith) (omega arith)) (omega arith))
 
 -- and where there is none, no point is held
-pub holds_past : (rects : List Edges) (at : ℕ) (p : Point) → AllWithin (λ (r : Edges). lies_before r p ≡ true) rects 0 at → length rects ≤ at → holds rects p ≡ false
+pub holds_past : (rects : List Edges) (at : ℕ) (p : Point) → AllWithin (λ (r : Edges). lies_before r p ≡ true) rects 0 at → length rects ≤ at →
+    holds rects p ≡ false
 holds_past [] at p w k = refl
 holds_past (r ∷ rects) zero p w k = absurd (omega arith)
 holds_past (r ∷ rects) (suc at) p w k =

@@ -28,7 +28,8 @@ near_in (s ∷ spans) x h e = by_cases (near_in spans x h.1) (or_cases (between 
     by_cases later (inl k) = here k
     by_cases later (inr k) = later k
 
-near_kept : (operation : Operation) (first second : List Span) (x : ℤ) → AllByRecursion IsSpanInReach first → AllByRecursion IsSpanInReach second → keeps operation (in_spans first x) (in_spans second x) ≡ true → IsNear x
+near_kept : (operation : Operation) (first second : List Span) (x : ℤ) → AllByRecursion IsSpanInReach first → AllByRecursion IsSpanInReach second →
+    keeps operation (in_spans first x) (in_spans second x) ≡ true → IsNear x
 near_kept operation first second x h k e = by_tests (in_spans first x) (in_spans second x) refl refl e
   where
     by_tests : (s t : Bool) → in_spans first x ≡ s → in_spans second x ≡ t → keeps operation s t ≡ true → IsNear x
@@ -56,7 +57,8 @@ in_reach (s ∷ t ∷ spans) apart near =
     or_right false e = e
 
 -- what is kept of spans within reach is within reach
-pub kept_in_reach : (operation : Operation) (first second spans : List Span) → AllByRecursion IsSpanInReach first → AllByRecursion IsSpanInReach second → AreApart spans →
+pub kept_in_reach : (operation : Operation) (first second spans : List Span) → AllByRecursion IsSpanInReach first →
+    AllByRecursion IsSpanInReach second → AreApart spans →
     ((x : ℤ) → in_spans spans x ≡ keeps operation (in_spans first x) (in_spans second x)) → AllByRecursion IsSpanInReach spans
 kept_in_reach operation first second spans h k apart points =
     in_reach spans apart (λ x e. near_kept operation first second x h k (sym (points x) ∙ e))

@@ -13,7 +13,8 @@ loop-rect-preserved c =
     let greatest = c.greater-east.ensures in
     let west = rw (cast-in_reach _ c.west.ensures.reach, c.west.ensures.value, c.loop-rect.invariant.west) at least.value in
     let east = rw (cast-in_reach _ c.east.ensures.reach, c.east.ensures.value, c.loop-rect.invariant.east) at greatest.value in
-    rw (cast-in_reach _ least.reach, cast-in_reach _ greatest.reach, more) (record { west = west; east = east; west_reach = least.reach; east_reach = greatest.reach })
+    rw (cast-in_reach _ least.reach, cast-in_reach _ greatest.reach, more)
+    (record { west = west; east = east; west_reach = least.reach; east_reach = greatest.reach })
 
 pub spanning-requires-clause-across : goal.spanning-requires-clause-across
 spanning-requires-clause-across c =
