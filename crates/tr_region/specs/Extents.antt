@@ -6,7 +6,12 @@ use Rattle.tr_base.specs.Rects.{Edges, empty_rect}
 -- the least rectangle round two that hold points
 abbrev pub hull_of : Edges → Edges → Edges
 hull_of a b =
-    record { west = int_min a.west b.west; east = int_max a.east b.east; north = int_min a.north b.north; south = int_max a.south b.south }
+    record {
+      west = int_min a.west b.west;
+      east = int_max a.east b.east;
+      north = int_min a.north b.north;
+      south = int_max a.south b.south;
+    }
 
 -- the least rectangle round those of a list, each of which holds points; for none the empty one
 abbrev pub extents_of : List Edges → Edges
