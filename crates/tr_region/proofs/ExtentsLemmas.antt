@@ -156,10 +156,6 @@ pub south-at : (rects : List Edges) (last : Edges) → rects ≢ [] → AreInOrd
 south-at rects last some h e =
     ap (λ (s : Edges). s.south) e ∙ sym (south-last rects (length rects - 1) last h (omega (arith, some_length rects some)))
 
-pub edges_are : (e : Edges) (west east north south : ℤ) → west ≡ e.west → east ≡ e.east → north ≡ e.north → south ≡ e.south →
-    (let r : Edges = record { west = west; east = east; north = north; south = south } in r ≡ e)
-edges_are e west east north south w x n s = rw (w, x, n, s) refl
-
 -- ---- lists in which one lies north of the other
 
 pub south-within : (rects : List Edges) (y : ℤ) → (extents_of rects).south ≤ℤ y → AllByRecursion (λ (r : Edges). r.south ≤ℤ y) rects

@@ -1,9 +1,10 @@
 use Rattle.std.proofs.Common.{◌≡◌, ap, ◌∙◌, w32, to_z, of_z}
 use Rattle.tr_base.specs.Rects.{Edges}
 use Rattle.tr_base.proofs.RectLemmas.{cast-in_reach}
+use Rattle.tr_base.proofs.RectFacts.{edges_are}
 use Rattle.tr_region.specs.Extents.{extents_of}
 use Rattle.tr_region.proofs.OrderLemmas.{AreInOrder-canonical}
-use Rattle.tr_region.proofs.ExtentsLemmas.{extents_of-more, extents_of-whole, edges_are, IsFull-some, north-at, south-at}
+use Rattle.tr_region.proofs.ExtentsLemmas.{extents_of-more, extents_of-whole, IsFull-some, north-at, south-at}
 use Rattle.tr_region.proofs.lists.extents.Goals as goal
 
 pub loop-rect-preserved : goal.loop-rect-preserved

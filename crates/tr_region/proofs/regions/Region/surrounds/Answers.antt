@@ -1,7 +1,8 @@
 use Rattle.std.proofs.Common.{◌≡◌, List, ap, sym, ◌∙◌}
 use Rattle.std.proofs.lemmas.Bool.{and_parts}
 use Rattle.tr_base.specs.Rects.{Edges, has_point}
-use Rattle.tr_region.proofs.RegionLemmas.{stored_holds, single_holds, same_edges}
+use Rattle.tr_base.proofs.RectFacts.{same_edges}
+use Rattle.tr_region.proofs.RegionLemmas.{stored_holds, single_holds}
 use Rattle.tr_region.proofs.regions.Region.surrounds.Goals as goal
 
 pub returns-then-is_single : goal.returns-then-is_single

@@ -1,0 +1,50 @@
+-- Facts of rectangles and of what lies between edges, for the crates above.
+use Rattle.std.proofs.Common.{◌≡◌, ℤ, ◌≤ℤ◌, ◌<ℤ◌, Bool, true, false, ◌&&◌, w32, to_z, of_z, SFits, refl, sym, ap, ◌∙◌, arith}
+use Rattle.std.specs.Prelude.{int_lt}
+use Rattle.std.specs.Bool.{Decides}
+use Rattle.std.specs.Ordering.{int_eq}
+use Rattle.std.proofs.lemmas.Int.{ints, to_z-of_z}
+use Rattle.std.proofs.lemmas.Bool.Decides.{Decides-and, Decides-int_eq, Decides-like}
+use Rattle.tr_base.specs.Rects.{Edges, InReach, between, rect_of}
+use Rattle.tr_base.proofs.RectLemmas.{cast-in_reach}
+
+pub between-within : (low high x : ℤ) → low ≤ℤ x → x <ℤ high → between low high x ≡ true
+between-within low high x h k = grind (arith, ints)
+
+pub between-before : (low high y : ℤ) → y <ℤ low → between low high y ≡ false
+between-before low high y h = grind (arith, ints)
+
+pub between-beyond : (low high y : ℤ) → high ≤ℤ y → between low high y ≡ false
+between-beyond low high y h = grind (arith, ints)
+
+-- edges with points between them are those of their rectangle
+pub rect_of-full : (w e n s : ℤ) → w <ℤ e → n <ℤ s → rect_of w e n s ≡ record { west = w; east = e; north = n; south = s }
+rect_of-full w e n s h k =
+    let across : int_lt w e ≡ true = grind (arith, ints) in
+    let down : int_lt n s ≡ true = grind (arith, ints) in
+    rw (across, down) refl
+
+-- two coordinates within reach that have the same bits are equal
+pub same_bits : (x y : ℤ) → InReach x → SFits w32 y → of_z w32 x ≡ of_z w32 y → x ≡ y
+same_bits x y reach fits e = sym (cast-in_reach x reach) ∙ ap (to_z w32) e ∙ to_z-of_z w32 y fits
+
+-- a rectangle is told by its edges
+pub edges_are : (e : Edges) (west east north south : ℤ) → west ≡ e.west → east ≡ e.east → north ≡ e.north → south ≡ e.south →
+    (let r : Edges = record { west = west; east = east; north = north; south = south } in r ≡ e)
+edges_are e west east north south w x n s = rw (w, x, n, s) refl
+
+-- equal edges are told one by one
+pub same_edges : (a b : Edges) → Decides (int_eq a.west b.west && (int_eq a.east b.east && (int_eq a.north b.north && int_eq a.south b.south))) (a ≡ b)
+same_edges a b = Decides-like _ joined parted
+    (Decides-and _ _ (Decides-int_eq a.west b.west)
+    (Decides-and _ _ (Decides-int_eq a.east b.east) (Decides-and _ _ (Decides-int_eq a.north b.north) (Decides-int_eq a.south b.south))))
+  where
+    joined : (a.west ≡ b.west) × ((a.east ≡ b.east) × ((a.north ≡ b.north) × (a.south ≡ b.south))) → a ≡ b
+    joined h = edges b.west b.east b.north b.south h.0 h.1.0 h.1.1.0 h.1.1.1
+      where
+        edges : (w e n s : ℤ) → a.west ≡ w → a.east ≡ e → a.north ≡ n → a.south ≡ s →
+            (let r : Edges = record { west = w; east = e; north = n; south = s } in a ≡ r)
+        edges w e n s p q r t = rw (← p, ← q, ← r, ← t) refl
+
+    parted : a ≡ b → (a.west ≡ b.west) × ((a.east ≡ b.east) × ((a.north ≡ b.north) × (a.south ≡ b.south)))
+    parted h = (ap (λ (r : Edges). r.west) h, (ap (λ (r : Edges). r.east) h, (ap (λ (r : Edges). r.north) h, ap (λ (r : Edges). r.south) h)))
