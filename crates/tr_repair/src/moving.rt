@@ -1,0 +1,143 @@
+ghost use Rattle.std.specs.Prelude.{◌≡◌, ℕ, pos, ◌≤◌, ◌≤ℤ◌, ◌<ℤ◌, IsTrue};
+ghost use Rattle.tr_base.specs.declared.points.Point.{Point};
+ghost use Rattle.tr_base.specs.Rects.{before_shift};
+ghost use Rattle.tr_region.specs.Bands.{AreApart, spans_of};
+ghost use Rattle.tr_region.specs.Points.{holds};
+ghost use Rattle.tr_region.specs.Rows.{in_band};
+ghost use Rattle.tr_screen.specs.Pictures.{pixel_of};
+ghost use Rattle.tr_screen.specs.Runs.{Repaints, in_run};
+ghost use Rattle.tr_repair.specs.Walks.{in_row, run_of};
+ghost use Rattle.tr_repair.specs.Moves.{MovesOn, IsForth, IsBack, HasAllColumns};
+
+use tr_base::{Point, Rect, Size};
+use tr_region::{Band, Region};
+use tr_screen::{Run, Screen};
+
+/// Each point of the region gets the old pixel of the point that lies `delta` before it, and all
+/// others keep theirs. Both points are on the screen.
+///
+/// A row is copied before it is overwritten: what moves north goes from north to south, what moves
+/// south goes from south to north, and along a row it goes likewise.
+pub fn move_pixels(screen: &mut Screen, within: &Region, delta: Point)
+    requires { MovesOn screen.old.size delta (holds within.now) }
+    ensures { Repaints (holds within.now) (λ p. pixel_of screen.old (before_shift p delta)) screen.old screen.new }
+{
+    if delta.v < 0 || delta.v == 0 && delta.h <= 0 {
+        move_forth(screen, within, delta);
+    } else {
+        move_back(screen, within, delta);
+    }
+}
+
+/// Moves the bands from north to south.
+fn move_forth(screen: &mut Screen, within: &Region, delta: Point)
+    requires moves { MovesOn screen.old.size delta (holds within.now) }
+    requires way { IsForth delta }
+    ensures { Repaints (holds within.now) (λ p. pixel_of screen.old (before_shift p delta)) screen.old screen.new }
+{
+    let high = screen.size().high;
+    let mut v = 0;
+    while v < high {
+        let band = within.first_band(v, high);
+        move_band_forth(screen, &band, delta);
+        v = band.south;
+    }
+}
+
+/// Moves the bands from south to north.
+fn move_back(screen: &mut Screen, within: &Region, delta: Point)
+    requires moves { MovesOn screen.old.size delta (holds within.now) }
+    requires way { IsBack delta }
+    ensures { Repaints (holds within.now) (λ p. pixel_of screen.old (before_shift p delta)) screen.old screen.new }
+{
+    let mut v = screen.size().high;
+    while v > 0 {
+        let band = within.last_band(0, v);
+        move_band_back(screen, &band, delta);
+        v = band.north;
+    }
+}
+
+/// Moves the rows of a band, all at once where they are whole, else from north to south.
+fn move_band_forth(screen: &mut Screen, band: &Band<'_>, delta: Point)
+    requires rows { band.now.south ≤ screen.old.size.high }
+    requires order { band.now.north ≤ band.now.south }
+    requires moves { MovesOn screen.old.size delta (in_band band.now.north band.now.south band.now.rects.now) }
+    requires apart { AreApart (spans_of band.now.rects.now) }
+    requires way { IsForth delta }
+    ensures { Repaints (in_band band.now.north band.now.south band.now.rects.now) (λ p. pixel_of screen.old (before_shift p delta)) screen.old screen.new }
+{
+    if band.north < band.south && are_whole(screen.size(), band.rects) {
+        screen.move_rows(band.north, band.south, delta);
+        return;
+    }
+    for v in band.north..band.south {
+        move_row_forth(screen, band.rects, v, delta);
+    }
+}
+
+/// Moves the rows of a band, all at once where they are whole, else from south to north.
+fn move_band_back(screen: &mut Screen, band: &Band<'_>, delta: Point)
+    requires rows { band.now.south ≤ screen.old.size.high }
+    requires order { band.now.north ≤ band.now.south }
+    requires moves { MovesOn screen.old.size delta (in_band band.now.north band.now.south band.now.rects.now) }
+    requires apart { AreApart (spans_of band.now.rects.now) }
+    requires way { IsBack delta }
+    ensures { Repaints (in_band band.now.north band.now.south band.now.rects.now) (λ p. pixel_of screen.old (before_shift p delta)) screen.old screen.new }
+{
+    if band.north < band.south && are_whole(screen.size(), band.rects) {
+        screen.move_rows(band.north, band.south, delta);
+        return;
+    }
+    for v in (band.north..band.south).rev() {
+        move_row_back(screen, band.rects, v, delta);
+    }
+}
+
+/// Whether one of the rectangles has all columns of the screen, and so is the only one.
+fn are_whole(size: Size, rects: &[Rect]) -> bool
+    ensures { IsTrue result → HasAllColumns size rects.now }
+{
+    match rects {
+        [rect] => rect.west() <= 0 && i32::from(size.wide) <= rect.east(),
+        _ => false,
+    }
+}
+
+/// Moves the pixels of a row, run by run from west to east.
+fn move_row_forth(screen: &mut Screen, row: &[Rect], v: u16, delta: Point)
+    requires moves { MovesOn screen.old.size delta (in_row v row.now) }
+    requires apart { AreApart (spans_of row.now) }
+    requires way { IsForth delta }
+    ensures { Repaints (in_row v row.now) (λ p. pixel_of screen.old (before_shift p delta)) screen.old screen.new }
+{
+    for rect in row {
+        move_run(screen, rect, v, delta);
+    }
+}
+
+/// Moves the pixels of a row, run by run from east to west.
+fn move_row_back(screen: &mut Screen, row: &[Rect], v: u16, delta: Point)
+    requires moves { MovesOn screen.old.size delta (in_row v row.now) }
+    requires apart { AreApart (spans_of row.now) }
+    requires way { IsBack delta }
+    ensures { Repaints (in_row v row.now) (λ p. pixel_of screen.old (before_shift p delta)) screen.old screen.new }
+{
+    for i in (0..row.len()).rev() {
+        move_run(screen, &row[i], v, delta);
+    }
+}
+
+/// Moves the pixels of the rectangle's row `v`.
+fn move_run(screen: &mut Screen, rect: &Rect, v: u16, delta: Point)
+    requires some { rect.now.west <ℤ rect.now.east }
+    requires moves { MovesOn screen.old.size delta (in_run (run_of v rect.now)) }
+    ensures { Repaints (in_run (run_of v rect.now)) (λ p. pixel_of screen.old (before_shift p delta)) screen.old screen.new }
+{
+    let run = Run {
+        v: i32::from(v),
+        west: rect.west(),
+        east: rect.east(),
+    };
+    screen.move_run(run, delta);
+}
