@@ -4,7 +4,8 @@ use Rattle.std.proofs.lemmas.Int.{ints}
 use Rattle.std.proofs.lemmas.Bool.{or_right}
 use Rattle.tr_base.specs.Rects.{Edges, between}
 use Rattle.tr_region.specs.Bands.{AreApart, in_spans, span_of, spans_of}
-use Rattle.tr_region.proofs.BandLemmas.{AreApart-parts, between-before, between-beyond}
+use Rattle.tr_base.proofs.RectFacts.{between-before, between-beyond}
+use Rattle.tr_region.proofs.BandLemmas.{AreApart-parts}
 
 -- they hold columns
 pub some_at : (rects : List Edges) (k : ℕ) (d : Edges) → AreApart (spans_of rects) → k < length rects → (get_or rects k d).west <ℤ (get_or rects k d).east

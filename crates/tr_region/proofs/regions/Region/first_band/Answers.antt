@@ -5,7 +5,7 @@ use Rattle.std.proofs.lemmas.List.{get_or_default}
 use Rattle.std.proofs.lemmas.List.Sorted.{IsPartitionPoint-from_clause}
 use Rattle.tr_base.specs.Rects.{Edges, empty_rect}
 use Rattle.tr_region.specs.RowParts.{AreInOrder}
-use Rattle.tr_region.proofs.BandLemmas.{between-before}
+use Rattle.tr_base.proofs.RectFacts.{between-before}
 use Rattle.tr_region.proofs.RowLemmas.{AreInOrder-canonical, full_at, parted_by_south, none_before}
 use Rattle.tr_region.proofs.BandRows.{band_points, cut_south, north_of_band}
 use Rattle.tr_region.proofs.regions.Region.first_band.Goals as goal

@@ -5,7 +5,7 @@ use Rattle.std.proofs.lemmas.List.{get_or_default}
 use Rattle.std.proofs.lemmas.List.Sorted.{IsPartitionPoint-from_clause}
 use Rattle.tr_base.specs.Rects.{Edges, empty_rect}
 use Rattle.tr_region.specs.RowParts.{AreInOrder}
-use Rattle.tr_region.proofs.BandLemmas.{between-beyond}
+use Rattle.tr_base.proofs.RectFacts.{between-beyond}
 use Rattle.tr_region.proofs.RowLemmas.{AreInOrder-canonical, full_at, parted_before_north, none_after}
 use Rattle.tr_region.proofs.BandRows.{band_points, cut_north, south_of_band}
 use Rattle.tr_region.proofs.regions.Region.last_band.Goals as goal
