@@ -1,13 +1,15 @@
 -- Sums and maxima of lengths, and where children stand: parts of a node's rectangle, or near it.
-use Rattle.std.proofs.Common.{◌≡◌, ℕ, ◌+◌, ◌<◌, ◌≤◌, max, ℤ, pos, neg_ℤ, ◌+ℤ◌, ◌-ℤ◌, ◌<ℤ◌, ◌≤ℤ◌, Bool, true, false, ◌&&◌, ◌⊎◌, inl, inr, cond, List, [], ◌∷◌, ◌++◌, map, take, length, get_or, refl, sym, ap, ◌∙◌, arith, w32, to_z, of_z}
+use Rattle.std.proofs.Common.{◌≡◌, ℕ, zero, suc, ◌+◌, ◌<◌, ◌≤◌, max, ℤ, pos, neg_ℤ, ◌+ℤ◌, ◌-ℤ◌, ◌<ℤ◌, ◌≤ℤ◌, Bool, true, false, ◌&&◌, ◌⊎◌, inl, inr, cond, List, [], ◌∷◌, ◌++◌, map, take, length, get_or, refl, sym, ap, ◌∙◌, arith, w32, to_z, of_z}
 use Rattle.std.specs.Prelude.{All, AllPairs, int_lt, unsigned_abs, sum_by}
-use Rattle.std.proofs.lemmas.Int.{ints}
+use Rattle.std.specs.Int.{int_min, int_max}
+use Rattle.std.proofs.lemmas.Int.{ints, clamps}
 use Rattle.std.proofs.lemmas.List.{map_more, take_more}
+use Rattle.std.proofs.lemmas.List.Elements.{All-head, All-tail, All-append}
 use Rattle.std.proofs.lemmas.List.FromFn.{length-map-range_with_len, get_or-map-range_with_len, map-range_with_len_more}
 use Rattle.std.proofs.lemmas.List.Sums.{sum_by-cons}
 use Rattle.tr_base.specs.declared.points.Point.{Point}
 use Rattle.tr_base.specs.declared.shapes.Shapes.{Shapes}
-use Rattle.tr_base.specs.Rects.{Edges, InReach, IsRect, between, has_point, empty_rect, rect_of, sides_of}
+use Rattle.tr_base.specs.Rects.{Edges, InReach, IsRect, between, has_point, empty_rect, rect_of, meet_of, sides_of}
 use Rattle.tr_base.specs.Shapes.{Lengths}
 use Rattle.tr_base.specs.Layouts.{places_by, longest, greatest_by, maxima_of, along, turned, placed, preferred_place, IsDomain, IsOffset, IsBetween, IsPartOf, ShareNoPoint, IsNear}
 use Rattle.tr_base.proofs.RectLemmas.{rect_cases, false-true, empty-has_point, has_point-rect_of, cast-in_reach}
@@ -239,3 +241,28 @@ turned_is_rect true e is = record {
   reach = record { west = is.reach.north; east = is.reach.south; north = is.reach.west; south = is.reach.east };
 }
 turned_is_rect false e is = is
+
+-- a common part, in the other axis
+pub turned-meet_of : (down : Bool) (e r : Edges) → turned down (meet_of (turned down e) r) ≡ meet_of e (turned down r)
+turned-meet_of true e r = turned-rect_of (int_max e.north r.west) (int_min e.south r.east) (int_max e.west r.north) (int_min e.east r.south)
+turned-meet_of false e r = refl
+
+-- what two rectangles share is a part of each
+pub part-meet_of : (e r : Edges) → IsPartOf (meet_of e r) e
+part-meet_of e r =
+    part-rect_of e (int_max e.west r.west) (int_min e.east r.east) (int_max e.north r.north) (int_min e.south r.south)
+    (omega (arith, ints, clamps)) (omega (arith, ints, clamps)) (omega (arith, ints, clamps)) (omega (arith, ints, clamps))
+
+-- what holds of an item and each later one, and of all items of one list and each of another
+pub all_pairs_cons : {X : Type 0} (R : X → X → Type 0) (x : X) (xs : List X) → All (R x) xs → AllPairs R xs → AllPairs R (x ∷ xs)
+all_pairs_cons R x xs all pairs zero zero d lt below = absurd (omega arith)
+all_pairs_cons R x xs all pairs (suc i) zero d lt below = absurd (omega arith)
+all_pairs_cons R x xs all pairs zero (suc j) d lt below = all j d (omega arith)
+all_pairs_cons R x xs all pairs (suc i) (suc j) d lt below = pairs i j d (omega arith) (omega arith)
+
+pub all_pairs_append : {X : Type 0} (R : X → X → Type 0) (xs ys : List X) → AllPairs R xs → AllPairs R ys → All (λ x. All (R x) ys) xs → AllPairs R (xs ++ ys)
+all_pairs_append R [] ys first second cross = second
+all_pairs_append R (x ∷ xs) ys first second cross =
+    all_pairs_cons R x (xs ++ ys)
+    (All-append (R x) xs ys (λ k d lt. first zero (suc k) d (omega arith) (omega arith)) (All-head (λ y. All (R y) ys) x xs cross))
+    (all_pairs_append R xs ys (λ i j d lt below. first (suc i) (suc j) d (omega arith) (omega arith)) second (All-tail (λ y. All (R y) ys) x xs cross))

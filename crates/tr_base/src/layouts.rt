@@ -1,6 +1,6 @@
-ghost use Rattle.std.specs.Prelude.{◌≡◌, ◌+◌, ◌≤◌, max, length, map};
+ghost use Rattle.std.specs.Prelude.{◌≡◌, ◌+◌, ◌≤◌, pos, max, length, map};
 ghost use Rattle.tr_base.specs.Rects.{IsRect, empty_rect, sides_of};
-ghost use Rattle.tr_base.specs.Layouts.{longest, farthest, stopped, no_lengths, sums_of, maxima_of, along, shapes_of, placed, preferred_place, IsDomain, IsOffset, IsNear};
+ghost use Rattle.tr_base.specs.Layouts.{longest, farthest, stopped, no_lengths, sums_of, maxima_of, along, shapes_of, turned, placed, preferred_place, IsDomain, IsOffset, IsNear};
 
 use crate::points::Point;
 use crate::rects::{Rect, moved};
@@ -146,4 +146,34 @@ fn preferred_size(child: &Shapes) -> (u32, u32)
     let across = along(false, child);
     let down = along(true, child);
     (u32::from(across.pref), u32::from(down.pref))
+}
+
+/// The sides of a node's rectangle: the one along an axis, down or across, and the other one.
+pub fn sides_along(down: bool, rect: &Rect) -> (u32, u32)
+    requires { IsDomain rect.now }
+    ensures sides { result ≡ sides_of (turned down rect.now) }
+    ensures main { result.0 ≤ longest }
+    ensures other { result.1 ≤ longest }
+    ensures invariant { IsRect rect.now }
+{
+    let (wide, high) = sides(rect);
+    if down { (high, wide) } else { (wide, high) }
+}
+
+/// The rectangle of a size whose corner is that of another, moved. Of both pairs the number along
+/// an axis, down or across, comes first, and each is at most 4096.
+pub fn placed_along(down: bool, rect: &Rect, by: (u32, u32), size: (u32, u32)) -> Rect
+    requires domain { IsDomain rect.now }
+    requires main { by.0 ≤ longest }
+    requires other { by.1 ≤ longest }
+    requires main_size { size.0 ≤ longest }
+    requires other_size { size.1 ≤ longest }
+    ensures { result ≡ turned down (placed (turned down rect.now) (pos by.0) (pos by.1) size) }
+{
+    let (main, other) = (by.0 as i32, by.1 as i32);
+    if down {
+        placed(rect, Point { h: other, v: main }, (size.1, size.0))
+    } else {
+        placed(rect, Point { h: main, v: other }, size)
+    }
 }

@@ -1,12 +1,12 @@
-ghost use Rattle.std.specs.Prelude.{◌≡◌, ◌+◌, ◌-◌, ◌*◌, ◌≤◌, min, pos, length, vec_len, map, sum_by, All, AllPairs, IfOk};
-ghost use Rattle.tr_base.specs.Rects.{IsRect, empty_rect, sides_of};
-ghost use Rattle.tr_base.specs.Layouts.{longest, along as along_of, turned, placed as placed_at, IsDomain, IsPartOf, ShareNoPoint};
+ghost use Rattle.std.specs.Prelude.{◌≡◌, ◌+◌, ◌-◌, ◌*◌, ◌≤◌, min, length, vec_len, map, sum_by, All, AllPairs, IfOk};
+ghost use Rattle.tr_base.specs.Rects.{empty_rect};
+ghost use Rattle.tr_base.specs.Layouts.{longest, along as along_of, IsDomain, IsPartOf, ShareNoPoint};
 ghost use Rattle.tr_hv.specs.Places.{shape, places};
 ghost use Rattle.tr_hv.specs.Sums.{IsWithin};
 
 use std::alloc::Global;
 use tr_base::{
-    NoMemory, Point, Rect, Shape, Shapes, along, maxima, placed, shapes_of, sides, sums,
+    NoMemory, Rect, Shape, Shapes, along, maxima, placed_along, shapes_of, sides_along, sums,
 };
 
 /// The shape of a V, or of an H where `vertical` is false: along it the sums of the children's
@@ -45,7 +45,7 @@ pub fn place(
     for child in children {
         let wishes = wishes_of(&along(vertical, child));
         let length = granted(room, &before, &wishes);
-        places.push(placed_along(vertical, &rect, start, (length, beside)))?;
+        places.push(placed_along(vertical, &rect, (start, 0), (length, beside)))?;
         before = sum_of(&before, &wishes);
         start += length;
     }
@@ -124,34 +124,4 @@ fn granted(room: u32, before: &Wishes, wishes: &Wishes) -> u32
     wishes.lo.min(room.saturating_sub(before.lo))
         + wishes.pref.min(room.saturating_sub(before.pref))
         + wishes.hi.min(room.saturating_sub(before.hi))
-}
-
-/// The sides of a rectangle: the one along a node, and the one beside it.
-fn sides_along(vertical: bool, rect: &Rect) -> (u32, u32)
-    requires { IsDomain rect.now }
-    ensures sides { result ≡ sides_of (turned vertical rect.now) }
-    ensures room { result.0 ≤ longest }
-    ensures beside { result.1 ≤ longest }
-    ensures invariant { IsRect rect.now }
-{
-    let (wide, high) = sides(rect);
-    if vertical { (high, wide) } else { (wide, high) }
-}
-
-/// The rectangle that begins at `start` along a node, with the node's corner on the other axis. Of
-/// its sides the one along the node comes first.
-fn placed_along(vertical: bool, rect: &Rect, start: u32, size: (u32, u32)) -> Rect
-    requires domain { IsDomain rect.now }
-    requires start { start ≤ longest }
-    requires length { size.0 ≤ longest }
-    requires beside { size.1 ≤ longest }
-    ensures { result ≡ turned vertical (placed_at (turned vertical rect.now) (pos start) (pos 0) size) }
-{
-    let start = start as i32;
-    let (length, beside) = size;
-    if vertical {
-        placed(rect, Point { h: 0, v: start }, (beside, length))
-    } else {
-        placed(rect, Point { h: start, v: 0 }, (length, beside))
-    }
 }

@@ -8,8 +8,8 @@ use Rattle.tr_hv.specs.Places.{place_of}
 use Rattle.tr_hv.proofs.HvLemmas.{AreWishes, within_more, start_of_more, along_read, length_is, before_first, before_more, start_fits, end_fits, place_is, place_part, place_apart, place_empty}
 use Rattle.tr_hv.proofs.places.place.Goals as goal
 
-pub placed_along-requires-clause-start : goal.placed_along-requires-clause-start
-placed_along-requires-clause-start c =
+pub placed_along-requires-clause-main : goal.placed_along-requires-clause-main
+placed_along-requires-clause-main c =
     let all = c.args.children.now in
     let cs = map (along c.args.vertical) all in
     omega (arith, c.loop-child.invariant.start, start_fits c.sides_along-room.result.0 cs c.loop-child.child-index (omega (arith, length-map all (along c.args.vertical))))

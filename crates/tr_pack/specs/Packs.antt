@@ -1,0 +1,68 @@
+-- The shape of a node that packs its children in rows, and where they stand.
+use Rattle.std.specs.Prelude.{ℕ, ◌+◌, ◌*◌, min, pos, Bool, not, List, [], ◌∷◌, ◌++◌, map, length, sum_by}
+use Rattle.tr_base.specs.declared.shapes.Shapes.{Shapes}
+use Rattle.tr_base.specs.Rects.{Edges, meet_of, sides_of}
+use Rattle.tr_base.specs.Shapes.{Lengths}
+use Rattle.tr_base.specs.Layouts.{longest, stopped, no_lengths, greatest_by, maxima_of, along, shapes_of, turned, placed}
+use Rattle.tr_pack.specs.Cuts.{Extent, extents, cut}
+
+-- along the rows the children's greatest lo counts, all of them in one row are preferred, and there is no limit
+abbrev pub lengths_along : ℕ → List Lengths → Lengths
+lengths_along gap [] = no_lengths
+lengths_along gap (c ∷ cs) = record {
+  lo = (maxima_of (c ∷ cs)).lo;
+  pref = stopped (sum_by (λ x. x.pref) (c ∷ cs) + gap * length cs);
+  hi = longest;
+}
+
+-- beside the rows the children's greatest lo and greatest pref count, and there is no limit
+abbrev pub lengths_beside : List Lengths → Lengths
+lengths_beside [] = no_lengths
+lengths_beside (c ∷ cs) = record { lo = (maxima_of (c ∷ cs)).lo; pref = (maxima_of (c ∷ cs)).pref; hi = longest }
+
+-- the shape of a packing node, whose rows go across or down
+abbrev pub pack_shape : Bool → ℕ → List Shapes → Shapes
+pack_shape down gap cs = shapes_of down (lengths_along gap (map (along down) cs)) (lengths_beside (map (along (not down)) cs))
+
+-- a row is as deep as its deepest child
+abbrev pub depth_of : List Extent → ℕ
+depth_of row = greatest_by (λ x. x.deep) row
+
+-- a row begins behind the rows before it, with a gap after each, or at the far side of the node where that is nearer
+abbrev pub row_start : ℕ → ℕ → List (List Extent) → ℕ
+row_start gap side rows = min (sum_by (λ row. depth_of row + gap) rows) side
+
+-- a child begins behind the children before it in its row, with a gap after each
+abbrev pub start_in_row : ℕ → List Extent → ℕ
+start_in_row gap row = sum_by (λ x. x.long + gap) row
+
+-- the place of a child by the rows before its own and the children before it in its row; the node cuts it
+abbrev pub place_across : Edges → ℕ → List (List Extent) → List Extent → Extent → Edges
+place_across e gap rows row x =
+    meet_of e (placed e (pos (start_in_row gap row)) (pos (row_start gap (sides_of e).1 rows)) (x.long, x.deep))
+
+-- the same, where the rows go down: across and down are exchanged
+abbrev pub place_of : Bool → Edges → ℕ → List (List Extent) → List Extent → Extent → Edges
+place_of down e gap rows row x = turned down (place_across (turned down e) gap rows row x)
+
+-- the places of the children of a row, by the rows before it and the children that are passed
+abbrev pub row_places : (List (List Extent) → List Extent → Extent → Edges) → List (List Extent) → List Extent → List Extent → List Edges
+row_places place rows row [] = []
+row_places place rows row (x ∷ xs) = place rows row x ∷ row_places place rows (row ++ x ∷ []) xs
+
+-- the places of the children of all rows, by the rows that are passed
+abbrev pub all_places : (List (List Extent) → List Extent → Extent → Edges) → List (List Extent) → List (List Extent) → List Edges
+all_places place passed [] = []
+all_places place passed (row ∷ rows) = row_places place passed [] row ++ all_places place (passed ++ row ∷ []) rows
+
+-- the room in a row
+abbrev pub room_of : Bool → Edges → ℕ
+room_of down e = (sides_of (turned down e)).0
+
+-- the rectangles of children that are cut into these rows
+abbrev pub places_in : Bool → ℕ → Edges → List (List Extent) → List Edges
+places_in down gap e rows = all_places (place_of down e gap) [] rows
+
+-- the rectangles of the children of a packing node
+abbrev pub pack_places : Bool → ℕ → Edges → List Shapes → List Edges
+pack_places down gap e cs = places_in down gap e (cut (room_of down e) gap (extents down (room_of down e) cs))

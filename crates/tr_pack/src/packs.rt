@@ -1,0 +1,157 @@
+ghost use Rattle.std.specs.Prelude.{◌≡◌, ◌+◌, ◌≤◌, List, length, vec_len, map, All, AllPairs, IfOk, OnOk};
+ghost use Rattle.tr_base.specs.Rects.{empty_rect};
+ghost use Rattle.tr_base.specs.Layouts.{longest, along as along_of, IsDomain, IsPartOf, ShareNoPoint};
+ghost use Rattle.tr_pack.specs.Cuts.{Extent, extents, cut, IsCut};
+ghost use Rattle.tr_pack.specs.Packs.{lengths_along, lengths_beside, pack_shape, room_of, places_in, pack_places};
+ghost use Rattle.tr_pack.specs.Pens.{moved_for, passed};
+
+use std::alloc::Global;
+use tr_base::{
+    LONGEST, NoMemory, Rect, Shape, Shapes, along, maxima, no_lengths, placed_along, shapes_of,
+    sides_along, sums,
+};
+
+/// The shape of a node that packs its children in rows, which go across, or down where `down` is
+/// true, with `gap` points between neighbours. Without children it is 0.
+pub fn pack_shape(down: bool, gap: u8, children: &[Shapes]) -> Shapes
+    requires { length children.now ≤ 255 }
+    ensures { result ≡ pack_shape down gap children.now }
+{
+    shapes_of(
+        down,
+        lengths_along(down, gap, children),
+        lengths_beside(!down, children),
+    )
+}
+
+/// Where a node that packs its children in rows has them. A row takes children as long as they
+/// fit, one at least, and is as deep as its deepest child. The rows go across, one below another,
+/// or down, one east of another, with `gap` points between neighbours in a row and between rows.
+/// The node cuts what reaches past it.
+pub fn pack_place(
+    alloc: Global,
+    rect: Rect,
+    down: bool,
+    gap: u8,
+    children: &[Shapes],
+) -> Result<Vec<Rect>, NoMemory>
+    requires { IsDomain rect }
+    ensures places { IfOk result (λ v. v.items ≡ pack_places down gap rect children.now) }
+
+    // The rows are the right cut, and no other cut of the children into rows is right.
+    ensures cut { let room = room_of down rect in OnOk result
+        (IsCut room gap (extents down room children.now) (cut room gap (extents down room children.now))) }
+    ensures only { let room = room_of down rect in
+        IfOk result (λ v. (rows : List (List Extent)) → IsCut room gap (extents down room children.now) rows → v.items ≡ places_in down gap rect rows) }
+
+    ensures count { IfOk result (λ v. vec_len v ≡ length children.now) }
+    ensures part { IfOk result (λ v. All (λ child. IsPartOf child rect) v.items) }
+    ensures apart { IfOk result (λ v. AllPairs ShareNoPoint v.items) }
+    ensures empty { rect ≡ empty_rect → IfOk result (λ v. All (λ child. child ≡ empty_rect) v.items) }
+{
+    let (room, side) = sides_along(down, &rect);
+    let mut pen = Pen {
+        along: 0,
+        start: 0,
+        deep: 0,
+    };
+    let mut places = Vec::with_capacity(alloc, children.len())?;
+    for child in children {
+        let long = preferred(down, child).min(room);
+        let deep = preferred(!down, child);
+        pen = moved_for((room, side), gap, &pen, long);
+        let whole = placed_along(down, &rect, (pen.along, pen.start), (long, deep));
+        places.push(rect.meet(&whole))?;
+        pen = passed(gap, &pen, long, deep);
+    }
+    Ok(places)
+}
+
+/// Where the next child would stand.
+#[derive(Clone, Copy, Debug, PartialEq, Eq)]
+struct Pen {
+    /// How far along its row.
+    along: u32,
+    /// Where that row begins.
+    start: u32,
+    /// How deep the row is so far.
+    deep: u32,
+}
+
+/// The place for a child of this length: the next one in its row, if the child fits there, or else
+/// the first one in the next row.
+fn moved_for(sides: (u32, u32), gap: u8, pen: &Pen, long: u32) -> Pen
+    requires room { sides.0 ≤ longest }
+    requires side { sides.1 ≤ longest }
+    requires along { pen.now.along ≤ sides.0 + 255 }
+    requires start { pen.now.start ≤ sides.1 }
+    requires deep { pen.now.deep ≤ longest }
+    requires long { long ≤ sides.0 }
+    ensures pen { result ≡ moved_for sides.0 sides.1 gap pen.now long }
+    ensures along { result.along + long ≤ sides.0 }
+    ensures start { result.start ≤ sides.1 }
+    ensures deep { result.deep ≤ pen.now.deep }
+{
+    if pen.along + long <= sides.0 {
+        *pen
+    } else {
+        Pen {
+            along: 0,
+            start: (pen.start + pen.deep + u32::from(gap)).min(sides.1),
+            deep: 0,
+        }
+    }
+}
+
+/// The place after a child.
+fn passed(gap: u8, pen: &Pen, long: u32, deep: u32) -> Pen
+    requires along { pen.now.along ≤ longest }
+    requires long { long ≤ longest }
+    ensures { result ≡ passed gap pen.now long deep }
+{
+    Pen {
+        along: pen.along + long + u32::from(gap),
+        start: pen.start,
+        deep: pen.deep.max(deep),
+    }
+}
+
+/// The length that a child prefers along one axis.
+fn preferred(down: bool, child: &Shapes) -> u32
+    ensures pref { result ≡ (along_of down child.now).pref }
+    ensures limit { result ≤ longest }
+{
+    let lengths = along(down, child);
+    u32::from(lengths.pref)
+}
+
+fn lengths_along(down: bool, gap: u8, children: &[Shapes]) -> Shape
+    requires { length children.now ≤ 255 }
+    ensures { result ≡ lengths_along gap (map (along_of down) children.now) }
+{
+    if children.is_empty() {
+        return no_lengths();
+    }
+    let most = maxima(down, children);
+    let all = sums(down, children);
+    let gaps = u32::from(gap) * (children.len() as u32 - 1);
+    Shape {
+        lo: most.lo,
+        pref: (u32::from(all.pref) + gaps).min(u32::from(LONGEST)) as u16,
+        hi: LONGEST,
+    }
+}
+
+fn lengths_beside(down: bool, children: &[Shapes]) -> Shape
+    ensures { result ≡ lengths_beside (map (along_of down) children.now) }
+{
+    if children.is_empty() {
+        return no_lengths();
+    }
+    let most = maxima(down, children);
+    Shape {
+        lo: most.lo,
+        pref: most.pref,
+        hi: LONGEST,
+    }
+}
