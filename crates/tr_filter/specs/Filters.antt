@@ -12,7 +12,10 @@ widened by l = record { lo = stopped (l.lo + by); pref = stopped (l.pref + by); 
 
 -- a border adds its width on both sides
 abbrev pub border_shape : ℕ → Shapes → Shapes
-border_shape width child = record { across = widened (2 * width) child.across; down = widened (2 * width) child.down }
+border_shape width child = record {
+  across = widened (2 * width) child.across;
+  down = widened (2 * width) child.down;
+}
 
 -- just one length will do
 abbrev pub fixed : ℕ → Lengths
@@ -32,4 +35,5 @@ translate_shape child = record { across = loosened child.across; down = loosened
 
 -- a border leaves its child the rectangle less the width on each side, or the empty one where nothing is left
 abbrev pub border_place : Edges → ℕ → Edges
-border_place e width = rect_of (e.west +ℤ pos width) (e.east -ℤ pos width) (e.north +ℤ pos width) (e.south -ℤ pos width)
+border_place e width =
+    rect_of (e.west +ℤ pos width) (e.east -ℤ pos width) (e.north +ℤ pos width) (e.south -ℤ pos width)

@@ -13,8 +13,8 @@ use Rattle.tr_base.specs.Layouts.{greatest_by, turned, placed, IsPartOf, ShareNo
 use Rattle.tr_base.proofs.RectLemmas.{has_point-rect_of, has_point-meet_of}
 use Rattle.tr_base.proofs.LayoutLemmas.{ordered, turned_is_rect, turned_apart, turned-meet_of, part-meet_of, part_of_empty, all_pairs_cons, all_pairs_append}
 use Rattle.tr_pack.specs.Cuts.{Extent, extents, joined, cut}
-use Rattle.tr_pack.specs.Packs.{room_of, pack_places, depth_of, row_start, start_in_row, place_across, place_of, row_places, all_places}
-use Rattle.tr_pack.proofs.PackLemmas.{PlaceOf, length-extents}
+use Rattle.tr_pack.specs.Packs.{PlaceOf, room_of, pack_places, depth_of, row_start, start_in_row, place_across, place_of, row_places, all_places}
+use Rattle.tr_pack.proofs.PackLemmas.{length-extents}
 use Rattle.tr_pack.proofs.CutLemmas.{cut_is_right}
 
 -- ---- where the points of a rectangle lie, as seen from the corner of the node
@@ -56,9 +56,12 @@ above e m n a b le h k = none_shared a b (λ p on in'. let low = h.points p on i
 
 -- ---- a child's place
 place_has : (e : Edges) (x y : ℕ) (size : ℕ × ℕ) (p : Point) → has_point (meet_of e (placed e (pos x) (pos y) size)) p ≡ true →
-    ((between e.west e.east p.h && between e.north e.south p.v) && (between (e.west +ℤ pos x) (e.west +ℤ pos x +ℤ pos size.0) p.h && between (e.north +ℤ pos y) (e.north +ℤ pos y +ℤ pos size.1) p.v)) ≡ true
+    ((between e.west e.east p.h && between e.north e.south p.v) &&
+    (between (e.west +ℤ pos x) (e.west +ℤ pos x +ℤ pos size.0) p.h && between (e.north +ℤ pos y) (e.north +ℤ pos y +ℤ pos size.1) p.v)) ≡ true
 place_has e x y size p h =
-    sym (has_point-meet_of e (placed e (pos x) (pos y) size) p ∙ ap (λ b. has_point e p && b) (has_point-rect_of (e.west +ℤ pos x) (e.west +ℤ pos x +ℤ pos size.0) (e.north +ℤ pos y) (e.north +ℤ pos y +ℤ pos size.1) p)) ∙ h
+    sym (has_point-meet_of e (placed e (pos x) (pos y) size) p
+    ∙ ap (λ b. has_point e p && b) (has_point-rect_of (e.west +ℤ pos x) (e.west +ℤ pos x +ℤ pos size.0) (e.north +ℤ pos y)
+    (e.north +ℤ pos y +ℤ pos size.1) p)) ∙ h
 
 both_true : (a b : Bool) → a && b ≡ true → (a ≡ true) × (b ≡ true)
 both_true true b h = (refl, h)
@@ -67,7 +70,8 @@ both_true false b h = cc
 from_low : (low high x : ℤ) → between low high x ≡ true → (low ≤ℤ x) × (x <ℤ high)
 from_low low high x h = (grind (arith, ints), grind (arith, ints))
 
-place_after : (e : Edges) (gap : ℕ) (rows : List (List Extent)) (row : List Extent) (x : Extent) → IsAfter e (start_in_row gap row) (place_across e gap rows row x)
+place_after : (e : Edges) (gap : ℕ) (rows : List (List Extent)) (row : List Extent) (x : Extent) →
+    IsAfter e (start_in_row gap row) (place_across e gap rows row x)
 place_after e gap rows row x = record {
   points = λ p on.
       let all = place_has e (start_in_row gap row) (row_start gap (sides_of e).1 rows) (x.long, x.deep) p on in
@@ -75,16 +79,20 @@ place_after e gap rows row x = record {
       (from_low _ _ _ (both_true _ _ mine).0).0;
 }
 
-place_before : (e : Edges) (gap : ℕ) (rows : List (List Extent)) (row : List Extent) (x : Extent) → IsBefore e (start_in_row gap row + x.long) (place_across e gap rows row x)
+place_before : (e : Edges) (gap : ℕ) (rows : List (List Extent)) (row : List Extent) (x : Extent) →
+    IsBefore e (start_in_row gap row + x.long) (place_across e gap rows row x)
 place_before e gap rows row x = record {
   points = λ p on.
       let all = place_has e (start_in_row gap row) (row_start gap (sides_of e).1 rows) (x.long, x.deep) p on in
-      let mine : (between (e.west +ℤ pos (start_in_row gap row)) (e.west +ℤ pos (start_in_row gap row) +ℤ pos x.long) p.h && between (e.north +ℤ pos (row_start gap (sides_of e).1 rows)) (e.north +ℤ pos (row_start gap (sides_of e).1 rows) +ℤ pos x.deep) p.v) ≡ true = (both_true _ _ all).1 in
-      let high : p.h <ℤ (e.west +ℤ pos (start_in_row gap row) +ℤ pos x.long) = (from_low _ _ _ (both_true _ _ mine).0).1 in
-      omega (arith, ints, high);
+      let mine = (both_true _ _ all).1 in
+      as_one e.west p.h (start_in_row gap row) x.long (from_low _ _ _ (both_true _ _ mine).0).1;
 }
+  where
+    as_one : (w h : ℤ) (m n : ℕ) → h <ℤ (w +ℤ pos m +ℤ pos n) → h <ℤ (w +ℤ pos (m + n))
+    as_one w h m n lt = omega (arith, ints)
 
-place_under : (e : Edges) (gap : ℕ) (rows : List (List Extent)) (row : List Extent) (x : Extent) → IsUnder e (row_start gap (sides_of e).1 rows) (place_across e gap rows row x)
+place_under : (e : Edges) (gap : ℕ) (rows : List (List Extent)) (row : List Extent) (x : Extent) →
+    IsUnder e (row_start gap (sides_of e).1 rows) (place_across e gap rows row x)
 place_under e gap rows row x = record {
   points = λ p on.
       let all = place_has e (start_in_row gap row) (row_start gap (sides_of e).1 rows) (x.long, x.deep) p on in
@@ -106,20 +114,24 @@ place_over e gap rows row x is = record {
     within n s v y d le h k = grind (arith, ints)
 
 -- ---- the places of a row
-all_of_row : (P : Edges → Type 0) (place : PlaceOf) (rows : List (List Extent)) (row xs : List Extent) → ((r : List Extent) (x : Extent) → P (place rows r x)) → All P (row_places place rows row xs)
+all_of_row : (P : Edges → Type 0) (place : PlaceOf) (rows : List (List Extent)) (row xs : List Extent) →
+    ((r : List Extent) (x : Extent) → P (place rows r x)) → All P (row_places place rows row xs)
 all_of_row P place rows row [] each = All-nil P
-all_of_row P place rows row (x ∷ xs) each = All-cons P (place rows row x) (row_places place rows (row ++ x ∷ []) xs) (each row x) (all_of_row P place rows (row ++ x ∷ []) xs each)
+all_of_row P place rows row (x ∷ xs) each = All-cons P (place rows row x) (row_places place rows (row ++ x ∷ []) xs) (each row x)
+    (all_of_row P place rows (row ++ x ∷ []) xs each)
 
 start_grows : (gap : ℕ) (row : List Extent) (x : Extent) → start_in_row gap row + x.long ≤ start_in_row gap (row ++ x ∷ [])
 start_grows gap row x = omega (arith, sum_by_push (λ (x : Extent). x.long + gap) row x)
 
-row_after : (e : Edges) (gap : ℕ) (rows : List (List Extent)) (row xs : List Extent) → All (IsAfter e (start_in_row gap row)) (row_places (place_across e gap) rows row xs)
+row_after : (e : Edges) (gap : ℕ) (rows : List (List Extent)) (row xs : List Extent) →
+    All (IsAfter e (start_in_row gap row)) (row_places (place_across e gap) rows row xs)
 row_after e gap rows row [] = All-nil (IsAfter e (start_in_row gap row))
 row_after e gap rows row (x ∷ xs) =
     let rest = row_places (place_across e gap) rows (row ++ x ∷ []) xs in
     All-cons (IsAfter e (start_in_row gap row)) (place_across e gap rows row x) rest (place_after e gap rows row x)
     (All-weaker (IsAfter e (start_in_row gap (row ++ x ∷ []))) (IsAfter e (start_in_row gap row))
-    (λ r h. no_more_after e (start_in_row gap (row ++ x ∷ [])) (start_in_row gap row) r (omega (arith, start_grows gap row x)) h) rest (row_after e gap rows (row ++ x ∷ []) xs))
+    (λ r h. no_more_after e (start_in_row gap (row ++ x ∷ [])) (start_in_row gap row) r (omega (arith, start_grows gap row x)) h) rest
+    (row_after e gap rows (row ++ x ∷ []) xs))
 
 row_apart : (e : Edges) (gap : ℕ) (rows : List (List Extent)) (row xs : List Extent) → AllPairs ShareNoPoint (row_places (place_across e gap) rows row xs)
 row_apart e gap rows row [] = λ i j d lt below. absurd (omega arith)
@@ -127,7 +139,8 @@ row_apart e gap rows row (x ∷ xs) =
     let rest = row_places (place_across e gap) rows (row ++ x ∷ []) xs in
     all_pairs_cons ShareNoPoint (place_across e gap rows row x) rest
     (All-weaker (IsAfter e (start_in_row gap (row ++ x ∷ []))) (ShareNoPoint (place_across e gap rows row x))
-    (λ r h. beside e (start_in_row gap row + x.long) (start_in_row gap (row ++ x ∷ [])) (place_across e gap rows row x) r (start_grows gap row x) (place_before e gap rows row x) h)
+    (λ r h. beside e (start_in_row gap row + x.long) (start_in_row gap (row ++ x ∷ [])) (place_across e gap rows row x) r (start_grows gap row x)
+    (place_before e gap rows row x) h)
     rest (row_after e gap rows (row ++ x ∷ []) xs))
     (row_apart e gap rows (row ++ x ∷ []) xs)
 
@@ -140,20 +153,25 @@ row_over e gap deep rows row (x ∷ xs) is le =
     let side : ℕ = (sides_of e).1 in
     let small : x.deep ≤ deep = omega arith in
     All-cons (IsOver e (min (y + deep) side)) (place_across e gap rows row x) (row_places (place_across e gap) rows (row ++ x ∷ []) xs)
-    (no_more_over e (min (y + x.deep) side) (min (y + deep) side) (place_across e gap rows row x) (grows y x.deep deep side small) (place_over e gap rows row x is))
+    (no_more_over e (min (y + x.deep) side) (min (y + deep) side) (place_across e gap rows row x) (grows y x.deep deep side small)
+    (place_over e gap rows row x is))
     (row_over e gap deep rows (row ++ x ∷ []) xs is (omega arith))
   where
     grows : (y a b side : ℕ) → a ≤ b → min (y + a) side ≤ min (y + b) side
     grows y a b side le = omega arith
 
 -- ---- the places of all rows
-all_of_places : (P : Edges → Type 0) (place : PlaceOf) (passed rows : List (List Extent)) → ((rs : List (List Extent)) (r : List Extent) (x : Extent) → P (place rs r x)) → All P (all_places place passed rows)
+all_of_places : (P : Edges → Type 0) (place : PlaceOf) (passed rows : List (List Extent)) →
+    ((rs : List (List Extent)) (r : List Extent) (x : Extent) → P (place rs r x)) → All P (all_places place passed rows)
 all_of_places P place passed [] each = All-nil P
 all_of_places P place passed (row ∷ rows) each =
-    All-append P (row_places place passed [] row) (all_places place (passed ++ row ∷ []) rows) (all_of_row P place passed [] row (each passed)) (all_of_places P place (passed ++ row ∷ []) rows each)
+    All-append P (row_places place passed [] row) (all_places place (passed ++ row ∷ []) rows) (all_of_row P place passed [] row (each passed))
+    (all_of_places P place (passed ++ row ∷ []) rows each)
 
-next_row : (gap side : ℕ) (rows : List (List Extent)) (row : List Extent) → min (row_start gap side rows + depth_of row) side ≤ row_start gap side (rows ++ row ∷ [])
-next_row gap side rows row = by_sum (sum_by (λ (r : List Extent). depth_of r + gap) rows) (depth_of row) (sum_by (λ (r : List Extent). depth_of r + gap) (rows ++ row ∷ [])) (sum_by_push (λ (r : List Extent). depth_of r + gap) rows row)
+next_row : (gap side : ℕ) (rows : List (List Extent)) (row : List Extent) →
+    min (row_start gap side rows + depth_of row) side ≤ row_start gap side (rows ++ row ∷ [])
+next_row gap side rows row = by_sum (sum_by (λ (r : List Extent). depth_of r + gap) rows) (depth_of row)
+    (sum_by (λ (r : List Extent). depth_of r + gap) (rows ++ row ∷ [])) (sum_by_push (λ (r : List Extent). depth_of r + gap) rows row)
   where
     by_sum : (s d t : ℕ) → t ≡ s + (d + gap) → min (min s side + d) side ≤ min t side
     by_sum s d t h = omega arith
@@ -161,7 +179,8 @@ next_row gap side rows row = by_sum (sum_by (λ (r : List Extent). depth_of r + 
 row_start_grows : (gap side : ℕ) (rows : List (List Extent)) (row : List Extent) → row_start gap side rows ≤ row_start gap side (rows ++ row ∷ [])
 row_start_grows gap side rows row = omega (arith, sum_by_push (λ (r : List Extent). depth_of r + gap) rows row)
 
-rows_under : (e : Edges) (gap : ℕ) (passed rows : List (List Extent)) → All (IsUnder e (row_start gap (sides_of e).1 passed)) (all_places (place_across e gap) passed rows)
+rows_under : (e : Edges) (gap : ℕ) (passed rows : List (List Extent)) →
+    All (IsUnder e (row_start gap (sides_of e).1 passed)) (all_places (place_across e gap) passed rows)
 rows_under e gap passed [] = All-nil (IsUnder e (row_start gap (sides_of e).1 passed))
 rows_under e gap passed (row ∷ rows) =
     let top : ℕ = row_start gap (sides_of e).1 passed in
@@ -169,7 +188,8 @@ rows_under e gap passed (row ∷ rows) =
     let rest = all_places (place_across e gap) (passed ++ row ∷ []) rows in
     All-append (IsUnder e top) (row_places (place_across e gap) passed [] row) rest
     (all_of_row (IsUnder e top) (place_across e gap) passed [] row (λ r x. place_under e gap passed r x))
-    (All-weaker (IsUnder e next) (IsUnder e top) (λ r h. no_more_under e next top r (row_start_grows gap (sides_of e).1 passed row) h) rest (rows_under e gap (passed ++ row ∷ []) rows))
+    (All-weaker (IsUnder e next) (IsUnder e top) (λ r h. no_more_under e next top r (row_start_grows gap (sides_of e).1 passed row) h) rest
+    (rows_under e gap (passed ++ row ∷ []) rows))
 
 places_apart : (e : Edges) (gap : ℕ) (passed rows : List (List Extent)) → IsRect e → AllPairs ShareNoPoint (all_places (place_across e gap) passed rows)
 places_apart e gap passed [] is = λ i j d lt below. absurd (omega arith)
@@ -180,7 +200,8 @@ places_apart e gap passed (row ∷ rows) is =
     let top : ℕ = row_start gap (sides_of e).1 (passed ++ row ∷ []) in
     all_pairs_append ShareNoPoint first rest (row_apart e gap passed [] row) (places_apart e gap (passed ++ row ∷ []) rows is)
     (All-weaker (IsOver e bottom) (λ (a : Edges). All (ShareNoPoint a) rest)
-    (λ a over. All-weaker (IsUnder e top) (ShareNoPoint a) (λ b under. above e bottom top a b (next_row gap (sides_of e).1 passed row) over under) rest (rows_under e gap (passed ++ row ∷ []) rows))
+    (λ a over. All-weaker (IsUnder e top) (ShareNoPoint a) (λ b under. above e bottom top a b (next_row gap (sides_of e).1 passed row) over under) rest
+    (rows_under e gap (passed ++ row ∷ []) rows))
     first (row_over e gap (depth_of row) passed [] row is (omega arith)))
 
 -- ---- in both axes
@@ -194,8 +215,10 @@ turned_places : (down : Bool) (e : Edges) (gap : ℕ) (passed rows : List (List 
 turned_places down e gap passed [] = refl
 turned_places down e gap passed (row ∷ rows) =
     ap (λ (l : List Edges). l ++ all_places (place_of down e gap) (passed ++ row ∷ []) rows) (turned_row down e gap passed [] row)
-    ∙ ap (λ (l : List Edges). map (turned down) (row_places (place_across (turned down e) gap) passed [] row) ++ l) (turned_places down e gap (passed ++ row ∷ []) rows)
-    ∙ sym (map-append (turned down) (row_places (place_across (turned down e) gap) passed [] row) (all_places (place_across (turned down e) gap) (passed ++ row ∷ []) rows))
+    ∙ ap (λ (l : List Edges). map (turned down) (row_places (place_across (turned down e) gap) passed [] row) ++ l)
+    (turned_places down e gap (passed ++ row ∷ []) rows)
+    ∙ sym (map-append (turned down) (row_places (place_across (turned down e) gap) passed [] row)
+    (all_places (place_across (turned down e) gap) (passed ++ row ∷ []) rows))
 
 apart_turned : (down : Bool) (xs : List Edges) → AllPairs ShareNoPoint xs → AllPairs ShareNoPoint (map (turned down) xs)
 apart_turned down xs h i j d lt below =
@@ -212,9 +235,11 @@ packed_apart down gap e rows is =
 
 packed_part : (down : Bool) (gap : ℕ) (e : Edges) (rows : List (List Extent)) → All (λ (r : Edges). IsPartOf r e) (all_places (place_of down e gap) [] rows)
 packed_part down gap e rows = all_of_places (λ (r : Edges). IsPartOf r e) (place_of down e gap) [] rows (λ rs r x.
-    rw turned-meet_of (part-meet_of e (turned down (placed (turned down e) (pos (start_in_row gap r)) (pos (row_start gap (sides_of (turned down e)).1 rs)) (x.long, x.deep)))))
+    rw turned-meet_of (part-meet_of e (turned down
+    (placed (turned down e) (pos (start_in_row gap r)) (pos (row_start gap (sides_of (turned down e)).1 rs)) (x.long, x.deep)))))
 
-packed_empty : (down : Bool) (gap : ℕ) (e : Edges) (rows : List (List Extent)) → e ≡ empty_rect → All (λ (r : Edges). r ≡ empty_rect) (all_places (place_of down e gap) [] rows)
+packed_empty : (down : Bool) (gap : ℕ) (e : Edges) (rows : List (List Extent)) → e ≡ empty_rect →
+    All (λ (r : Edges). r ≡ empty_rect) (all_places (place_of down e gap) [] rows)
 packed_empty down gap e rows h = all_of_places (λ (r : Edges). r ≡ empty_rect) (place_of down e gap) [] rows (λ rs r x.
     let whole = placed (turned down e) (pos (start_in_row gap r)) (pos (row_start gap (sides_of (turned down e)).1 rs)) (x.long, x.deep) in
     turned-meet_of down e whole ∙ ap (λ (n : Edges). meet_of n (turned down whole)) h ∙ none (turned down whole))
@@ -225,7 +250,13 @@ packed_empty down gap e rows h = all_of_places (λ (r : Edges). r ≡ empty_rect
 length-all_places : (place : PlaceOf) (passed rows : List (List Extent)) → length (all_places place passed rows) ≡ length (joined rows)
 length-all_places place passed [] = refl
 length-all_places place passed (row ∷ rows) =
-    omega (arith, length-append (row_places place passed [] row) (all_places place (passed ++ row ∷ []) rows), length-append row (joined rows), length-row_places place passed [] row, length-all_places place (passed ++ row ∷ []) rows)
+    omega (
+      arith,
+      length-append (row_places place passed [] row) (all_places place (passed ++ row ∷ []) rows),
+      length-append row (joined rows),
+      length-row_places place passed [] row,
+      length-all_places place (passed ++ row ∷ []) rows,
+    )
   where
     length-row_places : (place : PlaceOf) (rows : List (List Extent)) (row xs : List Extent) → length (row_places place rows row xs) ≡ length xs
     length-row_places place rows row [] = refl

@@ -10,11 +10,13 @@ use Rattle.tr_pack.specs.Cuts.{Extent, row_length, IsRow, IsFull, AreRows, joine
 -- ---- the cut is right
 
 -- a row that x begins makes the row before it full, whatever follows x
-full_before : (room gap : ℕ) (row : List Extent) (x : Extent) (t xs : List Extent) → room < row_length gap (row ++ x ∷ []) → IsFull room gap row (cut_from room gap (x ∷ t) xs)
+full_before : (room gap : ℕ) (row : List Extent) (x : Extent) (t xs : List Extent) → room < row_length gap (row ++ x ∷ []) →
+    IsFull room gap row (cut_from room gap (x ∷ t) xs)
 full_before room gap row x t [] h = h
 full_before room gap row x t (y ∷ ys) h = by_test (nat_le (row_length gap ((x ∷ t) ++ y ∷ [])) room) (full_before room gap row x (t ++ y ∷ []) ys h)
   where
-    by_test : (b : Bool) → IsFull room gap row (cut_from room gap ((x ∷ t) ++ y ∷ []) ys) → IsFull room gap row (cond b (cut_from room gap ((x ∷ t) ++ y ∷ []) ys) ((x ∷ t) ∷ cut_from room gap (y ∷ []) ys))
+    by_test : (b : Bool) → IsFull room gap row (cut_from room gap ((x ∷ t) ++ y ∷ []) ys) →
+        IsFull room gap row (cond b (cut_from room gap ((x ∷ t) ++ y ∷ []) ys) ((x ∷ t) ∷ cut_from room gap (y ∷ []) ys))
     by_test true more = more
     by_test false more = h
 
@@ -33,10 +35,13 @@ past n room h = grind (arith, nat_tests)
 rows_from : (room gap : ℕ) (row xs : List Extent) → IsRow room gap row → AreRows room gap (cut_from room gap row xs)
 rows_from room gap row [] is = (is, tt, tt)
 rows_from room gap row (x ∷ xs) is =
-    by_test (nat_le (row_length gap (row ++ x ∷ [])) room) refl (λ longer. rows_from room gap (row ++ x ∷ []) xs longer) (rows_from room gap (x ∷ []) xs (one_row room gap x))
+    by_test (nat_le (row_length gap (row ++ x ∷ [])) room) refl (λ longer. rows_from room gap (row ++ x ∷ []) xs longer)
+    (rows_from room gap (x ∷ []) xs (one_row room gap x))
   where
-    by_test : (b : Bool) → nat_le (row_length gap (row ++ x ∷ [])) room ≡ b → (IsRow room gap (row ++ x ∷ []) → AreRows room gap (cut_from room gap (row ++ x ∷ []) xs)) →
-        AreRows room gap (cut_from room gap (x ∷ []) xs) → AreRows room gap (cond b (cut_from room gap (row ++ x ∷ []) xs) (row ∷ cut_from room gap (x ∷ []) xs))
+    by_test : (b : Bool) → nat_le (row_length gap (row ++ x ∷ [])) room ≡ b →
+        (IsRow room gap (row ++ x ∷ []) → AreRows room gap (cut_from room gap (row ++ x ∷ []) xs)) →
+        AreRows room gap (cut_from room gap (x ∷ []) xs) →
+        AreRows room gap (cond b (cut_from room gap (row ++ x ∷ []) xs) (row ∷ cut_from room gap (x ∷ []) xs))
     by_test true h longer next = longer (longer_row room gap row x h)
     by_test false h longer next = (is, full_before room gap row x [] xs (past (row_length gap (row ++ x ∷ [])) room h), next)
 
@@ -76,7 +81,8 @@ not_shorter room gap r (next ∷ more) s tail rows is same lt =
     let begun : 1 ≤ length next = rows.2.0.some in
     let some : 1 ≤ length r = rows.0.some in
     let enough : length r + 1 ≤ length s = omega arith in
-    let mine : take (length r + 1) (r ++ (next ++ joined more)) ≡ r ++ take 1 next = take_past r (next ++ joined more) ∙ ap (λ (l : List Extent). r ++ l) (take-append-le 1 next (joined more) begun) in
+    let mine : take (length r + 1) (r ++ (next ++ joined more)) ≡ r ++ take 1 next = take_past r (next ++ joined more)
+    ∙ ap (λ (l : List Extent). r ++ l) (take-append-le 1 next (joined more) begun) in
     let other : take (length r + 1) (s ++ tail) ≡ take (length r + 1) s = take-append-le (length r + 1) s tail enough in
     let front : r ++ take 1 next ≡ take (length r + 1) s = sym mine ∙ ap (take (length r + 1)) same ∙ other in
     omega (arith, rows.1, ap (row_length gap) front, row_length-take-le gap (length r + 1) s, is.fits (omega arith))
@@ -88,7 +94,8 @@ same_rows : (room gap : ℕ) (rows others : List (List Extent)) → AreRows room
 same_rows room gap [] [] is are same = refl
 same_rows room gap [] (s ∷ ss) is are same = let some : 1 ≤ length s = are.0.some in absurd (omega (arith, ap length same, length-append s (joined ss)))
 same_rows room gap (r ∷ rs) [] is are same = let some : 1 ≤ length r = is.0.some in absurd (omega (arith, ap length same, length-append r (joined rs)))
-same_rows room gap (r ∷ rs) (s ∷ ss) is are same = by_tests (nat_lt (length r) (length s)) (nat_lt (length s) (length r)) refl refl (λ rest. same_rows room gap rs ss is.2 are.2 rest)
+same_rows room gap (r ∷ rs) (s ∷ ss) is are same = by_tests (nat_lt (length r) (length s)) (nat_lt (length s) (length r)) refl refl
+    (λ rest. same_rows room gap rs ss is.2 are.2 rest)
   where
     equal : length r ≡ length s → (joined rs ≡ joined ss → rs ≡ ss) → r ∷ rs ≡ s ∷ ss
     equal e rest =

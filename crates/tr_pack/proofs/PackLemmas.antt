@@ -10,13 +10,9 @@ use Rattle.tr_base.specs.Rects.{Edges, meet_of, sides_of}
 use Rattle.tr_base.specs.Layouts.{along, turned, placed}
 use Rattle.tr_base.proofs.LayoutLemmas.{greatest_by_push, turned-meet_of}
 use Rattle.tr_pack.specs.declared.packs.Pen.{Pen}
-use Rattle.tr_pack.specs.Cuts.{Extent, extents, row_length, cut_from, cut}
-use Rattle.tr_pack.specs.Packs.{depth_of, row_start, start_in_row, place_of, row_places, all_places}
+use Rattle.tr_pack.specs.Cuts.{Extent, extent_of, extents, row_length, cut_from, cut}
+use Rattle.tr_pack.specs.Packs.{PlaceOf, depth_of, row_start, start_in_row, place_of, row_places, all_places}
 use Rattle.tr_pack.specs.Pens.{moved_for, passed}
-
--- where a child is, by the rows before its own and the children before it in its row
-abbrev pub PlaceOf : Type 0
-PlaceOf = List (List Extent) → List Extent → Extent → Edges
 
 -- ---- one more child in the last row
 
@@ -35,7 +31,8 @@ last_child place passed [] row x =
     ∙ ap (λ (rs : List (List Extent)). (row_places place passed [] row ++ []) ++ place rs row x ∷ []) (sym (append-nil passed))
 last_child place passed (r ∷ rs) row x =
     ap (λ (l : List Edges). row_places place passed [] r ++ l) (last_child place (passed ++ r ∷ []) rs row x)
-    ∙ ap (λ (p : List (List Extent)). row_places place passed [] r ++ (all_places place (passed ++ r ∷ []) (rs ++ row ∷ []) ++ place p row x ∷ [])) (append_assoc passed (r ∷ []) rs)
+    ∙ ap (λ (p : List (List Extent)). row_places place passed [] r ++ (all_places place (passed ++ r ∷ []) (rs ++ row ∷ []) ++ place p row x ∷ []))
+    (append_assoc passed (r ∷ []) rs)
     ∙ sym (append_assoc (row_places place passed [] r) (all_places place (passed ++ r ∷ []) (rs ++ row ∷ [])) (place (passed ++ (r ∷ rs)) row x ∷ []))
 
 -- a row without children adds no place
@@ -96,7 +93,8 @@ rest_at : (xs : List Extent) (k : ℕ) (x : Extent) → k < length xs → x ≡ 
 rest_at xs k x lt is = drop_more xs k x lt ∙ ap (λ (y : Extent). y ∷ drop (k + 1) xs) (sym is)
 
 -- the child stands in the row, or begins the next one
-pub stands_moved : (p : Packing) (k : ℕ) (items : List Edges) (pen : Pen) (x : Extent) → k < length p.xs → x ≡ get_or p.xs k x → x.long ≤ p.room → Stands p k items pen →
+pub stands_moved : (p : Packing) (k : ℕ) (items : List Edges) (pen : Pen) (x : Extent) → k < length p.xs → x ≡ get_or p.xs k x → x.long ≤ p.room →
+    Stands p k items pen →
     Stands p k items (moved_for p.room p.side p.gap pen x.long) × ((moved_for p.room p.side p.gap pen x.long).along + x.long ≤ p.room)
 stands_moved p k items pen x lt is le s = by_test (nat_le (pen.along + x.long) p.room) refl
   where
@@ -112,8 +110,10 @@ stands_moved p k items pen x lt is le s = by_test (nat_le (pen.along + x.long) p
     begun : nat_le (pen.along + x.long) p.room ≡ false → (s.above ++ s.row ∷ []) ++ cut_from p.room p.gap [] (drop k p.xs) ≡ cut_from p.room p.gap [] p.xs
     begun h =
         let old = rw (rest_at p.xs k x lt is, leave h) at s.cut in
-        let first : cut_from p.room p.gap [] (drop k p.xs) ≡ cut_from p.room p.gap (x ∷ []) (drop (k + 1) p.xs) = ap (cut_from p.room p.gap []) (rest_at p.xs k x lt is) ∙ begin_row p.room p.gap x (drop (k + 1) p.xs) le in
-        ap (λ (l : List (List Extent)). (s.above ++ s.row ∷ []) ++ l) first ∙ append_assoc s.above (s.row ∷ []) (cut_from p.room p.gap (x ∷ []) (drop (k + 1) p.xs)) ∙ old
+        let first : cut_from p.room p.gap [] (drop k p.xs) ≡ cut_from p.room p.gap (x ∷ []) (drop (k + 1) p.xs) = ap (cut_from p.room p.gap [])
+        (rest_at p.xs k x lt is) ∙ begin_row p.room p.gap x (drop (k + 1) p.xs) le in
+        ap (λ (l : List (List Extent)). (s.above ++ s.row ∷ []) ++ l) first
+        ∙ append_assoc s.above (s.row ∷ []) (cut_from p.room p.gap (x ∷ []) (drop (k + 1) p.xs)) ∙ old
 
     begins : min (pen.start + pen.deep + p.gap) p.side ≡ row_start p.gap p.side (s.above ++ s.row ∷ [])
     begins = omega (arith, s.start, s.deep, sum_by_push (λ (row : List Extent). depth_of row + p.gap) s.above s.row)
@@ -134,7 +134,8 @@ stands_moved p k items pen x lt is le s = by_test (nat_le (pen.along + x.long) p
     )
 
 -- the child has its place
-pub stands_passed : (p : Packing) (k : ℕ) (items : List Edges) (pen : Pen) (x : Extent) (r : Edges) → k < length p.xs → x ≡ get_or p.xs k x → (s : Stands p k items pen) →
+pub stands_passed : (p : Packing) (k : ℕ) (items : List Edges) (pen : Pen) (x : Extent) (r : Edges) → k < length p.xs → x ≡ get_or p.xs k x →
+    (s : Stands p k items pen) →
     pen.along + x.long ≤ p.room → r ≡ p.place s.above s.row x → Stands p (k + 1) (items ++ r ∷ []) (passed p.gap pen x.long x.deep)
 stands_passed p k items pen x r lt is s le place =
     let fits : nat_le (row_length p.gap (s.row ++ x ∷ [])) p.room ≡ true = in_room in
@@ -159,7 +160,8 @@ stands_last p k items pen le fits s =
     let rows : s.above ++ s.row ∷ [] ≡ cut_from p.room p.gap [] p.xs = rw none at s.cut in
     s.places ∙ ap (all_places p.place []) rows ∙ begun p.place p.room p.gap p.xs fits
   where
-    begun : (place : PlaceOf) (room gap : ℕ) (xs : List Extent) → All (λ (x : Extent). x.long ≤ room) xs → all_places place [] (cut_from room gap [] xs) ≡ all_places place [] (cut room gap xs)
+    begun : (place : PlaceOf) (room gap : ℕ) (xs : List Extent) → All (λ (x : Extent). x.long ≤ room) xs →
+        all_places place [] (cut_from room gap [] xs) ≡ all_places place [] (cut room gap xs)
     begun place room gap [] fits = refl
     begun place room gap (x ∷ xs) fits = ap (all_places place []) (begin_row room gap x xs (fits 0 x (omega arith)))
 
@@ -169,22 +171,26 @@ packing down e gap sides cs = record { place = place_of down e gap; room = sides
 
 -- what the loop makes of the k-th child
 pub extent_read : (down : Bool) (room : ℕ) (cs : List Shapes) (k : ℕ) (child : Shapes) (x : Extent) → k < length cs → child ≡ get_or cs k child →
-    x ≡ record { long = min (along down child).pref room; deep = (along (not down) child).pref } → x ≡ get_or (extents down room cs) k x
+    x ≡ extent_of down room child → x ≡ get_or (extents down room cs) k x
 extent_read down room cs k child x lt is e =
-    let extent : Shapes → Extent = λ c. record { long = min (along down c).pref room; deep = (along (not down) c).pref } in
-    e ∙ ap extent is ∙ sym (get_or-map extent cs k child x lt)
+    e ∙ ap (extent_of down room) is ∙ sym (get_or-map (extent_of down room) cs k child x lt)
 
 pub length-extents : (down : Bool) (room : ℕ) (cs : List Shapes) → length (extents down room cs) ≡ length cs
-length-extents down room cs = length-map cs (λ (c : Shapes). record { long = min (along down c).pref room; deep = (along (not down) c).pref })
+length-extents down room cs = length-map cs (extent_of down room)
 
 pub extents_fit : (down : Bool) (room : ℕ) (cs : List Shapes) → All (λ (x : Extent). x.long ≤ room) (extents down room cs)
 extents_fit down room [] = All-nil (λ (x : Extent). x.long ≤ room)
-extents_fit down room (c ∷ cs) = All-cons (λ (x : Extent). x.long ≤ room) (record { long = min (along down c).pref room; deep = (along (not down) c).pref }) (extents down room cs) (omega arith) (extents_fit down room cs)
+extents_fit down room (c ∷ cs) = All-cons (λ (x : Extent). x.long ≤ room) (extent_of down room c) (extents down room cs) (omega arith)
+    (extents_fit down room cs)
 
 -- what the loop places is the child's place
-pub place_is : (down : Bool) (e : Edges) (gap : ℕ) (sides : ℕ × ℕ) (cs : List Shapes) (k : ℕ) (items : List Edges) (pen : Pen) (x : Extent) (whole r : Edges) → sides ≡ sides_of (turned down e) →
-    (s : Stands (packing down e gap sides cs) k items pen) → whole ≡ turned down (placed (turned down e) (pos pen.along) (pos pen.start) (x.long, x.deep)) → r ≡ meet_of e whole → r ≡ place_of down e gap s.above s.row x
+pub place_is : (down : Bool) (e : Edges) (gap : ℕ) (sides : ℕ × ℕ) (cs : List Shapes) (k : ℕ) (items : List Edges) (pen : Pen) (x : Extent)
+    (whole r : Edges) → sides ≡ sides_of (turned down e) →
+    (s : Stands (packing down e gap sides cs) k items pen) →
+    whole ≡ turned down (placed (turned down e) (pos pen.along) (pos pen.start) (x.long, x.deep)) → r ≡ meet_of e whole →
+    r ≡ place_of down e gap s.above s.row x
 place_is down e gap sides cs k items pen x whole r is s placed' meets =
     let side : sides.1 ≡ (sides_of (turned down e)).1 = ap (λ (p : ℕ × ℕ). p.1) is in
     let whole' = rw (s.along, s.start, side) at placed' in
-    rw (meets, whole') (sym (turned-meet_of down e (placed (turned down e) (pos (start_in_row gap s.row)) (pos (row_start gap (sides_of (turned down e)).1 s.above)) (x.long, x.deep))))
+    rw (meets, whole') (sym (turned-meet_of down e
+    (placed (turned down e) (pos (start_in_row gap s.row)) (pos (row_start gap (sides_of (turned down e)).1 s.above)) (x.long, x.deep))))

@@ -9,8 +9,12 @@ pub record Extent : Type 0 where
   pub deep : ℕ
 
 -- a child is as long as it prefers, but no longer than the room in a row, and as deep as it prefers
+abbrev pub extent_of : Bool → ℕ → Shapes → Extent
+extent_of down room c = record { long = min (along down c).pref room; deep = (along (not down) c).pref }
+
+-- the extents of all children, where the rows go across or down
 abbrev pub extents : Bool → ℕ → List Shapes → List Extent
-extents down room cs = map (λ c. record { long = min (along down c).pref room; deep = (along (not down) c).pref }) cs
+extents down room cs = map (extent_of down room) cs
 
 -- a row is as long as its children together, with a gap between neighbours
 abbrev pub row_length : ℕ → List Extent → ℕ

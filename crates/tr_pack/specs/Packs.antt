@@ -6,7 +6,7 @@ use Rattle.tr_base.specs.Shapes.{Lengths}
 use Rattle.tr_base.specs.Layouts.{longest, stopped, no_lengths, greatest_by, maxima_of, along, shapes_of, turned, placed}
 use Rattle.tr_pack.specs.Cuts.{Extent, extents, cut}
 
--- along the rows the children's greatest lo counts, all of them in one row are preferred, and there is no limit
+-- along the rows the children's greatest lo counts, and they prefer to stand in one row, without a limit
 abbrev pub lengths_along : ℕ → List Lengths → Lengths
 lengths_along gap [] = no_lengths
 lengths_along gap (c ∷ cs) = record {
@@ -15,20 +15,25 @@ lengths_along gap (c ∷ cs) = record {
   hi = longest;
 }
 
--- beside the rows the children's greatest lo and greatest pref count, and there is no limit
+-- beside the rows the children's greatest lo and greatest pref count, without a limit
 abbrev pub lengths_beside : List Lengths → Lengths
 lengths_beside [] = no_lengths
-lengths_beside (c ∷ cs) = record { lo = (maxima_of (c ∷ cs)).lo; pref = (maxima_of (c ∷ cs)).pref; hi = longest }
+lengths_beside (c ∷ cs) = record {
+  lo = (maxima_of (c ∷ cs)).lo;
+  pref = (maxima_of (c ∷ cs)).pref;
+  hi = longest;
+}
 
 -- the shape of a packing node, whose rows go across or down
 abbrev pub pack_shape : Bool → ℕ → List Shapes → Shapes
-pack_shape down gap cs = shapes_of down (lengths_along gap (map (along down) cs)) (lengths_beside (map (along (not down)) cs))
+pack_shape down gap cs =
+    shapes_of down (lengths_along gap (map (along down) cs)) (lengths_beside (map (along (not down)) cs))
 
 -- a row is as deep as its deepest child
 abbrev pub depth_of : List Extent → ℕ
 depth_of row = greatest_by (λ x. x.deep) row
 
--- a row begins behind the rows before it, with a gap after each, or at the far side of the node where that is nearer
+-- a row begins behind the rows before it and a gap after each, or at the node's far side if that is nearer
 abbrev pub row_start : ℕ → ℕ → List (List Extent) → ℕ
 row_start gap side rows = min (sum_by (λ row. depth_of row + gap) rows) side
 
@@ -36,24 +41,30 @@ row_start gap side rows = min (sum_by (λ row. depth_of row + gap) rows) side
 abbrev pub start_in_row : ℕ → List Extent → ℕ
 start_in_row gap row = sum_by (λ x. x.long + gap) row
 
--- the place of a child by the rows before its own and the children before it in its row; the node cuts it
-abbrev pub place_across : Edges → ℕ → List (List Extent) → List Extent → Extent → Edges
+-- where a child stands, by the rows before its own and the children before it in its row
+abbrev pub PlaceOf : Type 0
+PlaceOf = List (List Extent) → List Extent → Extent → Edges
+
+-- a child has its length and its depth, and is cut by the node
+abbrev pub place_across : Edges → ℕ → PlaceOf
 place_across e gap rows row x =
-    meet_of e (placed e (pos (start_in_row gap row)) (pos (row_start gap (sides_of e).1 rows)) (x.long, x.deep))
+    let start = row_start gap (sides_of e).1 rows in
+    meet_of e (placed e (pos (start_in_row gap row)) (pos start) (x.long, x.deep))
 
 -- the same, where the rows go down: across and down are exchanged
-abbrev pub place_of : Bool → Edges → ℕ → List (List Extent) → List Extent → Extent → Edges
+abbrev pub place_of : Bool → Edges → ℕ → PlaceOf
 place_of down e gap rows row x = turned down (place_across (turned down e) gap rows row x)
 
 -- the places of the children of a row, by the rows before it and the children that are passed
-abbrev pub row_places : (List (List Extent) → List Extent → Extent → Edges) → List (List Extent) → List Extent → List Extent → List Edges
+abbrev pub row_places : PlaceOf → List (List Extent) → List Extent → List Extent → List Edges
 row_places place rows row [] = []
 row_places place rows row (x ∷ xs) = place rows row x ∷ row_places place rows (row ++ x ∷ []) xs
 
 -- the places of the children of all rows, by the rows that are passed
-abbrev pub all_places : (List (List Extent) → List Extent → Extent → Edges) → List (List Extent) → List (List Extent) → List Edges
+abbrev pub all_places : PlaceOf → List (List Extent) → List (List Extent) → List Edges
 all_places place passed [] = []
-all_places place passed (row ∷ rows) = row_places place passed [] row ++ all_places place (passed ++ row ∷ []) rows
+all_places place passed (row ∷ rows) =
+    row_places place passed [] row ++ all_places place (passed ++ row ∷ []) rows
 
 -- the room in a row
 abbrev pub room_of : Bool → Edges → ℕ
@@ -65,4 +76,5 @@ places_in down gap e rows = all_places (place_of down e gap) [] rows
 
 -- the rectangles of the children of a packing node
 abbrev pub pack_places : Bool → ℕ → Edges → List Shapes → List Edges
-pack_places down gap e cs = places_in down gap e (cut (room_of down e) gap (extents down (room_of down e) cs))
+pack_places down gap e cs =
+    places_in down gap e (cut (room_of down e) gap (extents down (room_of down e) cs))

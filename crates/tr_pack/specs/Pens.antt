@@ -10,4 +10,8 @@ moved_for room side gap pen long =
 
 -- the place after a child
 abbrev pub passed : ℕ → Pen → ℕ → ℕ → Pen
-passed gap pen long deep = record { along = pen.along + long + gap; start = pen.start; deep = max pen.deep deep }
+passed gap pen long deep = record {
+  along = pen.along + long + gap;
+  start = pen.start;
+  deep = max pen.deep deep;
+}

@@ -38,11 +38,11 @@ pub fn pack_place(
     requires { IsDomain rect }
     ensures places { IfOk result (λ v. v.items ≡ pack_places down gap rect children.now) }
 
-    // The rows are the right cut, and no other cut of the children into rows is right.
-    ensures cut { let room = room_of down rect in OnOk result
-        (IsCut room gap (extents down room children.now) (cut room gap (extents down room children.now))) }
-    ensures only { let room = room_of down rect in
-        IfOk result (λ v. (rows : List (List Extent)) → IsCut room gap (extents down room children.now) rows → v.items ≡ places_in down gap rect rows) }
+    // The rows are the right cut, and whatever cut is right gives these rectangles.
+    ensures cut { let room = room_of down rect in let xs = extents down room children.now in
+        OnOk result (IsCut room gap xs (cut room gap xs)) }
+    ensures only { let room = room_of down rect in let xs = extents down room children.now in
+        IfOk result (λ v. (rows : List (List Extent)) → IsCut room gap xs rows → v.items ≡ places_in down gap rect rows) }
 
     ensures count { IfOk result (λ v. vec_len v ≡ length children.now) }
     ensures part { IfOk result (λ v. All (λ child. IsPartOf child rect) v.items) }

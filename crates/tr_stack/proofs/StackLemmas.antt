@@ -103,7 +103,8 @@ page_apart e per page i j some lt = by_tests (eqb (i / per) page) (eqb (j / per)
         let second : page * per + j % per ≡ j = rw k at (div-add-mod' j per) in
         omega arith
 
-    by_tests : (a b : Bool) → eqb (i / per) page ≡ a → eqb (j / per) page ≡ b → ShareNoPoint (cond a (strip e per (i % per)) empty_rect) (cond b (strip e per (j % per)) empty_rect)
+    by_tests : (a b : Bool) → eqb (i / per) page ≡ a → eqb (j / per) page ≡ b →
+        ShareNoPoint (cond a (strip e per (i % per)) empty_rect) (cond b (strip e per (j % per)) empty_rect)
     by_tests true true h k = strips_apart e per (i % per) (j % per) (later (grind (arith, nat_tests)) (grind (arith, nat_tests)))
     by_tests true false h k = apart_empty_right (strip e per (i % per))
     by_tests false b h k = apart_empty_left (cond b (strip e per (j % per)) empty_rect)

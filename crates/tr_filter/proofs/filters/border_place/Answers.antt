@@ -10,7 +10,8 @@ pub returns-clause-place : goal.returns-clause-place
 returns-clause-place c =
     let r = c.args.rect in
     let by = pos c.args.width in
-    cast-rect _ _ _ _ _ (r.west +ℤ by) (r.east -ℤ by) (r.north +ℤ by) (r.south -ℤ by) c.raised.ensures.reach c.lowered.ensures.reach c.raised-2.ensures.reach c.lowered-2.ensures.reach c.edges.ensures.edges
+    cast-rect _ _ _ _ _ (r.west +ℤ by) (r.east -ℤ by) (r.north +ℤ by) (r.south -ℤ by) c.raised.ensures.reach c.lowered.ensures.reach
+    c.raised-2.ensures.reach c.lowered-2.ensures.reach c.edges.ensures.edges
     (omega (arith, ints)) (omega (arith, ints)) (omega (arith, ints)) (omega (arith, ints))
 
 pub returns-clause-part : goal.returns-clause-part

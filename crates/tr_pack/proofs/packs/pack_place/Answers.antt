@@ -28,12 +28,15 @@ loop-child-preserved c =
     let p = packing down c.args.rect c.args.gap sides all in
     let x : Extent = record { long = c.min-long.result; deep = c.preferred-deep.result } in
     let within : i < length p.xs = omega (arith, length-extents down sides.0 all) in
-    let is = extent_read down sides.0 all i c.child-item.result x c.loop-child-test.true c.child-item.is (rw (c.min-long.ensures, c.preferred.ensures.pref, c.preferred-deep.ensures.pref) refl) in
+    let is = extent_read down sides.0 all i c.child-item.result x c.loop-child-test.true c.child-item.is
+    (rw (c.min-long.ensures, c.preferred.ensures.pref, c.preferred-deep.ensures.pref) refl) in
     let moved = stands_moved p i items c.loop-child.pen x within is (omega arith) c.loop-child.invariant.stands in
     let s = subst (Stands p i items) (sym c.moved_for-pen.ensures.pen) moved.0 in
-    let place = place_is down c.args.rect c.args.gap sides all i items c.moved_for-pen.result x c.placed_along-whole.result c.meet.result c.sides_along-room.ensures.sides s c.placed_along-whole.ensures c.meet.ensures.edges in
+    let place = place_is down c.args.rect c.args.gap sides all i items c.moved_for-pen.result x c.placed_along-whole.result c.meet.result
+    c.sides_along-room.ensures.sides s c.placed_along-whole.ensures c.meet.ensures.edges in
     record {
-      stands = rw (c.in_ok-push.ensures.items, c.passed-pen.ensures) (stands_passed p i items c.moved_for-pen.result x c.meet.result within is s c.moved_for-pen.ensures.along place);
+      stands = rw (c.in_ok-push.ensures.items, c.passed-pen.ensures)
+          (stands_passed p i items c.moved_for-pen.result x c.meet.result within is s c.moved_for-pen.ensures.along place);
       along = rw c.passed-pen.ensures (omega arith);
       start = rw c.passed-pen.ensures (omega arith);
       deep = rw c.passed-pen.ensures (omega arith);
@@ -44,7 +47,8 @@ returns-clause-places c =
     let sides = c.sides_along-room.result in
     let all = c.args.children.now in
     let p = packing c.args.down c.args.rect c.args.gap sides all in
-    let last = stands_last p c.loop-child.child-index c.loop-child.places.items c.loop-child.pen (omega (arith, length-extents c.args.down sides.0 all)) (extents_fit c.args.down sides.0 all) c.loop-child.invariant.stands in
+    let last = stands_last p c.loop-child.child-index c.loop-child.places.items c.loop-child.pen (omega (arith, length-extents c.args.down sides.0 all))
+    (extents_fit c.args.down sides.0 all) c.loop-child.invariant.stands in
     rw c.sides_along-room.ensures.sides at last
 
 pub returns-clause-cut : goal.returns-clause-cut
@@ -52,7 +56,8 @@ returns-clause-cut c = cut_is_right (room_of c.args.down c.args.rect) c.args.gap
 
 pub returns-clause-only : goal.returns-clause-only
 returns-clause-only c = λ rows is.
-    returns-clause-places c ∙ ap (places_in c.args.down c.args.gap c.args.rect) (sym (only_cut (room_of c.args.down c.args.rect) c.args.gap (extents c.args.down (room_of c.args.down c.args.rect) c.args.children.now) rows is))
+    returns-clause-places c ∙ ap (places_in c.args.down c.args.gap c.args.rect)
+    (sym (only_cut (room_of c.args.down c.args.rect) c.args.gap (extents c.args.down (room_of c.args.down c.args.rect) c.args.children.now) rows is))
 
 pub returns-clause-count : goal.returns-clause-count
 returns-clause-count c =
@@ -64,7 +69,8 @@ returns-clause-part c =
 
 pub returns-clause-apart : goal.returns-clause-apart
 returns-clause-apart c =
-    subst (λ (l : List Edges). AllPairs ShareNoPoint l) (sym (returns-clause-places c)) (pack_apart c.args.down c.args.gap c.args.rect c.args.children.now c.sides_along-room.ensures.invariant)
+    subst (λ (l : List Edges). AllPairs ShareNoPoint l) (sym (returns-clause-places c))
+    (pack_apart c.args.down c.args.gap c.args.rect c.args.children.now c.sides_along-room.ensures.invariant)
 
 pub returns-clause-empty : goal.returns-clause-empty
 returns-clause-empty c h =

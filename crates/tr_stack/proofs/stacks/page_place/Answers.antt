@@ -21,8 +21,10 @@ returns-clause-part c =
 
 pub returns-clause-apart : goal.returns-clause-apart
 returns-clause-apart c =
-    pairs_of_places (page_place c.args.rect c.args.per c.args.page) _ _ c.loop-k.invariant (λ i j lt _. page_apart c.args.rect c.args.per c.args.page i j c.requires.per lt)
+    pairs_of_places (page_place c.args.rect c.args.per c.args.page) _ _ c.loop-k.invariant
+    (λ i j lt _. page_apart c.args.rect c.args.per c.args.page i j c.requires.per lt)
 
 pub returns-clause-empty : goal.returns-clause-empty
 returns-clause-empty c h =
-    all_places (λ (child : Edges). child ≡ empty_rect) (page_place c.args.rect c.args.per c.args.page) _ _ c.loop-k.invariant (λ k _. page_empty c.args.rect c.args.per c.args.page k c.requires.per h)
+    all_places (λ (child : Edges). child ≡ empty_rect) (page_place c.args.rect c.args.per c.args.page) _ _ c.loop-k.invariant
+    (λ k _. page_empty c.args.rect c.args.per c.args.page k c.requires.per h)

@@ -16,7 +16,8 @@ returns-clause-count c =
 
 pub returns-clause-part : goal.returns-clause-part
 returns-clause-part c =
-    all_places (λ (child : Edges). IsPartOf child c.args.rect) (t_place c.args.rect c.args.shown) _ _ c.loop-k.invariant (λ k _. t_part c.args.rect c.args.shown k)
+    all_places (λ (child : Edges). IsPartOf child c.args.rect) (t_place c.args.rect c.args.shown) _ _ c.loop-k.invariant
+    (λ k _. t_part c.args.rect c.args.shown k)
 
 pub returns-clause-apart : goal.returns-clause-apart
 returns-clause-apart c =
