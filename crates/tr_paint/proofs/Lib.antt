@@ -1,3 +1,4 @@
 pub mod NearLemmas
 pub mod TraceLemmas
 pub mod PatchLemmas
+pub mod PaintingLemmas

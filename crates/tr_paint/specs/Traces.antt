@@ -16,6 +16,10 @@ pub record Look : Type 0 where
   pub kind : Kind
   pub font : List (List ℕ)
 
+-- the look by its parts
+abbrev pub look_of : Kind → List (List ℕ) → Look
+look_of kind font = record { kind = kind; font = font }
+
 -- what one command does at one point
 pub data Deed : Type 0 where
   -- leaves it as it is

@@ -64,6 +64,16 @@ impl Batch {
         Ok(())
     }
 
+    /// Puts the commands of another batch at the end, without copying what they hold.
+    pub fn extend(&mut self, other: Batch) -> Result<(), NoMemory>
+        ensures ok { OnOk result (self.new ≡ self.old ++ other) }
+        ensures err { OnErr result (self.new ≡ self.old) }
+    {
+        let Batch { mut paints } = other;
+        self.paints.append(&mut paints)?;
+        Ok(())
+    }
+
     /// How many commands it has.
     pub fn len(&self) -> usize
         ensures { result ≡ length self.now }
