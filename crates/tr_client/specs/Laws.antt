@@ -1,0 +1,21 @@
+-- The words in which a client's laws are stated.
+use Rattle.std.specs.Prelude.{◌≡◌, ℕ, ◌≤◌, ◌==◌, ◌||◌, Bool, true}
+use Rattle.tr_base.specs.declared.Point.{Point}
+use Rattle.tr_base.specs.declared.Size.{Size}
+use Rattle.tr_base.specs.Rects.{Edges, has_point, whole_of}
+use Rattle.tr_base.specs.Layouts.{longest}
+
+-- the size of a window: no side is greater than the greatest length
+pub record IsWindowSize (size : Size) : Type 0 where
+  pub wide : size.wide ≤ longest
+  pub high : size.high ≤ longest
+
+-- a window of the size has no point, since one of its sides is zero
+abbrev pub is_flat : Size → Bool
+is_flat size = size.wide == 0 || size.high == 0
+
+-- what is kept when a window changes its size: points of both windows, which have the same colours in both pictures
+pub record Survives (kept : Edges) (from to : Size) (before after : Point → ℕ) : Type 0 where
+  pub first : (q : Point) → has_point kept q ≡ true → has_point (whole_of from) q ≡ true
+  pub second : (q : Point) → has_point kept q ≡ true → has_point (whole_of to) q ≡ true
+  pub colours : (q : Point) → has_point kept q ≡ true → before q ≡ after q

@@ -1,0 +1,150 @@
+ghost use Rattle.std.specs.Prelude.{◌≡◌, ◌↔◌, ℕ, [], true, List, Option, IsTrue, IfOk, IfSome};
+ghost use Rattle.tr_base.specs.declared.points.Point.{Point};
+ghost use Rattle.tr_base.specs.declared.sizes.Size.{Size};
+ghost use Rattle.tr_base.specs.declared.events.Event.{Event};
+ghost use Rattle.tr_base.specs.Rects.{Edges, empty_rect, meet_of, whole_of};
+ghost use Rattle.tr_paint.specs.declared.paints.Paint.{Paint};
+ghost use Rattle.tr_paint.specs.Traces.{Look, look_of};
+ghost use Rattle.tr_paint.specs.Patches.{IsPatch};
+ghost use Rattle.tr_paint.specs.Paintings.{IsPainting};
+ghost use Rattle.tr_client.specs.Laws.{IsWindowSize, is_flat, Survives};
+
+use std::alloc::Global;
+use tr_base::{Command, Env, Event, Line, NoMemory, Rect, Size};
+use tr_paint::Batch;
+
+/// The content of a window: what it shows, what commands make of it, and what it does with events.
+///
+/// A picture is for a look, which is the kind of the pixels and the font, and for a size with sides up
+/// to 4096. Its points are those of the window, relative to its north-west corner; of other points
+/// nothing is painted.
+pub trait Client: Sized + Drop + Send + Sync {
+    /// What the content can be told to do.
+    type Cmd: Command;
+
+    /// The values that are contents.
+    ghost valid: { Self → Type 0 };
+
+    /// The colour of a point.
+    ghost pic: { Look → Size → Self → Point → ℕ };
+
+    /// The content after a command.
+    ghost next: { Self → Self.Cmd → Self };
+
+    /// The paint commands that lead from the old picture to the new one; those whose area is empty
+    /// are left out.
+    ghost patch: { Look → Size → Self → Self.Cmd → List Paint };
+
+    /// The command that an event asks for.
+    ghost answer: { Self → Event → Option Self.Cmd };
+
+    /// What others are given who read the content, as one who takes the selection.
+    ghost value: { Self → List ℕ };
+
+    /// Which points need not be painted again when the window's size changes.
+    ghost keeps: { Self → Size → Size → Edges } = { λ content from to. empty_rect };
+
+    /// The same content.
+    fn copy(&self, alloc: Global) -> Result<Self, NoMemory>
+        ensures valid { valid self.now }
+        ensures copy { IfOk result (λ content. content ≡ self.now) };
+
+    /// Whether both are the same content.
+    fn same(&self, other: &Self) -> bool
+        ensures valid { valid self.now }
+        ensures other { valid other.now }
+        ensures same { IsTrue result ↔ (self.now ≡ other.now) };
+
+    /// Commands that paint the part of the picture that lies in `clip`, whatever was there, and touch
+    /// no other point.
+    fn paint(&self, alloc: Global, env: &Env, size: Size, clip: Rect) -> Result<Batch, NoMemory>
+        requires { IsWindowSize size }
+        ensures valid { valid self.now }
+        ensures painting { let look = look_of env.now.kind env.now.font.now in
+            IfOk result (λ batch. IsPainting look (meet_of (whole_of size) clip) batch (pic look size self.now)) };
+
+    /// The content after a command, and the command's patch.
+    fn change(
+        &self,
+        alloc: Global,
+        env: &Env,
+        size: Size,
+        cmd: &Self::Cmd,
+    ) -> Result<(Self, Batch), NoMemory>
+        requires { IsWindowSize size }
+        ensures valid { valid self.now }
+        ensures command { Self.Cmd.valid cmd.now }
+        ensures next { IfOk result (λ r. r.0 ≡ next self.now cmd.now) }
+        ensures patch { let look = look_of env.now.kind env.now.font.now in
+            IfOk result (λ r. r.1 ≡ patch look size self.now cmd.now) };
+
+    /// The command that an event asks for, if it asks for one.
+    fn react(&self, alloc: Global, event: &Event) -> Result<Option<Self::Cmd>, NoMemory>
+        ensures valid { valid self.now }
+        ensures command { IfOk result (λ asked. IfSome asked (λ cmd. Self.Cmd.valid cmd)) }
+        ensures answer { IfOk result (λ asked. asked ≡ answer self.now event.now) };
+
+    /// What others are given who read the content.
+    fn value(&self, alloc: Global) -> Result<Line, NoMemory>
+        ensures valid { valid self.now }
+        ensures value { IfOk result (λ line. line ≡ value self.now) };
+
+    /// Which points need not be painted again when the window's size changes. A client that paints
+    /// all anew answers `keeps_nothing()`.
+    fn keeps(&self, from: Size, to: Size) -> Rect
+        requires from { IsWindowSize from }
+        requires to { IsWindowSize to }
+        ensures valid { valid self.now }
+        ensures keeps { result ≡ keeps self.now from to };
+
+    /// Law of contents: a command leaves a content. Nothing runs.
+    fn obeys_next(&self, cmd: &Self::Cmd)
+        requires valid { valid self.now }
+        requires command { Self.Cmd.valid cmd.now }
+        ensures { valid (next self.now cmd.now) }
+    {}
+
+    /// Law of patches: over whatever is known of the old picture, each point of the window is unknown
+    /// after the patch, or has its colour in the new picture. Nothing runs.
+    fn obeys_patch(&self, env: &Env, size: Size, cmd: &Self::Cmd)
+        requires size { IsWindowSize size }
+        requires valid { valid self.now }
+        requires command { Self.Cmd.valid cmd.now }
+        ensures { let look = look_of env.now.kind env.now.font.now in
+            IsPatch look size (patch look size self.now cmd.now) (pic look size self.now) (pic look size (next self.now cmd.now)) }
+    {}
+
+    /// Law of empty patches: the patch of a window without points has no command. Nothing runs.
+    fn obeys_empty_patch(&self, env: &Env, size: Size, cmd: &Self::Cmd)
+        requires flat { is_flat size ≡ true }
+        requires size { IsWindowSize size }
+        requires valid { valid self.now }
+        requires command { Self.Cmd.valid cmd.now }
+        ensures { patch (look_of env.now.kind env.now.font.now) size self.now cmd.now ≡ [] }
+    {}
+
+    /// Law of keeping: what is kept lies in both windows, and has the same colours in both. Nothing
+    /// runs.
+    fn obeys_keeping(&self, env: &Env, from: Size, to: Size)
+        requires from { IsWindowSize from }
+        requires to { IsWindowSize to }
+        requires valid { valid self.now }
+        ensures { let look = look_of env.now.kind env.now.font.now in
+            Survives (keeps self.now from to) from to (pic look from self.now) (pic look to self.now) }
+    {}
+
+    /// A command leaves a content.
+    ghost contents: { (x : Self) (cmd : Self.Cmd) → valid x → Self.Cmd.valid cmd → valid (next x cmd) };
+
+    /// A patch leads from the old picture to the new one.
+    ghost patches: { (look : Look) (size : Size) (x : Self) (cmd : Self.Cmd) → valid x → Self.Cmd.valid cmd → IsWindowSize size →
+        IsPatch look size (patch look size x cmd) (pic look size x) (pic look size (next x cmd)) };
+
+    /// The patch of a window without points has no command.
+    ghost empty_patches: { (look : Look) (size : Size) (x : Self) (cmd : Self.Cmd) → valid x → Self.Cmd.valid cmd → IsWindowSize size →
+        is_flat size ≡ true → patch look size x cmd ≡ [] };
+
+    /// What is kept lies in both windows, and has the same colours in both.
+    ghost keeping: { (look : Look) (from to : Size) (x : Self) → valid x → IsWindowSize from → IsWindowSize to →
+        Survives (keeps x from to) from to (pic look from x) (pic look to x) };
+}

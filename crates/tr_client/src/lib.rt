@@ -1,0 +1,14 @@
+//! What a window's client is: a content with a picture, commands that change it, and the patch of each
+//! command, which leads from the old picture to the new one. Whoever executes patches needs no more
+//! than the laws of [`Client`] to know that the screen is right.
+//!
+//! [`Prepared`] is a row of commands over a content that a window may take over at once.
+#![tactic(auto)]
+
+mod areas;
+mod clients;
+mod prepared;
+
+pub use areas::{keeps_nothing, part_of_window, window};
+pub use clients::Client;
+pub use prepared::Prepared;
