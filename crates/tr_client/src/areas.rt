@@ -3,7 +3,14 @@ ghost use Rattle.tr_base.specs.Rects.{empty_rect, meet_of, whole_of};
 ghost use Rattle.tr_paint.specs.Paints.{IsNearRect};
 ghost use Rattle.tr_client.specs.Laws.{IsWindowSize};
 
-use tr_base::{Rect, Size, whole};
+use tr_base::{Op, Pair, Rect, Size, whole};
+
+/// The operations of a picture of two colours, as a text or a tile: the background where a bit is 0,
+/// and the foreground where it is 1.
+pub const PLAIN: Pair = Pair {
+    zero: Op::Bg,
+    one: Op::Fg,
+};
 
 /// The rectangle of a window, for a command that paints all of it.
 pub fn window(size: Size) -> Rect
@@ -21,6 +28,15 @@ pub fn part_of_window(size: Size, clip: &Rect) -> Rect
     ensures near { IsNearRect result }
 {
     window(size).meet(clip)
+}
+
+/// What a client keeps whose colours don't depend on the size: the common part of both windows.
+pub fn kept_part(from: Size, to: Size) -> Rect
+    requires from { IsWindowSize from }
+    requires to { IsWindowSize to }
+    ensures { result ≡ meet_of (whole_of from) (whole_of to) }
+{
+    window(from).meet(&window(to))
 }
 
 /// What a client keeps that paints all anew when its size changes.

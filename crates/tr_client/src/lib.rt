@@ -8,7 +8,9 @@
 mod areas;
 mod clients;
 mod prepared;
+mod texts;
 
-pub use areas::{keeps_nothing, part_of_window, window};
+pub use areas::{PLAIN, keeps_nothing, kept_part, part_of_window, window};
 pub use clients::Client;
 pub use prepared::Prepared;
+pub use texts::{append_all, decimal_line};

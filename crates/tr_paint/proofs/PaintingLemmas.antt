@@ -7,12 +7,14 @@ use Rattle.std.proofs.lemmas.List.Folds.{list_any-append}
 use Rattle.tr_base.specs.declared.Point.{Point}
 use Rattle.tr_base.specs.declared.Kind.{Kind}
 use Rattle.tr_base.specs.Ops.{eff}
-use Rattle.tr_base.specs.Rects.{Edges, between, has_point}
+use Rattle.tr_base.specs.declared.Size.{Size}
+use Rattle.tr_base.specs.Rects.{Edges, between, has_point, whole_of}
 use Rattle.tr_base.proofs.RectLemmas.{between-empty}
 use Rattle.tr_paint.specs.declared.paints.Paint.{Paint}
 use Rattle.tr_paint.specs.Paints.{area, has_area}
 use Rattle.tr_paint.specs.Traces.{Look, Deed, Keep, Lose, From, Value, Change, deed, deed_within, Base, done, trace, after}
 use Rattle.tr_paint.specs.Batches.{kept, touches}
+use Rattle.tr_paint.specs.Patches.{IsPatch}
 use Rattle.tr_paint.specs.Paintings.{IsPainting}
 use Rattle.tr_paint.proofs.TraceLemmas.{after-last}
 
@@ -97,3 +99,7 @@ painting_along look part batch old new same painted = record {
   shows = λ base q seen here. painted.shows base q seen here ∙ ap (λ n. Some n) (same q here);
   within = painted.within;
 }
+
+-- what paints a whole window, whatever was there, is a patch from any picture
+pub painting_is_patch : (look : Look) (size : Size) (batch : List Paint) (old new : Point → ℕ) → IsPainting look (whole_of size) batch new → IsPatch look size batch old new
+painting_is_patch look size batch old new painted base within shows q seen = rw (painted.shows base q seen (within q seen)) refl

@@ -1,0 +1,25 @@
+-- Texts of digits.
+use Rattle.std.proofs.Common.{◌≡◌, ℕ, ◌+◌, ◌*◌, ◌/◌, ◌%◌, ◌<◌, ◌≤◌, ◌^◌, Bool, true, ◌&&◌, List, [], ◌∷◌, ◌++◌, length, refl, sym, ◌∙◌, arith, rules}
+use Rattle.std.specs.Prelude.{decimal, nat_le}
+use Rattle.std.specs.List.{AllPass, list_all}
+use Rattle.std.proofs.lemmas.Bool.Decides.{nat_tests}
+use Rattle.std.proofs.lemmas.List.Sums.{AllPass-from_list_all}
+use Rattle.std.proofs.lemmas.List.Folds.{list_all-append}
+use Rattle.std.proofs.lemmas.Fmt.{decimal_by_steps, length-decimal-le}
+use Rattle.tr_base.specs.Lines.{is_printable}
+
+-- the decimal text of a number can be printed
+pub printable-decimal : (n : ℕ) → n < 2 ^ 64 → AllPass is_printable (decimal n)
+printable-decimal n small = AllPass-from_list_all is_printable (decimal n) (decimal_by_steps Printable one more n small)
+  where
+    Printable : ℕ → List ℕ → Type 0
+    Printable n ds = list_all is_printable ds ≡ true
+
+    digit : (d : ℕ) → d < 10 → list_all is_printable ((48 + d) ∷ []) ≡ true
+    digit d h = grind (arith, nat_tests)
+
+    one : (n : ℕ) → n < 10 → list_all is_printable ((48 + n) ∷ []) ≡ true
+    one n h = digit n h
+
+    more : (n : ℕ) (ds : List ℕ) → 10 ≤ n → list_all is_printable ds ≡ true → list_all is_printable (ds ++ (48 + n % 10) ∷ []) ≡ true
+    more n ds h all = list_all-append is_printable ds ((48 + n % 10) ∷ []) ∙ rw (all, digit (n % 10) (omega arith)) refl
