@@ -13,4 +13,4 @@ mod texts;
 pub use areas::{PLAIN, keeps_nothing, kept_part, part_of_window, window};
 pub use clients::Client;
 pub use prepared::Prepared;
-pub use texts::{append_all, decimal_line};
+pub use texts::{append_all, append_with_text, decimal_line};

@@ -1,22 +1,37 @@
 ghost use Rattle.std.specs.Prelude.{◌≡◌, ◌++◌, decimal, IfOk, OnOk, OnErr};
 ghost use Rattle.std.specs.List.{flat_map};
+ghost use Rattle.tr_client.specs.Words.{with_text};
 
 use itoa::Buffer;
 use tr_base::{Line, NoMemory};
 
 /// Puts the texts at the end of `out`, all of them or none.
-pub fn append_all(out: &mut Vec<u8>, texts: &[&str]) -> Result<(), NoMemory>
+pub fn append_all(out: &mut Vec<u8>, texts: &[&[u8]]) -> Result<(), NoMemory>
     ensures ok { OnOk result (out.new.items ≡ out.old.items ++ flat_map (λ text. text.now) texts.now) }
     ensures err { OnErr result (out.new.items ≡ out.old.items) }
 {
     let len = out.len();
     for text in texts {
-        if out.extend_from_slice(text.as_bytes()).is_err() {
+        if out.extend_from_slice(text).is_err() {
             out.truncate(len);
             return Err(NoMemory);
         }
     }
     Ok(())
+}
+
+/// Puts a word and a text behind it at the end of `out`, or nothing. Without a text the word stands
+/// alone.
+pub fn append_with_text(out: &mut Vec<u8>, word: &[u8], text: &Line) -> Result<(), NoMemory>
+    ensures ok { OnOk result (out.new.items ≡ out.old.items ++ with_text word.now text.now) }
+    ensures err { OnErr result (out.new.items ≡ out.old.items) }
+{
+    let bytes = text.bytes();
+    if bytes.is_empty() {
+        append_all(out, &[word])
+    } else {
+        append_all(out, &[word, b" ", bytes])
+    }
 }
 
 /// A small number in decimal, as a line.

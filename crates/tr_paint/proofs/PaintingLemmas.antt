@@ -3,6 +3,7 @@ use Rattle.std.proofs.Common.{◌≡◌, ℕ, Bool, true, false, ◌||◌, cond,
 use Rattle.std.specs.Prelude.{int_lt}
 use Rattle.std.specs.Option.{option_map}
 use Rattle.std.proofs.lemmas.List.{append-nil}
+use Rattle.std.proofs.lemmas.Grind.{flat_map-append}
 use Rattle.std.proofs.lemmas.List.Folds.{list_any-append}
 use Rattle.tr_base.specs.declared.Point.{Point}
 use Rattle.tr_base.specs.declared.Kind.{Kind}
@@ -13,7 +14,7 @@ use Rattle.tr_base.proofs.RectLemmas.{between-empty}
 use Rattle.tr_paint.specs.declared.paints.Paint.{Paint}
 use Rattle.tr_paint.specs.Paints.{area, has_area}
 use Rattle.tr_paint.specs.Traces.{Look, Deed, Keep, Lose, From, Value, Change, deed, deed_within, Base, done, trace, after}
-use Rattle.tr_paint.specs.Batches.{kept, touches}
+use Rattle.tr_paint.specs.Batches.{kept, batch_of, touches}
 use Rattle.tr_paint.specs.Patches.{IsPatch}
 use Rattle.tr_paint.specs.Paintings.{IsPainting}
 use Rattle.tr_paint.proofs.TraceLemmas.{after-last}
@@ -103,3 +104,20 @@ painting_along look part batch old new same painted = record {
 -- what paints a whole window, whatever was there, is a patch from any picture
 pub painting_is_patch : (look : Look) (size : Size) (batch : List Paint) (old new : Point → ℕ) → IsPainting look (whole_of size) batch new → IsPatch look size batch old new
 painting_is_patch look size batch old new painted base within shows q seen = rw (painted.shows base q seen (within q seen)) refl
+
+-- the same for a batch by its list: of one command
+pub painting_alone : (look : Look) (part : Edges) (c : Paint) (picture : Point → ℕ) →
+    ((q : Point) → has_point part q ≡ true → deed look c q ≡ Value (picture q)) →
+    ((q : Point) → has_point (area c) q ≡ true → has_point part q ≡ true) → IsPainting look part (batch_of (c ∷ [])) picture
+painting_alone look part c picture gives inside =
+    let P : List Paint → Type 0 = λ cs. IsPainting look part cs picture in
+    subst P (sym (append-nil (kept c))) (painting_first look part c picture gives inside)
+
+-- and of one command more
+pub painting_pushed : (look : Look) (part : Edges) (cs : List Paint) (c : Paint) (old new : Point → ℕ) → IsPainting look part (batch_of cs) old →
+    ((q : Point) → has_point part q ≡ true → Makes look.kind (deed look c q) (old q) (new q)) →
+    ((q : Point) → has_point (area c) q ≡ true → has_point part q ≡ true) → IsPainting look part (batch_of (cs ++ c ∷ [])) new
+painting_pushed look part cs c old new painted makes inside =
+    let P : List Paint → Type 0 = λ ds. IsPainting look part ds new in
+    let pushed : batch_of (cs ++ c ∷ []) ≡ batch_of cs ++ kept c = flat_map-append kept cs (c ∷ []) ∙ ap (λ ds. batch_of cs ++ ds) (append-nil (kept c)) in
+    subst P (sym pushed) (painting_more look part (batch_of cs) c old new painted makes inside)

@@ -1,0 +1,213 @@
+ghost use Rattle.std.specs.Prelude.{◌≡◌, ◌↔◌, IsTrue, IfOk};
+ghost use Rattle.hex.specs.Hex.{encode_lower};
+ghost use Rattle.tr_paint.specs.Paints.{IsNearRect};
+ghost use Rattle.w_plain.specs.Shifts.{IsShift};
+ghost use Rattle.w_plain.specs.Boards as spec;
+
+use crate::shifts::Shift;
+use itoa::Buffer;
+use std::alloc::Global;
+use tr_base::{Command, Env, Event, Line, NoMemory, Point, Rect, Size, Tile};
+use tr_client::{Client, PLAIN, append_all, kept_part, part_of_window, window};
+use tr_paint::{Batch, Paint};
+
+/// A window of one tile, which is repeated in all directions from the shift on.
+#[derive(Clone, Copy, Debug)]
+pub struct Board {
+    pub tile: Tile,
+    pub shift: Shift,
+}
+
+/// What a Board can be told.
+#[derive(Clone, Copy, Debug)]
+pub enum BoardCmd {
+    /// The tile is this one.
+    Tile(Tile),
+    /// The tile begins at this point.
+    Shift(Shift),
+}
+
+impl Board {
+    /// A window of a tile that begins at the shift, each coordinate of which is within -4096 to 4096.
+    pub fn new(tile: Tile, shift: Point) -> Board
+        requires { IsShift shift }
+        ensures { result ≡ record { tile = tile; shift = shift } }
+    {
+        Board {
+            tile,
+            shift: Shift::by(shift),
+        }
+    }
+
+    /// Where its tile begins.
+    pub fn shift(&self) -> Point
+        ensures value { result ≡ self.now.shift }
+        ensures invariant { spec.IsBoard self.now }
+    {
+        self.shift.point()
+    }
+
+    /// The commands that paint a part of the picture.
+    fn paints(&self, alloc: Global, part: Rect) -> Result<Batch, NoMemory>
+        requires { IsNearRect part }
+        ensures { IfOk result (λ batch. batch ≡ spec.board_paints part self.now) }
+    {
+        let mut batch = Batch::new(alloc);
+        batch.push(Paint::Texture {
+            clip: part,
+            ops: PLAIN,
+            tile: self.tile,
+            delta: self.shift(),
+        })?;
+        Ok(batch)
+    }
+
+    /// The content after a command.
+    fn after(&self, cmd: &BoardCmd) -> Board
+        ensures { result ≡ spec.board_next self.now cmd.now }
+    {
+        match cmd {
+            BoardCmd::Tile(tile) => Board {
+                tile: *tile,
+                shift: self.shift,
+            },
+            BoardCmd::Shift(shift) => Board {
+                tile: self.tile,
+                shift: *shift,
+            },
+        }
+    }
+}
+
+/// The tile as 16 hex digits, a byte for each.
+fn digits_of(tile: &Tile) -> [u8; 16]
+    ensures { result ≡ encode_lower tile.now.rows }
+{
+    let mut digits = [0; 16];
+    hex::encode_to_slice(tile.rows.as_slice(), &mut digits).unwrap();
+    digits
+}
+
+impl Command for BoardCmd {
+    ghost use Rattle.w_plain.specs.Boards.{IsBoardCmd, board_words};
+
+    ghost valid = { IsBoardCmd };
+
+    ghost words = { board_words };
+
+    fn known(&self) {
+        if let BoardCmd::Shift(shift) = self {
+            let _point = shift.point();
+        }
+    }
+
+    fn copy(&self, _alloc: Global) -> Result<BoardCmd, NoMemory> {
+        Ok(match self {
+            BoardCmd::Tile(tile) => BoardCmd::Tile(*tile),
+            BoardCmd::Shift(shift) => BoardCmd::Shift(*shift),
+        })
+    }
+
+    fn same(&self, other: &BoardCmd) -> bool {
+        match (self, other) {
+            (BoardCmd::Tile(tile), BoardCmd::Tile(other)) => tile == other,
+            (BoardCmd::Shift(shift), BoardCmd::Shift(other)) => shift.same(other),
+            _ => false,
+        }
+    }
+
+    fn print(&self, out: &mut Vec<u8>) -> Result<(), NoMemory> {
+        match self {
+            BoardCmd::Tile(tile) => append_all(out, &[b"tile ", &digits_of(tile)]),
+            BoardCmd::Shift(shift) => {
+                let point = shift.point();
+                let (mut across, mut down) = (Buffer::new(), Buffer::new());
+                let h = across.format(point.h);
+                let v = down.format(point.v);
+                append_all(out, &[b"shift ", h.as_bytes(), b" ", v.as_bytes()])
+            }
+        }
+    }
+}
+
+impl Client for Board {
+    ghost use Rattle.w_plain.specs.Boards.{IsBoard, board_pic, board_next, board_patch, board_answer, board_value, board_keeps};
+    ghost use Rattle.w_plain.specs.BoardLaws.{board_contents, board_patches, board_empty_patches, board_keeping};
+
+    type Cmd = BoardCmd;
+
+    ghost valid = { IsBoard };
+
+    ghost pic = { board_pic };
+
+    ghost next = { board_next };
+
+    ghost patch = { board_patch };
+
+    ghost answer = { board_answer };
+
+    ghost value = { board_value };
+
+    ghost keeps = { board_keeps };
+
+    fn copy(&self, _alloc: Global) -> Result<Board, NoMemory> {
+        let _shift = self.shift();
+        Ok(Board {
+            tile: self.tile,
+            shift: self.shift,
+        })
+    }
+
+    fn same(&self, other: &Board) -> bool {
+        let (_shift, _other) = (self.shift(), other.shift());
+        self.tile == other.tile && self.shift.same(&other.shift)
+    }
+
+    fn paint(
+        &self,
+        alloc: Global,
+        _env: &Env,
+        size: Size,
+        clip: Rect,
+    ) -> Result<Batch, NoMemory> {
+        let _shift = self.shift();
+        self.paints(alloc, part_of_window(size, &clip))
+    }
+
+    fn change(
+        &self,
+        alloc: Global,
+        _env: &Env,
+        size: Size,
+        cmd: &BoardCmd,
+    ) -> Result<(Board, Batch), NoMemory> {
+        let _shift = self.shift();
+        cmd.known();
+        let next = self.after(cmd);
+        let patch = next.paints(alloc, window(size))?;
+        Ok((next, patch))
+    }
+
+    fn react(&self, _alloc: Global, _event: &Event) -> Result<Option<BoardCmd>, NoMemory> {
+        let _shift = self.shift();
+        Ok(None)
+    }
+
+    fn value(&self, _alloc: Global) -> Result<Line, NoMemory> {
+        let _shift = self.shift();
+        Line::of(&digits_of(&self.tile))
+    }
+
+    fn keeps(&self, from: Size, to: Size) -> Rect {
+        let _shift = self.shift();
+        kept_part(from, to)
+    }
+
+    ghost contents = { board_contents };
+
+    ghost patches = { board_patches };
+
+    ghost empty_patches = { board_empty_patches };
+
+    ghost keeping = { board_keeping };
+}

@@ -1,0 +1,57 @@
+ghost use Rattle.std.specs.Prelude.{◌≡◌, ◌↔◌, IsTrue};
+ghost use Rattle.tr_base.specs.declared.points.Point.{Point};
+ghost use Rattle.w_plain.specs.Shifts.{IsShift};
+
+use std::marker::Model;
+use tr_base::Point;
+
+/// How far a tile is moved, seen as a point: each coordinate is within -4096 to 4096.
+#[derive(Clone, Copy, Debug)]
+pub struct Shift {
+    h: i32,
+    v: i32,
+}
+
+impl Model for Shift {
+    ghost use Rattle.tr_base.specs.declared.points.Point.{Point};
+    ghost use Rattle.w_plain.specs.Shifts.{IsShift};
+
+    ghost Value = { Point };
+
+    ghost view = { λ s. record { h = s.h; v = s.v } };
+
+    ghost inverse = { λ p. record { h = p.h; v = p.v } };
+
+    ghost invariant = { λ s. IsShift (record { h = s.h; v = s.v }) };
+}
+
+impl Shift {
+    /// The move by a point.
+    pub fn by(point: Point) -> Shift
+        requires { IsShift point }
+        ensures { result ≡ point }
+    {
+        Shift {
+            h: point.h,
+            v: point.v,
+        }
+    }
+
+    /// The point.
+    pub fn point(&self) -> Point
+        ensures value { result ≡ self.now }
+        ensures invariant { IsShift self.now }
+    {
+        Point {
+            h: self.h,
+            v: self.v,
+        }
+    }
+
+    /// Whether both move a tile as far.
+    pub fn same(&self, other: &Shift) -> bool
+        ensures { IsTrue result ↔ (self.now ≡ other.now) }
+    {
+        self.point() == other.point()
+    }
+}
