@@ -1,5 +1,7 @@
 ghost use Rattle.std.specs.Prelude.{◌≡◌, ◌↔◌, IsTrue, IfOk};
-ghost use Rattle.hex.specs.Hex.{encode_lower};
+ghost use Rattle.std.specs.List.{AllPass};
+ghost use Rattle.hex.specs.Hex.{IsBytes, encode_lower};
+ghost use Rattle.tr_base.specs.Lines.{is_printable};
 ghost use Rattle.tr_paint.specs.Paints.{IsNearRect};
 ghost use Rattle.w_plain.specs.Shifts.{IsShift};
 ghost use Rattle.w_plain.specs.Boards as spec;
@@ -79,12 +81,24 @@ impl Board {
     }
 }
 
-/// The tile as 16 hex digits, a byte for each.
-fn digits_of(tile: &Tile) -> [u8; 16]
-    ensures { result ≡ encode_lower tile.now.rows }
+/// Tells that each of the numbers is a byte. It serves the prover alone, and its loop does nothing.
+fn tell_bytes(bytes: &[u8])
+    ensures { IsBytes bytes.now }
 {
+    for byte in bytes {
+        let _byte = *byte;
+    }
+}
+
+/// The rows of a tile as 16 hex digits, a byte for each.
+fn digits_of(tile: &Tile) -> [u8; 16]
+    ensures value { result ≡ encode_lower tile.now.rows }
+    ensures printable { AllPass is_printable result }
+{
+    let rows = tile.rows.as_slice();
+    tell_bytes(rows);
     let mut digits = [0; 16];
-    hex::encode_to_slice(tile.rows.as_slice(), &mut digits).unwrap();
+    hex::encode_to_slice(rows, &mut digits).unwrap();
     digits
 }
 
@@ -163,15 +177,10 @@ impl Client for Board {
         self.tile == other.tile && self.shift.same(&other.shift)
     }
 
-    fn paint(
-        &self,
-        alloc: Global,
-        _env: &Env,
-        size: Size,
-        clip: Rect,
-    ) -> Result<Batch, NoMemory> {
+    fn paint(&self, alloc: Global, _env: &Env, size: Size, clip: Rect) -> Result<Batch, NoMemory> {
         let _shift = self.shift();
-        self.paints(alloc, part_of_window(size, &clip))
+        let batch = self.paints(alloc, part_of_window(size, &clip))?;
+        Ok(batch)
     }
 
     fn change(

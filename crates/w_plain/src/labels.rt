@@ -146,15 +146,10 @@ impl Client for Label {
         self.text.same(&other.text)
     }
 
-    fn paint(
-        &self,
-        alloc: Global,
-        _env: &Env,
-        size: Size,
-        clip: Rect,
-    ) -> Result<Batch, NoMemory> {
+    fn paint(&self, alloc: Global, _env: &Env, size: Size, clip: Rect) -> Result<Batch, NoMemory> {
         let _text = self.text();
-        self.paints(alloc, part_of_window(size, &clip))
+        let batch = self.paints(alloc, part_of_window(size, &clip))?;
+        Ok(batch)
     }
 
     fn change(

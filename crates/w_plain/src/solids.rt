@@ -117,15 +117,10 @@ impl Client for Solid {
         self == other
     }
 
-    fn paint(
-        &self,
-        alloc: Global,
-        _env: &Env,
-        size: Size,
-        clip: Rect,
-    ) -> Result<Batch, NoMemory> {
+    fn paint(&self, alloc: Global, _env: &Env, size: Size, clip: Rect) -> Result<Batch, NoMemory> {
         let _tint = self.tint();
-        self.paints(alloc, part_of_window(size, &clip))
+        let batch = self.paints(alloc, part_of_window(size, &clip))?;
+        Ok(batch)
     }
 
     fn change(
@@ -144,7 +139,11 @@ impl Client for Solid {
     fn react(&self, _alloc: Global, event: &Event) -> Result<Option<SolidCmd>, NoMemory> {
         let _tint = self.tint();
         match *event {
-            Event::Key { code, .. } => Ok(Some(SolidCmd::Tint(code))),
+            Event::Key { code, .. } => {
+                let cmd = SolidCmd::Tint(code);
+                cmd.known();
+                Ok(Some(cmd))
+            }
             _ => Ok(None),
         }
     }
