@@ -68,6 +68,13 @@ impl Line {
     }
 }
 
+/// Whether a text may have the byte: 32 to 126.
+pub fn is_printable(byte: u8) -> bool
+    ensures { result ≡ is_printable byte }
+{
+    32 <= byte && byte <= 126
+}
+
 /// The bytes, and zeros behind them.
 fn padded(bytes: &[u8]) -> [u8; LINE]
     requires { length bytes.now ≤ LINE }

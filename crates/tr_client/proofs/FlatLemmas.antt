@@ -1,10 +1,10 @@
 -- Windows without points, in which no command has an area.
-use Rattle.std.proofs.Common.{◌≡◌, ℕ, ◌==◌, ◌||◌, ◌&&◌, ℤ, pos, Bool, true, false, cond, refl, ap, arith, eqb-true}
+use Rattle.std.proofs.Common.{◌≡◌, ◌==◌, ◌||◌, ◌&&◌, ℤ, pos, Bool, true, false, cond, refl, ap, arith, eqb-true}
 use Rattle.std.specs.Prelude.{int_lt}
 use Rattle.std.specs.Int.{int_min, int_max}
 use Rattle.std.proofs.lemmas.Int.{ints, clamps}
 use Rattle.tr_base.specs.declared.Size.{Size}
-use Rattle.tr_base.specs.Rects.{Edges, empty_rect, rect_of, meet_of, whole_of}
+use Rattle.tr_base.specs.Rects.{Edges, empty_rect, meet_of, whole_of}
 use Rattle.tr_client.specs.Laws.{is_flat}
 
 -- the rectangle of such a window is the empty one

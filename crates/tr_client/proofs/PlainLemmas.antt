@@ -1,5 +1,5 @@
 -- Texts and tiles in two colours.
-use Rattle.std.proofs.Common.{◌≡◌, ℕ, Bool, true, false, ◌&&◌, cond, List, length, refl, sym, ap, subst, ◌∙◌}
+use Rattle.std.proofs.Common.{◌≡◌, ℕ, Bool, true, false, cond, List, length, refl, sym, ap, ◌∙◌}
 use Rattle.tr_base.specs.declared.Point.{Point}
 use Rattle.tr_base.specs.declared.Kind.{Kind}
 use Rattle.tr_base.specs.declared.Tile.{Tile}
@@ -10,7 +10,7 @@ use Rattle.tr_base.specs.Rects.{Edges, has_point, meet_of}
 use Rattle.tr_base.proofs.RectLemmas.{has_point-meet_of}
 use Rattle.tr_paint.specs.declared.Paint.TheVariants.{Text, Texture}
 use Rattle.tr_paint.specs.Paints.{cells_of, text_bit, chosen}
-use Rattle.tr_paint.specs.Traces.{Look, Deed, Keep, Value, deed}
+use Rattle.tr_paint.specs.Traces.{Look, Keep, Value, deed}
 use Rattle.tr_paint.proofs.PaintingLemmas.{Makes}
 use Rattle.tr_client.specs.Plain.{plain, colour_of}
 use Rattle.tr_client.proofs.KeepingLemmas.{both_hold}

@@ -1,6 +1,6 @@
 -- One command more in a row of commands.
-use Rattle.std.proofs.Common.{◌≡◌, ℕ, ◌+◌, ◌<◌, List, [], ◌∷◌, ◌++◌, take, length, get_or, refl, ap, sym, ◌∙◌, append_assoc}
-use Rattle.std.proofs.lemmas.List.{append-nil, take_more}
+use Rattle.std.proofs.Common.{◌≡◌, List, [], ◌∷◌, ◌++◌, refl, ap, sym, ◌∙◌, append_assoc}
+use Rattle.std.proofs.lemmas.List.{append-nil}
 use Rattle.tr_base.specs.declared.Size.{Size}
 use Rattle.tr_paint.specs.Traces.{Look}
 use Rattle.tr_client.specs.declared.clients.Client.{Ghosts}

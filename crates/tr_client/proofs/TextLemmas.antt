@@ -1,11 +1,11 @@
 -- Texts of digits.
-use Rattle.std.proofs.Common.{◌≡◌, ℕ, ◌+◌, ◌*◌, ◌/◌, ◌%◌, ◌<◌, ◌≤◌, ◌^◌, Bool, true, ◌&&◌, List, [], ◌∷◌, ◌++◌, length, refl, sym, ◌∙◌, arith, rules}
-use Rattle.std.specs.Prelude.{decimal, nat_le}
+use Rattle.std.proofs.Common.{◌≡◌, ℕ, ◌+◌, ◌%◌, ◌<◌, ◌≤◌, ◌^◌, true, List, [], ◌∷◌, ◌++◌, refl, ◌∙◌, arith}
+use Rattle.std.specs.Prelude.{decimal}
 use Rattle.std.specs.List.{AllPass, list_all}
 use Rattle.std.proofs.lemmas.Bool.Decides.{nat_tests}
 use Rattle.std.proofs.lemmas.List.Sums.{AllPass-from_list_all}
 use Rattle.std.proofs.lemmas.List.Folds.{list_all-append}
-use Rattle.std.proofs.lemmas.Fmt.{decimal_by_steps, length-decimal-le}
+use Rattle.std.proofs.lemmas.Fmt.{decimal_by_steps}
 use Rattle.tr_base.specs.Lines.{is_printable}
 
 -- the decimal text of a number can be printed

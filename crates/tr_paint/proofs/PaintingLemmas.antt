@@ -1,6 +1,5 @@
 -- How paintings are shown to be right: command by command, and point by point, with no base in sight.
-use Rattle.std.proofs.Common.{◌≡◌, ℕ, Bool, true, false, ◌||◌, cond, List, [], ◌∷◌, ◌++◌, Option, Some, None, refl, sym, ap, subst, ◌∙◌}
-use Rattle.std.specs.Prelude.{int_lt}
+use Rattle.std.proofs.Common.{◌≡◌, ℕ, Bool, true, false, ◌||◌, cond, List, [], ◌∷◌, ◌++◌, Option, Some, refl, sym, ap, subst, ◌∙◌}
 use Rattle.std.specs.Option.{option_map}
 use Rattle.std.proofs.lemmas.List.{append-nil}
 use Rattle.std.proofs.lemmas.Grind.{flat_map-append}
@@ -9,7 +8,7 @@ use Rattle.tr_base.specs.declared.Point.{Point}
 use Rattle.tr_base.specs.declared.Kind.{Kind}
 use Rattle.tr_base.specs.Ops.{eff}
 use Rattle.tr_base.specs.declared.Size.{Size}
-use Rattle.tr_base.specs.Rects.{Edges, between, has_point, whole_of}
+use Rattle.tr_base.specs.Rects.{Edges, has_point, whole_of}
 use Rattle.tr_base.proofs.RectLemmas.{between-empty}
 use Rattle.tr_paint.specs.declared.paints.Paint.{Paint}
 use Rattle.tr_paint.specs.Paints.{area, has_area}

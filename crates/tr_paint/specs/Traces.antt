@@ -8,7 +8,7 @@ use Rattle.tr_base.specs.declared.Op.{Op}
 use Rattle.tr_base.specs.Ops.{eff}
 use Rattle.tr_base.specs.Rects.{before_shift, has_point}
 use Rattle.tr_paint.specs.declared.paints.Paint.{Paint}
-use Rattle.tr_paint.specs.declared.paints.Paint.TheVariants.{Tint, Texture, Pixels, Text, Scroll, Spoil}
+use Rattle.tr_paint.specs.declared.paints.Paint.TheVariants.{Scroll, Spoil}
 use Rattle.tr_paint.specs.Paints.{area, is_opaque, op_at}
 
 -- what painting depends on beside the commands: the kind of the pixels, and the glyphs of the font

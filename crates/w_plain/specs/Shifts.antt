@@ -1,5 +1,5 @@
 -- How far a tile is moved.
-use Rattle.std.specs.Prelude.{ℤ, pos, neg_ℤ, ◌≤ℤ◌}
+use Rattle.std.specs.Prelude.{pos, neg_ℤ, ◌≤ℤ◌}
 use Rattle.tr_base.specs.declared.Point.{Point}
 
 -- each coordinate is at most 4096 away from 0

@@ -1,5 +1,5 @@
 -- A Solid obeys the laws of clients. These are proofs, which stand here since an impl cites nothing else of its crate; no contract cites them.
-use Rattle.std.proofs.Common.{◌≡◌, [], ◌∷◌, true, refl, ap}
+use Rattle.std.proofs.Common.{◌≡◌, [], true, refl, ap}
 use Rattle.tr_base.specs.declared.Size.{Size}
 use Rattle.tr_base.specs.declared.Op.TheVariants.{Set}
 use Rattle.tr_base.specs.Rects.{Edges, whole_of}

@@ -5,7 +5,7 @@ ghost use Rattle.tr_client.specs.Plain.{origin};
 ghost use Rattle.w_plain.specs.Labels as spec;
 
 use std::alloc::Global;
-use tr_base::{Command, Env, Event, LINE, Line, NoMemory, Op, Point, Rect, Size};
+use tr_base::{Command, Env, Event, LINE, Line, NoMemory, Op, Point, Rect, Size, is_printable};
 use tr_client::{Client, PLAIN, append_with_text, kept_part, part_of_window, window};
 use tr_paint::{Batch, Paint};
 
@@ -169,7 +169,7 @@ impl Client for Label {
 
     fn react(&self, _alloc: Global, event: &Event) -> Result<Option<LabelCmd>, NoMemory> {
         match *event {
-            Event::Key { code, .. } if 32 <= code && code <= 126 && self.text().len() < LINE => {
+            Event::Key { code, .. } if is_printable(code) && self.text().len() < LINE => {
                 Ok(Some(LabelCmd::Text(with_byte(&self.text, code)?)))
             }
             _ => {

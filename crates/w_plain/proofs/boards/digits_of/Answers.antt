@@ -1,4 +1,3 @@
-use Rattle.std.proofs.Common.{sym}
 use Rattle.w_plain.proofs.HexLemmas.{printable-hex}
 use Rattle.w_plain.proofs.boards.digits_of.Goals as goal
 

@@ -1,4 +1,4 @@
-use Rattle.std.proofs.Common.{◌≡◌, ◌∷◌, ◌++◌, [], refl, ◌∙◌}
+use Rattle.std.proofs.Common.{◌≡◌, ◌∷◌, ◌++◌, [], refl}
 use Rattle.tr_paint.specs.Traces.{look_of}
 use Rattle.tr_paint.proofs.PatchLemmas.{two_patches}
 use Rattle.tr_client.proofs.RunsLemmas.{content_more, patches_more}
