@@ -53,7 +53,15 @@ length-wishes cs =
     let xs : List ℕ = map (λ (c : Lengths). c.lo) cs in
     let ys : List ℕ = map (λ (c : Lengths). c.pref - c.lo) cs in
     let zs : List ℕ = map (λ (c : Lengths). c.hi - c.pref) cs in
-    omega (arith, length-append (xs ++ ys) zs, length-append xs ys, length-map cs (λ (c : Lengths). c.lo), length-map cs (λ (c : Lengths). c.pref - c.lo), length-map cs (λ (c : Lengths). c.hi - c.pref))
+    omega (
+      arith,
+      length-append (xs ++ ys) zs,
+      length-append xs ys,
+      length-map cs (λ (c : Lengths). c.lo),
+      length-map cs
+          (λ (c : Lengths). c.pref - c.lo),
+      length-map cs (λ (c : Lengths). c.hi - c.pref),
+    )
 
 -- the wishes of the k-th child, c
 pub wishes_at : (cs : List Lengths) (k : ℕ) (c : Lengths) (w : Wishes) → k < length cs → c ≡ get_or cs k c → AreWishes c w →
@@ -65,8 +73,10 @@ wishes_at cs k c w lt is are =
     let la : length xs ≡ length cs = length-map cs (λ (c : Lengths). c.lo) in
     let lb : length ys ≡ length cs = length-map cs (λ (c : Lengths). c.pref - c.lo) in (
       in_first xs ys zs (length cs) k la lt ∙ get_or-map (λ (c : Lengths). c.lo) cs k c 0 lt ∙ ap (λ (d : Lengths). d.lo) (sym is) ∙ sym are.lo,
-      in_second xs ys zs (length cs) k la lb lt ∙ get_or-map (λ (c : Lengths). c.pref - c.lo) cs k c 0 lt ∙ ap (λ (d : Lengths). d.pref - d.lo) (sym is) ∙ sym are.pref,
-      in_third xs ys zs (length cs) k la lb ∙ get_or-map (λ (c : Lengths). c.hi - c.pref) cs k c 0 lt ∙ ap (λ (d : Lengths). d.hi - d.pref) (sym is) ∙ sym are.hi,
+      in_second xs ys zs (length cs) k la lb lt ∙ get_or-map (λ (c : Lengths). c.pref - c.lo) cs k c 0 lt ∙ ap (λ (d : Lengths). d.pref - d.lo) (sym is)
+          ∙ sym are.pref,
+      in_third xs ys zs (length cs) k la lb ∙ get_or-map (λ (c : Lengths). c.hi - c.pref) cs k c 0 lt ∙ ap (λ (d : Lengths). d.hi - d.pref) (sym is)
+          ∙ sym are.hi,
     )
 
 -- one more wish
@@ -101,7 +111,8 @@ sum_before-third cs =
     let xs : List ℕ = map (λ (c : Lengths). c.lo) cs in
     let ys : List ℕ = map (λ (c : Lengths). c.pref - c.lo) cs in
     let zs : List ℕ = map (λ (c : Lengths). c.hi - c.pref) cs in
-    let both : length (xs ++ ys) ≡ length cs + length cs = omega (arith, length-append xs ys, length-map cs (λ (c : Lengths). c.lo), length-map cs (λ (c : Lengths). c.pref - c.lo)) in
+    let both : length (xs ++ ys) ≡ length cs + length cs = omega
+    (arith, length-append xs ys, length-map cs (λ (c : Lengths). c.lo), length-map cs (λ (c : Lengths). c.pref - c.lo)) in
     ap sum (take_at (xs ++ ys) zs (length cs + length cs) both) ∙ sum_by-append (λ (x : ℕ). x) xs ys
     ∙ rw (sum-map (λ (c : Lengths). c.lo) cs, sum-map (λ (c : Lengths). c.pref - c.lo) cs) refl
 
@@ -144,7 +155,8 @@ length_is room cs k c b w lt is are before =
 granted_before : ℕ → List Lengths → ℕ → ℕ
 granted_before room cs i = min room (sum_before cs i)
 
-granted_more : (room : ℕ) (cs : List Lengths) (i : ℕ) → i < length (wishes cs) → granted_before room cs (i + 1) ≡ granted_before room cs i + granted room (wishes cs) i
+granted_more : (room : ℕ) (cs : List Lengths) (i : ℕ) → i < length (wishes cs) →
+    granted_before room cs (i + 1) ≡ granted_before room cs i + granted room (wishes cs) i
 unfolding granted granted_before sum_before
 granted_more room cs i lt = by_sum (sum (take i (wishes cs))) (get_or (wishes cs) i 0) (sum (take (i + 1) (wishes cs))) (sum_before_more cs i lt)
   where
@@ -182,7 +194,14 @@ next_start room cs k lt before =
     let third : length cs + length cs + (k + 1) ≡ length cs + length cs + k + 1 = omega arith in
     let all = length-wishes cs in
     rw (second, third)
-    (omega (arith, before, start_of_more room cs k, granted_more room cs k (omega arith), granted_more room cs (length cs + k) (omega arith), granted_more room cs (length cs + length cs + k) (omega arith)))
+    (omega (
+      arith,
+      before,
+      start_of_more room cs k,
+      granted_more room cs k (omega arith),
+      granted_more room cs (length cs + k) (omega arith),
+      granted_more room cs (length cs + length cs + k) (omega arith),
+    ))
 
 start_of_is : (room : ℕ) (cs : List Lengths) (k : ℕ) → k ≤ length cs → IsStart room cs k
 start_of_is room cs zero le =
@@ -196,7 +215,14 @@ start_of_is room cs (suc k) le =
 -- the children end within the room
 pub start_fits : (room : ℕ) (cs : List Lengths) (k : ℕ) → k ≤ length cs → start_of room cs k ≤ room
 start_fits room cs k le =
-    omega (arith, start_of_is room cs k le, granted_grows room cs k (length cs) le, granted_grows room cs (length cs + k) (length cs + length cs) (omega arith), granted_within room cs (length cs + length cs + k))
+    omega (
+      arith,
+      start_of_is room cs k le,
+      granted_grows room cs k (length cs) le,
+      granted_grows room cs (length cs + k) (length cs + length cs)
+          (omega arith),
+      granted_within room cs (length cs + length cs + k),
+    )
 
 pub end_fits : (room : ℕ) (cs : List Lengths) (k : ℕ) → k < length cs → start_of room cs k + length_of room cs k ≤ room
 end_fits room cs k lt = omega (arith, start_fits room cs (k + 1) (omega arith), start_of_more room cs k)
@@ -221,7 +247,8 @@ apart_side_by_side : (e : Edges) (cs : List Lengths) (i j : ℕ) → i < j → S
 apart_side_by_side e cs i j lt =
     let room : ℕ = (sides_of e).0 in
     let high : ℕ = (sides_of e).1 in
-    apart_across (e.west +ℤ pos (start_of room cs i)) (e.west +ℤ pos (start_of room cs i) +ℤ pos (length_of room cs i)) (e.north +ℤ pos 0) (e.north +ℤ pos 0 +ℤ pos high)
+    apart_across (e.west +ℤ pos (start_of room cs i)) (e.west +ℤ pos (start_of room cs i) +ℤ pos (length_of room cs i)) (e.north +ℤ pos 0)
+    (e.north +ℤ pos 0 +ℤ pos high)
     (e.west +ℤ pos (start_of room cs j)) (e.west +ℤ pos (start_of room cs j) +ℤ pos (length_of room cs j)) (e.north +ℤ pos 0) (e.north +ℤ pos 0 +ℤ pos high)
     (behind e.west (start_of room cs i) (length_of room cs i) (start_of room cs j) (start_of_grows room cs i j lt))
   where
@@ -232,13 +259,15 @@ empty_across : (cs : List Lengths) (k : ℕ) → k < length cs → place_across 
 empty_across cs k lt =
     let start : ℕ = start_of 0 cs k in
     let size : ℕ = length_of 0 cs k in
-    part_of_empty (pos 0 +ℤ pos start) (pos 0 +ℤ pos start +ℤ pos size) (pos 0 +ℤ pos 0) (pos 0 +ℤ pos 0 +ℤ pos 0) (part_across empty_rect cs k empty_is_rect lt)
+    part_of_empty (pos 0 +ℤ pos start) (pos 0 +ℤ pos start +ℤ pos size) (pos 0 +ℤ pos 0) (pos 0 +ℤ pos 0 +ℤ pos 0)
+    (part_across empty_rect cs k empty_is_rect lt)
 
 -- the children of a node are parts of it, no two share a point, and in an empty node they are empty
 pub place_part : (vertical : Bool) (e : Edges) (cs : List Shapes) (k : ℕ) → IsRect e → k < length cs → IsPartOf (place_of vertical e cs k) e
 place_part vertical e cs k is lt =
     let within : k < length (map (along vertical) cs) = omega (arith, length-map cs (along vertical)) in
-    let part = turned_part vertical (place_across (turned vertical e) (map (along vertical) cs) k) (turned vertical e) (part_across (turned vertical e) (map (along vertical) cs) k (turned_is_rect vertical e is) within) in
+    let part = turned_part vertical (place_across (turned vertical e) (map (along vertical) cs) k) (turned vertical e)
+    (part_across (turned vertical e) (map (along vertical) cs) k (turned_is_rect vertical e is) within) in
     subst (λ (r : Edges). IsPartOf (place_of vertical e cs k) r) (turned_turned vertical e) part
 
 pub place_apart : (vertical : Bool) (e : Edges) (cs : List Shapes) (i j : ℕ) → i < j → ShareNoPoint (place_of vertical e cs i) (place_of vertical e cs j)
@@ -253,7 +282,8 @@ place_empty vertical e cs k h lt =
     (ap (λ (r : Edges). place_across r (map (along vertical) cs) k) (turned_empty vertical e h) ∙ empty_across (map (along vertical) cs) k within)
 
 -- the lengths of the k-th child along the node
-pub along_read : (vertical : Bool) (cs : List Shapes) (k : ℕ) (child : Shapes) (c : Lengths) → k < length cs → child ≡ get_or cs k child → c ≡ along vertical child → c ≡ get_or (map (along vertical) cs) k c
+pub along_read : (vertical : Bool) (cs : List Shapes) (k : ℕ) (child : Shapes) (c : Lengths) → k < length cs → child ≡ get_or cs k child →
+    c ≡ along vertical child → c ≡ get_or (map (along vertical) cs) k c
 along_read vertical cs k child c lt is e =
     e ∙ ap (along vertical) is ∙ sym (get_or-map (along vertical) cs k child c lt)
 
@@ -266,4 +296,5 @@ place_is vertical e cs k sides start size is begins lasts = rw (begins, lasts, i
 -- how great the sums are, with one more child
 pub within_more : (n i : ℕ) (b w next : Wishes) → IsWithin (longest * (n + i)) b → IsWithin longest w →
     next ≡ record { lo = b.lo + w.lo; pref = b.pref + w.pref; hi = b.hi + w.hi } → IsWithin (longest * (n + (i + 1))) next
-within_more n i b w next sums one is = rw is (record { lo = omega (arith, sums.lo, one.lo); pref = omega (arith, sums.pref, one.pref); hi = omega (arith, sums.hi, one.hi) })
+within_more n i b w next sums one is = rw is
+    (record { lo = omega (arith, sums.lo, one.lo); pref = omega (arith, sums.pref, one.pref); hi = omega (arith, sums.hi, one.hi) })

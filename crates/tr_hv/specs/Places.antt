@@ -8,9 +8,10 @@ use Rattle.tr_base.specs.Layouts.{sums_of, maxima_of, along, shapes_of, turned, 
 
 -- along the node the children's lengths add up, and beside it the greatest one counts
 abbrev pub shape : Bool → List Shapes → Shapes
-shape vertical cs = shapes_of vertical (sums_of (map (along vertical) cs)) (maxima_of (map (along (not vertical)) cs))
+shape vertical cs =
+    shapes_of vertical (sums_of (map (along vertical) cs)) (maxima_of (map (along (not vertical)) cs))
 
--- the wishes in their order: each child's lo, then what each lacks to its pref, then what each lacks to its hi
+-- the wishes in order: each child's lo, then what each lacks to its pref, then what each lacks to its hi
 abbrev pub wishes : List Lengths → List ℕ
 wishes cs = map (λ c. c.lo) cs ++ map (λ c. c.pref - c.lo) cs ++ map (λ c. c.hi - c.pref) cs
 
@@ -21,7 +22,8 @@ granted room ws i = min (get_or ws i 0) (room - sum (take i ws))
 -- a child's length is the sum of what its three wishes get
 abbrev pub length_of : ℕ → List Lengths → ℕ → ℕ
 length_of room cs k =
-    granted room (wishes cs) k + granted room (wishes cs) (length cs + k) + granted room (wishes cs) (length cs + length cs + k)
+    granted room (wishes cs) k + granted room (wishes cs) (length cs + k)
+    + granted room (wishes cs) (length cs + length cs + k)
 
 -- a child begins behind all children before it
 abbrev pub start_of : ℕ → List Lengths → ℕ → ℕ

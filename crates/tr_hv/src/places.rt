@@ -77,7 +77,11 @@ fn wishes_of(lengths: &Shape) -> Wishes
 fn sum_of(a: &Wishes, b: &Wishes) -> Wishes
     requires first { IsWithin (longest * 1000) a.now }
     requires second { IsWithin longest b.now }
-    ensures { result ≡ record { lo = a.now.lo + b.now.lo; pref = a.now.pref + b.now.pref; hi = a.now.hi + b.now.hi } }
+    ensures { result ≡ record {
+      lo = a.now.lo + b.now.lo;
+      pref = a.now.pref + b.now.pref;
+      hi = a.now.hi + b.now.hi;
+    } }
 {
     Wishes {
         lo: a.lo + b.lo,
@@ -119,7 +123,9 @@ fn first_before(all: &Wishes) -> Wishes
 /// What a child's wishes get of the room, after the sums of wishes that come before each of them.
 fn granted(room: u32, before: &Wishes, wishes: &Wishes) -> u32
     requires { IsWithin longest wishes.now }
-    ensures { result ≡ min wishes.now.lo (room - before.now.lo) + min wishes.now.pref (room - before.now.pref) + min wishes.now.hi (room - before.now.hi) }
+    ensures { result ≡ min wishes.now.lo (room - before.now.lo)
+        + min wishes.now.pref (room - before.now.pref)
+        + min wishes.now.hi (room - before.now.hi) }
 {
     wishes.lo.min(room.saturating_sub(before.lo))
         + wishes.pref.min(room.saturating_sub(before.pref))

@@ -12,7 +12,12 @@ pub placed_along-requires-clause-main : goal.placed_along-requires-clause-main
 placed_along-requires-clause-main c =
     let all = c.args.children.now in
     let cs = map (along c.args.vertical) all in
-    omega (arith, c.loop-child.invariant.start, start_fits c.sides_along-room.result.0 cs c.loop-child.child-index (omega (arith, length-map all (along c.args.vertical))))
+    omega (
+      arith,
+      c.loop-child.invariant.start,
+      start_fits c.sides_along-room.result.0 cs c.loop-child.child-index
+          (omega (arith, length-map all (along c.args.vertical))),
+    )
 
 pub overflow_add-start : goal.overflow_add-start
 overflow_add-start c =
@@ -23,8 +28,10 @@ overflow_add-start c =
     let room = c.sides_along-room.result.0 in
     let within : i < length cs = omega (arith, length-map all (along vertical)) in
     let is = along_read vertical all i c.child-item.result c.along.result c.loop-child-test.true c.child-item.is c.along.ensures in
-    let are : AreWishes c.along.result c.wishes_of-wishes.result = record { lo = c.wishes_of-wishes.ensures.lo; pref = c.wishes_of-wishes.ensures.pref; hi = c.wishes_of-wishes.ensures.hi } in
-    let size = c.granted-length.ensures ∙ length_is room cs i c.along.result c.loop-child.before c.wishes_of-wishes.result within is are c.loop-child.invariant.before in
+    let are : AreWishes c.along.result c.wishes_of-wishes.result = record
+    { lo = c.wishes_of-wishes.ensures.lo; pref = c.wishes_of-wishes.ensures.pref; hi = c.wishes_of-wishes.ensures.hi } in
+    let size = c.granted-length.ensures ∙ length_is room cs i c.along.result c.loop-child.before c.wishes_of-wishes.result within is are
+    c.loop-child.invariant.before in
     omega (arith, c.loop-child.invariant.start, size, end_fits room cs i within)
 
 pub loop-child-init : goal.loop-child-init
@@ -52,19 +59,28 @@ loop-child-preserved c =
     let wishes = c.wishes_of-wishes.result in
     let within : i < length cs = omega (arith, length-map all (along vertical)) in
     let is = along_read vertical all i c.child-item.result c.along.result c.loop-child-test.true c.child-item.is c.along.ensures in
-    let are : AreWishes c.along.result wishes = record { lo = c.wishes_of-wishes.ensures.lo; pref = c.wishes_of-wishes.ensures.pref; hi = c.wishes_of-wishes.ensures.hi } in
+    let are : AreWishes c.along.result wishes = record
+    { lo = c.wishes_of-wishes.ensures.lo; pref = c.wishes_of-wishes.ensures.pref; hi = c.wishes_of-wishes.ensures.hi } in
     let size = c.granted-length.ensures ∙ length_is room cs i c.along.result before wishes within is are c.loop-child.invariant.before in
-    let place = c.placed_along.ensures ∙ place_is vertical c.args.rect all i c.sides_along-room.result c.loop-child.start c.granted-length.result c.sides_along-room.ensures.sides c.loop-child.invariant.start size in
+    let place = c.placed_along.ensures ∙ place_is vertical c.args.rect all i c.sides_along-room.result c.loop-child.start c.granted-length.result
+    c.sides_along-room.ensures.sides c.loop-child.invariant.start size in
     record {
       places = c.in_ok-push.ensures.items ∙ places_by_more (place_of vertical c.args.rect all) _ _ _ c.loop-child.invariant.places place;
       start = omega (arith, c.loop-child.invariant.start, size, start_of_more room cs i);
       before = before_more cs i c.along.result before wishes c.sum_of-before.result within is are c.loop-child.invariant.before c.sum_of-before.ensures;
-      small = within_more (2 * length all) i before wishes c.sum_of-before.result c.loop-child.invariant.small c.wishes_of-wishes.ensures.small c.sum_of-before.ensures;
+      small = within_more (2 * length all) i before wishes c.sum_of-before.result c.loop-child.invariant.small c.wishes_of-wishes.ensures.small
+          c.sum_of-before.ensures;
     }
 
 pub returns-clause-count : goal.returns-clause-count
 returns-clause-count c =
-    omega (arith, length-places_by (place_of c.args.vertical c.args.rect c.args.children.now) c.loop-child.child-index, ap length c.loop-child.invariant.places, c.loop-child.places.ok.0)
+    omega (
+      arith,
+      length-places_by (place_of c.args.vertical c.args.rect c.args.children.now) c.loop-child.child-index,
+      ap length
+          c.loop-child.invariant.places,
+      c.loop-child.places.ok.0,
+    )
 
 pub returns-clause-part : goal.returns-clause-part
 returns-clause-part c =
