@@ -27,9 +27,11 @@ greatest_by-le-sum_by f (x ∷ xs) = rw sum_by-cons (omega (arith, greatest_by-l
 -- maxima, with one more child
 pub maxima_more : (down : Bool) (cs : List Shapes) (i : ℕ) (c : Shapes) (all : Lengths) → i < length cs → c ≡ get_or cs i c →
     all ≡ maxima_of (map (along down) (take i cs)) →
-    record { lo = max all.lo (along down c).lo; pref = max all.pref (along down c).pref; hi = max all.hi (along down c).hi } ≡ maxima_of (map (along down) (take (i + 1) cs))
+    record { lo = max all.lo (along down c).lo; pref = max all.pref (along down c).pref; hi = max all.hi (along down c).hi } ≡ maxima_of
+    (map (along down) (take (i + 1) cs))
 maxima_more down cs i c all lt is e =
-    let more : map (along down) (take (i + 1) cs) ≡ map (along down) (take i cs) ++ along down c ∷ [] = map_more (along down) cs i c lt ∙ ap (λ (x : Shapes). map (along down) (take i cs) ++ along down x ∷ []) (sym is) in
+    let more : map (along down) (take (i + 1) cs) ≡ map (along down) (take i cs) ++ along down c ∷ [] = map_more (along down) cs i c lt
+    ∙ ap (λ (x : Shapes). map (along down) (take i cs) ++ along down x ∷ []) (sym is) in
     rw (more, greatest_by_push, greatest_by_push, greatest_by_push, e) refl
 
 -- a law of rectangles made of edges: it holds of those with points and of the empty one
@@ -89,7 +91,8 @@ placed_reach e p size d o wide high = (
 pub turned-rect_of : (w e n s : ℤ) → turned true (rect_of w e n s) ≡ rect_of n s w e
 turned-rect_of w e n s = by_tests (int_lt w e) (int_lt n s)
   where
-    by_tests : (a b : Bool) → turned true (cond (a && b) (record { west = w; east = e; north = n; south = s }) empty_rect) ≡ cond (b && a) (record { west = n; east = s; north = w; south = e }) empty_rect
+    by_tests : (a b : Bool) → turned true (cond (a && b) (record { west = w; east = e; north = n; south = s }) empty_rect) ≡ cond (b && a)
+        (record { west = n; east = s; north = w; south = e }) empty_rect
     by_tests true true = refl
     by_tests true false = refl
     by_tests false true = refl
@@ -152,7 +155,8 @@ part-placed r a b size is wide high =
 pub part_of_empty : (w e n s : ℤ) → IsPartOf (rect_of w e n s) empty_rect → rect_of w e n s ≡ empty_rect
 part_of_empty w e n s = by_rect_of (λ (c : Edges). IsPartOf c empty_rect → c ≡ empty_rect) w e n s (λ across down. λ h. none across h) (λ _. refl)
   where
-    none : w <ℤ e → IsPartOf (record { west = w; east = e; north = n; south = s }) empty_rect → (let c : Edges = record { west = w; east = e; north = n; south = s } in c ≡ empty_rect)
+    none : w <ℤ e → IsPartOf (record { west = w; east = e; north = n; south = s }) empty_rect →
+        (let c : Edges = record { west = w; east = e; north = n; south = s } in c ≡ empty_rect)
     none across (inl h) = h
     none across (inr h) = absurd (omega (arith, ints, h.west, h.east))
 
@@ -195,7 +199,8 @@ cast_size x p r n e h k m =
     rw (cast-in_reach p h, size, e) at m
 
 -- one more of the answer's items
-pub taken_more : {X : Type 0} (answer items : List X) (i : ℕ) (x : X) → i < length answer → x ≡ get_or answer i x → items ≡ take i answer → items ++ x ∷ [] ≡ take (i + 1) answer
+pub taken_more : {X : Type 0} (answer items : List X) (i : ℕ) (x : X) → i < length answer → x ≡ get_or answer i x → items ≡ take i answer →
+    items ++ x ∷ [] ≡ take (i + 1) answer
 taken_more answer items i x lt is e = rw (e, take_more answer i x lt, ← is) refl
 
 pub length-places_by : (place : ℕ → Edges) (count : ℕ) → length (places_by place count) ≡ count
@@ -205,16 +210,19 @@ pub get_or-places_by : (place : ℕ → Edges) (count k : ℕ) (d : Edges) → k
 get_or-places_by place count k d lt = get_or-map-range_with_len place 0 count k k d lt (omega arith)
 
 -- the rectangles so far, and one more
-pub places_by_more : (place : ℕ → Edges) (items : List Edges) (k : ℕ) (r : Edges) → items ≡ places_by place k → r ≡ place k → items ++ r ∷ [] ≡ places_by place (k + 1)
+pub places_by_more : (place : ℕ → Edges) (items : List Edges) (k : ℕ) (r : Edges) → items ≡ places_by place k → r ≡ place k →
+    items ++ r ∷ [] ≡ places_by place (k + 1)
 places_by_more place items k r e is = rw (e, is) (sym (map-range_with_len_more place 0 k k (omega arith)))
 
 -- what holds of each child's place, of each two, and of a list of places
-pub all_places : (P : Edges → Type 0) (place : ℕ → Edges) (count : ℕ) (items : List Edges) → items ≡ places_by place count → ((k : ℕ) → k < count → P (place k)) → All P items
+pub all_places : (P : Edges → Type 0) (place : ℕ → Edges) (count : ℕ) (items : List Edges) → items ≡ places_by place count →
+    ((k : ℕ) → k < count → P (place k)) → All P items
 all_places P place count items e each k d lt =
     let within : k < count = omega (arith, length-places_by place count, ap length e) in
     rw (e, get_or-places_by place count k d within) (each k within)
 
-pub pairs_of_places : (place : ℕ → Edges) (count : ℕ) (items : List Edges) → items ≡ places_by place count → ((i j : ℕ) → i < j → j < count → ShareNoPoint (place i) (place j)) → AllPairs ShareNoPoint items
+pub pairs_of_places : (place : ℕ → Edges) (count : ℕ) (items : List Edges) → items ≡ places_by place count →
+    ((i j : ℕ) → i < j → j < count → ShareNoPoint (place i) (place j)) → AllPairs ShareNoPoint items
 pairs_of_places place count items e each i j d lt below =
     let within : j < count = omega (arith, length-places_by place count, ap length e) in
     let first : i < count = omega arith in

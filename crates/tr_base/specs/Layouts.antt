@@ -20,7 +20,11 @@ no_lengths = record { lo = 0; pref = 0; hi = 0 }
 
 -- the sums of the lengths of children side by side
 abbrev pub sums_of : List Lengths → Lengths
-sums_of cs = record { lo = stopped (sum_by (λ c. c.lo) cs); pref = stopped (sum_by (λ c. c.pref) cs); hi = stopped (sum_by (λ c. c.hi) cs) }
+sums_of cs = record {
+  lo = stopped (sum_by (λ c. c.lo) cs);
+  pref = stopped (sum_by (λ c. c.pref) cs);
+  hi = stopped (sum_by (λ c. c.hi) cs);
+}
 
 -- the greatest of the numbers of a list's items, and 0 where there is none
 abbrev pub greatest_by : {X : Type 0} → (X → ℕ) → List X → ℕ
@@ -29,7 +33,11 @@ greatest_by f (x ∷ xs) = max (f x) (greatest_by f xs)
 
 -- the greatest lengths of children, each of which may have the whole length
 abbrev pub maxima_of : List Lengths → Lengths
-maxima_of cs = record { lo = greatest_by (λ c. c.lo) cs; pref = greatest_by (λ c. c.pref) cs; hi = greatest_by (λ c. c.hi) cs }
+maxima_of cs = record {
+  lo = greatest_by (λ c. c.lo) cs;
+  pref = greatest_by (λ c. c.pref) cs;
+  hi = greatest_by (λ c. c.hi) cs;
+}
 
 -- the lengths of a window along one axis: down, or across
 abbrev pub along : Bool → Shapes → Lengths

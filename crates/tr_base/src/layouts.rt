@@ -67,7 +67,11 @@ pub fn no_lengths() -> Shape
 }
 
 fn sum(a: &Shape, b: &Shape) -> Shape
-    ensures { result ≡ record { lo = stopped (a.now.lo + b.now.lo); pref = stopped (a.now.pref + b.now.pref); hi = stopped (a.now.hi + b.now.hi) } }
+    ensures { result ≡ record {
+      lo = stopped (a.now.lo + b.now.lo);
+      pref = stopped (a.now.pref + b.now.pref);
+      hi = stopped (a.now.hi + b.now.hi);
+    } }
 {
     Shape {
         lo: (a.lo + b.lo).min(LONGEST),
@@ -77,7 +81,11 @@ fn sum(a: &Shape, b: &Shape) -> Shape
 }
 
 fn maximum(a: &Shape, b: &Shape) -> Shape
-    ensures { result ≡ record { lo = max a.now.lo b.now.lo; pref = max a.now.pref b.now.pref; hi = max a.now.hi b.now.hi } }
+    ensures { result ≡ record {
+      lo = max a.now.lo b.now.lo;
+      pref = max a.now.pref b.now.pref;
+      hi = max a.now.hi b.now.hi;
+    } }
 {
     Shape {
         lo: a.lo.max(b.lo),

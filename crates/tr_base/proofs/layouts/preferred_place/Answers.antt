@@ -9,4 +9,5 @@ returns-clause-place c =
     c.placed.ensures ∙ preferred_in_full c.args.rect.now c.args.by c.args.child.now c.preferred_size.result full c.preferred_size.ensures.size
 
 pub returns-clause-near : goal.returns-clause-near
-returns-clause-near c = rw c.placed.ensures (near-placed 2048 c.args.rect.now c.args.by c.preferred_size.result c.requires.offset c.preferred_size.ensures.wide c.preferred_size.ensures.high)
+returns-clause-near c = rw c.placed.ensures
+    (near-placed 2048 c.args.rect.now c.args.by c.preferred_size.result c.requires.offset c.preferred_size.ensures.wide c.preferred_size.ensures.high)
