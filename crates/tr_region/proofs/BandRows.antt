@@ -8,10 +8,10 @@ use Rattle.tr_base.specs.Rects.{Edges, between}
 use Rattle.tr_region.specs.declared.rows.Band.{Band}
 use Rattle.tr_region.specs.Points.{holds}
 use Rattle.tr_region.specs.Bands.{in_spans, spans_of}
-use Rattle.tr_region.specs.Rows.{in_band}
-use Rattle.tr_region.specs.RowParts.{IsNearest, IsBandOf}
+use Rattle.tr_region.specs.Rows.{IsNearest, in_band}
+use Rattle.tr_region.specs.RowParts.{IsBandOf}
 
-int_cases : (x y : ℤ) → (x ≤ℤ y) ⊎ (y <ℤ x)
+pub int_cases : (x y : ℤ) → (x ≤ℤ y) ⊎ (y <ℤ x)
 int_cases x y = by_test (int_le x y) refl
   where
     by_test : (t : Bool) → int_le x y ≡ t → (x ≤ℤ y) ⊎ (y <ℤ x)

@@ -1,9 +1,9 @@
 -- Private contracts alone cite this: the order of a region's rectangles, and those of one row.
-use Rattle.std.specs.Prelude.{◌≡◌, ℕ, ◌≤◌, ℤ, pos, ◌⊎◌, ◌↔◌, ◌≤ℤ◌, ◌<ℤ◌, List, [], ◌∷◌, length}
+use Rattle.std.specs.Prelude.{◌≡◌, ℕ, ◌≤◌, ℤ, ◌⊎◌, ◌≤ℤ◌, ◌<ℤ◌, List, [], ◌∷◌, length}
 use Rattle.std.specs.List.{AllByRecursion, AllWithin}
 use Rattle.tr_base.specs.Rects.{Edges}
 use Rattle.tr_region.specs.declared.rows.Band.{Band}
-use Rattle.tr_region.specs.Rows.{HoldsRow}
+use Rattle.tr_region.specs.Rows.{HoldsRow, IsNearest}
 
 -- the rectangle holds points
 abbrev pub IsFull : Edges → Type 0
@@ -25,12 +25,6 @@ pub record IsRowPart (v : ℤ) (rects : List Edges) (start end : ℕ) : Type 0 w
   pub before : AllWithin (λ r. r.south ≤ℤ v) rects 0 start
   pub within : AllWithin (λ r. (r.north ≤ℤ v) × (v <ℤ r.south)) rects start end
   pub after : AllWithin (λ r. v <ℤ r.north) rects end (length rects)
-
--- n is the number from low to high that is nearest to v: what lies from low on and before high lies from both on, or before both
-pub record IsNearest (v : ℤ) (low high n : ℕ) : Type 0 where
-  pub from : low ≤ n
-  pub to : n ≤ high
-  pub same : (y : ℤ) → pos low ≤ℤ y → y <ℤ pos high → (v ≤ℤ y ↔ pos n ≤ℤ y)
 
 -- the band has the rows of the rectangle that lie from low on and before high, and in the rows of the rectangle it holds what the region holds
 pub record IsBandOf (r : Edges) (region : List Edges) (low high : ℕ) (b : Band) : Type 0 where

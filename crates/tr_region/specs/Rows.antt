@@ -1,5 +1,5 @@
 -- What a region holds in one row, and in rows that hold the same.
-use Rattle.std.specs.Prelude.{◌≡◌, ℕ, ℤ, pos, Bool, ◌&&◌, List}
+use Rattle.std.specs.Prelude.{◌≡◌, ℕ, ℤ, pos, ◌≤◌, ◌↔◌, ◌≤ℤ◌, ◌<ℤ◌, Bool, ◌&&◌, List}
 use Rattle.tr_base.specs.declared.Point.{Point}
 use Rattle.tr_base.specs.Rects.{Edges, between}
 use Rattle.tr_region.specs.Points.{holds}
@@ -12,3 +12,9 @@ HoldsRow region row y = (p : Point) → p.v ≡ y → holds region p ≡ in_span
 -- the point lies in one of the rows from north to before south, and in a column of one of the rectangles
 abbrev pub in_band : ℕ → ℕ → List Edges → Point → Bool
 in_band north south row p = between (pos north) (pos south) p.v && in_spans (spans_of row) p.h
+
+-- row n is the one of those from north to south that is nearest to v: a row from north on and before south lies from both on, or before both
+pub record IsNearest (v : ℤ) (north south n : ℕ) : Type 0 where
+  pub from : north ≤ n
+  pub to : n ≤ south
+  pub same : (y : ℤ) → pos north ≤ℤ y → y <ℤ pos south → (v ≤ℤ y ↔ pos n ≤ℤ y)

@@ -2,9 +2,9 @@ ghost use Rattle.std.specs.Prelude.{◌≡◌, ◌≢◌, ◌<◌, ◌≤◌, �
 ghost use Rattle.tr_base.specs.declared.Point.{Point};
 ghost use Rattle.tr_base.specs.Rects.{Edges};
 ghost use Rattle.tr_region.specs.Points.{holds};
-ghost use Rattle.tr_region.specs.Bands.{AreApart, spans_of};
-ghost use Rattle.tr_region.specs.Rows.{HoldsRow, in_band};
-ghost use Rattle.tr_region.specs.RowParts.{AreInOrder, IsRowPart, IsNearest, IsBandOf};
+ghost use Rattle.tr_region.specs.Bands.{AreApart, in_spans, spans_of};
+ghost use Rattle.tr_region.specs.Rows.{HoldsRow, IsNearest, in_band};
+ghost use Rattle.tr_region.specs.RowParts.{AreInOrder, IsRowPart, IsBandOf};
 
 use crate::regions::Region;
 use tr_base::Rect;
@@ -16,6 +16,21 @@ pub struct Band<'a> {
     pub north: u16,
     pub south: u16,
     pub rects: &'a [Rect],
+}
+
+impl<'a> Band<'a> {
+    /// Those of its rectangles that have columns from `west` on and before `east`.
+    pub fn between(&self, west: i32, east: i32) -> &'a [Rect]
+        requires { AreApart (spans_of self.now.rects.now) }
+        ensures columns { (x : ℤ) → west ≤ℤ x → x <ℤ east →
+            in_spans (spans_of result.now) x ≡ in_spans (spans_of self.now.rects.now) x }
+        ensures apart { AreApart (spans_of result.now) }
+        ensures meet { All (λ r. (west <ℤ r.east) × (r.west <ℤ east)) result.now }
+    {
+        let start = self.rects.partition_point(|rect| rect.east() <= west);
+        let rest = &self.rects[start..];
+        &rest[..rest.partition_point(|rect| rect.west() < east)]
+    }
 }
 
 impl Region {
@@ -95,24 +110,24 @@ impl Region {
     {
         let rect = &self.rects()[at];
         Band {
-            north: nearest(rect.north(), north, south),
-            south: nearest(rect.south(), north, south),
+            north: nearest_row(rect.north(), north, south),
+            south: nearest_row(rect.south(), north, south),
             rects: self.row(rect.north()),
         }
     }
 }
 
-/// The row of those from `low` to `high` that is nearest to `v`.
-fn nearest(v: i32, low: u16, high: u16) -> u16
-    requires { low ≤ high }
-    ensures { IsNearest v low high result }
+/// The row of those from `north` to `south` that is nearest to row `v`.
+pub fn nearest_row(v: i32, north: u16, south: u16) -> u16
+    requires { north ≤ south }
+    ensures { IsNearest v north south result }
 {
-    if v <= i32::from(low) {
-        low
-    } else if v < i32::from(high) {
+    if v <= i32::from(north) {
+        north
+    } else if v < i32::from(south) {
         v as u16
     } else {
-        high
+        south
     }
 }
 

@@ -15,7 +15,7 @@ use Rattle.tr_screen.specs.Runs.{in_run, in_rows, IsOn, IsRun}
 use Rattle.tr_screen.proofs.RunLemmas.{there, test_of_run}
 use Rattle.tr_repair.specs.Walks.{in_columns, in_part, in_row, run_of}
 
-or_and : (a b t : Bool) → (a || b) && t ≡ (a && t) || (b && t)
+pub or_and : (a b t : Bool) → (a || b) && t ≡ (a && t) || (b && t)
 or_and true true t = or_same t
   where
     or_same : (b : Bool) → b ≡ b || b

@@ -11,9 +11,9 @@ returns-clause-order c =
     let r = c.index-rects-at.result in
     let order : AreInOrder rects = rw c.rects.ensures.value (AreInOrder-canonical c.args.self.now c.rects.ensures.invariant) in
     let full : IsFull r = subst IsFull (sym c.index-rects-at.is) (full_at rects c.args.at r order (rw c.rects.ensures.value c.requires.place)) in
-    let north = rw (cast-in_reach _ c.north.ensures.reach, c.north.ensures.value) at c.nearest.ensures in
-    let south = rw (cast-in_reach _ c.south.ensures.reach, c.south.ensures.value) at c.nearest-2.ensures in
-    cut_order r.north r.south c.args.north c.args.south c.nearest.result c.nearest-2.result full.1 north south
+    let north = rw (cast-in_reach _ c.north.ensures.reach, c.north.ensures.value) at c.nearest_row.ensures in
+    let south = rw (cast-in_reach _ c.south.ensures.reach, c.south.ensures.value) at c.nearest_row-2.ensures in
+    cut_order r.north r.south c.args.north c.args.south c.nearest_row.result c.nearest_row-2.result full.1 north south
 
 pub returns-clause-some : goal.returns-clause-some
 returns-clause-some c =

@@ -1,0 +1,27 @@
+-- Which points a walk paints.
+use Rattle.std.specs.Prelude.{◌≡◌, ℕ, pos, ◌≤ℤ◌, ◌<ℤ◌, Bool, true, ◌&&◌}
+use Rattle.std.specs.Int.{int_min, int_max}
+use Rattle.tr_base.specs.declared.Point.{Point}
+use Rattle.tr_base.specs.declared.Size.{Size}
+use Rattle.tr_base.specs.Rects.{Edges, has_point}
+use Rattle.tr_screen.specs.Runs.{IsOn}
+
+-- the point passes the test, and lies in the area
+abbrev pub in_area : (Point → Bool) → Edges → Point → Bool
+in_area test area p = test p && has_point area p
+
+-- each point that passes the test is on the screen
+abbrev pub AreOn : Size → (Point → Bool) → Type 0
+AreOn size test = (p : Point) → test p ≡ true → IsOn size p
+
+-- the area has points in row v
+abbrev pub HasRow : Edges → ℕ → Type 0
+HasRow area v = (area.north ≤ℤ pos v) × (pos v <ℤ area.south) × (area.west <ℤ area.east)
+
+-- the rectangle in the columns of the area
+abbrev pub in_columns_of : Edges → Edges → Edges
+in_columns_of area r = record { west = int_max r.west area.west; east = int_min r.east area.east; north = r.north; south = r.south }
+
+-- the rectangle has columns of the area
+abbrev pub Meets : Edges → Edges → Type 0
+Meets area r = (area.west <ℤ r.east) × (r.west <ℤ area.east)

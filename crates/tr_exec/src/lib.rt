@@ -1,0 +1,9 @@
+//! Executes batches of paint commands on a screen, within the points of a window that are visible.
+#![tactic(auto)]
+
+mod walks;
+
+pub use walks::{Brush, paint_within};
+
+#[cfg(test)]
+mod walk_tests;

@@ -1,0 +1,103 @@
+ghost use Rattle.std.specs.Prelude.{◌≡◌, ℕ, ◌<◌, ◌≤◌, ◌<ℤ◌, true, All, length, slice_index};
+ghost use Rattle.tr_base.specs.declared.Point.{Point};
+ghost use Rattle.tr_base.specs.Rects.{Edges, has_point};
+ghost use Rattle.tr_region.specs.Bands.{AreApart, spans_of};
+ghost use Rattle.tr_region.specs.Points.{holds};
+ghost use Rattle.tr_region.specs.Rows.{in_band};
+ghost use Rattle.tr_screen.specs.Pictures.{pixel_of};
+ghost use Rattle.tr_screen.specs.Runs.{IsRun, Repaints, in_run, point_in, width_of};
+ghost use Rattle.tr_repair.specs.Walks.{in_row, run_of};
+ghost use Rattle.tr_exec.specs.Walks.{AreOn, HasRow, Meets, in_area, in_columns_of};
+
+use tr_base::{Rect, greater, lesser};
+use tr_region::{Band, Region, nearest_row};
+use tr_screen::{Run, Screen};
+
+/// What becomes of the pixels of an area, each by its point.
+pub trait Brush {
+    ghost area: { Self → Edges };
+
+    ghost pixel: { Self → Point → ℕ → ℕ };
+
+    /// The rectangle outside which it paints nothing, in the screen's coordinates.
+    fn area(&self) -> Rect
+        ensures { result ≡ area self.now };
+
+    /// Paints the pixels of a run, which holds points of the area alone.
+    fn paint(&self, run: Run, pixels: &mut [u8])
+        requires long { length pixels.old ≡ width_of run }
+        requires some { run.west <ℤ run.east }
+        requires within { (p : Point) → in_run run p ≡ true → has_point (area self.now) p ≡ true }
+        ensures { (k : ℕ) → k < length pixels.old →
+            slice_index pixels.new k ≡ pixel self.now (point_in run k) (slice_index pixels.old k) };
+}
+
+/// Paints the points of a region that lie in the brush's area, and no others: row by row, and in
+/// each row run by run. It costs the area's rows that the region has, and the rectangles that they
+/// meet.
+pub fn paint_within<B: Brush>(screen: &mut Screen, visible: &Region, brush: &B)
+    requires { AreOn screen.old.size (in_area (holds visible.now) (B.area brush.now)) }
+    ensures { Repaints (in_area (holds visible.now) (B.area brush.now)) (λ p. B.pixel brush.now p (pixel_of screen.old p)) screen.old screen.new }
+{
+    let area = brush.area();
+    if area.is_empty() {
+        return;
+    }
+    let high = screen.size().high;
+    let south = nearest_row(area.south(), 0, high);
+    let mut v = nearest_row(area.north(), 0, high);
+    while v < south {
+        let band = visible.first_band(v, south);
+        paint_band(screen, &band, brush);
+        v = band.south;
+    }
+}
+
+/// Paints the points of a band that lie in the brush's area, which has points in each of its rows.
+fn paint_band<B: Brush>(screen: &mut Screen, band: &Band<'_>, brush: &B)
+    requires order { band.now.north ≤ band.now.south }
+    requires rows { (v : ℕ) → band.now.north ≤ v → v < band.now.south → HasRow (B.area brush.now) v }
+    requires apart { AreApart (spans_of band.now.rects.now) }
+    requires on { AreOn screen.old.size (in_area (in_band band.now.north band.now.south band.now.rects.now) (B.area brush.now)) }
+    ensures { Repaints (in_area (in_band band.now.north band.now.south band.now.rects.now) (B.area brush.now)) (λ p. B.pixel brush.now p (pixel_of screen.old p)) screen.old screen.new }
+{
+    let area = brush.area();
+    let row = band.between(area.west(), area.east());
+    for v in band.north..band.south {
+        paint_row(screen, row, v, brush);
+    }
+}
+
+/// Paints the points of a row that lie in the brush's area, of which each rectangle has columns.
+fn paint_row<B: Brush>(screen: &mut Screen, row: &[Rect], v: u16, brush: &B)
+    requires row { HasRow (B.area brush.now) v }
+    requires meet { All (Meets (B.area brush.now)) row.now }
+    requires apart { AreApart (spans_of row.now) }
+    requires on { AreOn screen.old.size (in_area (in_row v row.now) (B.area brush.now)) }
+    ensures { Repaints (in_area (in_row v row.now) (B.area brush.now)) (λ p. B.pixel brush.now p (pixel_of screen.old p)) screen.old screen.new }
+{
+    let area = brush.area();
+    for rect in row {
+        paint_run(screen, cut(rect, &area, v), brush);
+    }
+}
+
+/// A rectangle's columns in row `v`, cut to those of an area.
+fn cut(rect: &Rect, area: &Rect, v: u16) -> Run
+    ensures { result ≡ run_of v (in_columns_of area.now rect.now) }
+{
+    Run {
+        v: i32::from(v),
+        west: greater(rect.west(), area.west()),
+        east: lesser(rect.east(), area.east()),
+    }
+}
+
+/// Paints a run of points of the brush's area.
+fn paint_run<B: Brush>(screen: &mut Screen, run: Run, brush: &B)
+    requires on { IsRun screen.old.size run }
+    requires within { (p : Point) → in_run run p ≡ true → has_point (B.area brush.now) p ≡ true }
+    ensures { Repaints (in_run run) (λ p. B.pixel brush.now p (pixel_of screen.old p)) screen.old screen.new }
+{
+    brush.paint(run, screen.run_mut(run));
+}
