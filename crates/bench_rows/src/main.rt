@@ -6,13 +6,15 @@
 #![tactic(auto)]
 
 mod kernels;
+mod scrolls;
 mod speeds;
 
 use crate::kernels::{Kernel, Rows};
+use crate::scrolls::{copy, scroll};
 use crate::speeds::speed;
 use std::rt::{Clock, Env};
 use std::{env, io};
-use tr_base::Op;
+use tr_base::{Op, Point};
 
 /// The rows that are measured, by their pixels.
 const WIDTHS: [usize; 2] = [1024, 67];
@@ -38,7 +40,13 @@ fn main(rt: HostRuntime) -> io::Result<()> {
         line(&rt, kernel, Op::Fg, Op::Transparent, timed)?;
         line(&rt, kernel, Op::Exchange(7, 1), Op::Transparent, timed)?;
     }
-    Ok(())
+    copy(&rt, timed)?;
+    scroll(&rt, 0, Point { h: 0, v: 8 }, timed)?;
+    scroll(&rt, 0, Point { h: 0, v: -8 }, timed)?;
+    scroll(&rt, 1, Point { h: 0, v: 8 }, timed)?;
+    scroll(&rt, 1, Point { h: 0, v: -8 }, timed)?;
+    scroll(&rt, 0, Point { h: 8, v: 0 }, timed)?;
+    scroll(&rt, 0, Point { h: -8, v: 0 }, timed)
 }
 
 /// Whether the first word is `time`.
