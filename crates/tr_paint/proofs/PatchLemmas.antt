@@ -1,16 +1,16 @@
 -- How patches are shown to be right: command by command, and point by point, with no base in sight.
-use Rattle.std.proofs.Common.{◌≡◌, ℕ, Bool, true, false, ◌&&◌, cond, List, [], ◌∷◌, ◌++◌, Option, Some, None, refl, sym, ap, subst, ◌∙◌}
-use Rattle.std.specs.Prelude.{IfSome, int_lt}
+use Rattle.std.proofs.Common.{◌≡◌, ℕ, Bool, true, false, cond, List, [], ◌∷◌, ◌++◌, Option, Some, None, refl, ap, subst, ◌∙◌}
+use Rattle.std.specs.Prelude.{IfSome}
 use Rattle.std.specs.Option.{option_map}
 use Rattle.tr_base.specs.declared.Point.{Point}
 use Rattle.tr_base.specs.declared.Size.{Size}
 use Rattle.tr_base.specs.declared.Kind.{Kind}
 use Rattle.tr_base.specs.Ops.{eff}
-use Rattle.tr_base.specs.Rects.{between, has_point, whole_of}
+use Rattle.tr_base.specs.Rects.{has_point, whole_of}
 use Rattle.tr_base.proofs.RectLemmas.{between-empty}
 use Rattle.tr_paint.specs.declared.paints.Paint.{Paint}
 use Rattle.tr_paint.specs.Paints.{area, has_area}
-use Rattle.tr_paint.specs.Traces.{Look, Deed, Keep, Lose, From, Value, Change, deed, deed_within, Base, done, trace, after, left_by}
+use Rattle.tr_paint.specs.Traces.{Look, Deed, Keep, Lose, From, Value, Change, deed, deed_within, Base, done, trace, left_by}
 use Rattle.tr_paint.specs.Batches.{kept}
 use Rattle.tr_paint.specs.Patches.{LiesIn, Shows, IsPatch}
 use Rattle.tr_paint.proofs.TraceLemmas.{after-append}
