@@ -144,8 +144,8 @@ set_patches look size heights bar height some =
     first q here =
         let lies = lies-whole size q here in
         let are : has_point (rows_of (whole_of size) bar (pos 0) (top_of size height)) q ≡ (unsigned_abs q.h / 8 == bar) && not (int_le (pos size.high -ℤ pos height) q.v) =
-            rows-have (whole_of size) bar (pos 0) (top_of size height) q here
-            ∙ rw (columns-are bar q.h lies.0.first, rows-over (pos size.high -ℤ pos height) (pos size.high) q.v lies.1) refl in
+        rows-have (whole_of size) bar (pos 0) (top_of size height) q here
+        ∙ rw (columns-are bar q.h lies.0.first, rows-over (pos size.high -ℤ pos height) (pos size.high) q.v lies.1) refl in
         rw are (first-gives look size (unsigned_abs q.h / 8 == bar) (int_le (pos size.high -ℤ pos height) q.v) old q)
 
     second : (q : Point) → has_point (whole_of size) q ≡ true → Gives look.kind size (deed look below q) mid q (new q)
@@ -153,8 +153,8 @@ set_patches look size heights bar height some =
         let lies = lies-whole size q here in
         let k = unsigned_abs q.h / 8 in
         let are : has_point (rows_of (whole_of size) bar (top_of size height) (pos size.high)) q ≡ (k == bar) && int_le (pos size.high -ℤ pos height) q.v =
-            rows-have (whole_of size) bar (top_of size height) (pos size.high) q here
-            ∙ rw (columns-are bar q.h lies.0.first, rows-below (pos size.high -ℤ pos height) (pos size.high) q.v lies.1) refl in
+        rows-have (whole_of size) bar (top_of size height) (pos size.high) q here
+        ∙ rw (columns-are bar q.h lies.0.first, rows-below (pos size.high -ℤ pos height) (pos size.high) q.v lies.1) refl in
         let nth = in_bar-nth size (slice_set heights bar height) q lies.0.first in
         rw (are, nth)
         (second-gives look size (k == bar) (int_le (pos size.high -ℤ pos height) q.v) (in_nth size (slice_set heights bar height) k q.v) mid q (old q) refl
@@ -237,8 +237,8 @@ bar_pushed look size part batch heights bar inside some painted =
         let k = unsigned_abs q.h / 8 in
         let low = int_le (pos size.high -ℤ pos (slice_index heights bar)) q.v in
         let are : has_point (rows_of part bar (top_of size (slice_index heights bar)) (pos size.high)) q ≡ (k == bar) && low =
-            rows-have part bar (top_of size (slice_index heights bar)) (pos size.high) q within
-            ∙ rw (columns-are bar q.h lies.0.first, rows-below (pos size.high -ℤ pos (slice_index heights bar)) (pos size.high) q.v lies.1) refl in
+        rows-have part bar (top_of size (slice_index heights bar)) (pos size.high) q within
+        ∙ rw (columns-are bar q.h lies.0.first, rows-below (pos size.high -ℤ pos (slice_index heights bar)) (pos size.high) q.v lies.1) refl in
         let before = in_bar-nth size (take bar heights) q lies.0.first ∙ nth-take size heights bar k q.v (omega arith) in
         let after = in_bar-nth size (take (bar + 1) heights) q lies.0.first ∙ nth-take size heights (bar + 1) k q.v (omega arith) in
         rw (are, before, after)

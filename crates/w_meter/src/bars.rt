@@ -75,12 +75,7 @@ pub fn rows_above(part: &Rect, size: Size, bar: u8, height: u8) -> Rect
     ensures edges { result ≡ rows_of part.now bar (pos 0) (top_of size height) }
     ensures near { IsNearRect result }
 {
-    part.meet(&Rect::edges(
-        first_column(bar),
-        column_after(bar),
-        0,
-        top(size, height),
-    ))
+    part.meet(&Rect::edges(first_column(bar), column_after(bar), 0, top(size, height)))
 }
 
 fn first_column(bar: u8) -> i32

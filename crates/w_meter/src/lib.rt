@@ -6,3 +6,6 @@ mod meters;
 
 pub use bars::BarNumber;
 pub use meters::{Meter, MeterCmd};
+
+#[cfg(test)]
+mod tests;

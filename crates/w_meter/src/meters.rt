@@ -36,10 +36,7 @@ impl Model for Meter {
 #[derive(Clone, Copy, Debug)]
 pub enum MeterCmd {
     /// The bar has this height, if there is such a bar.
-    Bar {
-        bar: BarNumber,
-        height: u8,
-    },
+    Bar { bar: BarNumber, height: u8 },
 }
 
 impl Meter {
@@ -193,13 +190,7 @@ impl Client for Meter {
         self.heights() == other.heights()
     }
 
-    fn paint(
-        &self,
-        alloc: Global,
-        _env: &Env,
-        size: Size,
-        clip: Rect,
-    ) -> Result<Batch, NoMemory> {
+    fn paint(&self, alloc: Global, _env: &Env, size: Size, clip: Rect) -> Result<Batch, NoMemory> {
         let _heights = self.heights();
         let batch = self.paints(alloc, size, &part_of_window(size, &clip))?;
         Ok(batch)

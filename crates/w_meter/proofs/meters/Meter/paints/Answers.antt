@@ -18,5 +18,5 @@ returns c = λ look.
     let heights = c.deref-height-items.result.now in
     let done : c.loop-bar.bar ≡ length heights = omega arith in
     let all : take c.loop-bar.bar heights ≡ c.args.self.now =
-        ap (λ n. take n heights) done ∙ take-length heights ∙ c.deref-height-items.ensures.value ∙ c.self.view_is in
+    ap (λ n. take n heights) done ∙ take-length heights ∙ c.deref-height-items.ensures.value ∙ c.self.view_is in
     rw all at (c.loop-bar.invariant look)
