@@ -1,16 +1,14 @@
 -- Pixels that lie row after row, and what becomes of the rows when one of them is written.
 use Rattle.std.proofs.Common.{◌≡◌, ℕ, zero, suc, ◌+◌, ◌*◌, ◌-◌, ◌<◌, ◌≤◌, List, [], ◌∷◌, ◌++◌, length, take, drop, get_or, set, replicate, refl, sym, ap, ◌∙◌, arith}
 use Rattle.std.proofs.Math.Nat.{zero-mul, suc-mul}
-use Rattle.std.proofs.lemmas.List.{length-append, length-take-le, length-drop, take-append-drop, take_all, take_at, drop_at, drop-drop, drop-take, take-take, take-append-le, drop-append-le, take-replicate, drop-replicate, get_or-take, get_or-drop, drop_more, set_at, append_assoc}
-use Rattle.std.proofs.lemmas.Nat.{rows}
+use Rattle.std.proofs.lemmas.List.{length-append, length-take-le, length-drop, take-append-drop, take_all, take_at, drop_at, drop-drop, drop-take, take-take, take-append-le, drop-append-le, take-replicate, drop-replicate, get_or-take, get_or-drop}
 use Rattle.std.specs.List.{concat}
-use Rattle.std.specs.Prelude.{ℤ, pos, negsuc, Bool, true, false, IsTrue, ◌&&◌, slice_index, unsigned_abs}
-use Rattle.std.proofs.lemmas.Int.{ints}
+use Rattle.std.specs.Prelude.{IsTrue, slice_index, unsigned_abs}
 use Rattle.std.specs.Simd.{first_chunks}
 use Rattle.tr_base.specs.declared.ops.Kind.{Kind}
 use Rattle.tr_base.specs.declared.points.Point.{Point}
 use Rattle.tr_base.specs.declared.sizes.Size.{Size}
-use Rattle.tr_base.specs.Rects.{has_point, whole_of, between}
+use Rattle.tr_base.specs.Rects.{has_point, whole_of}
 use Rattle.tr_base.proofs.PlaceLemmas.{row_fits, in_whole}
 use Rattle.tr_screen.specs.Pictures.{IsScreenSize, IsPicture, filled_of, row_of, pixel_of, with_row, picture_of, written_at, overwritten}
 

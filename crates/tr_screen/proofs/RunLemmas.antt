@@ -2,7 +2,6 @@
 use Rattle.std.proofs.Common.{◌≡◌, ℕ, ◌+◌, ◌*◌, ◌-◌, ◌<◌, ◌≤◌, ◌⊎◌, inl, inr, List, ◌++◌, take, drop, length, get_or, rules, refl, sym, ap, ◌∙◌, arith, w32, SFits, to_z, of_z}
 use Rattle.std.specs.Prelude.{ℤ, pos, negsuc, ◌+ℤ◌, ◌-ℤ◌, ◌≤ℤ◌, ◌<ℤ◌, Bool, true, false, cond, unsigned_abs}
 use Rattle.std.specs.Ordering.{int_eq}
-use Rattle.std.specs.List.{SameBelow, SameFrom}
 use Rattle.std.proofs.Math.Nat.{mul-le-mul_right, add-mul}
 use Rattle.std.proofs.lemmas.Int.{ints}
 use Rattle.std.proofs.lemmas.List.{places, take_all, length-append, length-drop, length-take-le, get_or-take, get_or-drop}
@@ -99,6 +98,10 @@ run_fits size r h =
     let n = natural size r h in
     omega (arith, row_fits size.wide size.high (unsigned_abs r.v) n.row)
 
+-- no run is longer than a row
+pub run_wide : (size : Size) (r : Run) → IsRun size r → width_of r ≤ size.wide
+run_wide size r h = omega (arith, (natural size r h).across)
+
 pub run_is : (r : Run) (v w e : ℤ) → v ≡ r.v → w ≡ r.west → e ≡ r.east → (let s : Run = record { v = v; west = w; east = e } in s ≡ r)
 run_is r v w e hv hw he = rw (hv, hw, he) refl
 
@@ -189,13 +192,13 @@ rows_places size north south order = record { inside = within; outside = beyond 
 
 module _ (size : Size) (kind : Kind) (old new : List ℕ) (test : Point → Bool) (start count : ℕ) (places : HasPlaces size test start count) where
   -- pixels side by side were written, and no others
-  pub painted_places : (f : Point → ℕ) → SameBelow old new start → SameFrom old new (start + count) →
+  pub painted_places : (f : Point → ℕ) → ((k : ℕ) → k < start → get_or new k 0 ≡ get_or old k 0) → ((k : ℕ) → start + count ≤ k → get_or new k 0 ≡ get_or old k 0) →
       ((p : Point) → IsOn size p → test p ≡ true → get_or new (place size p) 0 ≡ f p) → Repaints test f (picture_of size kind old) (picture_of size kind new)
-  painted_places f below beyond gets = record { size = refl; kind = refl; points = λ p on. pixel_of-picture_of size kind new p on ∙ by_test p on (test p) refl }
+  painted_places f before behind gets = record { size = refl; kind = refl; points = λ p on. pixel_of-picture_of size kind new p on ∙ by_test p on (test p) refl }
     where
       elsewhere : (p : Point) → (place size p < start) ⊎ (start + count ≤ place size p) → get_or new (place size p) 0 ≡ get_or old (place size p) 0
-      elsewhere p (inl lt) = below (place size p) 0 lt
-      elsewhere p (inr ge) = beyond (place size p) 0 ge
+      elsewhere p (inl lt) = before (place size p) lt
+      elsewhere p (inr ge) = behind (place size p) ge
 
       by_test : (p : Point) → IsOn size p → (t : Bool) → test p ≡ t → get_or new (place size p) 0 ≡ cond t (f p) (pixel_of (picture_of size kind old) p)
       by_test p on true t = gets p on t
@@ -205,14 +208,16 @@ module _ (size : Size) (kind : Kind) (old new : List ℕ) (test : Point → Bool
   pub moved_places : (d : Point) (from : ℕ) → IsCopied old new from start count →
       ((p : Point) → IsOn size p → test p ≡ true → IsOn size (before_shift p d) × (place size (before_shift p d) + start ≡ from + place size p)) →
       Repaints test (λ p. pixel_of (picture_of size kind old) (before_shift p d)) (picture_of size kind old) (picture_of size kind new)
-  moved_places d from h source = painted_places (λ p. pixel_of (picture_of size kind old) (before_shift p d)) h.below h.beyond gets
+  moved_places d from h source = painted_places (λ p. pixel_of (picture_of size kind old) (before_shift p d)) h.before h.behind gets
     where
       gets : (p : Point) → IsOn size p → test p ≡ true → get_or new (place size p) 0 ≡ pixel_of (picture_of size kind old) (before_shift p d)
       gets p on t =
           let at = places.inside p on t in
           let there = source p on t in
-          let same : from + (place size p - start) ≡ place size (before_shift p d) = omega (arith, at.0, there.1) in
-          h.copied (place size p) 0 at.0 at.1 ∙ ap (λ n. get_or old n 0) same ∙ sym (pixel_of-picture_of size kind old (before_shift p d) there.0)
+          let k : ℕ = place size p - start in
+          let target : place size p ≡ start + k = omega (arith, at.0) in
+          let same : from + k ≡ place size (before_shift p d) = omega (arith, at.0, there.1) in
+          ap (λ n. get_or new n 0) target ∙ h.copied k (omega (arith, at.0, at.1)) ∙ ap (λ n. get_or old n 0) same ∙ sym (pixel_of-picture_of size kind old (before_shift p d) there.0)
 
 -- a run was moved
 pub moved_run : (size : Size) (kind : Kind) (old new : List ℕ) (r : Run) (d : Point) → IsRun size r → IsRun size (run_before r d) → IsCopied old new (start_of size (run_before r d)) (start_of size r) (width_of r) →
@@ -264,11 +269,11 @@ written_long xs w i fits =
     let ys : List ℕ = take i xs ++ (w ++ drop (i + length w) xs) in
     take_all (length xs) ys (omega (arith, length-append (take i xs) (w ++ drop (i + length w) xs), length-append w (drop (i + length w) xs), length-drop (i + length w) xs, length-take-le i xs (omega arith)))
 
-written_below : (xs w : List ℕ) (i : ℕ) → i + length w ≤ length xs → SameBelow xs (written_at xs i w) i
-written_below xs w i fits = λ k d lt. rw (written_long xs w i fits) (search (rules, places))
+written_before : (xs w : List ℕ) (i : ℕ) → i + length w ≤ length xs → (k : ℕ) → k < i → get_or (written_at xs i w) k 0 ≡ get_or xs k 0
+written_before xs w i fits = λ k lt. rw (written_long xs w i fits) (search (rules, places))
 
-written_beyond : (xs w : List ℕ) (i : ℕ) → i + length w ≤ length xs → SameFrom xs (written_at xs i w) (i + length w)
-written_beyond xs w i fits = λ k d ge. rw (written_long xs w i fits) (search (rules, places))
+written_behind : (xs w : List ℕ) (i : ℕ) → i + length w ≤ length xs → (k : ℕ) → i + length w ≤ k → get_or (written_at xs i w) k 0 ≡ get_or xs k 0
+written_behind xs w i fits = λ k ge. rw (written_long xs w i fits) (search (rules, places))
 
 written_within : (xs w : List ℕ) (i k : ℕ) → i + length w ≤ length xs → k < length w → get_or (written_at xs i w) (i + k) 0 ≡ get_or w k 0
 written_within xs w i k fits lt = rw (written_long xs w i fits) (search (rules, places))
@@ -311,9 +316,8 @@ module _ (size : Size) (kind : Kind) (pixels : List ℕ) (r : Run) (h : IsRun si
   pub run_paints : (w : List ℕ) → length w ≡ width_of r → Repaints (in_run r) (λ p. get_or w (column_in r p) 0) (picture_of size kind pixels) (run_overwritten (picture_of size kind pixels) r w)
   run_paints w same =
       let fits : start_of size r + length w ≤ length pixels = omega (arith, run_fits size r h) in
-      let beyond : SameFrom pixels (written_at pixels (start_of size r) w) (start_of size r + width_of r) = λ k d ge. written_beyond pixels w (start_of size r) fits k d (omega arith) in
       rw (run_overwritten-picture_of w)
-      (painted_places size kind pixels (written_at pixels (start_of size r) w) (in_run r) (start_of size r) (width_of r) (run_places size r h) (λ p. get_or w (column_in r p) 0) (written_below pixels w (start_of size r) fits) beyond
+      (painted_places size kind pixels (written_at pixels (start_of size r) w) (in_run r) (start_of size r) (width_of r) (run_places size r h) (λ p. get_or w (column_in r p) 0) (written_before pixels w (start_of size r) fits) (λ k ge. written_behind pixels w (start_of size r) fits k (omega arith))
       (λ p on t. (let at = column_is size r p h t in rw (at.0) (written_within pixels w (start_of size r) (column_in r p) fits (omega (arith, at.1))))))
 
   -- the pixels that are lent

@@ -1,9 +1,8 @@
--- Private contracts alone cite this: what a copy within a list does.
-use Rattle.std.specs.Prelude.{ℕ, ◌+◌, List}
-use Rattle.std.specs.List.{CopiedTo, SameBelow, SameFrom}
+-- Private contracts alone cite this: what a copy within a row of pixels does.
+use Rattle.std.specs.Prelude.{◌≡◌, ℕ, ◌+◌, ◌<◌, ◌≤◌, List, slice_index}
 
--- the n elements at `to` are those that were at `from`, and all others stay
+-- the n pixels at `to` are those that were at `from`, and all others stay
 pub record IsCopied (old new : List ℕ) (from to n : ℕ) : Type 0 where
-  pub copied : CopiedTo old new from to n
-  pub below : SameBelow old new to
-  pub beyond : SameFrom old new (to + n)
+  pub copied : (k : ℕ) → k < n → slice_index new (to + k) ≡ slice_index old (from + k)
+  pub before : (k : ℕ) → k < to → slice_index new k ≡ slice_index old k
+  pub behind : (k : ℕ) → to + n ≤ k → slice_index new k ≡ slice_index old k

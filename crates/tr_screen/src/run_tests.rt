@@ -23,6 +23,11 @@ fn runs_are_lent_and_moved(rt: HostRuntime) -> Result<(), Fail> {
     };
     screen.move_run(west, Point { h: -1, v: 0 });
     assert_eq!(rt; screen.row(1), [1, 2, 3, 3].as_slice());
+    let mut spare = [0; 5];
+    screen.move_run_through(run, Point { h: 1, v: 0 }, &mut spare);
+    assert_eq!(rt; screen.row(1), [1, 1, 2, 3].as_slice());
+    screen.move_run_through(west, Point { h: -1, v: 0 }, &mut spare);
+    assert_eq!(rt; screen.row(1), [1, 2, 3, 3].as_slice());
     let south = Run {
         v: 2,
         west: 1,

@@ -7,7 +7,7 @@ ghost use Rattle.tr_screen.specs.Lending.{LendsRow};
 ghost use Rattle.tr_screen.specs.RunLending.{LendsRun, run_overwritten};
 ghost use Rattle.tr_screen.specs.Runs.{in_run, in_rows, run_before, width_of, column_in, IsRun, Repaints};
 
-use crate::copies::copy_pixels;
+use crate::copies::{copy_pixels, copy_through};
 use crate::runs::{Run, row_before, source_of, start_of, width_of};
 use std::alloc::Global;
 use std::marker::Model;
@@ -137,6 +137,20 @@ impl Screen {
         let from = start_of(self.size, source_of(self.size, run, delta));
         let count = width_of(self.size, run);
         copy_pixels(&mut self.pixels, from, to, count);
+    }
+
+    /// Gives each point of the run the pixel that lay `delta` before it, by way of `spare`, which has
+    /// room for a run: that is faster where the two runs overlap.
+    pub fn move_run_through(&mut self, run: Run, delta: Point, spare: &mut [u8])
+        requires to { IsRun self.old.size run }
+        requires from { IsRun self.old.size (run_before run delta) }
+        requires room { width_of run ≤ length spare.old }
+        ensures { Repaints (in_run run) (λ p. pixel_of self.old (before_shift p delta)) self.old self.new }
+    {
+        let to = start_of(self.size, run);
+        let from = start_of(self.size, source_of(self.size, run, delta));
+        let count = width_of(self.size, run);
+        copy_through(&mut self.pixels, from, to, &mut spare[..count]);
     }
 
     /// Gives each point of the rows from `north` on and before `south` the pixel that lay `delta`

@@ -1,8 +1,7 @@
-use Rattle.std.proofs.Common.{◌≡◌, ◌*◌, ◌≤◌, ◌+◌, ◌-◌, List, ℕ, pos, length, ap, arith}
+use Rattle.std.proofs.Common.{◌≡◌, ◌≤◌, ◌+◌, ◌-◌, List, ℕ, arith}
 use Rattle.std.specs.Vec.{with_items}
 use Rattle.std.proofs.lemmas.Int.{ints}
 use Rattle.std.proofs.lemmas.List.{with_items_is}
-use Rattle.tr_screen.specs.Pictures.{Picture}
 use Rattle.tr_screen.proofs.RunLemmas.{rows_fit, moved_rows}
 use Rattle.tr_screen.proofs.screens.Screen.move_rows.Goals as goal
 
