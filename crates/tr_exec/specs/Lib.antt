@@ -1,1 +1,4 @@
 pub mod Walks
+pub mod Executions
+pub mod Unknown
+pub mod Strokes

@@ -1,6 +1,11 @@
 //! Executes batches of paint commands on a screen, within the points of a window that are visible.
 #![tactic(auto)]
 
+mod brushes;
+mod effects;
+mod plans;
+mod sites;
+mod strokes;
 mod walks;
 
 pub use walks::{Brush, paint_within};

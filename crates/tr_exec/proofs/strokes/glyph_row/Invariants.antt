@@ -1,0 +1,8 @@
+use Rattle.std.proofs.Common.{◌≡◌, ℕ, ◌<◌, length}
+use Rattle.std.specs.Prelude.{slice_index}
+use Rattle.tr_base.specs.Fonts.{glyph_of}
+use Rattle.tr_exec.proofs.strokes.glyph_row.Given as goal
+
+-- the bytes so far have their glyphs' rows
+abbrev pub invariant-loop-i : goal.invariant-loop-i
+invariant-loop-i l = (k : ℕ) → k < l.i → slice_index l.bits k ≡ slice_index (glyph_of l.font (slice_index l.text k)) l.v

@@ -1,0 +1,22 @@
+-- Only private contracts cite this file. What a command paints along a run of points.
+use Rattle.std.specs.Prelude.{◌≡◌, ℕ, ◌+◌, ◌*◌, ◌≤◌, pos, ◌+ℤ◌, ◌≤ℤ◌, ◌<ℤ◌, List, length, unsigned_abs}
+use Rattle.tr_base.specs.declared.Point.{Point}
+use Rattle.tr_base.specs.declared.Size.{Size}
+
+-- the point that lies k columns east
+abbrev pub east_of : Point → ℕ → Point
+east_of p k = record { h = p.h +ℤ pos k; v = p.v }
+
+-- the n points from p on lie within a picture of this size, whose corner is (0, 0)
+pub record IsWithin (size : Size) (p : Point) (n : ℕ) : Type 0 where
+  pub west : pos 0 ≤ℤ p.h
+  pub east : (p.h +ℤ pos n) ≤ℤ pos size.wide
+  pub north : pos 0 ≤ℤ p.v
+  pub south : p.v <ℤ pos size.high
+
+-- the n points from p on lie within the cells of a text of so many bytes
+pub record IsInCells (count : ℕ) (p : Point) (n : ℕ) : Type 0 where
+  pub west : pos 0 ≤ℤ p.h
+  pub east : (p.h +ℤ pos n) ≤ℤ pos (8 * count)
+  pub north : pos 0 ≤ℤ p.v
+  pub south : p.v <ℤ pos 8

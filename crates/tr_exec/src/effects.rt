@@ -1,0 +1,33 @@
+ghost use Rattle.std.specs.Prelude.{◌≡◌};
+ghost use Rattle.tr_paint.specs.Paints.{IsNearPaint};
+ghost use Rattle.tr_exec.specs.Unknown as spec;
+
+use tr_base::Point;
+use tr_paint::Paint;
+
+/// What a command makes of what is known of the points of its area.
+#[derive(Clone, Copy)]
+pub(crate) enum Effect {
+    /// Each point is known afterwards.
+    Tells,
+    /// No point is known afterwards.
+    Loses,
+    /// Each point is known where it was.
+    Keeps,
+    /// Each point is known where the point so far before it was.
+    Moves(Point),
+}
+
+/// What the command makes of what is known of the points of its area.
+pub(crate) fn effect_of(paint: &Paint) -> Effect
+    requires { IsNearPaint paint.now }
+    ensures value { result ≡ spec.effect_of paint.now }
+    ensures near { spec.IsNearEffect result }
+{
+    match paint {
+        Paint::Scroll { delta, .. } => Effect::Moves(*delta),
+        Paint::Spoil { .. } => Effect::Loses,
+        _ if paint.is_opaque() => Effect::Tells,
+        _ => Effect::Keeps,
+    }
+}

@@ -1,0 +1,46 @@
+ghost use Rattle.std.specs.Prelude.{◌≡◌, ◌&&◌, ◌||◌, not, length, IfOk};
+ghost use Rattle.std.specs.List.{AllZip};
+ghost use Rattle.tr_base.specs.declared.Point.{Point};
+ghost use Rattle.tr_region.specs.Points.{holds};
+ghost use Rattle.tr_screen.specs.Pictures.{Picture};
+ghost use Rattle.tr_paint.specs.Traces.{Look};
+ghost use Rattle.tr_exec.specs.Executions.{IsOrigin, LiesOn, greatest_screen, base_of};
+ghost use Rattle.tr_exec.specs.Unknown.{IsMovedBy, bad_after};
+
+use crate::effects::effect_of;
+use crate::sites::Site;
+use tr_base::NoMemory;
+use tr_paint::Batch;
+use tr_region::Region;
+
+/// What is computed before the first pixel is written, so that no memory is wanted afterwards.
+#[derive(Drop)]
+pub(crate) struct Plan {
+    /// For each command of the batch the points that it moves.
+    pub moves: Vec<Region>,
+    /// The bad points in the end.
+    pub bad: Region,
+}
+
+impl Site<'_> {
+    /// What a batch is going to move, and which points are bad in the end.
+    pub fn plan(&self, batch: &Batch, bad: &Region) -> Result<Plan, NoMemory>
+        requires origin { IsOrigin self.now.origin }
+        requires visible { LiesOn greatest_screen self.now.visible.now }
+        ensures moves { IfOk result (λ plan. AllZip (IsMovedBy self.now.origin self.now.visible.now) batch.now plan.moves.items) }
+        ensures count { IfOk result (λ plan. length plan.moves.items ≡ length batch.now) }
+        ensures bad { IfOk result (λ plan. (look : Look) (screen : Picture) (p : Point) →
+            holds plan.bad p ≡ bad_after look (base_of self.now.origin self.now.visible.now bad.now screen) batch.now self.now.origin self.now.visible.now bad.now p) }
+    {
+        let mut moves = Vec::with_capacity(self.alloc, batch.len())?;
+        let mut unknown = self.visible.meet(bad)?;
+        for paint in batch.paints() {
+            let area = Region::of_rect(self.alloc, self.area(paint))?;
+            let effect = effect_of(paint);
+            moves.push(self.moved_by(effect, &area)?)?;
+            unknown = self.unknown_after(effect, &area, unknown)?;
+        }
+        let bad = bad.minus(self.visible)?.union(&unknown)?;
+        Ok(Plan { moves, bad })
+    }
+}

@@ -1,0 +1,82 @@
+ghost use Rattle.std.specs.Prelude.{◌≡◌, ◌<◌, ◌≤◌, ◌+◌, ◌/◌, ◌*◌, ℕ, pos, ◌+ℤ◌, List, length, slice_index, unsigned_abs};
+ghost use Rattle.tr_base.specs.Ops.{eff, resolved as resolved_of};
+ghost use Rattle.tr_base.specs.Tiles.{tile_bit};
+ghost use Rattle.tr_base.specs.Fonts as spec;
+ghost use Rattle.tr_base.specs.Fonts.{glyph_bit};
+ghost use Rattle.tr_base.specs.Pixmaps.{pixmap_at};
+ghost use Rattle.tr_kernel.specs.Masks.{painted};
+ghost use Rattle.tr_exec.specs.Strokes.{IsWithin, IsInCells, east_of};
+
+use tr_base::{Font, Kind, LINE, Line, Op, Pixmap, Point, Tile, eff, place_of, resolved};
+use tr_kernel::{Mask, copy_row, exchange_row, fill_row};
+
+/// Applies one operation to each pixel of a run.
+pub(crate) fn tint_run(kind: Kind, op: Op, pixels: &mut [u8])
+    ensures { (k : ℕ) → k < length pixels.old → slice_index pixels.new k ≡ eff kind op (slice_index pixels.old k) }
+{
+    match op {
+        Op::Transparent => {}
+        Op::Exchange(a, b) => exchange_row(pixels, resolved(kind, a), resolved(kind, b)),
+        Op::Bg | Op::Fg | Op::Set(_) => fill_row(pixels, eff(kind, op, 0)),
+    }
+}
+
+/// Paints a run through a tile. The run begins at the point `at` of the tile.
+pub(crate) fn texture_run(mask: &Mask, tile: &Tile, at: Point, pixels: &mut [u8])
+    ensures { (k : ℕ) → k < length pixels.old →
+        slice_index pixels.new k ≡ painted mask.now (tile_bit tile.now (at.h +ℤ pos k) at.v) (slice_index pixels.old k) }
+{
+    mask.row(
+        pixels,
+        tile.rows[usize::from(place_of(at.v))],
+        place_of(at.h),
+    );
+}
+
+/// Writes the pixels of a picture along a run. The run begins at the point `at` of the picture.
+pub(crate) fn pixels_run(kind: Kind, src: &Pixmap, at: Point, pixels: &mut [u8])
+    requires { IsWithin src.now.size at (length pixels.old) }
+    ensures { (k : ℕ) → k < length pixels.old → slice_index pixels.new k ≡ resolved_of kind (pixmap_at src.now (east_of at k)) }
+{
+    let west = at.h.unsigned_abs() as usize;
+    let row = src.row(at.v.unsigned_abs() as u16);
+    copy_row(pixels, &row[west..west + pixels.len()]);
+    resolve_row(kind, pixels);
+}
+
+/// Cuts each pixel to the values of the kind.
+fn resolve_row(kind: Kind, pixels: &mut [u8])
+    ensures { (k : ℕ) → k < length pixels.old → slice_index pixels.new k ≡ resolved_of kind (slice_index pixels.old k) }
+{
+    if kind == Kind::Map8 {
+        return;
+    }
+    for pixel in pixels.iter_mut() {
+        *pixel = resolved(kind, *pixel);
+    }
+}
+
+/// Paints a run through the glyphs of a text. The run begins at the point `at` of the text's cells.
+pub(crate) fn text_run(mask: &Mask, font: &Font, text: &Line, at: Point, pixels: &mut [u8])
+    requires { IsInCells (length text.now) at (length pixels.old) }
+    ensures { (k : ℕ) → k < length pixels.old →
+        slice_index pixels.new k ≡ painted mask.now
+        (glyph_bit font.now (slice_index text.now ((unsigned_abs at.h + k) / 8)) (unsigned_abs at.h + k) (unsigned_abs at.v)) (slice_index pixels.old k) }
+{
+    let h = at.h.unsigned_abs() as usize;
+    let bits = glyph_row(font, text.bytes(), at.v.unsigned_abs() as usize);
+    mask.cells(pixels, &bits[h / 8..text.bytes().len()], (h % 8) as u8);
+}
+
+/// Row `v` of the glyph of each byte of a text.
+fn glyph_row(font: &Font, text: &[u8], v: usize) -> [u8; LINE]
+    requires short { length text.now ≤ LINE }
+    requires row { v < 8 }
+    ensures { (k : ℕ) → k < length text.now → slice_index result k ≡ slice_index (spec.glyph_of font.now (slice_index text.now k)) v }
+{
+    let mut bits = [0; LINE];
+    for (i, byte) in text.iter().enumerate() {
+        bits[i] = font.glyph_of(*byte)[v];
+    }
+    bits
+}
