@@ -1,6 +1,6 @@
-ghost use Rattle.std.specs.Prelude.{◌≡◌, ◌<◌, ◌≤◌, ◌+◌, ◌/◌, ◌*◌, ℕ, pos, ◌+ℤ◌, List, length, slice_index, unsigned_abs};
+ghost use Rattle.std.specs.Prelude.{◌≡◌, ◌<◌, ◌≤◌, ◌+◌, ◌/◌, ◌*◌, ◌≤ℤ◌, ◌<ℤ◌, ℕ, pos, ◌+ℤ◌, List, length, slice_index, unsigned_abs};
 ghost use Rattle.tr_base.specs.Ops.{eff, resolved as resolved_of};
-ghost use Rattle.tr_base.specs.Tiles.{tile_bit};
+ghost use Rattle.tr_base.specs.Tiles.{tile_bit, place_of as place_in_tile};
 ghost use Rattle.tr_base.specs.Fonts as spec;
 ghost use Rattle.tr_base.specs.Fonts.{glyph_bit};
 ghost use Rattle.tr_base.specs.Pixmaps.{pixmap_at};
@@ -26,11 +26,14 @@ pub(crate) fn texture_run(mask: &Mask, tile: &Tile, at: Point, pixels: &mut [u8]
     ensures { (k : ℕ) → k < length pixels.old →
         slice_index pixels.new k ≡ painted mask.now (tile_bit tile.now (at.h +ℤ pos k) at.v) (slice_index pixels.old k) }
 {
-    mask.row(
-        pixels,
-        tile.rows[usize::from(place_of(at.v))],
-        place_of(at.h),
-    );
+    mask.row(pixels, tile_row(tile, at.v), place_of(at.h));
+}
+
+/// The row of a tile that a coordinate has.
+fn tile_row(tile: &Tile, v: i32) -> u8
+    ensures { result ≡ slice_index tile.now.rows (place_in_tile v) }
+{
+    tile.rows[usize::from(place_of(v))]
 }
 
 /// Writes the pixels of a picture along a run. The run begins at the point `at` of the picture.
@@ -39,9 +42,19 @@ pub(crate) fn pixels_run(kind: Kind, src: &Pixmap, at: Point, pixels: &mut [u8])
     ensures { (k : ℕ) → k < length pixels.old → slice_index pixels.new k ≡ resolved_of kind (pixmap_at src.now (east_of at k)) }
 {
     let west = at.h.unsigned_abs() as usize;
-    let row = src.row(at.v.unsigned_abs() as u16);
+    let row = src.row(row_of(at.v, src.size().high));
     copy_row(pixels, &row[west..west + pixels.len()]);
     resolve_row(kind, pixels);
+}
+
+/// A coordinate as the number of one of so many rows.
+fn row_of(v: i32, high: u16) -> u16
+    requires north { pos 0 ≤ℤ v }
+    requires south { v <ℤ pos high }
+    ensures value { result ≡ unsigned_abs v }
+    ensures row { result < high }
+{
+    v as u16
 }
 
 /// Cuts each pixel to the values of the kind.
