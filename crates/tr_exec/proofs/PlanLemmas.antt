@@ -76,7 +76,7 @@ module _ (look : Look) (origin : Point) (visible bad : List Edges) (screen : Pic
       is_none (after look (base_of origin visible bad screen) batch q) ≡ unseen visible unknown (placed origin q)
   unseen-is batch unknown tells q =
       let at : holds unknown (placed origin q) ≡ (holds visible (placed origin q) && is_none (after look (base_of origin visible bad screen) batch q)) =
-          tells (placed origin q) ∙ ap (λ r. holds visible (placed origin q) && is_none (after look (base_of origin visible bad screen) batch r)) (before-placed origin q) in
+      tells (placed origin q) ∙ ap (λ r. holds visible (placed origin q) && is_none (after look (base_of origin visible bad screen) batch r)) (before-placed origin q) in
       by_sight (holds visible (placed origin q)) refl at
     where
       by_sight : (b : Bool) → holds visible (placed origin q) ≡ b → holds unknown (placed origin q) ≡ (b && is_none (after look (base_of origin visible bad screen) batch q)) →

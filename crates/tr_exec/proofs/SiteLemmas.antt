@@ -43,7 +43,7 @@ rect_in_reach : (r : Edges) (d : Point) → IsFull r → ((p : Point) → has_po
 rect_in_reach r d full on near =
     let first = on (record { h = r.west; v = r.north }) (held r.west r.north (omega (arith, ints)) full.across (omega (arith, ints)) full.down) in
     let last = on (record { h = r.east -ℤ pos 1; v = r.south -ℤ pos 1 })
-        (held (r.east -ℤ pos 1) (r.south -ℤ pos 1) (omega (arith, ints, full.across)) (omega (arith, ints)) (omega (arith, ints, full.down)) (omega (arith, ints))) in
+    (held (r.east -ℤ pos 1) (r.south -ℤ pos 1) (omega (arith, ints, full.across)) (omega (arith, ints)) (omega (arith, ints, full.down)) (omega (arith, ints))) in
     rect_of-in_reach _ _ _ _
     (screen_edge r.west d.h first.west (omega (arith, ints, first.east)) near.h)
     (screen_edge r.east d.h (omega (arith, ints, first.west, full.across)) (omega (arith, ints, last.east)) near.h)
@@ -67,6 +67,7 @@ region_in_reach rects d canonical on near = each rects (AreInOrder-canonical rec
 
     each : (rs : List Edges) → AreInOrder rs → ((p : Point) → holds rs p ≡ true → IsThere p) → AllByRecursion (λ (r : Edges). AreInReach (shifted r d)) rs
     each [] order all = tt
-    each (r ∷ rs) order all =
-        (rect_in_reach r d order.0 (λ p h. all p (or_left (has_point r p) (holds rs p) h)) near,
-        each rs order.2 (λ p h. all p (or_right (has_point r p) (holds rs p) h)))
+    each (r ∷ rs) order all = (
+      rect_in_reach r d order.0 (λ p h. all p (or_left (has_point r p) (holds rs p) h)) near,
+      each rs order.2 (λ p h. all p (or_right (has_point r p) (holds rs p) h)),
+    )

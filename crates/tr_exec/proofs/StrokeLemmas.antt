@@ -70,6 +70,6 @@ bit_of_text font text bits cells h v n count rows part whole fits k below =
     let further : h / 8 + cell ≡ (h + k) / 8 = omega arith in
     let within : cell < count - h / 8 = omega (arith, whole, fits) in
     let byte : slice_index cells cell ≡ slice_index (glyph_of font (slice_index text ((h + k) / 8))) v =
-        ap (λ (l : List ℕ). slice_index l cell) part ∙ get_or-take (count - h / 8) (drop (h / 8) bits) cell 0 within ∙ get_or-drop (h / 8) bits cell 0
-        ∙ ap (λ i. slice_index bits i) further ∙ rows ((h + k) / 8) (omega (arith, fits)) in
+    ap (λ (l : List ℕ). slice_index l cell) part ∙ get_or-take (count - h / 8) (drop (h / 8) bits) cell 0 within ∙ get_or-drop (h / 8) bits cell 0
+    ∙ ap (λ i. slice_index bits i) further ∙ rows ((h + k) / 8) (omega (arith, fits)) in
     ap (λ b. bit_at b (7 - (k + h % 8) % 8) == 1) byte ∙ ap (λ p. bit_at (slice_index (glyph_of font (slice_index text ((h + k) / 8))) v) (7 - p) == 1) place

@@ -14,4 +14,4 @@ returns c = λ k lt.
     let long : length c.copy_row.new.to ≡ length c.args.pixels.now = search rules in
     c.resolve_row.ensures k (rw long lt)
     ∙ ap (λ x. resolved c.args.kind x) (run_of_pixmap c.args.src.now c.args.at (length c.args.pixels.now) c.row-row.result.now c.copy_row.new.to c.requires
-      (rw row at c.row-row.ensures.value) (rw west at c.copy_row.ensures) k lt)
+    (rw row at c.row-row.ensures.value) (rw west at c.copy_row.ensures) k lt)

@@ -17,5 +17,5 @@ returns c = λ k lt.
     let first = unsigned_abs c.args.at.h in
     let count' = length c.bytes-2.result.now in
     let bits = bit_of_text c.args.font.now text c.glyph_row-bits.result (take (count' - first / 8) (drop (first / 8) c.glyph_row-bits.result)) first (unsigned_abs c.args.at.v) (length c.args.pixels.now) (length c.bytes-2.result.now)
-      rows refl count (columns_fit c.args.at.h (length c.args.pixels.now) _ c.requires.west c.requires.east) k lt in
+    rows refl count (columns_fit c.args.at.h (length c.args.pixels.now) _ c.requires.west c.requires.east) k lt in
     rw h at (c.cells.ensures.each k lt) ∙ ap (λ b. painted c.args.mask.now b (slice_index c.args.pixels.now k)) bits

@@ -15,12 +15,12 @@ loop-paint-preserved c =
     let i = c.loop-paint.paint-index in
     let item = c.paint-item.result in
     let next : take (i + 1) items ≡ take i items ++ item ∷ [] =
-      take_more items i item c.loop-paint-test.true ∙ ap (λ (x : Paint). take i items ++ x ∷ []) (sym c.paint-item.is) in
+    take_more items i item c.loop-paint-test.true ∙ ap (λ (x : Paint). take i items ++ x ∷ []) (sym c.paint-item.is) in
     rw (next, c.in_ok-push.ensures.items) (planned_more _ _ _ (take i items) c.loop-paint.moves.items c.loop-paint.unknown item
-      c.in_ok-area.area c.in_ok-moved_by.field-0 c.in_ok-unknown-2.unknown c.loop-paint.invariant
-      (λ p. c.in_ok-area.ensures.points p ∙ c.area.ensures p)
-      (rw c.effect_of-effect.ensures.value at c.in_ok-moved_by.ensures)
-      (rw c.effect_of-effect.ensures.value at c.in_ok-unknown-2.ensures))
+    c.in_ok-area.area c.in_ok-moved_by.field-0 c.in_ok-unknown-2.unknown c.loop-paint.invariant
+    (λ p. c.in_ok-area.ensures.points p ∙ c.area.ensures p)
+    (rw c.effect_of-effect.ensures.value at c.in_ok-moved_by.ensures)
+    (rw c.effect_of-effect.ensures.value at c.in_ok-unknown-2.ensures))
 
 pub returns-clause-count : goal.returns-clause-count
 returns-clause-count c =

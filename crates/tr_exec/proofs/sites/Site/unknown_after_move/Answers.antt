@@ -13,9 +13,9 @@ returns c =
     let visible = c.args.self.now.visible.now in
     let unknown = c.args.unknown.now in
     points_same c.union-2.result _ _ c.union-2.ensures.points (λ p.
-        let source = before_shift p c.args.delta in
-        let known = c.in_ok-known.ensures p ∙ c.in_ok-minus.ensures.points source in
-        let lost = c.in_ok-lost.ensures.points p ∙ ap (λ b. b && not (holds c.in_ok-known.known p)) (c.in_ok-meet.ensures.points p)
-          ∙ ap (λ b. (holds visible p && holds c.args.area.now p) && not b) known in
-        ap (λ b. b || holds c.in_ok-lost.lost p) (c.in_ok-minus-2.ensures.points p) ∙ ap (λ b. (holds unknown p && not (holds c.args.area.now p)) || b) lost
-        ∙ moved_within (holds visible p) (holds c.args.area.now p) (holds unknown p) (holds visible source) (holds unknown source) (c.requires.seen p))
+    let source = before_shift p c.args.delta in
+    let known = c.in_ok-known.ensures p ∙ c.in_ok-minus.ensures.points source in
+    let lost = c.in_ok-lost.ensures.points p ∙ ap (λ b. b && not (holds c.in_ok-known.known p)) (c.in_ok-meet.ensures.points p)
+    ∙ ap (λ b. (holds visible p && holds c.args.area.now p) && not b) known in
+    ap (λ b. b || holds c.in_ok-lost.lost p) (c.in_ok-minus-2.ensures.points p) ∙ ap (λ b. (holds unknown p && not (holds c.args.area.now p)) || b) lost
+    ∙ moved_within (holds visible p) (holds c.args.area.now p) (holds unknown p) (holds visible source) (holds unknown source) (c.requires.seen p))
