@@ -6,3 +6,4 @@ pub mod PlanLemmas
 pub mod PlanInvariant
 pub mod StrokeLemmas
 pub mod PaintLemmas
+pub mod BrushLemmas

@@ -6,7 +6,7 @@ use Rattle.tr_base.specs.Rects.{before_shift}
 use Rattle.tr_exec.specs.Executions.{placed}
 
 -- points whose coordinates are equal
-points : (a b c d : ℤ) → a ≡ c → b ≡ d → (let p : Point = record { h = a; v = b } in let q : Point = record { h = c; v = d } in p ≡ q)
+pub points : (a b c d : ℤ) → a ≡ c → b ≡ d → (let p : Point = record { h = a; v = b } in let q : Point = record { h = c; v = d } in p ≡ q)
 points a b c d h v = rw (h, v) refl
 
 -- a point of the screen, looked at in the window and placed again

@@ -1,5 +1,5 @@
 -- Only private contracts cite this file. What a command paints along a run of points.
-use Rattle.std.specs.Prelude.{◌≡◌, ℕ, ◌+◌, ◌*◌, ◌≤◌, pos, ◌+ℤ◌, ◌≤ℤ◌, ◌<ℤ◌, List, length, unsigned_abs}
+use Rattle.std.specs.Prelude.{◌≡◌, ℕ, ◌+◌, ◌*◌, ◌≤◌, pos, neg_ℤ, ◌+ℤ◌, ◌≤ℤ◌, ◌<ℤ◌, List, length, unsigned_abs}
 use Rattle.tr_base.specs.declared.Point.{Point}
 use Rattle.tr_base.specs.declared.Size.{Size}
 
@@ -20,3 +20,10 @@ pub record IsInCells (count : ℕ) (p : Point) (n : ℕ) : Type 0 where
   pub east : (p.h +ℤ pos n) ≤ℤ pos (8 * count)
   pub north : pos 0 ≤ℤ p.v
   pub south : p.v <ℤ pos 8
+
+-- the corner of a command's picture lies at most 131,072 from the screen's, each way
+pub record IsCorner (at : Point) : Type 0 where
+  pub west : neg_ℤ (pos 131072) ≤ℤ at.h
+  pub east : at.h ≤ℤ pos 131072
+  pub north : neg_ℤ (pos 131072) ≤ℤ at.v
+  pub south : at.v ≤ℤ pos 131072
