@@ -5,5 +5,4 @@ pub mod PlacedLemmas
 pub mod PlanLemmas
 pub mod PlanInvariant
 pub mod StrokeLemmas
-pub mod PaintLemmas
 pub mod BrushLemmas

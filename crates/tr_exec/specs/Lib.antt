@@ -2,4 +2,3 @@ pub mod Walks
 pub mod Executions
 pub mod Unknown
 pub mod Strokes
-pub mod Walks
