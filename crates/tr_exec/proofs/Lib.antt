@@ -6,3 +6,5 @@ pub mod PlanLemmas
 pub mod PlanInvariant
 pub mod StrokeLemmas
 pub mod BrushLemmas
+pub mod ShownLemmas
+pub mod PaintingLemmas

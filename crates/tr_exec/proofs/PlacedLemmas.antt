@@ -24,3 +24,7 @@ placed-source o q d = points _ _ _ _ (omega (arith, ints)) (omega (arith, ints))
 -- the source of a point of the screen, looked at in the window
 pub source-before : (origin p delta : Point) → before_shift (before_shift p origin) delta ≡ before_shift (before_shift p delta) origin
 source-before o p d = points _ _ _ _ (omega (arith, ints)) (omega (arith, ints))
+
+-- a point of what begins at q in the window is a point of what begins at q, placed, on the screen
+pub before-both : (origin p q : Point) → before_shift (before_shift p origin) q ≡ before_shift p (placed origin q)
+before-both o p q = points _ _ _ _ (omega (arith, ints)) (omega (arith, ints))

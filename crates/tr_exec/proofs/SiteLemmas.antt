@@ -1,10 +1,13 @@
 -- Areas and regions that are moved stay within reach.
-use Rattle.std.proofs.Common.{◌≡◌, ℕ, ◌<◌, ℤ, pos, neg_ℤ, ◌+ℤ◌, ◌-ℤ◌, ◌≤ℤ◌, ◌<ℤ◌, Bool, true, false, ◌&&◌, ◌||◌, List, [], ◌∷◌, refl, sym, ap, ◌∙◌, arith}
+use Rattle.std.proofs.Common.{◌≡◌, ℕ, ◌<◌, ◌≤◌, ℤ, pos, neg_ℤ, ◌+ℤ◌, ◌-ℤ◌, ◌≤ℤ◌, ◌<ℤ◌, Bool, true, false, ◌&&◌, ◌||◌, List, [], ◌∷◌, refl, sym, ap, ◌∙◌, arith}
 use Rattle.std.specs.List.{AllByRecursion}
 use Rattle.std.proofs.lemmas.Int.{ints}
 use Rattle.tr_base.specs.declared.Point.{Point}
 use Rattle.tr_base.specs.Rects.{Edges, InReach, AreInReach, between, has_point, shifted, whole_of}
 use Rattle.tr_base.proofs.RectLemmas.{has_point-rect_of}
+use Rattle.tr_base.specs.declared.Size.{Size}
+use Rattle.tr_screen.specs.Pictures.{IsScreenSize}
+use Rattle.std.proofs.lemmas.Bool.{and_parts}
 use Rattle.tr_region.specs.Points.{holds}
 use Rattle.tr_region.specs.Bands.{IsCanonical}
 use Rattle.tr_region.proofs.OrderLemmas.{IsFull, AreInOrder, AreInOrder-canonical}
@@ -71,3 +74,16 @@ region_in_reach rects d canonical on near = each rects (AreInOrder-canonical rec
       rect_in_reach r d order.0 (λ p h. all p (or_left (has_point r p) (holds rs p) h)) near,
       each rs order.2 (λ p h. all p (or_right (has_point r p) (holds rs p) h)),
     )
+
+-- what lies on a screen lies on the greatest one
+pub on_greatest : (size : Size) (region : List Edges) → IsScreenSize size → LiesOn size region → LiesOn greatest_screen region
+on_greatest size region is on p held =
+    let parts = and_parts _ _ (sym (has_point-rect_of (pos 0) (pos size.wide) (pos 0) (pos size.high) p) ∙ on p held) in
+    has_point-rect_of (pos 0) (pos 1024) (pos 0) (pos 1024) p ∙ both _ _ (further size.wide p.h is.wide parts.0) (further size.high p.v is.high parts.1)
+  where
+    further : (n : ℕ) (x : ℤ) → n ≤ 1024 → between (pos 0) (pos n) x ≡ true → between (pos 0) (pos 1024) x ≡ true
+    further n x le h = grind (arith, ints)
+
+    both : (a b : Bool) → a ≡ true → b ≡ true → a && b ≡ true
+    both true b h k = k
+    both false b h k = cc

@@ -18,6 +18,7 @@ use tr_kernel::Mask;
 use tr_screen::Run;
 
 /// Applies one operation.
+#[derive(Drop)]
 pub(crate) struct TintBrush {
     pub area: Rect,
     pub kind: Kind,
@@ -25,6 +26,7 @@ pub(crate) struct TintBrush {
 }
 
 /// Applies the operation for the bit of a tile that begins at `at`.
+#[derive(Drop)]
 pub(crate) struct TextureBrush<'a> {
     pub area: Rect,
     pub mask: &'a Mask,
@@ -34,6 +36,7 @@ pub(crate) struct TextureBrush<'a> {
 }
 
 /// Writes the pixels of a picture that begins at `at` and has all points of the area.
+#[derive(Drop)]
 pub(crate) struct PixelsBrush<'a> {
     pub area: Rect,
     pub kind: Kind,
@@ -45,6 +48,7 @@ pub(crate) struct PixelsBrush<'a> {
 
 /// Applies the operation for the glyph's bit of a text whose cells begin at `at` and have all points
 /// of the area.
+#[derive(Drop)]
 pub(crate) struct TextBrush<'a> {
     pub area: Rect,
     pub mask: &'a Mask,

@@ -3,11 +3,14 @@
 
 mod brushes;
 mod effects;
+mod execs;
+mod paintings;
 mod plans;
 mod sites;
 mod strokes;
 mod walks;
 
+pub use execs::execute;
 pub use walks::{Brush, paint_within};
 
 #[cfg(test)]

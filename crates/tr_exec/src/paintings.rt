@@ -1,0 +1,108 @@
+ghost use Rattle.std.specs.Prelude.{◌≡◌, ◌+ℤ◌, true, List, length, pos, ℕ};
+ghost use Rattle.std.specs.List.{AllZip};
+ghost use Rattle.tr_base.specs.declared.Point.{Point};
+ghost use Rattle.tr_base.specs.Ops.{eff, resolved};
+ghost use Rattle.tr_base.specs.Rects.{Edges, has_point, before_shift};
+ghost use Rattle.tr_base.specs.Tiles.{tile_bit};
+ghost use Rattle.tr_base.specs.Pixmaps.{pixmap_at};
+ghost use Rattle.tr_region.specs.Points.{holds};
+ghost use Rattle.tr_screen.specs.Pictures.{pixel_of};
+ghost use Rattle.tr_paint.specs.Paints.{IsNearPaint, IsNearPoint};
+ghost use Rattle.tr_paint.specs.Traces.{Base};
+ghost use Rattle.tr_exec.specs.Executions.{IsOrigin, LiesOn, placed, base_of};
+ghost use Rattle.tr_exec.specs.Strokes.{IsCorner};
+ghost use Rattle.tr_exec.specs.Unknown.{IsMovedBy};
+ghost use Rattle.tr_exec.specs.Painted.{IsPainted, IsShown};
+
+use crate::brushes::{PixelsBrush, TextBrush, TextureBrush, TintBrush};
+use crate::sites::Site;
+use crate::walks::paint_within;
+use tr_base::{Env, Point, moved};
+use tr_kernel::Mask;
+use tr_paint::{Batch, Paint};
+use tr_region::Region;
+use tr_repair::move_pixels;
+use tr_screen::Screen;
+
+impl Site<'_> {
+    /// Does to the screen what the commands of a batch do, by the points that each moves.
+    pub fn paint_all(&self, env: &Env<'_>, batch: &Batch, moves: &[Region], screen: &mut Screen)
+        requires origin { IsOrigin self.now.origin }
+        requires visible { LiesOn screen.old.size self.now.visible.now }
+        requires moves { AllZip (IsMovedBy self.now.origin self.now.visible.now) batch.now moves.now }
+        requires count { length moves.now ≡ length batch.now }
+        ensures { (bad : List Edges) → IsShown (record { kind = env.now.kind; font = env.now.font.now })
+            (base_of self.now.origin self.now.visible.now bad screen.old) batch.now self.now.origin self.now.visible.now screen.old screen.new }
+    {
+        let paints = batch.paints();
+        for i in 0..paints.len() {
+            self.paint(env, &paints[i], &moves[i], screen);
+        }
+    }
+
+    /// Does to the screen what a command does.
+    fn paint(&self, env: &Env<'_>, paint: &Paint, moved: &Region, screen: &mut Screen)
+        requires near { IsNearPaint paint.now }
+        requires origin { IsOrigin self.now.origin }
+        requires visible { LiesOn screen.old.size self.now.visible.now }
+        requires moved { IsMovedBy self.now.origin self.now.visible.now paint.now moved.now }
+        ensures { IsPainted (record { kind = env.now.kind; font = env.now.font.now }) paint.now self.now.origin self.now.visible.now screen.old screen.new }
+    {
+        let area = self.area(paint);
+        match paint {
+            Paint::Tint { op, .. } => {
+                let brush = TintBrush {
+                    area,
+                    kind: env.kind,
+                    op: *op,
+                };
+                paint_within(screen, self.visible, &brush);
+            }
+            Paint::Texture {
+                ops, tile, delta, ..
+            } => {
+                let brush = TextureBrush {
+                    area,
+                    mask: &Mask::of(*ops, env.kind),
+                    tile,
+                    at: self.place(*delta),
+                };
+                paint_within(screen, self.visible, &brush);
+            }
+            Paint::Pixels { src, delta, .. } => {
+                let brush = PixelsBrush {
+                    area,
+                    kind: env.kind,
+                    src,
+                    at: self.place(*delta),
+                };
+                paint_within(screen, self.visible, &brush);
+            }
+            Paint::Text { at, ops, text, .. } => {
+                let brush = TextBrush {
+                    area,
+                    mask: &Mask::of(*ops, env.kind),
+                    font: env.font,
+                    text,
+                    at: self.place(*at),
+                };
+                paint_within(screen, self.visible, &brush);
+            }
+            Paint::Scroll { delta, .. } => move_pixels(screen, moved, *delta),
+            Paint::Spoil { .. } => {}
+        }
+    }
+
+    /// The point of the screen at which a point of the window lies.
+    fn place(&self, q: Point) -> Point
+        requires near { IsNearPoint q }
+        requires origin { IsOrigin self.now.origin }
+        ensures value { result ≡ placed self.now.origin q }
+        ensures corner { IsCorner result }
+    {
+        Point {
+            h: moved(q.h, self.origin.h),
+            v: moved(q.v, self.origin.v),
+        }
+    }
+}
