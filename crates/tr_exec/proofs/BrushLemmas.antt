@@ -23,9 +23,10 @@ pub run_in_reach : (r : Run) (a : Edges) → r.west <ℤ r.east → ((p : Point)
     InReach a.west → InReach a.east → InReach a.north → InReach a.south → InReach r.west × InReach r.v
 run_in_reach r a some within west east north south =
     let on = within (point_in r 0) (held r 0 (omega (arith, ints, some))) in
-    let h = sides (r.west +ℤ pos 0) r.v on in
-    (record { low = omega (arith, ints, h.0, west.low); high = omega (arith, ints, h.1, east.high) },
-     record { low = omega (arith, ints, h.2, north.low); high = omega (arith, ints, h.3, south.high) })
+    let h = sides (r.west +ℤ pos 0) r.v on in (
+      record { low = omega (arith, ints, h.0, west.low); high = omega (arith, ints, h.1, east.high) },
+      record { low = omega (arith, ints, h.2, north.low); high = omega (arith, ints, h.3, south.high) },
+    )
   where
     sides : (h v : ℤ) → has_point a (record { h = h; v = v }) ≡ true → (a.west ≤ℤ h) × (h <ℤ a.east) × (a.north ≤ℤ v) × (v <ℤ a.south)
     sides h v on = (grind (arith, ints), grind (arith, ints), grind (arith, ints), grind (arith, ints))

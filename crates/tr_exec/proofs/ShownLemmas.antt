@@ -152,13 +152,13 @@ module _ (look : Look) (origin : Point) (visible bad : List Edges) (first : Pict
               let d = Texture clip ops tile delta in
               repainted r p there (sight d h)
               ∙ painted-done look.kind (both_opaque ops) (op_at look.font d (before_shift p origin)) (λ r. after look (base_of origin visible bad first) batch r) (before_shift p origin) (pixel_of mid p) x
-                (opaque-chosen ops _) told e
+              (opaque-chosen ops _) told e
           by_command (Pixels clip src delta) r h e = repainted r p there (sight (Pixels clip src delta) h) ∙ some_is _ x e
           by_command (Text clip at ops text) r h e =
               let d = Text clip at ops text in
               repainted r p there (sight d h)
               ∙ painted-done look.kind (both_opaque ops) (op_at look.font d (before_shift p origin)) (λ r. after look (base_of origin visible bad first) batch r) (before_shift p origin) (pixel_of mid p) x
-                (opaque-chosen ops _) told e
+              (opaque-chosen ops _) told e
           by_command (Scroll clip delta) r h e =
               let from = moved delta e in
               repainted r p there (rw (seen, h, from.0) refl) ∙ from.1

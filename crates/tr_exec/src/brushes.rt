@@ -84,7 +84,12 @@ impl Brush for TextureBrush<'_> {
     }
 
     fn paint(&self, run: Run, pixels: &mut [u8]) {
-        texture_run(self.mask, self.tile, start_in(self.at, &self.area, run), pixels);
+        texture_run(
+            self.mask,
+            self.tile,
+            start_in(self.at, &self.area, run),
+            pixels,
+        );
     }
 }
 
@@ -98,7 +103,12 @@ impl Brush for PixelsBrush<'_> {
     }
 
     fn paint(&self, run: Run, pixels: &mut [u8]) {
-        pixels_run(self.kind, self.src, start_in(self.at, &self.area, run), pixels);
+        pixels_run(
+            self.kind,
+            self.src,
+            start_in(self.at, &self.area, run),
+            pixels,
+        );
     }
 }
 
@@ -112,7 +122,13 @@ impl Brush for TextBrush<'_> {
     }
 
     fn paint(&self, run: Run, pixels: &mut [u8]) {
-        text_run(self.mask, self.font, self.text, start_in(self.at, &self.area, run), pixels);
+        text_run(
+            self.mask,
+            self.font,
+            self.text,
+            start_in(self.at, &self.area, run),
+            pixels,
+        );
     }
 }
 

@@ -14,4 +14,6 @@ pub use execs::execute;
 pub use walks::{Brush, paint_within};
 
 #[cfg(test)]
+mod tests;
+#[cfg(test)]
 mod walk_tests;

@@ -59,7 +59,10 @@ impl Site<'_> {
                 paint_within(screen, self.visible, &brush);
             }
             Paint::Texture {
-                ops, tile, delta, ..
+                ops,
+                tile,
+                delta,
+                ..
             } => {
                 let brush = TextureBrush {
                     area,

@@ -8,13 +8,13 @@ use Rattle.tr_exec.proofs.brushes.start_in.Goals as goal
 pub distance-requires-clause-x : goal.distance-requires-clause-x
 distance-requires-clause-x c =
     let reach = run_in_reach c.args.run c.args.area.now c.requires.some c.requires.within (rw c.west.ensures.value at c.west.ensures.reach)
-      (rw c.east.ensures.value at c.east.ensures.reach) (rw c.north.ensures.value at c.north.ensures.reach) (rw c.south.ensures.value at c.south.ensures.reach) in
+    (rw c.east.ensures.value at c.east.ensures.reach) (rw c.north.ensures.value at c.north.ensures.reach) (rw c.south.ensures.value at c.south.ensures.reach) in
     rw (cast-in_reach c.args.run.west reach.0) reach.0
 
 pub distance-requires-2-clause-x : goal.distance-requires-2-clause-x
 distance-requires-2-clause-x c =
     let reach = run_in_reach c.args.run c.args.area.now c.requires.some c.requires.within (rw c.west.ensures.value at c.west.ensures.reach)
-      (rw c.east.ensures.value at c.east.ensures.reach) (rw c.north.ensures.value at c.north.ensures.reach) (rw c.south.ensures.value at c.south.ensures.reach) in
+    (rw c.east.ensures.value at c.east.ensures.reach) (rw c.north.ensures.value at c.north.ensures.reach) (rw c.south.ensures.value at c.south.ensures.reach) in
     rw (cast-in_reach c.args.run.v reach.1) reach.1
 
 pub returns : goal.returns
