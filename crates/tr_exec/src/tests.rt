@@ -139,7 +139,7 @@ fn a_row_is_painted(rt: HostRuntime) -> Result<(), Fail> {
         ),
         (
             [5, 6, 7, 8],
-            row(),
+            all,
             texture(alloc)?,
             [None, None, None, None],
         ),
@@ -151,7 +151,7 @@ fn a_row_is_painted(rt: HostRuntime) -> Result<(), Fail> {
         ),
         (
             [5, 6, 7, 8],
-            row(),
+            all,
             picture(alloc)?,
             [None, Some(3), Some(4), Some(1)],
         ),
