@@ -147,8 +147,8 @@ fn run_in(rect: &Rect, v: u16) -> Run
     }
 }
 
-/// Moves the pixels of a run: along its row by way of a spare one, which takes 1.1 of one copy of as
-/// many bytes, and without it 1.7, as measured.
+/// Moves the pixels of a run: along its row by way of a spare one, since a copy that overlaps its
+/// source is slower (`bench_rows`).
 fn move_run(screen: &mut Screen, run: Run, delta: Point, spare: &mut [u8])
     requires to { IsRun screen.old.size run }
     requires from { IsRun screen.old.size (run_before run delta) }

@@ -4,8 +4,7 @@ ghost use Rattle.tr_screen.specs.Copies.{IsCopied};
 use tr_kernel::{copy_row, copy_rows_within};
 
 /// From this distance on a copy that overlaps its source goes in pieces as long as the distance,
-/// which lie apart from their sources: measured, that takes 1.05 of one copy of as many bytes, and
-/// one call for the whole 1.6.
+/// which lie apart from their sources. Measured at distances of 8 and of 8192 alone: `bench_rows`.
 const FAR: usize = 64;
 
 /// Copies `count` pixels from one place to another, as if all were read before any is written.
