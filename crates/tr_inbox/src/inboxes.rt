@@ -3,17 +3,20 @@ ghost use Rattle.std.specs.Prelude.{◌≡◌, ◌+◌, ◌<◌, ◌≤◌, ◌�
 use circular_buffer::HeapCircularBuffer;
 use std::alloc::Global;
 use std::marker::Model;
+use thiserror::Error;
 use tr_base::{Event, NoMemory};
 
 /// How many events an inbox holds at most.
 pub const CAPACITY: usize = 64;
 
 /// The inbox was full, and the event is lost.
-#[derive(Clone, Copy, Debug, PartialEq, Eq)]
+#[derive(Clone, Copy, Debug, PartialEq, Eq, Error)]
+#[error("the inbox is full")]
 pub struct Dropped;
 
 /// No event waits.
-#[derive(Clone, Copy, Debug, PartialEq, Eq)]
+#[derive(Clone, Copy, Debug, PartialEq, Eq, Error)]
+#[error("no event waits")]
 pub struct Empty;
 
 /// The events that wait for one window, the oldest first, and how many were dropped because it was
@@ -27,12 +30,13 @@ pub struct Inbox {
 impl Model for Inbox {
     ghost use Rattle.std.specs.Prelude.{◌≡◌, ◌≤◌, length};
     ghost use Rattle.tr_inbox.specs.Inboxes.{Contents};
+    ghost use Rattle.tr_inbox.specs.declared.inboxes.TheConstants.{CAPACITY};
 
     ghost Value = { Contents };
 
     ghost view = { λ i. record { events = i.events.items; dropped = i.dropped } };
 
-    ghost invariant = { λ i. (i.events.capacity ≡ 64) × (length i.events.items ≤ 64) };
+    ghost invariant = { λ i. (i.events.capacity ≡ CAPACITY) × (length i.events.items ≤ CAPACITY) };
 }
 
 impl Inbox {

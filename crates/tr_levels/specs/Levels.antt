@@ -3,11 +3,11 @@ use Rattle.std.specs.Prelude.{ℕ, ◌<◌, ⊤, List, All, AllPairs}
 use Rattle.tr_levels.specs.declared.levels.Level.{Level}
 use Rattle.tr_levels.specs.declared.levels.Level.TheVariants.{Mu, Share, Win}
 
--- the kinds of levels in order: the tree's lock, then shares, then windows
-abbrev pub kind_of : Level → ℕ
-kind_of Mu = 0
-kind_of (Share leaf) = 1
-kind_of (Win leaf) = 2
+-- the sorts of levels in order: the tree's lock, then shares, then windows
+abbrev pub sort_of : Level → ℕ
+sort_of Mu = 0
+sort_of (Share leaf) = 1
+sort_of (Win leaf) = 2
 
 -- a level comes before another: the tree's lock before all others, then shares by their number, then windows by theirs
 abbrev pub IsBelow : Level → Level → Type 0
@@ -22,6 +22,6 @@ IsBelow a b = ⊥
 abbrev pub IsRising : List Level → Type 0
 IsRising levels = AllPairs IsBelow levels
 
--- no level of this one's kind or of a later kind is held
+-- no level of this one's sort or of a later one is held
 abbrev pub Admits : List Level → Level → Type 0
-Admits held level = All (λ l. kind_of l < kind_of level) held
+Admits held level = All (λ l. sort_of l < sort_of level) held

@@ -6,7 +6,7 @@ use crate::levels::Level;
 use std::marker::Model;
 use tr_base::LeafId;
 
-/// The levels that a thread holds, in the order in which it took them: at most one of each kind, the
+/// The levels that a thread holds, in the order in which it took them: at most one of each sort, the
 /// tree's lock first, then a share, then a window.
 #[derive(Clone, Copy, Debug, PartialEq, Eq)]
 pub struct Held {
@@ -39,7 +39,7 @@ impl Held {
         }
     }
 
-    /// Whether the level may be taken: none of its kind or of a later kind is held.
+    /// Whether the level may be taken: none of its sort or of a later one is held.
     pub fn admits(&self, level: Level) -> bool
         ensures { IsTrue result ↔ Admits self.now level }
     {
