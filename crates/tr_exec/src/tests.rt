@@ -137,12 +137,7 @@ fn a_row_is_painted(rt: HostRuntime) -> Result<(), Fail> {
             texture(alloc)?,
             [Some(5), Some(6), Some(0), Some(0)],
         ),
-        (
-            [5, 6, 7, 8],
-            all,
-            texture(alloc)?,
-            [None, None, None, None],
-        ),
+        ([5, 6, 7, 8], all, texture(alloc)?, [None, None, None, None]),
         (
             [5, 6, 7, 8],
             none,

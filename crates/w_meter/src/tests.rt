@@ -36,12 +36,14 @@ fn bars_stand_on_the_south_edge(rt: HostRuntime) -> Result<(), Fail> {
     let north = Rect::edges(8, 16, 0, 1);
     let south = Rect::edges(8, 16, 1, 4);
     let want = [(north, Op::Bg), (south, Op::Fg)];
+    assert_eq!(rt; patch.len(), want.len());
     assert_eq!(rt; tints_of(alloc, &patch)?.as_slice(), want.as_slice());
     let batch = next.paint(alloc, &env, size, Rect::edges(2, 9, 0, 9))?;
     let want = [
         (Rect::edges(2, 9, 0, 4), Op::Bg),
         (Rect::edges(8, 9, 1, 4), Op::Fg),
     ];
+    assert_eq!(rt; batch.len(), want.len());
     assert_eq!(rt; tints_of(alloc, &batch)?.as_slice(), want.as_slice());
     let absent = MeterCmd::Bar {
         bar: BarNumber::of(2),

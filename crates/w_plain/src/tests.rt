@@ -45,10 +45,11 @@ fn a_solid_is_one_tint(rt: HostRuntime) -> Result<(), Fail> {
     let batch = solid.paint(alloc, &env, size, Rect::edges(-4, 2, 1, 9))?;
     assert_eq!(rt; batch.len(), 1);
     for paint in batch.paints() {
-        let Paint::Tint { clip, op } = paint else {
-            continue;
+        let tint = match paint {
+            Paint::Tint { clip, op } => Some((*clip, *op)),
+            _ => None,
         };
-        assert_eq!(rt; (*clip, *op), (Rect::edges(0, 2, 1, 2), Op::Set(5)));
+        assert_eq!(rt; tint, Some((Rect::edges(0, 2, 1, 2), Op::Set(5))));
     }
     let asked = solid.react(alloc, &key(9))?;
     assert_eq!(rt; asked, Some(SolidCmd::Tint(9)));

@@ -9,8 +9,8 @@ use std::alloc::Global;
 use std::process::Abort;
 use std::test::Fail;
 use tr_base::{
-    Env, Font, Kind, Line, NoMemory, Op, Pair, Point, Rect, Size, Tile, eff, is_set, tile_bit,
-    whole,
+    Command, Env, Font, Kind, Line, NoMemory, Op, Pair, Point, Rect, Size, Tile, eff, is_set,
+    tile_bit, whole,
 };
 use tr_client::Client;
 use tr_paint::{Batch, Paint};
@@ -288,5 +288,7 @@ pub fn holds_to_its_picture<C: Pictured>(
     }
     let copy = next.copy(alloc)?;
     assert!(rt; copy.same(&next));
+    let copy = cmd.copy(alloc)?;
+    assert!(rt; copy.same(cmd));
     Ok(())
 }
