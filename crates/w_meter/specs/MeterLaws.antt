@@ -11,9 +11,8 @@ use Rattle.tr_base.specs.declared.Point.{Point}
 use Rattle.tr_base.specs.declared.Size.{Size}
 use Rattle.tr_base.specs.declared.Op.{Op}
 use Rattle.tr_base.specs.declared.Op.TheVariants.{Bg, Fg}
-use Rattle.tr_base.specs.Rects.{Edges, between, has_point, rect_of, meet_of, whole_of, empty_rect}
+use Rattle.tr_base.specs.Rects.{Edges, between, has_point, rect_of, whole_of, empty_rect}
 use Rattle.tr_base.proofs.RectLemmas.{has_point-rect_of, has_point-meet_of}
-use Rattle.tr_base.proofs.RectFacts.{between-within, between-before, between-beyond}
 use Rattle.tr_paint.specs.declared.Paint.{Paint}
 use Rattle.tr_paint.specs.declared.Paint.TheVariants.{Tint}
 use Rattle.tr_paint.specs.Traces.{Look, Keep, Value, deed}

@@ -1,7 +1,6 @@
-use Rattle.std.proofs.Common.{arith, refl, ap, ◌∙◌}
+use Rattle.std.proofs.Common.{arith, ap, ◌∙◌}
 use Rattle.std.proofs.lemmas.Int.{ints}
 use Rattle.tr_base.specs.Rects.{meet_of, InReach}
-use Rattle.std.proofs.Common.{pos}
 use Rattle.tr_base.proofs.RectLemmas.{cast-rect}
 use Rattle.tr_paint.proofs.NearLemmas.{near-meet}
 use Rattle.w_meter.proofs.bars.bar_rows.Goals as goal
