@@ -30,13 +30,12 @@ pub struct Inbox {
 impl Model for Inbox {
     ghost use Rattle.std.specs.Prelude.{◌≡◌, ◌≤◌, length};
     ghost use Rattle.tr_inbox.specs.Inboxes.{Contents};
-    ghost use Rattle.tr_inbox.specs.declared.inboxes.TheConstants.{CAPACITY};
 
     ghost Value = { Contents };
 
     ghost view = { λ i. record { events = i.events.items; dropped = i.dropped } };
 
-    ghost invariant = { λ i. (i.events.capacity ≡ CAPACITY) × (length i.events.items ≤ CAPACITY) };
+    ghost invariant = { λ i. (i.events.capacity ≡ 64) × (length i.events.items ≤ 64) };
 }
 
 impl Inbox {
