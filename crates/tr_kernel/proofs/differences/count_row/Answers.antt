@@ -2,9 +2,9 @@ use Rattle.std.proofs.Common.{◌≡◌, ◌+◌, ◌*◌, zip, take, length, co
 use Rattle.std.proofs.lemmas.List.{length-take-le}
 use Rattle.std.proofs.lemmas.List.Sums.{count_by-le-length, count_by_more_yes, count_by_more_no}
 use Rattle.tr_kernel.specs.Differences.{differ}
-use Rattle.tr_kernel.proofs.PairLemmas.{length_pairs, pair_differs, pair_agrees, count_further}
+use Rattle.tr_kernel.proofs.PairLemmas.{none_differs, length_pairs, pair_differs, pair_agrees, count_further, no_further}
 use Rattle.tr_kernel.proofs.differences.count_row.Goals as goal
-use Rattle.tr_kernel.proofs.differences.count_row.Goals.{then-a-at, else-a-at}
+use Rattle.tr_kernel.proofs.differences.count_row.Goals.{then-a-at, else-a-at, then-differ_from, else-differ_from}
 
 pub overflow_add-count : goal.overflow_add-count
 overflow_add-count c =
@@ -18,7 +18,12 @@ pub loop-chunk-preserved : goal.loop-chunk-preserved
 loop-chunk-preserved c =
     let i = c.loop-chunk.chunk * 64 in
     let on : i + 64 ≡ (c.loop-chunk.chunk + 1) * 64 = omega arith in
-    rw on at (count_further c.args.a.now c.args.b.now c.requires i (omega arith) _ _ c.loop-chunk.invariant (ap count_ones c.differences_at.ensures))
+    elim c.if-differ_from.branch [
+      | then-differ_from w ↦ w.count-is ∙ rw on at (count_further c.args.a.now c.args.b.now c.requires i (omega arith) _ _
+          c.loop-chunk.invariant (ap count_ones w.differences_at.ensures))
+      | else-differ_from w ↦ w.count-is ∙ rw on at (no_further c.args.a.now c.args.b.now c.requires i (omega arith) _
+          c.loop-chunk.invariant (none_differs _ (sym c.differ_from.ensures ∙ w.if-differ_from.false)))
+    ]
 
 pub loop-at-preserved : goal.loop-at-preserved
 loop-at-preserved c =
