@@ -1,14 +1,11 @@
 -- Runs of an area, counted from the corner of what is painted there.
-use Rattle.std.proofs.Common.{◌≡◌, ℕ, ◌+◌, ◌<◌, ◌≤◌, ℤ, pos, neg_ℤ, ◌+ℤ◌, ◌-ℤ◌, ◌≤ℤ◌, ◌<ℤ◌, Bool, true, false, ◌&&◌, refl, sym, ap, ◌∙◌, arith}
+use Rattle.std.proofs.Common.{◌≡◌, ℕ, ℤ, pos, ◌+ℤ◌, ◌-ℤ◌, ◌≤ℤ◌, ◌<ℤ◌, true, refl, sym, ◌∙◌, arith}
 use Rattle.std.specs.Prelude.{unsigned_abs}
-use Rattle.std.specs.Ordering.{int_eq}
 use Rattle.std.proofs.lemmas.Int.{ints}
 use Rattle.tr_base.specs.declared.Point.{Point}
-use Rattle.tr_base.specs.declared.Size.{Size}
 use Rattle.tr_base.specs.Rects.{Edges, InReach, between, has_point, rect_of, before_shift}
 use Rattle.tr_base.proofs.RectLemmas.{has_point-rect_of}
 use Rattle.std.proofs.lemmas.Bool.{and_parts}
-use Rattle.tr_exec.proofs.StrokeLemmas.{abs-later}
 use Rattle.tr_exec.proofs.PlacedLemmas.{points}
 use Rattle.tr_exec.specs.Strokes.{east_of}
 use Rattle.tr_screen.specs.declared.Run.{Run}

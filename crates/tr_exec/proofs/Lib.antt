@@ -8,3 +8,4 @@ pub mod StrokeLemmas
 pub mod BrushLemmas
 pub mod ShownLemmas
 pub mod PaintingLemmas
+pub mod TracedLemmas

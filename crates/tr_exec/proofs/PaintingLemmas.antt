@@ -1,5 +1,5 @@
 -- What is painted by brushes is what the commands do.
-use Rattle.std.proofs.Common.{◌≡◌, ℕ, ◌+◌, ◌*◌, ◌<◌, ℤ, pos, ◌+ℤ◌, ◌-ℤ◌, Bool, true, false, ◌&&◌, cond, List, [], ◌∷◌, length, get_or, zero, suc, refl, sym, ap, ◌∙◌, arith}
+use Rattle.std.proofs.Common.{◌≡◌, ℕ, ◌*◌, ◌<◌, ℤ, pos, ◌+ℤ◌, ◌-ℤ◌, Bool, true, ◌&&◌, cond, List, [], ◌∷◌, length, get_or, zero, suc, sym, ap, ◌∙◌, arith}
 use Rattle.std.specs.List.{AllZip}
 use Rattle.std.proofs.lemmas.Int.{ints}
 use Rattle.std.proofs.lemmas.Bool.{and_parts}
@@ -8,7 +8,7 @@ use Rattle.tr_base.specs.declared.Size.{Size}
 use Rattle.tr_base.specs.Rects.{Edges, between, before_shift, has_point, meet_of, rect_of, shifted, whole_of}
 use Rattle.tr_base.proofs.RectLemmas.{has_point-meet_of, has_point-rect_of, has_point-shifted}
 use Rattle.tr_screen.specs.Pictures.{Picture, pixel_of}
-use Rattle.tr_screen.specs.Runs.{Repaints, IsOn}
+use Rattle.tr_screen.specs.Runs.{Repaints}
 use Rattle.tr_paint.specs.Paints.{cells_of}
 use Rattle.tr_exec.specs.Executions.{placed}
 use Rattle.tr_exec.proofs.PlacedLemmas.{before-both}
@@ -23,7 +23,7 @@ pixels_within a clip size origin delta area p on =
     ap (λ (r : Point). has_point (whole_of size) r) (sym (before-both origin p delta)) ∙ sym (has_point-shifted (whole_of size) delta q) ∙ (and_parts _ _ cut).1
 
 -- a coordinate from an edge on is counted from it
-between_from : (a x : ℤ) (n : ℕ) → between a (a +ℤ pos n) x ≡ between (pos 0) (pos n) (x -ℤ a)
+pub between_from : (a x : ℤ) (n : ℕ) → between a (a +ℤ pos n) x ≡ between (pos 0) (pos n) (x -ℤ a)
 between_from a x n = grind (arith, ints)
 
 -- the points of an area that is cut by a text's cells are points of the cells

@@ -1,5 +1,5 @@
 -- How far a plan has come.
-use Rattle.std.proofs.Common.{◌≡◌, Bool, true, ◌&&◌, List, [], ◌∷◌, ◌++◌, sym, ◌∙◌}
+use Rattle.std.proofs.Common.{◌≡◌, ◌&&◌, List, [], ◌∷◌, ◌++◌, sym, ◌∙◌}
 use Rattle.std.specs.List.{AllZip}
 use Rattle.std.proofs.lemmas.Bool.{and_parts}
 use Rattle.tr_base.specs.declared.Point.{Point}

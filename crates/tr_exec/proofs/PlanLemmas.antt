@@ -1,5 +1,5 @@
 -- One command more: which points are unknown after it, and which it moves.
-use Rattle.std.proofs.Common.{◌≡◌, ℕ, suc, ◌+◌, ◌<◌, Bool, true, false, ◌&&◌, ◌||◌, not, cond, List, [], ◌∷◌, ◌++◌, take, length, get_or, Option, Some, None, refl, sym, ap, subst, ◌∙◌, arith}
+use Rattle.std.proofs.Common.{◌≡◌, ℕ, suc, Bool, true, false, ◌&&◌, ◌||◌, not, cond, List, [], ◌∷◌, ◌++◌, length, Option, Some, None, refl, sym, ap, ◌∙◌}
 use Rattle.std.specs.Prelude.{is_none}
 use Rattle.std.specs.Option.{option_map}
 use Rattle.std.specs.List.{AllZip}
@@ -12,12 +12,12 @@ use Rattle.tr_screen.specs.Pictures.{Picture, pixel_of}
 use Rattle.tr_paint.specs.declared.Paint.{Paint}
 use Rattle.tr_paint.specs.declared.Paint.TheVariants.{Tint, Texture, Pixels, Text, Scroll, Spoil}
 use Rattle.tr_paint.specs.Paints.{area, is_opaque, op_at}
-use Rattle.tr_paint.specs.Traces.{Look, Base, after, trace, Deed, Keep, Lose, From, Value, Change, deed, deed_within, done}
+use Rattle.tr_paint.specs.Traces.{Look, Base, after, Deed, Keep, Value, Change, deed, deed_within, done}
 use Rattle.tr_paint.proofs.TraceLemmas.{after-last, trace-unseen}
 use Rattle.tr_exec.specs.declared.effects.Effect.{Effect}
 use Rattle.tr_exec.specs.declared.effects.Effect.TheVariants.{Tells, Loses, Keeps, Moves}
 use Rattle.tr_exec.specs.Executions.{placed, base_of}
-use Rattle.tr_exec.specs.Unknown.{effect_of, lost_by, unseen, unknown_after, TellsUnknown, moved_by, moved_of, IsMovedBy, bad_after}
+use Rattle.tr_exec.specs.Unknown.{effect_of, lost_by, unseen, unknown_after, TellsUnknown, moved_by, IsMovedBy}
 use Rattle.tr_exec.proofs.PlacedLemmas.{placed-before, before-placed, placed-source}
 
 -- what is unknown depends on what was unknown alone

@@ -1,7 +1,8 @@
 -- One command more: what the screen shows after it.
-use Rattle.std.proofs.Common.{◌≡◌, ℕ, Bool, true, false, ◌&&◌, cond, List, [], ◌∷◌, ◌++◌, Option, Some, None, refl, sym, ap, subst, ◌∙◌}
+use Rattle.std.proofs.Common.{◌≡◌, ℕ, Bool, true, false, ◌&&◌, ◌||◌, cond, List, [], ◌∷◌, ◌++◌, Option, Some, None, refl, sym, ap, subst, ◌∙◌}
 use Rattle.std.specs.Prelude.{unwrap_or}
 use Rattle.std.specs.Option.{option_map}
+use Rattle.std.proofs.lemmas.List.Folds.{list_any-append}
 use Rattle.tr_base.specs.declared.Point.{Point}
 use Rattle.tr_base.specs.declared.Size.{Size}
 use Rattle.tr_base.specs.declared.Kind.{Kind}
@@ -15,13 +16,13 @@ use Rattle.tr_screen.specs.Runs.{Repaints, IsOn}
 use Rattle.tr_region.specs.Points.{holds}
 use Rattle.tr_paint.specs.declared.Paint.{Paint}
 use Rattle.tr_paint.specs.declared.Paint.TheVariants.{Tint, Texture, Pixels, Text, Scroll, Spoil}
-use Rattle.tr_paint.specs.Paints.{area, is_opaque, op_at, chosen, both_opaque}
-use Rattle.tr_paint.specs.Traces.{Look, Base, after, Deed, Keep, Lose, From, Value, Change, deed, deed_within, done}
+use Rattle.tr_paint.specs.Paints.{area, op_at, chosen, both_opaque}
+use Rattle.tr_paint.specs.Batches.{touches}
+use Rattle.tr_paint.specs.Traces.{Look, after, Keep, Value, Change, deed, deed_within, done}
 use Rattle.tr_paint.proofs.TraceLemmas.{after-last, trace-unseen}
 use Rattle.tr_exec.specs.Executions.{placed, base_of, LiesOn}
-use Rattle.tr_exec.specs.Unknown.{moved_of}
 use Rattle.tr_exec.specs.Painted.{in_sight, IsPainted, IsShown}
-use Rattle.tr_exec.proofs.PlacedLemmas.{placed-before, source-before, placed-source}
+use Rattle.tr_exec.proofs.PlacedLemmas.{placed-before, source-before}
 
 some_is : (a b : ℕ) → Some a ≡ Some b → a ≡ b
 some_is a b e = ap (λ (o : Option ℕ). unwrap_or o 0) e
@@ -87,10 +88,19 @@ same_size look (Text clip at ops text) origin visible old new r = (r.size, r.kin
 same_size look (Scroll clip delta) origin visible old new r = (r.size, r.kind)
 same_size look (Spoil clip) origin visible old new r = (ap (λ (s : Picture). s.size) r, ap (λ (s : Picture). s.kind) r)
 
+-- a point that no command touches lies in the area of none
+touches_more : (batch : List Paint) (c : Paint) (q : Point) → touches (batch ++ c ∷ []) q ≡ false → (touches batch q ≡ false) × (has_point (area c) q ≡ false)
+touches_more batch c q none = neither _ _ (sym (list_any-append (λ d. has_point (area d) q) batch (c ∷ [])) ∙ none)
+  where
+    neither : (a b : Bool) → a || (b || false) ≡ false → (a ≡ false) × (b ≡ false)
+    neither true b h = cc
+    neither false true h = cc
+    neither false false h = (refl, refl)
+
 module _ (look : Look) (origin : Point) (visible bad : List Edges) (first : Picture) (on : LiesOn first.size visible) where
   -- at first each visible point whose colour is known has it
   pub shown_none : IsShown look (base_of origin visible bad first) [] origin visible first first
-  shown_none = record { size = refl; kind = refl; shown = shown; others = λ p there hidden. refl }
+  shown_none = record { size = refl; kind = refl; shown = shown; untouched = λ p seen none. refl; others = λ p there hidden. refl }
     where
       shown : (p : Point) (x : ℕ) → holds visible p ≡ true → after look (base_of origin visible bad first) [] (before_shift p origin) ≡ Some x → pixel_of first p ≡ x
       shown p x seen is = by_tests (holds visible (placed origin (before_shift p origin))) (holds bad (placed origin (before_shift p origin))) is
@@ -107,6 +117,9 @@ module _ (look : Look) (origin : Point) (visible bad : List Edges) (first : Pict
     size = (same_size look c origin visible mid new painted).0 ∙ so_far.size;
     kind = (same_size look c origin visible mid new painted).1 ∙ so_far.kind;
     shown = shown;
+    untouched = λ p seen none.
+        let neither = touches_more batch c (before_shift p origin) none in
+        untouched look c origin visible mid new p painted (there_too p (on p seen)) (and_false _ _ neither.1) ∙ so_far.untouched p seen neither.0;
     others = λ p there hidden. untouched look c origin visible mid new p painted (there_too p there) (not_both _ _ hidden) ∙ so_far.others p there hidden;
   }
     where

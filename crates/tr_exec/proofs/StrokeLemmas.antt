@@ -1,5 +1,5 @@
 -- Bits along a run.
-use Rattle.std.proofs.Common.{◌≡◌, ℕ, suc, ◌+◌, ◌-◌, ◌*◌, ◌/◌, ◌%◌, ◌==◌, ◌<◌, ◌≤◌, ℤ, pos, ◌+ℤ◌, ◌≤ℤ◌, ◌<ℤ◌, List, take, drop, length, get_or, refl, sym, ap, ◌∙◌, arith}
+use Rattle.std.proofs.Common.{◌≡◌, ℕ, ◌+◌, ◌-◌, ◌*◌, ◌/◌, ◌%◌, ◌==◌, ◌<◌, ◌≤◌, ℤ, pos, ◌+ℤ◌, ◌≤ℤ◌, List, take, drop, length, refl, sym, ap, ◌∙◌, arith}
 use Rattle.std.specs.Prelude.{negsuc, unsigned_abs, slice_index}
 use Rattle.std.specs.Int.{bit_at}
 use Rattle.std.proofs.lemmas.List.{get_or-take, get_or-drop}
@@ -8,9 +8,8 @@ use Rattle.tr_base.specs.Pixmaps.{PixmapView, pixmap_at}
 use Rattle.tr_base.specs.Fonts.{glyph_of, glyph_bit}
 use Rattle.std.specs.Int.{int_rem_euclid}
 use Rattle.std.proofs.lemmas.Int.{ints, int_rem_euclid_is}
-use Rattle.std.proofs.Math.Nat.{add-mod-mod}
 use Rattle.tr_base.specs.Tiles.{is_set, place_of}
-use Rattle.tr_exec.specs.Strokes.{IsWithin, IsInCells, east_of}
+use Rattle.tr_exec.specs.Strokes.{IsWithin, east_of}
 
 -- a coordinate from 0 on is a number
 pub abs_is : (x : ℤ) → pos 0 ≤ℤ x → x ≡ pos (unsigned_abs x)

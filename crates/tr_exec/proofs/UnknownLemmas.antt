@@ -1,10 +1,9 @@
 -- Which points are unknown after a command.
-use Rattle.std.proofs.Common.{◌≡◌, Result, Ok, Err, Bool, true, false, ◌&&◌, ◌||◌, not, cond, List, refl, sym, ap, ◌∙◌}
+use Rattle.std.proofs.Common.{◌≡◌, Result, Ok, Err, Bool, true, false, ◌&&◌, ◌||◌, not, cond, List, refl, ◌∙◌}
 use Rattle.std.specs.Prelude.{IfOk}
 use Rattle.tr_base.specs.declared.Point.{Point}
-use Rattle.tr_base.specs.Rects.{Edges, before_shift}
-use Rattle.tr_region.specs.Points.{holds, Includes}
-use Rattle.tr_exec.specs.Unknown.{unseen}
+use Rattle.tr_base.specs.Rects.{Edges}
+use Rattle.tr_region.specs.Points.{holds}
 
 -- points that are lost in an area, beside those that were unknown
 pub lost_beside : (v a u : Bool) → (u ≡ true → v ≡ true) → u || (v && a) ≡ v && cond a true (not v || u)

@@ -1,5 +1,5 @@
 -- Only private contracts cite this file. What a command, and a batch, make of a screen.
-use Rattle.std.specs.Prelude.{◌≡◌, ℕ, Bool, true, false, ◌&&◌, List, Option, Some}
+use Rattle.std.specs.Prelude.{◌≡◌, ℕ, Bool, true, false, ◌&&◌, List, Some}
 use Rattle.tr_base.specs.declared.Point.{Point}
 use Rattle.tr_base.specs.Ops.{eff}
 use Rattle.tr_base.specs.Rects.{Edges, before_shift, has_point}
@@ -9,6 +9,7 @@ use Rattle.tr_region.specs.Points.{holds}
 use Rattle.tr_paint.specs.declared.Paint.{Paint}
 use Rattle.tr_paint.specs.declared.Paint.TheVariants.{Scroll, Spoil}
 use Rattle.tr_paint.specs.Paints.{area, op_at}
+use Rattle.tr_paint.specs.Batches.{touches}
 use Rattle.tr_paint.specs.Traces.{Look, Base, after}
 use Rattle.tr_exec.specs.Unknown.{moved_of}
 
@@ -23,9 +24,10 @@ IsPainted look (Spoil clip) origin visible old new = new ≡ old
 IsPainted look c origin visible old new =
     Repaints (in_sight c origin visible) (λ p. eff look.kind (op_at look.font c (before_shift p origin)) (pixel_of old p)) old new
 
--- after a batch each visible point whose colour is known has it, and the others keep theirs
+-- after a batch each visible point whose colour is known has it; one that no command touches keeps its pixel, and so do the points that aren't visible
 pub record IsShown (look : Look) (base : Base) (batch : List Paint) (origin : Point) (visible : List Edges) (old new : Picture) : Type 0 where
   pub size : new.size ≡ old.size
   pub kind : new.kind ≡ old.kind
   pub shown : (p : Point) (x : ℕ) → holds visible p ≡ true → after look base batch (before_shift p origin) ≡ Some x → pixel_of new p ≡ x
+  pub untouched : (p : Point) → holds visible p ≡ true → touches batch (before_shift p origin) ≡ false → pixel_of new p ≡ pixel_of old p
   pub others : (p : Point) → IsOn old.size p → holds visible p ≡ false → pixel_of new p ≡ pixel_of old p

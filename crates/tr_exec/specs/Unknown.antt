@@ -1,5 +1,5 @@
 -- Only private contracts cite this file. Which visible points are unknown after a command, told with no pixels.
-use Rattle.std.specs.Prelude.{◌≡◌, ℕ, Bool, true, false, ◌&&◌, ◌||◌, not, is_none, if◌then◌else◌, List, Option}
+use Rattle.std.specs.Prelude.{◌≡◌, Bool, true, false, ◌&&◌, ◌||◌, not, is_none, if◌then◌else◌, List}
 use Rattle.tr_base.specs.declared.Point.{Point}
 use Rattle.tr_base.specs.Rects.{Edges, before_shift, has_point}
 use Rattle.tr_region.specs.Points.{holds}

@@ -8,7 +8,7 @@ ghost use Rattle.tr_base.specs.Pixmaps.{pixmap_at};
 ghost use Rattle.tr_region.specs.Points.{holds};
 ghost use Rattle.tr_screen.specs.Pictures.{pixel_of};
 ghost use Rattle.tr_paint.specs.Paints.{IsNearPaint, IsNearPoint};
-ghost use Rattle.tr_paint.specs.Traces.{Base};
+ghost use Rattle.tr_paint.specs.Traces.{look_of};
 ghost use Rattle.tr_exec.specs.Executions.{IsOrigin, LiesOn, placed, base_of};
 ghost use Rattle.tr_exec.specs.Strokes.{IsCorner};
 ghost use Rattle.tr_exec.specs.Unknown.{IsMovedBy};
@@ -31,8 +31,11 @@ impl Site<'_> {
         requires visible { LiesOn screen.old.size self.now.visible.now }
         requires moves { AllZip (IsMovedBy self.now.origin self.now.visible.now) batch.now moves.now }
         requires count { length moves.now ≡ length batch.now }
-        ensures { (bad : List Edges) → IsShown (record { kind = env.now.kind; font = env.now.font.now })
-            (base_of self.now.origin self.now.visible.now bad screen.old) batch.now self.now.origin self.now.visible.now screen.old screen.new }
+        ensures { let look = look_of env.now.kind env.now.font.now in
+            let origin = self.now.origin in
+            let visible = self.now.visible.now in
+            (bad : List Edges) → IsShown look (base_of origin visible bad screen.old) batch.now
+            origin visible screen.old screen.new }
     {
         let paints = batch.paints();
         for i in 0..paints.len() {
@@ -46,7 +49,8 @@ impl Site<'_> {
         requires origin { IsOrigin self.now.origin }
         requires visible { LiesOn screen.old.size self.now.visible.now }
         requires moved { IsMovedBy self.now.origin self.now.visible.now paint.now moved.now }
-        ensures { IsPainted (record { kind = env.now.kind; font = env.now.font.now }) paint.now self.now.origin self.now.visible.now screen.old screen.new }
+        ensures { let look = look_of env.now.kind env.now.font.now in
+            IsPainted look paint.now self.now.origin self.now.visible.now screen.old screen.new }
     {
         let area = self.area(paint);
         match paint {

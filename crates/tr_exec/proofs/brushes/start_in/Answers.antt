@@ -1,4 +1,4 @@
-use Rattle.std.proofs.Common.{w32, SFits, arith, rules, refl, ◌∙◌}
+use Rattle.std.proofs.Common.{w32, SFits, arith, rules, ◌∙◌}
 use Rattle.std.proofs.lemmas.Int.{ints, to_z-of_z}
 use Rattle.tr_base.proofs.RectLemmas.{cast-in_reach}
 use Rattle.tr_exec.proofs.BrushLemmas.{run_in_reach}

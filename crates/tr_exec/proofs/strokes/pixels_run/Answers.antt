@@ -1,4 +1,4 @@
-use Rattle.std.proofs.Common.{◌≡◌, ℕ, length, w32, SFits, ap, ◌∙◌, rules}
+use Rattle.std.proofs.Common.{◌≡◌, length, w32, SFits, ap, ◌∙◌, rules}
 use Rattle.std.specs.Prelude.{unsigned_abs}
 use Rattle.std.proofs.lemmas.Int.{to_z-of_z}
 use Rattle.tr_base.specs.Ops.{resolved}

@@ -1,4 +1,4 @@
-use Rattle.std.proofs.Common.{◌≡◌, ◌-◌, ◌/◌, ℕ, length, take, drop, refl, w32, SFits, ap, ◌∙◌, rules}
+use Rattle.std.proofs.Common.{◌≡◌, ◌-◌, ◌/◌, length, take, drop, refl, w32, SFits, ap, ◌∙◌, rules}
 use Rattle.std.specs.Prelude.{unsigned_abs, slice_index}
 use Rattle.std.proofs.lemmas.Int.{to_z-of_z}
 use Rattle.tr_kernel.specs.Masks.{painted}

@@ -1,8 +1,8 @@
-use Rattle.std.proofs.Common.{◌≡◌, ◌+◌, ◌-◌, ◌%◌, ◌==◌, ℕ, pos, ◌+ℤ◌, w32, SFits, ap, sym, ◌∙◌, rules}
+use Rattle.std.proofs.Common.{◌-◌, ◌==◌, ℕ, w32, SFits, ap, sym, ◌∙◌, rules}
 use Rattle.std.specs.Prelude.{slice_index}
 use Rattle.std.specs.Int.{bit_at}
 use Rattle.std.proofs.lemmas.Int.{to_z-of_z}
-use Rattle.tr_base.specs.Tiles.{is_set, place_of}
+use Rattle.tr_base.specs.Tiles.{place_of}
 use Rattle.tr_kernel.specs.Masks.{painted}
 use Rattle.tr_exec.proofs.StrokeLemmas.{place-later}
 use Rattle.tr_exec.proofs.strokes.texture_run.Goals as goal

@@ -1,4 +1,4 @@
-use Rattle.std.proofs.Common.{◌≡◌, ◌/◌, ◌&&◌, ℕ, length, sym, ap, ◌∙◌}
+use Rattle.std.proofs.Common.{◌/◌, ◌&&◌, length, sym, ap, ◌∙◌}
 use Rattle.std.specs.Prelude.{slice_index, unsigned_abs}
 use Rattle.std.proofs.lemmas.Bool.{and_parts}
 use Rattle.tr_base.specs.declared.Point.{Point}

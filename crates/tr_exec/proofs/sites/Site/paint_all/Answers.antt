@@ -1,14 +1,15 @@
-use Rattle.std.proofs.Common.{◌≡◌, ◌+◌, ◌<◌, ◌∷◌, [], ◌++◌, List, take, length, refl, sym, ap, subst, ◌∙◌}
+use Rattle.std.proofs.Common.{◌≡◌, ◌+◌, ◌∷◌, [], ◌++◌, List, take, length, sym, ap, subst, ◌∙◌}
 use Rattle.std.proofs.lemmas.List.{take_more, take_all}
 use Rattle.tr_base.specs.declared.Size.{Size}
 use Rattle.tr_paint.specs.declared.Paint.{Paint}
+use Rattle.tr_paint.specs.Traces.{look_of}
 use Rattle.tr_exec.specs.Executions.{LiesOn}
 use Rattle.tr_exec.proofs.ShownLemmas.{shown_none, shown_more}
 use Rattle.tr_exec.proofs.PaintingLemmas.{zip_at}
 use Rattle.tr_exec.proofs.sites.Site.paint_all.Goals as goal
 
 pub loop-i-init : goal.loop-i-init
-loop-i-init c = λ bad. shown_none (record { kind = c.args.env.now.kind; font = c.args.env.now.font.now }) c.args.self.now.origin c.args.self.now.visible.now bad c.args.screen.now c.requires.visible
+loop-i-init c = λ bad. shown_none (look_of c.args.env.now.kind c.args.env.now.font.now) c.args.self.now.origin c.args.self.now.visible.now bad c.args.screen.now c.requires.visible
 
 pub paint-requires-clause-visible : goal.paint-requires-clause-visible
 paint-requires-clause-visible c =

@@ -1,8 +1,8 @@
-use Rattle.std.proofs.Common.{◌≡◌, ◌+◌, ◌∷◌, [], ◌++◌, take, length, ◌&&◌, ◌||◌, not, List, refl, sym, ap, ◌∙◌, rules}
+use Rattle.std.proofs.Common.{◌≡◌, ◌+◌, ◌∷◌, [], ◌++◌, take, length, ◌||◌, List, sym, ap, ◌∙◌}
 use Rattle.std.proofs.lemmas.List.{take_more, take_all}
 use Rattle.tr_region.specs.Points.{holds}
 use Rattle.tr_paint.specs.declared.Paint.{Paint}
-use Rattle.tr_exec.proofs.PlanInvariant.{IsPlanned, planned_none, planned_more}
+use Rattle.tr_exec.proofs.PlanInvariant.{planned_none, planned_more}
 use Rattle.tr_exec.proofs.PlanLemmas.{bad-is, zip_long}
 use Rattle.tr_exec.proofs.sites.Site.plan.Goals as goal
 

@@ -1,4 +1,4 @@
-use Rattle.std.proofs.Common.{Bool, ◌&&◌, ◌||◌, not, ap, sym, ◌∙◌}
+use Rattle.std.proofs.Common.{◌&&◌, ◌||◌, not, ap, sym, ◌∙◌}
 use Rattle.std.proofs.lemmas.Bool.{and_parts}
 use Rattle.tr_base.specs.Rects.{before_shift}
 use Rattle.tr_region.specs.Points.{holds}
