@@ -1,6 +1,3 @@
-ghost use Rattle.std.specs.Prelude.{◌≡◌, ◌↔◌, IfOk, IsTrue};
-ghost use Rattle.w_lines.specs.Lines as spec;
-
 use std::alloc::Global;
 use tr_base::{Command, Line, NoMemory};
 use tr_client::{append_all, append_with_text};
@@ -22,11 +19,8 @@ impl Command for LinesCmd {
     ghost words = { lines_words };
 
     fn known(&self) {
-        match self {
-            LinesCmd::Line(line) => {
-                let _bytes = line.bytes();
-            }
-            LinesCmd::Clear => {}
+        if let LinesCmd::Line(line) = self {
+            let _bytes = line.bytes();
         }
     }
 
