@@ -1,4 +1,4 @@
-use Rattle.std.proofs.Common.{◌≡◌, ℕ, ◌≤◌, ℤ, pos, ◌&&◌, Bool, true, false, cond, refl, sym, arith}
+use Rattle.std.proofs.Common.{◌≡◌, ℕ, ◌*◌, ◌≤◌, ℤ, pos, ◌&&◌, Bool, true, false, cond, refl, sym, arith}
 use Rattle.std.specs.Prelude.{int_lt}
 use Rattle.std.proofs.lemmas.Int.{ints}
 use Rattle.tr_base.specs.Rects.{Edges, InReach, rect_of, empty_rect}
@@ -23,5 +23,9 @@ near-length n small = record { low = omega (arith, ints); high = omega (arith, i
 pub returns-clause-near : goal.returns-clause-near
 returns-clause-near c =
     let origin : InReach (pos 0) = record { low = omega (arith, ints); high = omega (arith, ints) } in
-    let east : InReach c.from-east.result = ? in
-    ?
+    let east : InReach c.from.result = rw c.from.ensures (record { low = omega (arith, ints); high = omega (arith, ints) }) in
+    let edges = cast-rect _ _ _ _ _ _ _ _ _ origin east c.north_of.ensures.reach c.north_of-2.ensures.reach c.edges.ensures.edges
+        refl c.from.ensures c.north_of.ensures.value c.north_of-2.ensures.value in
+    rw edges
+    (near-rect _ _ _ _ (near-length 0 (omega arith)) (near-length c.args.size.wide c.requires.size.wide) (near-length (8 * c.args.above) c.requires.above)
+    (near-length (8 * c.args.end) c.requires.end))
