@@ -1,5 +1,5 @@
 -- Windows that show the last lines of a typescript.
-use Rattle.std.specs.Prelude.{ℕ, ◌+◌, ◌-◌, ◌*◌, ◌/◌, ◌≤◌, ◌==◌, ℤ, pos, neg_ℤ, nat_lt, min, if◌then◌else◌, List, [], ◌∷◌, ◌++◌, length, drop, slice_index_or, unsigned_abs, All, Option, Some, None, codes}
+use Rattle.std.specs.Prelude.{ℕ, ◌+◌, ◌-◌, ◌*◌, ◌/◌, ◌≤◌, ◌==◌, ℤ, pos, neg_ℤ, nat_lt, min, Bool, if◌then◌else◌, List, [], ◌∷◌, ◌++◌, length, drop, slice_index_or, unsigned_abs, All, Option, Some, None, codes}
 use Rattle.tr_base.specs.declared.Point.{Point}
 use Rattle.tr_base.specs.declared.Size.{Size}
 use Rattle.tr_base.specs.declared.Event.{Event}
@@ -48,16 +48,23 @@ room size = size.high / 8
 abbrev pub begin_of : ℕ → Point
 begin_of above = record { h = pos 0; v = pos (8 * above) }
 
+-- a point lies in the cells of a line that stands below so many others
+abbrev pub in_cells : ℕ → List ℕ → Point → Bool
+in_cells above line q = has_point (cells_of (begin_of above) (length line)) q
+
 -- the colour of a point by the line that stands there below so many others: the text is foreground, and what is beside it background
 abbrev pub colour_beside : Look → ℕ → List ℕ → Point → ℕ
-colour_beside look above line q =
-    if has_point (cells_of (begin_of above) (length line)) q then colour_of (text_bit look.font (begin_of above) line q) else 0
+colour_beside look above line q = if in_cells above line q then colour_of (text_bit look.font (begin_of above) line q) else 0
 
 -- the colour of a point where these lines stand one below the other; below the last one all is background
 abbrev pub colour_in : Look → List (List ℕ) → Point → ℕ
 colour_in look lines q =
     let above = unsigned_abs q.v / 8 in
     colour_beside look above (slice_index_or lines above []) q
+
+-- how many lines a window shows at most
+abbrev pub most_shown : Size → ℕ
+most_shown size = min (room size) most_lines
 
 -- a window shows the last lines, as many as it has room for
 abbrev pub lines_pic : Look → Size → List (List ℕ) → Point → ℕ
@@ -93,7 +100,7 @@ moved_up size count line =
 -- a new line is written below the others; where there is no room, they move upwards; and where no line has room, nothing is painted
 abbrev pub line_patch : Size → List (List ℕ) → List ℕ → List Paint
 line_patch size lines line =
-    let count = min (room size) most_lines in
+    let count = most_shown size in
     if count == 0 then [] else if nat_lt (length lines) count then written_below size (length lines) line else moved_up size count line
 
 -- a command's patch: that of a line, or all of the window becomes background

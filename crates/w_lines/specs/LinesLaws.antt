@@ -31,12 +31,13 @@ use Rattle.tr_client.proofs.FlatLemmas.{flat-whole, meet-nothing}
 use Rattle.tr_client.proofs.PlainLemmas.{text-makes, meet-inside}
 use Rattle.w_lines.specs.declared.commands.LinesCmd.{LinesCmd}
 use Rattle.w_lines.specs.declared.commands.LinesCmd.TheVariants.{Line, Clear}
-use Rattle.w_lines.specs.Lines.{IsLines, IsLinesCmd, most_lines, last_of, room, begin_of, colour_beside, colour_in, lines_pic, lines_next, area_of, upwards, cleared, written_below, moved_up, lines_patch, lines_keeps}
+use Rattle.w_lines.specs.Lines.{IsLines, IsLinesCmd, most_lines, last_of, room, most_shown, begin_of, in_cells, colour_beside, colour_in, lines_pic, lines_next, area_of, upwards, cleared, written_below, moved_up, line_patch, lines_patch, lines_keeps}
 
 -- the cells of a line hold only points that have as many lines above them
-cells-above : (above k : ℕ) (q : Point) → has_point (cells_of (begin_of above) k) q ≡ true → unsigned_abs q.v / 8 ≡ above
-cells-above above k q here =
-    let both = both_hold _ _ (sym (has_point-rect_of (pos 0) (pos 0 +ℤ pos (8 * k)) (pos (8 * above)) (pos (8 * above) +ℤ pos 8) q) ∙ here) in
+cells-above : (above : ℕ) (line : List ℕ) (q : Point) → in_cells above line q ≡ true → unsigned_abs q.v / 8 ≡ above
+cells-above above line q here =
+    let east = pos 0 +ℤ pos (8 * length line) in
+    let both = both_hold _ _ (sym (has_point-rect_of (pos 0) east (pos (8 * above)) (pos (8 * above) +ℤ pos 8) q) ∙ here) in
     down above q.v both.1
   where
     down : (above : ℕ) (v : ℤ) → between (pos (8 * above)) (pos (8 * above) +ℤ pos 8) v ≡ true → unsigned_abs v / 8 ≡ above
@@ -46,7 +47,7 @@ cells-above above k q here =
 no_text : (look : Look) (above : ℕ) (q : Point) → colour_beside look above [] q ≡ 0
 no_text look above q = ap (λ b. cond b (colour_of (text_bit look.font (begin_of above) [] q)) 0) nowhere
   where
-    nowhere : has_point (cells_of (begin_of above) 0) q ≡ false
+    nowhere : in_cells above [] q ≡ false
     nowhere =
         has_point-rect_of (pos 0) (pos 0) (pos (8 * above)) (pos (8 * above) +ℤ pos 8) q
         ∙ ap (λ b. b && between (pos (8 * above)) (pos (8 * above) +ℤ pos 8) q.v) (between-empty (pos 0) (pos 0) q.h refl)
@@ -70,40 +71,39 @@ get_or-more xs x i apart = by_test (nat_lt i (length xs)) refl
 
 -- one line more below the others gives the points of its cells its colours, and leaves all others
 colour-more : (look : Look) (lines : List (List ℕ)) (line : List ℕ) (q : Point) →
-    (let at = begin_of (length lines) in
-    cond (has_point (cells_of at (length line)) q) (colour_of (text_bit look.font at line q)) (colour_in look lines q) ≡ colour_in look (lines ++ line ∷ []) q)
+    (let count = length lines in
+    cond (in_cells count line q) (colour_of (text_bit look.font (begin_of count) line q)) (colour_in look lines q) ≡ colour_in look (lines ++ line ∷ []) q)
 colour-more look lines line q = by_test (unsigned_abs q.v / 8) (unsigned_abs q.v / 8 == length lines) refl refl
   where
-    at : Point
-    at = begin_of (length lines)
-
-    mixed : Bool → ℕ → ℕ
-    mixed b old = cond b (colour_of (text_bit look.font (begin_of (length lines)) line q)) old
+    written : Bool → ℕ → ℕ
+    written b old = cond b (colour_of (text_bit look.font (begin_of (length lines)) line q)) old
 
     by_test : (above : ℕ) (b : Bool) → unsigned_abs q.v / 8 ≡ above → (above == length lines) ≡ b →
-        mixed (has_point (cells_of (begin_of (length lines)) (length line)) q) (colour_beside look above (get_or lines above []) q)
+        written (in_cells (length lines) line q) (colour_beside look above (get_or lines above []) q)
         ≡ colour_beside look above (get_or (lines ++ line ∷ []) above []) q
     by_test above true is same =
         let here : above ≡ length lines = eqb-true above (length lines) same in
+        let past = get_or_past lines (length lines) [] (omega arith) in
         rw here
-        (ap (λ (old : List ℕ). mixed (has_point (cells_of (begin_of (length lines)) (length line)) q) (colour_beside look (length lines) old q)) (get_or_past lines (length lines) [] (omega arith))
-        ∙ ap (λ old. mixed (has_point (cells_of (begin_of (length lines)) (length line)) q) old) (no_text look (length lines) q)
+        (ap (λ (old : List ℕ). written (in_cells (length lines) line q) (colour_beside look (length lines) old q)) past
+        ∙ ap (λ old. written (in_cells (length lines) line q) old) (no_text look (length lines) q)
         ∙ ap (λ (new : List ℕ). colour_beside look (length lines) new q) (sym (get_or_push lines line [] (length lines) refl)))
     by_test above false is apart =
-        let else_where : above ≡ length lines → ⊥ = eqb-false above (length lines) apart in
-        ap (λ b. mixed b (colour_beside look above (get_or lines above []) q)) (outside (has_point (cells_of (begin_of (length lines)) (length line)) q) refl else_where)
-        ∙ ap (λ (new : List ℕ). colour_beside look above new q) (sym (get_or-more lines line above else_where))
+        let beside : above ≡ length lines → ⊥ = eqb-false above (length lines) apart in
+        ap (λ b. written b (colour_beside look above (get_or lines above []) q)) (outside (in_cells (length lines) line q) refl beside)
+        ∙ ap (λ (new : List ℕ). colour_beside look above new q) (sym (get_or-more lines line above beside))
       where
-        outside : (b : Bool) → has_point (cells_of (begin_of (length lines)) (length line)) q ≡ b → (above ≡ length lines → ⊥) → has_point (cells_of (begin_of (length lines)) (length line)) q ≡ false
-        outside true inside apart = absurd (apart (sym is ∙ cells-above (length lines) (length line) q inside))
+        outside : (b : Bool) → in_cells (length lines) line q ≡ b → (above ≡ length lines → ⊥) → in_cells (length lines) line q ≡ false
+        outside true inside apart = absurd (apart (sym is ∙ cells-above (length lines) line q inside))
         outside false inside apart = inside
 
 -- a line that stands one lower has the same colours eight points further down
-colour-lower : (look : Look) (above : ℕ) (line : List ℕ) (q : Point) → colour_beside look (above + 1) line (before_shift q upwards) ≡ colour_beside look above line q
+colour-lower : (look : Look) (above : ℕ) (line : List ℕ) (q : Point) →
+    colour_beside look (above + 1) line (before_shift q upwards) ≡ colour_beside look above line q
 colour-lower look above line q =
     ap (λ b. coloured b (q.h -ℤ pos 0 -ℤ pos 0) (q.v -ℤ neg_ℤ (pos 8) -ℤ pos (8 * (above + 1)))) inside
-    ∙ ap (λ h. coloured (has_point (cells_of (begin_of above) (length line)) q) h (q.v -ℤ neg_ℤ (pos 8) -ℤ pos (8 * (above + 1)))) (across q.h)
-    ∙ ap (λ v. coloured (has_point (cells_of (begin_of above) (length line)) q) (q.h -ℤ pos 0) v) (down above q.v)
+    ∙ ap (λ h. coloured (in_cells above line q) h (q.v -ℤ neg_ℤ (pos 8) -ℤ pos (8 * (above + 1)))) (across q.h)
+    ∙ ap (λ v. coloured (in_cells above line q) (q.h -ℤ pos 0) v) (down above q.v)
   where
     coloured : Bool → ℤ → ℤ → ℕ
     coloured b h v = cond b (colour_of (glyph_bit look.font (slice_index line (unsigned_abs h / 8)) (unsigned_abs h) (unsigned_abs v))) 0
@@ -117,30 +117,36 @@ colour-lower look above line q =
     columns : (k : ℕ) (h : ℤ) → between (pos 0) (pos 0 +ℤ pos (8 * k)) (h -ℤ pos 0) ≡ between (pos 0) (pos 0 +ℤ pos (8 * k)) h
     columns k h = grind (arith, ints)
 
-    rows : (above : ℕ) (v : ℤ) → between (pos (8 * (above + 1))) (pos (8 * (above + 1)) +ℤ pos 8) (v -ℤ neg_ℤ (pos 8)) ≡ between (pos (8 * above)) (pos (8 * above) +ℤ pos 8) v
+    in_rows : ℕ → ℤ → Bool
+    in_rows above v = between (pos (8 * above)) (pos (8 * above) +ℤ pos 8) v
+
+    rows : (above : ℕ) (v : ℤ) → in_rows (above + 1) (v -ℤ neg_ℤ (pos 8)) ≡ in_rows above v
     rows above v = grind (arith, ints)
 
-    inside : has_point (cells_of (begin_of (above + 1)) (length line)) (before_shift q upwards) ≡ has_point (cells_of (begin_of above) (length line)) q
+    inside : in_cells (above + 1) line (before_shift q upwards) ≡ in_cells above line q
     inside =
-        let k = length line in
-        has_point-rect_of (pos 0) (pos 0 +ℤ pos (8 * k)) (pos (8 * (above + 1))) (pos (8 * (above + 1)) +ℤ pos 8) (before_shift q upwards)
-        ∙ ap (λ b. b && between (pos (8 * (above + 1))) (pos (8 * (above + 1)) +ℤ pos 8) (q.v -ℤ neg_ℤ (pos 8))) (columns k q.h)
-        ∙ ap (λ b. between (pos 0) (pos 0 +ℤ pos (8 * k)) q.h && b) (rows above q.v)
-        ∙ sym (has_point-rect_of (pos 0) (pos 0 +ℤ pos (8 * k)) (pos (8 * above)) (pos (8 * above) +ℤ pos 8) q)
+        let east = pos 0 +ℤ pos (8 * length line) in
+        has_point-rect_of (pos 0) east (pos (8 * (above + 1))) (pos (8 * (above + 1)) +ℤ pos 8) (before_shift q upwards)
+        ∙ ap (λ b. b && in_rows (above + 1) (q.v -ℤ neg_ℤ (pos 8))) (columns (length line) q.h)
+        ∙ ap (λ b. between (pos 0) east q.h && b) (rows above q.v)
+        ∙ sym (has_point-rect_of (pos 0) east (pos (8 * above)) (pos (8 * above) +ℤ pos 8) q)
 
 -- without the first line, each point has the colour of the point one line lower
-colour-moved : (look : Look) (first : List ℕ) (lines : List (List ℕ)) (q : Point) → pos 0 ≤ℤ q.v → colour_in look (first ∷ lines) (before_shift q upwards) ≡ colour_in look lines q
+colour-moved : (look : Look) (first : List ℕ) (lines : List (List ℕ)) (q : Point) → pos 0 ≤ℤ q.v →
+    colour_in look (first ∷ lines) (before_shift q upwards) ≡ colour_in look lines q
 colour-moved look first lines q inside =
     let above = unsigned_abs q.v / 8 in
+    let next = ap (λ n. get_or (first ∷ lines) n []) (add-one above) in
     ap (λ n. colour_beside look n (get_or (first ∷ lines) n []) (before_shift q upwards)) (lower q.v inside)
-    ∙ ap (λ (line : List ℕ). colour_beside look (above + 1) line (before_shift q upwards)) (ap (λ n. get_or (first ∷ lines) n []) (add-one above))
+    ∙ ap (λ (line : List ℕ). colour_beside look (above + 1) line (before_shift q upwards)) next
     ∙ colour-lower look above (get_or lines above []) q
   where
     lower : (v : ℤ) → pos 0 ≤ℤ v → unsigned_abs (v -ℤ neg_ℤ (pos 8)) / 8 ≡ unsigned_abs v / 8 + 1
     lower v inside = grind (arith, ints)
 
 -- a deed that makes one colour of another gives the point its colour
-makes-gives : (kind : Kind) (size : Size) (d : Deed) (old : Point → ℕ) (q : Point) (new : ℕ) → Makes kind d (old q) new → Gives kind size d old q new
+makes-gives : (kind : Kind) (size : Size) (d : Deed) (old : Point → ℕ) (q : Point) (new : ℕ) →
+    Makes kind d (old q) new → Gives kind size d old q new
 makes-gives kind size Keep old q new makes = makes
 makes-gives kind size Lose old q new makes = absurd makes
 makes-gives kind size (From r) old q new makes = absurd makes
@@ -151,7 +157,8 @@ makes-gives kind size (Change op) old q new makes = makes
 line-makes : (look : Look) (part : Edges) (lines : List (List ℕ)) (line : List ℕ) (q : Point) → has_point part q ≡ true →
     Makes look.kind (deed look (Text part (begin_of (length lines)) plain line) q) (colour_in look lines q) (colour_in look (lines ++ line ∷ []) q)
 line-makes look part lines line q here =
-    subst (λ (new : ℕ). Makes look.kind (deed look (Text part (begin_of (length lines)) plain line) q) (colour_in look lines q) new) (colour-more look lines line q)
+    let text : Paint = Text part (begin_of (length lines)) plain line in
+    subst (λ (new : ℕ). Makes look.kind (deed look text q) (colour_in look lines q) new) (colour-more look lines line q)
     (text-makes look part (begin_of (length lines)) line q (colour_in look lines q) here)
 
 -- and so it is a patch from the one picture to the other
@@ -181,7 +188,8 @@ area-has size above end q here =
     ∙ ap (λ b. b && between (pos (8 * above)) (pos (8 * end)) q.v) both.0
     ∙ down above end q.v (rows-from size q here)
   where
-    down : (above end : ℕ) (v : ℤ) → pos 0 ≤ℤ v → between (pos (8 * above)) (pos (8 * end)) v ≡ nat_le above (unsigned_abs v / 8) && nat_lt (unsigned_abs v / 8) end
+    down : (above end : ℕ) (v : ℤ) → pos 0 ≤ℤ v →
+        between (pos (8 * above)) (pos (8 * end)) v ≡ nat_le above (unsigned_abs v / 8) && nat_lt (unsigned_abs v / 8) end
     down above end v inside = grind (arith, ints, nat_tests)
 
 -- where the lines of a full window move upwards each gives its place to the next, the last place becomes background, and a line is written there
@@ -245,7 +253,8 @@ last_of-none : (n : ℕ) (lines : List (List ℕ)) → n ≡ 0 → last_of n lin
 last_of-none n lines none = drop_all (length lines - n) lines (omega arith)
 
 -- where a window has room for one line more, it shows it below the others
-shown_more : (n : ℕ) (lines : List (List ℕ)) (line : List ℕ) → length lines < min n most_lines → last_of n (last_of most_lines (lines ++ line ∷ [])) ≡ lines ++ line ∷ []
+shown_more : (n : ℕ) (lines : List (List ℕ)) (line : List ℕ) → length lines < min n most_lines →
+    last_of n (last_of most_lines (lines ++ line ∷ [])) ≡ lines ++ line ∷ []
 shown_more n lines line fits =
     ap (λ (all : List (List ℕ)). last_of n all) (last_of-all most_lines (lines ++ line ∷ []) (omega (arith, length-append lines (line ∷ []))))
     ∙ last_of-all n (lines ++ line ∷ []) (omega (arith, length-append lines (line ∷ [])))
@@ -270,28 +279,37 @@ lines_contents x (Line line) valid known = record {
 }
 lines_contents x Clear valid known = record { few = omega arith; each = All-nil IsLine }
 
-line_patches : (look : Look) (size : Size) (x : List (List ℕ)) (line : List ℕ) → IsLines x → (none fits : Bool) →
-    (min (room size) most_lines == 0) ≡ none → nat_lt (length x) (min (room size) most_lines) ≡ fits →
-    IsPatch look size (cond none [] (cond fits (written_below size (length x) line) (moved_up size (min (room size) most_lines) line)))
-    (colour_in look (last_of (room size) x)) (colour_in look (last_of (room size) (last_of most_lines (x ++ line ∷ []))))
-line_patches look size x line valid true fits is fit =
-    let zero : min (room size) most_lines ≡ 0 = eqb-true (min (room size) most_lines) 0 is in
-    let no_room : room size ≡ 0 = omega arith in
-    no_patch look size _ _
-    (λ q here. ap (λ (lines : List (List ℕ)). colour_in look lines q) (last_of-none (room size) x no_room ∙ sym (last_of-none (room size) (last_of most_lines (x ++ line ∷ [])) no_room)))
-line_patches look size x line valid false true is fit =
-    let less : length x < min (room size) most_lines = ltb-true (length x) (min (room size) most_lines) fit in
-    let P : List (List ℕ) → List (List ℕ) → Type 0 = λ old new. IsPatch look size (written_below size (length x) line) (colour_in look old) (colour_in look new) in
-    subst (λ (old : List (List ℕ)). P old (last_of (room size) (last_of most_lines (x ++ line ∷ [])))) (sym (last_of-all (room size) x (omega arith)))
-    (subst (λ (new : List (List ℕ)). P x new) (sym (shown_more (room size) x line less)) (written_patch look size x line (length x) refl))
-line_patches look size x line valid false false is fit =
-    let some : 0 < min (room size) most_lines = grind (arith, nat_tests) in
-    let full : min (room size) most_lines ≤ length x = grind (arith, nat_tests) in
-    let few = valid.few in
-    let long : length (last_of (room size) x) ≡ min (room size) most_lines = omega (arith, length-drop (length x - room size) x) in
-    subst (λ (new : List (List ℕ)). IsPatch look size (moved_up size (min (room size) most_lines) line) (colour_in look (last_of (room size) x)) (colour_in look new))
-    (sym (shown_full (room size) x line (omega arith) full few))
-    (moved_patch look size (last_of (room size) x) line (min (room size) most_lines) long some)
+-- the law of patches for one line more
+line_patches : (look : Look) (size : Size) (x : List (List ℕ)) (line : List ℕ) → IsLines x →
+    IsPatch look size (line_patch size x line) (lines_pic look size x) (lines_pic look size (last_of most_lines (x ++ line ∷ [])))
+line_patches look size x line valid = by_tests (most_shown size == 0) (nat_lt (length x) (most_shown size)) refl refl
+  where
+    next : List (List ℕ)
+    next = last_of most_lines (x ++ line ∷ [])
+
+    by_tests : (none fits : Bool) → (most_shown size == 0) ≡ none → nat_lt (length x) (most_shown size) ≡ fits →
+        IsPatch look size (cond none [] (cond fits (written_below size (length x) line) (moved_up size (most_shown size) line)))
+        (colour_in look (last_of (room size) x)) (colour_in look (last_of (room size) (last_of most_lines (x ++ line ∷ []))))
+    by_tests true fits is fit =
+        let zero : most_shown size ≡ 0 = eqb-true (most_shown size) 0 is in
+        let no_room : room size ≡ 0 = omega arith in
+        let same = last_of-none (room size) x no_room ∙ sym (last_of-none (room size) next no_room) in
+        no_patch look size _ _ (λ q here. ap (λ (lines : List (List ℕ)). colour_in look lines q) same)
+    by_tests false true is fit =
+        let less : length x < most_shown size = ltb-true (length x) (most_shown size) fit in
+        let P : List (List ℕ) → List (List ℕ) → Type 0 =
+        λ old new. IsPatch look size (written_below size (length x) line) (colour_in look old) (colour_in look new) in
+        subst (λ (old : List (List ℕ)). P old (last_of (room size) next)) (sym (last_of-all (room size) x (omega arith)))
+        (subst (λ (new : List (List ℕ)). P x new) (sym (shown_more (room size) x line less)) (written_patch look size x line (length x) refl))
+    by_tests false false is fit =
+        let some : 0 < most_shown size = grind (arith, nat_tests) in
+        let full : most_shown size ≤ length x = grind (arith, nat_tests) in
+        let few = valid.few in
+        let shown = last_of (room size) x in
+        let long : length shown ≡ most_shown size = omega (arith, length-drop (length x - room size) x) in
+        subst (λ (new : List (List ℕ)). IsPatch look size (moved_up size (most_shown size) line) (colour_in look shown) (colour_in look new))
+        (sym (shown_full (room size) x line (omega arith) full few))
+        (moved_patch look size shown line (most_shown size) long some)
 
 -- a part that is cleared shows no line
 pub cleared_painting : (look : Look) (part : Edges) → IsPainting look part (cleared part) (colour_in look [])
@@ -301,11 +319,11 @@ cleared_painting look part =
 
 pub lines_patches : (look : Look) (size : Size) (x : List (List ℕ)) (cmd : LinesCmd) → IsLines x → IsLinesCmd cmd → IsWindowSize size →
     IsPatch look size (lines_patch look size x cmd) (lines_pic look size x) (lines_pic look size (lines_next x cmd))
-lines_patches look size x (Line line) valid known small =
-    line_patches look size x line valid (min (room size) most_lines == 0) (nat_lt (length x) (min (room size) most_lines)) refl refl
+lines_patches look size x (Line line) valid known small = line_patches look size x line valid
 lines_patches look size x Clear valid known small =
+    let none = drop_all (0 - room size) [] (omega arith) in
     painting_is_patch look size (cleared (whole_of size)) (lines_pic look size x) (lines_pic look size [])
-    (subst (λ (lines : List (List ℕ)). IsPainting look (whole_of size) (cleared (whole_of size)) (colour_in look lines)) (sym (drop_all (0 - room size) [] (omega arith)))
+    (subst (λ (lines : List (List ℕ)). IsPainting look (whole_of size) (cleared (whole_of size)) (colour_in look lines)) (sym none)
     (cleared_painting look (whole_of size)))
 
 -- a window without columns has no part
@@ -319,20 +337,20 @@ nothing_moved : (size : Size) (count : ℕ) (line : List ℕ) → is_flat size �
 nothing_moved size count line flat none =
     rw (no_columns size 0 (count - 1) none, no_columns size (count - 1) count none) (nothing_written size (count - 1) line flat)
 
-line_empty_patches : (size : Size) (x : List (List ℕ)) (line : List ℕ) → is_flat size ≡ true → (none fits : Bool) → (min (room size) most_lines == 0) ≡ none →
-    cond none [] (cond fits (written_below size (length x) line) (moved_up size (min (room size) most_lines) line)) ≡ []
-line_empty_patches size x line flat true fits is = refl
-line_empty_patches size x line flat false true is = nothing_written size (length x) line flat
-line_empty_patches size x line flat false false is =
-    let some : 0 < min (room size) most_lines = grind (arith, nat_tests) in
-    let high : 0 < size.high = omega arith in
-    let no_column : size.wide ≡ 0 = grind (arith, nat_tests) in
-    nothing_moved size (min (room size) most_lines) line flat no_column
-
-pub lines_empty_patches : (look : Look) (size : Size) (x : List (List ℕ)) (cmd : LinesCmd) → IsLines x → IsLinesCmd cmd → IsWindowSize size →
-    is_flat size ≡ true → lines_patch look size x cmd ≡ []
+pub lines_empty_patches : (look : Look) (size : Size) (x : List (List ℕ)) (cmd : LinesCmd) → IsLines x → IsLinesCmd cmd →
+    IsWindowSize size → is_flat size ≡ true → lines_patch look size x cmd ≡ []
 lines_empty_patches look size x (Line line) valid known small flat =
-    line_empty_patches size x line flat (min (room size) most_lines == 0) (nat_lt (length x) (min (room size) most_lines)) refl
+    by_tests (most_shown size == 0) (nat_lt (length x) (most_shown size)) refl
+  where
+    by_tests : (none fits : Bool) → (most_shown size == 0) ≡ none →
+        cond none [] (cond fits (written_below size (length x) line) (moved_up size (most_shown size) line)) ≡ []
+    by_tests true fits is = refl
+    by_tests false true is = nothing_written size (length x) line flat
+    by_tests false false is =
+        let some : 0 < most_shown size = grind (arith, nat_tests) in
+        let high : 0 < size.high = omega arith in
+        let no_column : size.wide ≡ 0 = grind (arith, nat_tests) in
+        nothing_moved size (most_shown size) line flat no_column
 lines_empty_patches look size x Clear valid known small flat = ap (λ (part : Edges). cleared part) (flat-whole size flat)
 
 pub lines_keeping : (look : Look) (from to : Size) (x : List (List ℕ)) → IsLines x → IsWindowSize from → IsWindowSize to →
@@ -348,11 +366,12 @@ lines_keeping look from to x valid small small' = by_test (min (length x) (room 
     by_test false apart = survives-nothing from to (lines_pic look from x) (lines_pic look to x)
 
 -- while a part is painted, one line more is written below those that are
-pub line_pushed : (look : Look) (part : Edges) (batch : List Paint) (lines : List (List ℕ)) (line : List ℕ) (above : ℕ) → above ≡ length lines →
-    IsPainting look part batch (colour_in look lines) →
+pub line_pushed : (look : Look) (part : Edges) (batch : List Paint) (lines : List (List ℕ)) (line : List ℕ) (above : ℕ) →
+    above ≡ length lines → IsPainting look part batch (colour_in look lines) →
     IsPainting look part (batch ++ kept (Text part (begin_of above) plain line)) (colour_in look (lines ++ line ∷ []))
 line_pushed look part batch lines line above is painted =
+    let new = colour_in look (lines ++ line ∷ []) in
+    let text : Paint = Text part (begin_of (length lines)) plain line in
     subst (λ (n : ℕ). IsPainting look part (batch ++ kept (Text part (begin_of n) plain line)) (colour_in look (lines ++ line ∷ []))) (sym is)
-    (painting_more look part batch (Text part (begin_of (length lines)) plain line) (colour_in look lines) (colour_in look (lines ++ line ∷ [])) painted
-    (λ q here. line-makes look part lines line q here)
+    (painting_more look part batch text (colour_in look lines) new painted (λ q here. line-makes look part lines line q here)
     (meet-inside part (cells_of (begin_of (length lines)) (length line))))

@@ -16,9 +16,7 @@ enum Deed {
     Other,
 }
 
-fn point(h: i32, v: i32) -> Point
-    ensures { result ≡ record { h = h; v = v } }
-{
+fn point(h: i32, v: i32) -> Point {
     Point { h, v }
 }
 

@@ -25,7 +25,7 @@ returns-clause-near c =
     let origin : InReach (pos 0) = record { low = omega (arith, ints); high = omega (arith, ints) } in
     let east : InReach c.from.result = rw c.from.ensures (record { low = omega (arith, ints); high = omega (arith, ints) }) in
     let edges = cast-rect _ _ _ _ _ _ _ _ _ origin east c.north_of.ensures.reach c.north_of-2.ensures.reach c.edges.ensures.edges
-        refl c.from.ensures c.north_of.ensures.value c.north_of-2.ensures.value in
+    refl c.from.ensures c.north_of.ensures.value c.north_of-2.ensures.value in
     rw edges
-    (near-rect _ _ _ _ (near-length 0 (omega arith)) (near-length c.args.size.wide c.requires.size.wide) (near-length (8 * c.args.above) c.requires.above)
-    (near-length (8 * c.args.end) c.requires.end))
+    (near-rect _ _ _ _ (near-length 0 (omega arith)) (near-length c.args.size.wide c.requires.size.wide)
+    (near-length (8 * c.args.above) c.requires.above) (near-length (8 * c.args.end) c.requires.end))
