@@ -1,5 +1,5 @@
 -- Windows that show the last lines of a typescript.
-use Rattle.std.specs.Prelude.{ℕ, ◌+◌, ◌-◌, ◌*◌, ◌/◌, ◌≤◌, ◌==◌, ℤ, pos, neg_ℤ, nat_lt, min, Bool, if◌then◌else◌, List, [], ◌∷◌, ◌++◌, length, drop, slice_index_or, unsigned_abs, All, Option, Some, None, codes}
+use Rattle.std.specs.Prelude.{ℕ, ◌-◌, ◌*◌, ◌/◌, ◌≤◌, ◌==◌, pos, neg_ℤ, nat_lt, min, Bool, if◌then◌else◌, List, [], ◌∷◌, ◌++◌, length, drop, slice_index_or, unsigned_abs, All, Option, Some, None, codes}
 use Rattle.tr_base.specs.declared.Point.{Point}
 use Rattle.tr_base.specs.declared.Size.{Size}
 use Rattle.tr_base.specs.declared.Event.{Event}

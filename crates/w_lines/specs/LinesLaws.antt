@@ -1,10 +1,10 @@
 -- A Lines obeys the laws of clients. These are proofs, which stand here since an impl cites nothing else of its crate; no contract cites them.
-use Rattle.std.proofs.Common.{◌≡◌, ℕ, ◌+◌, ◌-◌, ◌*◌, ◌/◌, ◌<◌, ◌≤◌, ◌==◌, min, ℤ, pos, neg_ℤ, ◌+ℤ◌, ◌-ℤ◌, ◌≤ℤ◌, Bool, true, false, ◌&&◌, cond, List, [], ◌∷◌, ◌++◌, length, drop, take, get_or, refl, sym, ap, subst, ◌∙◌, arith, add-one, eqb-true}
+use Rattle.std.proofs.Common.{◌≡◌, ℕ, ◌+◌, ◌-◌, ◌*◌, ◌/◌, ◌<◌, ◌≤◌, ◌==◌, min, ℤ, pos, neg_ℤ, ◌+ℤ◌, ◌-ℤ◌, ◌≤ℤ◌, Bool, true, false, ◌&&◌, cond, List, [], ◌∷◌, ◌++◌, length, drop, get_or, refl, sym, ap, subst, ◌∙◌, arith, add-one, eqb-true}
 use Rattle.std.specs.Prelude.{nat_lt, nat_le, slice_index, unsigned_abs}
 use Rattle.std.proofs.lemmas.Int.{ints}
 use Rattle.std.proofs.lemmas.Bool.Decides.{nat_tests}
 use Rattle.std.proofs.lemmas.Bool.{eqb-false}
-use Rattle.std.proofs.lemmas.List.{append-nil, length-append, length-drop, length-take, drop-drop, drop-append-le, drop_all, get_or_append_left, get_or_push, get_or_past}
+use Rattle.std.proofs.lemmas.List.{append-nil, length-append, length-drop, drop-drop, drop-append-le, drop_all, get_or_append_left, get_or_push, get_or_past}
 use Rattle.std.proofs.lemmas.List.Elements.{All-nil, All-push, All-drop}
 use borrow.Author.Tests.{ltb-true}
 use Rattle.tr_base.specs.declared.Point.{Point}
@@ -20,7 +20,7 @@ use Rattle.tr_paint.specs.declared.Paint.TheVariants.{Tint, Text, Scroll}
 use Rattle.tr_paint.specs.Paints.{cells_of, text_bit}
 use Rattle.tr_paint.specs.Traces.{Look, Deed, Keep, Lose, From, Value, Change, deed}
 use Rattle.tr_paint.specs.Patches.{IsPatch}
-use Rattle.tr_paint.specs.Batches.{kept, batch_of}
+use Rattle.tr_paint.specs.Batches.{kept}
 use Rattle.tr_paint.proofs.PatchLemmas.{Gives, no_patch, kept_patch, two_patches}
 use Rattle.tr_paint.specs.Paintings.{IsPainting}
 use Rattle.tr_paint.proofs.PaintingLemmas.{Makes, painting_alone, painting_more, painting_along, painting_is_patch}
