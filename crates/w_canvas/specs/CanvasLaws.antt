@@ -152,14 +152,18 @@ undo_patches look size figures = elim (slice_get_cases figures (length figures -
         (no_patch look size (canvas_pic look size figures) (canvas_pic look size (without_last figures))
         (λ q here. ap (λ (fs : List Figure). canvas_pic look size fs q) (sym (take_all (length figures - 1) figures few))))
 
--- a figure in range keeps a canvas in range
+-- a figure more, where there is room, keeps all in range
+pub grown-valid : (x : List Figure) (f : Figure) → length x < most_figures → IsCanvas x → IsFigure f → IsCanvas (x ++ f ∷ [])
+grown-valid x f room valid known = record {
+  most = omega (arith, length-append x (f ∷ []), valid.most);
+  each = All-append IsFigure x (f ∷ []) valid.each (All-from_recursion IsFigure (f ∷ []) (known, tt));
+}
+
 pub with-valid : (x : List Figure) (f : Figure) → IsCanvas x → IsFigure f → IsCanvas (with_figure x f)
 with-valid x f valid known = by_room (nat_lt (length x) most_figures) refl
   where
     by_room : (b : Bool) → nat_lt (length x) most_figures ≡ b → IsCanvas (cond b (x ++ f ∷ []) x)
-    by_room true room =
-        let some : length x < 64 = ltb-true (length x) 64 room in
-        record { most = omega (arith, length-append x (f ∷ [])); each = All-append IsFigure x (f ∷ []) valid.each (All-from_recursion IsFigure (f ∷ []) (known, tt)) }
+    by_room true room = grown-valid x f (ltb-true (length x) most_figures room) valid known
     by_room false full = valid
 
 pub without-valid : (x : List Figure) → IsCanvas x → IsCanvas (without_last x)

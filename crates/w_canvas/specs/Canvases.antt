@@ -6,6 +6,7 @@ use Rattle.tr_base.specs.declared.Point.{Point}
 use Rattle.tr_base.specs.declared.Size.{Size}
 use Rattle.tr_base.specs.declared.Event.{Event}
 use Rattle.tr_base.specs.declared.Event.TheVariants.{Mouse, Key}
+use Rattle.tr_base.specs.declared.Click.{Click}
 use Rattle.tr_base.specs.declared.Click.TheVariants.{FirstDown}
 use Rattle.tr_base.specs.declared.Kind.{Kind}
 use Rattle.tr_base.specs.declared.Op.{Op}
@@ -127,14 +128,23 @@ is_drawable at = between (pos 0) (pos longest) at.h && between (pos 0) (pos long
 abbrev pub square_at : Point → Edges
 square_at at = rect_of at.h (at.h +ℤ pos 2) at.v (at.v +ℤ pos 2)
 
--- the key that takes the last figure away
+-- the number of the backspace key
 abbrev pub backspace : ℕ
 backspace = 8
 
--- the first button that goes down draws a small square there, and backspace takes the last figure away
+-- the first button that goes down draws a small square where it is
+abbrev pub click_answer : Click → Point → Option CanvasCmd
+click_answer FirstDown at = if is_drawable at then Some (Rect (square_at at) 1) else None
+click_answer click at = None
+
+-- the backspace key takes the last figure away
+abbrev pub key_answer : ℕ → Option CanvasCmd
+key_answer code = if code == backspace then Some Undo else None
+
+-- the command that an event asks for
 abbrev pub canvas_answer : List Figure → Event → Option CanvasCmd
-canvas_answer figures (Mouse time FirstDown button at) = if is_drawable at then Some (Rect (square_at at) 1) else None
-canvas_answer figures (Key time code) = if code == backspace then Some Undo else None
+canvas_answer figures (Mouse time click button at) = click_answer click at
+canvas_answer figures (Key time code) = key_answer code
 canvas_answer figures event = None
 
 -- the number of figures in decimal

@@ -1,4 +1,4 @@
-ghost use Rattle.std.specs.Prelude.{◌≡◌, ◌-◌, ◌↔◌, [], true, pos, length, slice_get, IsTrue, IfOk};
+ghost use Rattle.std.specs.Prelude.{◌≡◌, ◌-◌, ◌↔◌, [], true, pos, length, slice_get, IsTrue, IfOk, IfSome};
 ghost use Rattle.tr_base.specs.Layouts.{longest};
 ghost use Rattle.tr_base.specs.Rects.{between};
 ghost use Rattle.tr_paint.specs.Paints.{IsNearPaint, IsNearRect};
@@ -245,6 +245,33 @@ fn square_at(at: Point) -> Area
     square
 }
 
+/// The command that a button asks for.
+fn drawn_by(click: Click, at: Point) -> Option<CanvasCmd>
+    ensures command { IfSome result (λ cmd. spec.IsCanvasCmd cmd) }
+    ensures answer { result ≡ spec.click_answer click at }
+{
+    if click == Click::FirstDown && is_drawable(at) {
+        Some(CanvasCmd::Rect {
+            area: square_at(at),
+            tint: 1,
+        })
+    } else {
+        None
+    }
+}
+
+/// The command that a key asks for.
+fn undone_by(code: u8) -> Option<CanvasCmd>
+    ensures command { IfSome result (λ cmd. spec.IsCanvasCmd cmd) }
+    ensures answer { result ≡ spec.key_answer code }
+{
+    if code == BACKSPACE {
+        Some(CanvasCmd::Undo)
+    } else {
+        None
+    }
+}
+
 impl Client for Canvas {
     ghost use Rattle.w_canvas.specs.Canvases.{IsCanvas, canvas_pic, canvas_next, canvas_patch, canvas_answer, canvas_value, canvas_keeps};
     ghost use Rattle.w_canvas.specs.CanvasLaws.{canvas_contents, canvas_patches, canvas_empty_patches, canvas_keeping};
@@ -296,22 +323,11 @@ impl Client for Canvas {
 
     fn react(&self, _alloc: Global, event: &Event) -> Result<Option<CanvasCmd>, NoMemory> {
         let _figures = self.figures();
-        let asked = match *event {
-            Event::Mouse {
-                click: Click::FirstDown,
-                at,
-                ..
-            } if is_drawable(at) => Some(CanvasCmd::Rect {
-                area: square_at(at),
-                tint: 1,
-            }),
-            Event::Key {
-                code: BACKSPACE,
-                ..
-            } => Some(CanvasCmd::Undo),
-            _ => None,
-        };
-        Ok(asked)
+        match *event {
+            Event::Mouse { click, at, .. } => Ok(drawn_by(click, at)),
+            Event::Key { code, .. } => Ok(undone_by(code)),
+            _ => Ok(None),
+        }
     }
 
     fn value(&self, _alloc: Global) -> Result<Line, NoMemory> {

@@ -86,18 +86,18 @@ impl Command for CanvasCmd {
             (
                 CanvasCmd::Rect { area, tint },
                 CanvasCmd::Rect {
-                    area: place,
-                    tint: colour,
+                    area: other_area,
+                    tint: other_tint,
                 },
-            ) => { area.same(place) && tint == colour }
+            ) => { area.same(other_area) && tint == other_tint }
             (
                 CanvasCmd::Exchange { area, a, b },
                 CanvasCmd::Exchange {
-                    area: place,
-                    a: first,
-                    b: second,
+                    area: other_area,
+                    a: other_a,
+                    b: other_b,
                 },
-            ) => { area.same(place) && a == first && b == second }
+            ) => { area.same(other_area) && a == other_a && b == other_b }
             (CanvasCmd::Undo, CanvasCmd::Undo) => true,
             _ => false,
         }
