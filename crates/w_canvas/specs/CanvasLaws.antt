@@ -200,7 +200,8 @@ canvas_empty_patches look size x cmd valid known small flat = by_cmd cmd
     drawn part is f false = refl
 
     gone : (part : Edges) → part ≡ empty_rect → (left : List Figure) (f : Figure) → canvas_paints (meet_of part f.area) left ≡ []
-    gone part is left f = rw (is, meet-nothing f.area) (flat-figures left)
+    gone part is left f =
+        ap (λ (p : Edges). canvas_paints p left) (ap (λ (p : Edges). meet_of p f.area) is ∙ meet-nothing f.area) ∙ flat-figures left
 
     undone : (left : List Figure) (o : Option Figure) → gone_patch size left o ≡ []
     undone left None = refl

@@ -26,7 +26,7 @@ after-untouched look base (c ∷ cs) q seen none =
     let apart = neither (has_point (area c) q) (touches cs q) none in
     after-first look base c cs q
     ∙ after-untouched look (left_by look base (c ∷ [])) cs q seen apart.1
-    ∙ rw (seen, apart.0) refl
+    ∙ rw (apart.0, seen) refl
 
 -- what paints a part of the new picture is a patch where the pictures agree outside that part
 pub part_patch : (look : Look) (size : Size) (part : Edges) (batch : List Paint) (old new : Point → ℕ) → IsPainting look part batch new →

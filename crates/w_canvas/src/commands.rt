@@ -51,11 +51,13 @@ fn append_with_edges(
             south.as_bytes(),
         ],
     )?;
-    if append_all(out, rest).is_err() {
-        out.truncate(len);
-        return Err(NoMemory);
+    match append_all(out, rest) {
+        Ok(()) => Ok(()),
+        Err(NoMemory) => {
+            out.truncate(len);
+            Err(NoMemory)
+        }
     }
-    Ok(())
 }
 
 impl Command for CanvasCmd {
