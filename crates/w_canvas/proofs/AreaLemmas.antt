@@ -1,9 +1,8 @@
 -- Edges of figures stay in range.
-use Rattle.std.proofs.Common.{◌≡◌, ℤ, pos, ◌+ℤ◌, ◌≤ℤ◌, ◌<ℤ◌, Bool, true, false, ◌&&◌, cond, arith}
+use Rattle.std.proofs.Common.{ℤ, pos, Bool, true, false, ◌&&◌, cond, arith}
 use Rattle.std.specs.Prelude.{int_lt}
 use Rattle.std.proofs.lemmas.Int.{ints}
-use Rattle.tr_base.specs.Layouts.{longest}
-use Rattle.tr_base.specs.Rects.{InReach, between, rect_of, empty_rect}
+use Rattle.tr_base.specs.Rects.{InReach, rect_of, empty_rect}
 use Rattle.w_canvas.specs.Areas.{IsFigureEdge, IsArea}
 
 -- an edge of a figure is within reach
@@ -20,19 +19,3 @@ area-rect_of w e n s hw he hn hs = by_test (int_lt w e && int_lt n s)
     by_test : (b : Bool) → IsArea (cond b (record { west = w; east = e; north = n; south = s }) empty_rect)
     by_test true = record { west = hw; east = he; north = hn; south = hs }
     by_test false = record { west = zero; east = zero; north = zero; south = zero }
-
--- a coordinate in the greatest window, and the edge of a small square there
-pub record IsDrawn (x : ℤ) : Type 0 where
-  pub edge : IsFigureEdge x
-  pub reach : InReach (x +ℤ pos 2)
-  pub moved : IsFigureEdge (x +ℤ pos 2)
-
-pub is-drawn : (x : ℤ) → between (pos 0) (pos longest) x ≡ true → IsDrawn x
-is-drawn x h =
-    let first : pos 0 ≤ℤ x = grind (arith, ints) in
-    let last : x <ℤ pos 4096 = grind (arith, ints) in
-    record {
-      edge = record { low = omega (arith, ints); high = omega (arith, ints) };
-      reach = record { low = omega (arith, ints); high = omega (arith, ints) };
-      moved = record { low = omega (arith, ints); high = omega (arith, ints) };
-    }
