@@ -30,7 +30,7 @@ use Rattle.tr_client.proofs.PlainLemmas.{meet-inside}
 use Rattle.w_canvas.specs.declared.canvases.Figure.{Figure}
 use Rattle.w_canvas.specs.declared.commands.CanvasCmd.{CanvasCmd}
 use Rattle.w_canvas.specs.declared.commands.CanvasCmd.TheVariants.{Rect, Exchange, Undo}
-use Rattle.w_canvas.specs.Canvases.{IsFigure, IsCanvas, IsCanvasCmd, most_figures, filled, exchanging, drawn_over, canvas_pic, with_figure, without_last, canvas_next, figure_paint, canvas_paints, with_patch, gone_patch, canvas_patch, canvas_keeps}
+use Rattle.w_canvas.specs.Canvases.{IsFigure, IsCanvas, IsCanvasCmd, most_figures, filled, exchanging, drawn_over, canvas_pic, with_figure, without_last, canvas_next, figure_paint, canvas_paints, with_patch, gone_patch, undo_patch, canvas_patch, canvas_keeps}
 use Rattle.w_canvas.specs.PartPatches.{part_patch}
 
 -- what a command with an operation makes of a pixel, by whether the point lies in its area
@@ -138,7 +138,7 @@ none_patches look size figures none =
     (λ q here. ap (λ (all : List Figure). canvas_pic look size all q) (sym (take_all (length figures - 1) figures none)))
 
 undo_patches : (look : Look) (size : Size) (figures : List Figure) →
-    IsPatch look size (canvas_patch look size figures Undo) (canvas_pic look size figures) (canvas_pic look size (without_last figures))
+    IsPatch look size (undo_patch size figures) (canvas_pic look size figures) (canvas_pic look size (without_last figures))
 undo_patches look size figures =
     let left = without_last figures in
     let P : Option Figure → Type 0 = λ gone. IsPatch look size (gone_patch size left gone) (canvas_pic look size figures) (canvas_pic look size left) in
