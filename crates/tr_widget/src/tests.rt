@@ -1,4 +1,9 @@
+mod draws;
+mod points;
+
 use super::*;
+use draws::Draw;
+use points::holds_to_its_picture;
 use std::alloc::Global;
 use std::process::Abort;
 use std::test::Fail;
@@ -229,6 +234,20 @@ fn a_prepared_widget_is_fitted_anew(rt: HostRuntime) -> Result<(), Fail> {
             _ => None,
         };
         assert_eq!(rt; tint, Some((Rect::edges(0, 3, 0, 1), Op::Set(7))));
+    }
+    Ok(())
+}
+
+#[test]
+fn each_widget_holds_to_its_picture(rt: HostRuntime) -> Result<(), Fail> {
+    let alloc = rt.alloc();
+    let mut draw = Draw::new(1);
+    for content in contents(alloc)? {
+        let mut content = content;
+        for _ in 0..100 {
+            let cmd = draw.command()?;
+            content = holds_to_its_picture(&rt, alloc, &content, &cmd, &mut draw)?;
+        }
     }
     Ok(())
 }

@@ -1,0 +1,106 @@
+//! Numbers that look random, and what is made of them.
+ghost use Rattle.std.specs.Prelude.{◌≤◌};
+ghost use Rattle.tr_client.specs.Laws.{IsWindowSize};
+ghost use Rattle.w_plain.specs.Shifts.{IsShift};
+
+use crate::WidgetCmd;
+use std::alloc::Global;
+use tr_base::{Font, Kind, Line, NoMemory, Point, Rect, Size, Tile};
+use w_meter::{BarNumber, MeterCmd};
+use w_plain::{BoardCmd, LabelCmd, Shift, SolidCmd};
+
+#[derive(Drop)]
+pub struct Draw {
+    state: u32,
+}
+
+impl Draw {
+    pub fn new(state: u32) -> Draw {
+        Draw { state }
+    }
+
+    pub fn byte(&mut self) -> u8 {
+        self.state = self
+            .state
+            .wrapping_mul(1_664_525)
+            .wrapping_add(1_013_904_223);
+        (self.state >> 24) as u8
+    }
+
+    pub fn tile(&mut self) -> Tile {
+        let mut rows = [0; 8];
+        for row in &mut rows {
+            *row = self.byte();
+        }
+        Tile { rows }
+    }
+
+    fn point(&mut self) -> Point
+        ensures { IsShift result }
+    {
+        Point {
+            h: i32::from(self.byte()) - 100,
+            v: i32::from(self.byte()) - 100,
+        }
+    }
+
+    fn line(&mut self) -> Result<Line, NoMemory> {
+        match self.byte() % 4 {
+            0 => Line::of(b""),
+            1 => Line::of(b"a"),
+            2 => Line::of(b"Zz~"),
+            _ => Line::of(b" to be "),
+        }
+    }
+
+    pub fn font(&mut self, alloc: Global) -> Result<Font, NoMemory> {
+        let mut font = Font::empty(alloc)?;
+        font.set(b'a', self.tile().rows);
+        font.set(b'~', self.tile().rows);
+        Ok(font)
+    }
+
+    pub fn kind(&mut self) -> Kind {
+        match self.byte() % 3 {
+            0 => Kind::Mono,
+            1 => Kind::Map4,
+            _ => Kind::Map8,
+        }
+    }
+
+    fn side(&mut self) -> u16
+        ensures { result ≤ 255 }
+    {
+        let drawn = u16::from(self.byte());
+        if drawn < 40 { 0 } else { drawn % 28 }
+    }
+
+    pub fn size(&mut self) -> Size
+        ensures { IsWindowSize result }
+    {
+        Size {
+            wide: self.side(),
+            high: self.side(),
+        }
+    }
+
+    pub fn clip(&mut self) -> Rect {
+        let (west, north) = (i32::from(self.byte() % 24), i32::from(self.byte() % 24));
+        let (wide, high) = (i32::from(self.byte() % 24), i32::from(self.byte() % 24));
+        Rect::edges(west - 4, west + wide, north - 4, north + high)
+    }
+
+    /// A command of any widget.
+    pub fn command(&mut self) -> Result<WidgetCmd, NoMemory> {
+        Ok(match self.byte() % 5 {
+            0 => WidgetCmd::Solid(SolidCmd::Tint(self.byte())),
+            1 => WidgetCmd::Board(BoardCmd::Tile(self.tile())),
+            2 => WidgetCmd::Board(BoardCmd::Shift(Shift::by(self.point()))),
+            3 => WidgetCmd::Label(LabelCmd::Text(self.line()?)),
+            _ => WidgetCmd::Meter(MeterCmd::Bar {
+                bar: BarNumber::of(self.byte() % 5),
+                height: self.byte() % 32,
+            }),
+        })
+    }
+}
