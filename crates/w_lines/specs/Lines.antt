@@ -1,0 +1,123 @@
+-- Windows that show the last lines of a typescript.
+use Rattle.std.specs.Prelude.{ℕ, ◌+◌, ◌-◌, ◌*◌, ◌/◌, ◌≤◌, ◌==◌, ℤ, pos, neg_ℤ, nat_lt, min, Bool, if◌then◌else◌, List, [], ◌∷◌, ◌++◌, length, drop, slice_index_or, unsigned_abs, All, Option, Some, None, codes}
+use Rattle.tr_base.specs.declared.Point.{Point}
+use Rattle.tr_base.specs.declared.Size.{Size}
+use Rattle.tr_base.specs.declared.Event.{Event}
+use Rattle.tr_base.specs.declared.Event.TheVariants.{Key}
+use Rattle.tr_base.specs.declared.Op.TheVariants.{Bg}
+use Rattle.tr_base.specs.Rects.{Edges, empty_rect, has_point, meet_of, rect_of, whole_of}
+use Rattle.tr_base.specs.Lines.{IsLine, is_printable}
+use Rattle.tr_paint.specs.declared.Paint.{Paint}
+use Rattle.tr_paint.specs.declared.Paint.TheVariants.{Tint, Text, Scroll}
+use Rattle.tr_paint.specs.Paints.{cells_of, text_bit}
+use Rattle.tr_paint.specs.Traces.{Look}
+use Rattle.tr_paint.specs.Batches.{batch_of}
+use Rattle.tr_client.specs.Plain.{plain, colour_of}
+use Rattle.tr_client.specs.Words.{with_text}
+use Rattle.w_lines.specs.declared.commands.LinesCmd.{LinesCmd}
+use Rattle.w_lines.specs.declared.commands.LinesCmd.TheVariants.{Line, Clear}
+
+-- no more lines are kept
+abbrev pub most_lines : ℕ
+most_lines = 200
+
+-- the last n lines, or all where there are fewer
+abbrev pub last_of : ℕ → List (List ℕ) → List (List ℕ)
+last_of n lines = drop (length lines - n) lines
+
+-- there are at most 200 lines, and each has at most 80 bytes, which can all be printed
+pub record IsLines (lines : List (List ℕ)) : Type 0 where
+  pub few : length lines ≤ most_lines
+  pub each : All IsLine lines
+
+-- the text of a command is one of a line
+abbrev pub IsLinesCmd : LinesCmd → Type 0
+IsLinesCmd (Line line) = IsLine line
+IsLinesCmd Clear = Unit {0}
+
+-- the words of a command in a script: the text is the rest of the script's line
+abbrev pub lines_words : LinesCmd → List ℕ
+lines_words (Line line) = with_text (codes "line") line
+lines_words Clear = codes "clear"
+
+-- how many lines, each eight points high, a window has room for
+abbrev pub room : Size → ℕ
+room size = size.high / 8
+
+-- where a line begins that has so many others above it
+abbrev pub begin_of : ℕ → Point
+begin_of above = record { h = pos 0; v = pos (8 * above) }
+
+-- a point lies in the cells of a line that stands below so many others
+abbrev pub in_cells : ℕ → List ℕ → Point → Bool
+in_cells above line q = has_point (cells_of (begin_of above) (length line)) q
+
+-- the colour of a point by the line that stands there below so many others: the text is foreground, and what is beside it background
+abbrev pub colour_beside : Look → ℕ → List ℕ → Point → ℕ
+colour_beside look above line q = if in_cells above line q then colour_of (text_bit look.font (begin_of above) line q) else 0
+
+-- the colour of a point where these lines stand one below the other; below the last one all is background
+abbrev pub colour_in : Look → List (List ℕ) → Point → ℕ
+colour_in look lines q =
+    let above = unsigned_abs q.v / 8 in
+    colour_beside look above (slice_index_or lines above []) q
+
+-- how many lines a window shows at most
+abbrev pub most_shown : Size → ℕ
+most_shown size = min (room size) most_lines
+
+-- a window shows the last lines, as many as it has room for
+abbrev pub lines_pic : Look → Size → List (List ℕ) → Point → ℕ
+lines_pic look size lines q = colour_in look (last_of (room size) lines) q
+
+-- a command puts a line behind the others, of which the oldest goes where there are 200, or removes all lines
+abbrev pub lines_next : List (List ℕ) → LinesCmd → List (List ℕ)
+lines_next lines (Line line) = last_of most_lines (lines ++ line ∷ [])
+lines_next lines Clear = []
+
+-- the part of a window where a line stands that has so many above it, and those below that have fewer than `end` above them
+abbrev pub area_of : Size → ℕ → ℕ → Edges
+area_of size above end = rect_of (pos 0) (pos size.wide) (pos (8 * above)) (pos (8 * end))
+
+-- one line upwards
+abbrev pub upwards : Point
+upwards = record { h = pos 0; v = neg_ℤ (pos 8) }
+
+-- a part of a window becomes background
+abbrev pub cleared : Edges → List Paint
+cleared part = batch_of (Tint part Bg ∷ [])
+
+-- a line is written below so many others
+abbrev pub written_below : Size → ℕ → List ℕ → List Paint
+written_below size above line = batch_of (Text (whole_of size) (begin_of above) plain line ∷ [])
+
+-- the lines of a window that is full with `count` lines move upwards, and a line is written where the last one was
+abbrev pub moved_up : Size → ℕ → List ℕ → List Paint
+moved_up size count line =
+    let last = count - 1 in
+    batch_of (Scroll (area_of size 0 last) upwards ∷ Tint (area_of size last count) Bg ∷ Text (whole_of size) (begin_of last) plain line ∷ [])
+
+-- a new line is written below the others; where there is no room, they move upwards; and where no line has room, nothing is painted
+abbrev pub line_patch : Size → List (List ℕ) → List ℕ → List Paint
+line_patch size lines line =
+    let count = most_shown size in
+    if count == 0 then [] else if nat_lt (length lines) count then written_below size (length lines) line else moved_up size count line
+
+-- a command's patch: that of a line, or all of the window becomes background
+abbrev pub lines_patch : Look → Size → List (List ℕ) → LinesCmd → List Paint
+lines_patch look size lines (Line line) = line_patch size lines line
+lines_patch look size lines Clear = cleared (whole_of size)
+
+-- a key that can be printed asks for a line of this one byte
+abbrev pub lines_answer : List (List ℕ) → Event → Option LinesCmd
+lines_answer lines (Key time code) = if is_printable code then Some (Line (code ∷ [])) else None
+lines_answer lines event = None
+
+-- the last line, which has no byte where there is none
+abbrev pub lines_value : List (List ℕ) → List ℕ
+lines_value lines = slice_index_or lines (length lines - 1) []
+
+-- what both windows have, if they show the same number of lines, and else nothing
+abbrev pub lines_keeps : List (List ℕ) → Size → Size → Edges
+lines_keeps lines from to =
+    if min (length lines) (room from) == min (length lines) (room to) then meet_of (whole_of from) (whole_of to) else empty_rect

@@ -1,0 +1,13 @@
+//! A window with the last lines of a typescript: a command adds a line below the others, and where
+//! there is no room the lines move upwards.
+#![tactic(auto)]
+
+mod commands;
+mod places;
+mod typescripts;
+
+pub use commands::LinesCmd;
+pub use typescripts::{Lines, MOST_LINES};
+
+#[cfg(test)]
+mod tests;
