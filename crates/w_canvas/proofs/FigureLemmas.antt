@@ -1,0 +1,30 @@
+-- Lists of figures.
+use Rattle.std.proofs.Common.{◌≡◌, ℕ, ◌<◌, List, [], ◌∷◌, ◌++◌, length, map, get_or, sym, ap, ◌∙◌}
+use Rattle.std.proofs.lemmas.List.{append-nil, append_assoc, map-append, get_or_default}
+use Rattle.std.proofs.lemmas.Grind.{flat_map-append}
+use Rattle.tr_base.specs.Rects.{Edges}
+use Rattle.tr_base.specs.declared.Op.TheVariants.{Bg}
+use Rattle.tr_paint.specs.declared.Paint.{Paint}
+use Rattle.tr_paint.specs.declared.Paint.TheVariants.{Tint}
+use Rattle.tr_paint.specs.Batches.{kept, batch_of}
+use Rattle.w_canvas.specs.declared.canvases.Figure.{Figure}
+use Rattle.w_canvas.specs.Canvases.{figure_paint, canvas_paints}
+
+-- one figure more is painted
+pub paints-more : (part : Edges) (figures : List Figure) (f : Figure) →
+    canvas_paints part (figures ++ f ∷ []) ≡ canvas_paints part figures ++ kept (figure_paint part f)
+paints-more part figures f =
+    ap (λ (cs : List Paint). kept (Tint part Bg) ++ cs)
+    (ap batch_of (map-append (figure_paint part) figures (f ∷ []))
+    ∙ flat_map-append kept (map (figure_paint part) figures) (figure_paint part f ∷ [])
+    ∙ ap (λ (cs : List Paint). batch_of (map (figure_paint part) figures) ++ cs) (append-nil (kept (figure_paint part f))))
+    ∙ sym (append_assoc (kept (Tint part Bg)) (batch_of (map (figure_paint part) figures)) (kept (figure_paint part f)))
+
+-- without figures the background alone is painted
+pub paints-none : (part : Edges) → kept (Tint part Bg) ≡ canvas_paints part []
+paints-none part = sym (append-nil (kept (Tint part Bg)))
+
+-- lists that differ at a place are not the same
+pub lists-differ : {X : Type 0} (xs ys : List X) (i : ℕ) (x y : X) → i < length xs → x ≡ get_or xs i x → y ≡ get_or ys i y → (x ≡ y → ⊥) → xs ≡ ys → ⊥
+lists-differ xs ys i x y within is-x is-y apart same =
+    apart (is-x ∙ get_or_default xs i x y within ∙ ap (λ l. get_or l i y) same ∙ sym is-y)

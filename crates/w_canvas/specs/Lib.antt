@@ -1,0 +1,4 @@
+pub mod Areas
+pub mod Canvases
+pub mod PartPatches
+pub mod CanvasLaws

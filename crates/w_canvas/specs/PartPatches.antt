@@ -1,0 +1,47 @@
+-- Patches that paint a part of a window. These are proofs, which stand here since the laws of an impl cite nothing else of its crate.
+use Rattle.std.proofs.Common.{◌≡◌, ℕ, Bool, true, false, ◌||◌, List, [], ◌∷◌, refl, sym, subst, ◌∙◌}
+use Rattle.std.specs.Prelude.{IfSome, Option}
+use Rattle.tr_base.specs.declared.Point.{Point}
+use Rattle.tr_base.specs.declared.Size.{Size}
+use Rattle.tr_base.specs.Rects.{Edges, has_point, whole_of}
+use Rattle.tr_base.proofs.RectLemmas.{false-true}
+use Rattle.tr_paint.specs.declared.Paint.{Paint}
+use Rattle.tr_paint.specs.Paints.{area}
+use Rattle.tr_paint.specs.Traces.{Look, Base, after, left_by}
+use Rattle.tr_paint.specs.Batches.{touches}
+use Rattle.tr_paint.specs.Patches.{IsPatch}
+use Rattle.tr_paint.specs.Paintings.{IsPainting}
+use Rattle.tr_paint.proofs.TraceLemmas.{after-first}
+
+-- neither of two tests holds
+neither : (a b : Bool) → a || b ≡ false → (a ≡ false) × (b ≡ false)
+neither true b h = absurd (false-true (sym h))
+neither false b h = (refl, h)
+
+-- a batch leaves a point as it is that lies in the area of none of its commands
+pub after-untouched : (look : Look) (base : Base) (batch : List Paint) (q : Point) → base.visible q ≡ true → touches batch q ≡ false →
+    after look base batch q ≡ base.known q
+after-untouched look base [] q seen none = rw seen refl
+after-untouched look base (c ∷ cs) q seen none =
+    let apart = neither (has_point (area c) q) (touches cs q) none in
+    after-first look base c cs q
+    ∙ after-untouched look (left_by look base (c ∷ [])) cs q seen apart.1
+    ∙ rw (apart.0, seen) refl
+
+-- what paints a part of the new picture is a patch where the pictures agree outside that part
+pub part_patch : (look : Look) (size : Size) (part : Edges) (batch : List Paint) (old new : Point → ℕ) → IsPainting look part batch new →
+    ((q : Point) → has_point (whole_of size) q ≡ true → has_point part q ≡ false → old q ≡ new q) → IsPatch look size batch old new
+part_patch look size part batch old new painted same base within shows q seen = by_part (has_point part q) refl
+  where
+    along : (o : Option ℕ) → old q ≡ new q → IfSome o (λ x. x ≡ old q) → IfSome o (λ x. x ≡ new q)
+    along o is known = subst (λ (n : ℕ). IfSome o (λ x. x ≡ n)) is known
+
+    untouched : has_point part q ≡ false → (b : Bool) → touches batch q ≡ b → touches batch q ≡ false
+    untouched apart true h = absurd (false-true (sym apart ∙ painted.within q h))
+    untouched apart false h = h
+
+    by_part : (b : Bool) → has_point part q ≡ b → IfSome (after look base batch q) (λ x. x ≡ new q)
+    by_part true here = rw (painted.shows base q seen here) refl
+    by_part false apart =
+        rw (after-untouched look base batch q seen (untouched apart (touches batch q) refl))
+        (along (base.known q) (same q (within q seen) apart) (shows q seen))

@@ -1,0 +1,349 @@
+ghost use Rattle.std.specs.Prelude.{◌≡◌, ◌-◌, ◌↔◌, [], true, pos, length, slice_get, IsTrue, IfOk, IfSome};
+ghost use Rattle.tr_base.specs.Layouts.{longest};
+ghost use Rattle.tr_base.specs.Rects.{between};
+ghost use Rattle.tr_paint.specs.Paints.{IsNearPaint, IsNearRect};
+ghost use Rattle.tr_paint.specs.Traces.{Look};
+ghost use Rattle.tr_client.specs.Laws.{IsWindowSize};
+ghost use Rattle.w_canvas.specs.Areas.{IsArea};
+ghost use Rattle.w_canvas.specs.Canvases as spec;
+
+use crate::areas::Area;
+use crate::commands::CanvasCmd;
+use std::alloc::Global;
+use std::marker::Model;
+use tr_base::{Click, Command, Env, Event, LONGEST, Line, NoMemory, Op, Point, Rect, Size, moved};
+use tr_client::{Client, decimal_line, kept_part, part_of_window, window};
+use tr_paint::{Batch, Paint};
+
+/// How many figures a Canvas has room for.
+pub const FIGURES: usize = 64;
+
+/// The side of the square that a button draws.
+const SIDE: i32 = 2;
+
+/// The key that takes the last figure away.
+const BACKSPACE: u8 = 8;
+
+/// A rectangle of a Canvas, with what it does to the pixels that lie there: it sets them, or two of
+/// them change places.
+#[derive(Clone, Copy, Debug)]
+pub struct Figure {
+    pub area: Area,
+    pub op: Op,
+}
+
+/// A window with at most 64 figures, seen as their list. Each lies over those before it.
+#[derive(Debug, Drop)]
+pub struct Canvas {
+    figures: Vec<Figure>,
+}
+
+impl Model for Canvas {
+    ghost use Rattle.std.specs.Prelude.{List};
+    ghost use Rattle.w_canvas.specs.declared.canvases.Figure.{Figure};
+    ghost use Rattle.w_canvas.specs.Canvases.{IsCanvas};
+
+    ghost Value = { List Figure };
+
+    ghost view = { λ c. c.figures.items };
+
+    ghost invariant = { λ c. IsCanvas c.figures.items };
+}
+
+impl Figure {
+    /// Whether both are the same figure.
+    pub fn same(&self, other: &Figure) -> bool
+        ensures { IsTrue result ↔ (self.now ≡ other.now) }
+    {
+        self.area.same(&other.area) && self.op == other.op
+    }
+
+    /// The command that paints it where it lies in a part of the window.
+    fn paint(&self, part: &Rect) -> Paint
+        requires { IsNearRect part.now }
+        ensures value { result ≡ spec.figure_paint part.now self.now }
+        ensures near { IsNearPaint result }
+    {
+        Paint::Tint {
+            clip: part.meet(&self.area.rect()),
+            op: self.op,
+        }
+    }
+}
+
+/// The commands that paint figures in a part of the window: the background, and each figure over it.
+fn paints(alloc: Global, part: &Rect, figures: &[Figure]) -> Result<Batch, NoMemory>
+    requires { IsNearRect part.now }
+    ensures { IfOk result (λ batch. batch ≡ spec.canvas_paints part.now figures.now) }
+{
+    let mut batch = Batch::new(alloc);
+    batch.push(Paint::Tint {
+        clip: *part,
+        op: Op::Bg,
+    })?;
+    for figure in figures {
+        batch.push(figure.paint(part))?;
+    }
+    Ok(batch)
+}
+
+impl Canvas {
+    /// No figures.
+    pub fn new(alloc: Global) -> Result<Canvas, NoMemory>
+        ensures { IfOk result (λ canvas. canvas ≡ []) }
+    {
+        Ok(Canvas {
+            figures: Vec::new(alloc),
+        })
+    }
+
+    /// Its figures, the lowest one first.
+    pub fn figures(&self) -> &[Figure]
+        ensures value { result.now ≡ self.now }
+        ensures invariant { spec.IsCanvas self.now }
+    {
+        &self.figures
+    }
+
+    /// The content with a figure over all others, if there is room for it.
+    fn with(&self, alloc: Global, figure: Figure) -> Result<Canvas, NoMemory>
+        requires { spec.IsFigure figure }
+        ensures { IfOk result (λ canvas. canvas ≡ spec.with_figure self.now figure) }
+    {
+        let figures = self.figures();
+        if figures.len() < FIGURES {
+            let mut more = Vec::with_capacity(alloc, figures.len() + 1)?;
+            more.extend_from_slice(figures)?;
+            more.push(figure)?;
+            Ok(Canvas { figures: more })
+        } else {
+            self.copy(alloc)
+        }
+    }
+
+    /// The content without its last figure.
+    fn without_last(&self, alloc: Global) -> Result<Canvas, NoMemory>
+        ensures { IfOk result (λ canvas. canvas ≡ spec.without_last self.now) }
+    {
+        let figures = self.figures();
+        let left = figures.len().saturating_sub(1);
+        Ok(Canvas {
+            figures: Vec::from_slice(alloc, &figures[..left])?,
+        })
+    }
+
+    /// The content after a command.
+    fn after(&self, alloc: Global, cmd: &CanvasCmd) -> Result<Canvas, NoMemory>
+        ensures { IfOk result (λ canvas. canvas ≡ spec.canvas_next self.now cmd.now) }
+    {
+        cmd.known();
+        match *cmd {
+            CanvasCmd::Rect { area, tint } => self.with(alloc, filled(area, tint)),
+            CanvasCmd::Exchange { area, a, b } => self.with(alloc, exchanging(area, a, b)),
+            CanvasCmd::Undo => self.without_last(alloc),
+        }
+    }
+
+    /// The patch for a figure over all others.
+    fn with_patch(&self, alloc: Global, size: Size, figure: &Figure) -> Result<Batch, NoMemory>
+        requires { IsWindowSize size }
+        ensures { IfOk result (λ batch. batch ≡ spec.with_patch size self.now figure.now) }
+    {
+        let mut batch = Batch::new(alloc);
+        if self.figures().len() < FIGURES {
+            batch.push(figure.paint(&window(size)))?;
+        }
+        Ok(batch)
+    }
+
+    /// The patch for the last figure that goes away.
+    fn undo_patch(&self, alloc: Global, size: Size) -> Result<Batch, NoMemory>
+        requires { IsWindowSize size }
+        ensures { IfOk result (λ batch. batch ≡ spec.gone_patch size (spec.without_last self.now) (slice_get self.now (length self.now - 1))) }
+    {
+        let figures = self.figures();
+        if figures.is_empty() {
+            return Ok(Batch::new(alloc));
+        }
+        let last = figures.len() - 1;
+        let part = part_of_window(size, &figures[last].area.rect());
+        paints(alloc, &part, &figures[..last])
+    }
+
+    /// The patch of a command.
+    fn patch(&self, alloc: Global, size: Size, cmd: &CanvasCmd) -> Result<Batch, NoMemory>
+        requires { IsWindowSize size }
+        ensures { (look : Look) → IfOk result (λ batch. batch ≡ spec.canvas_patch look size self.now cmd.now) }
+    {
+        match *cmd {
+            CanvasCmd::Rect { area, tint } => self.with_patch(alloc, size, &filled(area, tint)),
+            CanvasCmd::Exchange { area, a, b } => {
+                self.with_patch(alloc, size, &exchanging(area, a, b))
+            }
+            CanvasCmd::Undo => self.undo_patch(alloc, size),
+        }
+    }
+}
+
+/// A rectangle whose points are set to a tint.
+fn filled(area: Area, tint: u8) -> Figure
+    ensures { result ≡ spec.filled area tint }
+{
+    Figure {
+        area,
+        op: Op::Set(tint),
+    }
+}
+
+/// A rectangle in which two pixels change places.
+fn exchanging(area: Area, a: u8, b: u8) -> Figure
+    ensures { result ≡ spec.exchanging area a b }
+{
+    Figure {
+        area,
+        op: Op::Exchange(a, b),
+    }
+}
+
+/// Whether the figures are the same, one by one.
+fn are_same(figures: &[Figure], others: &[Figure]) -> bool
+    ensures { IsTrue result ↔ (figures.now ≡ others.now) }
+{
+    if figures.len() != others.len() {
+        return false;
+    }
+    for (i, figure) in figures.iter().enumerate() {
+        if !figure.same(&others[i]) {
+            return false;
+        }
+    }
+    true
+}
+
+/// Whether the greatest window has a point.
+fn is_drawable(at: Point) -> bool
+    ensures { result ≡ spec.is_drawable at }
+{
+    is_within(at.h) && is_within(at.v)
+}
+
+fn is_within(x: i32) -> bool
+    ensures { result ≡ between (pos 0) (pos longest) x }
+{
+    0 <= x && x < i32::from(LONGEST)
+}
+
+/// The small square at a point.
+fn square_at(at: Point) -> Area
+    requires { spec.is_drawable at ≡ true }
+    ensures value { result ≡ spec.square_at at }
+    ensures valid { IsArea result }
+{
+    let (east, south) = (moved(at.h, SIDE), moved(at.v, SIDE));
+    let square = Area::edges(at.h, east, at.v, south);
+    let _rect = square.rect();
+    square
+}
+
+/// The command that a button asks for.
+fn drawn_by(click: Click, at: Point) -> Option<CanvasCmd>
+    ensures command { IfSome result (λ cmd. spec.IsCanvasCmd cmd) }
+    ensures answer { result ≡ spec.click_answer click at }
+{
+    if click == Click::FirstDown && is_drawable(at) {
+        Some(CanvasCmd::Rect {
+            area: square_at(at),
+            tint: 1,
+        })
+    } else {
+        None
+    }
+}
+
+/// The command that a key asks for.
+fn undone_by(code: u8) -> Option<CanvasCmd>
+    ensures command { IfSome result (λ cmd. spec.IsCanvasCmd cmd) }
+    ensures answer { result ≡ spec.key_answer code }
+{
+    if code == BACKSPACE {
+        Some(CanvasCmd::Undo)
+    } else {
+        None
+    }
+}
+
+impl Client for Canvas {
+    ghost use Rattle.w_canvas.specs.Canvases.{IsCanvas, canvas_pic, canvas_next, canvas_patch, canvas_answer, canvas_value, canvas_keeps};
+    ghost use Rattle.w_canvas.specs.CanvasLaws.{canvas_contents, canvas_patches, canvas_empty_patches, canvas_keeping};
+
+    type Cmd = CanvasCmd;
+
+    ghost valid = { IsCanvas };
+
+    ghost pic = { canvas_pic };
+
+    ghost next = { canvas_next };
+
+    ghost patch = { canvas_patch };
+
+    ghost answer = { canvas_answer };
+
+    ghost value = { canvas_value };
+
+    ghost keeps = { canvas_keeps };
+
+    fn copy(&self, alloc: Global) -> Result<Canvas, NoMemory> {
+        let figures = Vec::from_slice(alloc, self.figures())?;
+        Ok(Canvas { figures })
+    }
+
+    fn same(&self, other: &Canvas) -> bool {
+        let (figures, others) = (self.figures(), other.figures());
+        are_same(figures, others)
+    }
+
+    fn paint(&self, alloc: Global, _env: &Env, size: Size, clip: Rect) -> Result<Batch, NoMemory> {
+        let batch = paints(alloc, &part_of_window(size, &clip), self.figures())?;
+        Ok(batch)
+    }
+
+    fn change(
+        &self,
+        alloc: Global,
+        _env: &Env,
+        size: Size,
+        cmd: &CanvasCmd,
+    ) -> Result<(Canvas, Batch), NoMemory> {
+        let _figures = self.figures();
+        cmd.known();
+        let next = self.after(alloc, cmd)?;
+        let patch = self.patch(alloc, size, cmd)?;
+        Ok((next, patch))
+    }
+
+    fn react(&self, _alloc: Global, event: &Event) -> Result<Option<CanvasCmd>, NoMemory> {
+        let _figures = self.figures();
+        match *event {
+            Event::Mouse { click, at, .. } => Ok(drawn_by(click, at)),
+            Event::Key { code, .. } => Ok(undone_by(code)),
+            _ => Ok(None),
+        }
+    }
+
+    fn value(&self, _alloc: Global) -> Result<Line, NoMemory> {
+        decimal_line(self.figures().len() as u8)
+    }
+
+    fn keeps(&self, from: Size, to: Size) -> Rect {
+        let _figures = self.figures();
+        kept_part(from, to)
+    }
+
+    ghost contents = { canvas_contents };
+
+    ghost patches = { canvas_patches };
+
+    ghost empty_patches = { canvas_empty_patches };
+
+    ghost keeping = { canvas_keeping };
+}
