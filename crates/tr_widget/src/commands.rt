@@ -1,14 +1,18 @@
 use std::alloc::Global;
 use tr_base::{Command, NoMemory};
+use w_canvas::CanvasCmd;
+use w_lines::LinesCmd;
 use w_meter::MeterCmd;
 use w_plain::{BoardCmd, LabelCmd, SolidCmd};
 
 /// What one of the widgets can be told.
-#[derive(Debug, Drop)]
+#[derive(Clone, Copy, Debug)]
 pub enum WidgetCmd {
     Solid(SolidCmd),
     Board(BoardCmd),
     Label(LabelCmd),
+    Lines(LinesCmd),
+    Canvas(CanvasCmd),
     Meter(MeterCmd),
 }
 
@@ -24,17 +28,14 @@ impl Command for WidgetCmd {
             WidgetCmd::Solid(cmd) => cmd.known(),
             WidgetCmd::Board(cmd) => cmd.known(),
             WidgetCmd::Label(cmd) => cmd.known(),
+            WidgetCmd::Lines(cmd) => cmd.known(),
+            WidgetCmd::Canvas(cmd) => cmd.known(),
             WidgetCmd::Meter(cmd) => cmd.known(),
         }
     }
 
-    fn copy(&self, alloc: Global) -> Result<WidgetCmd, NoMemory> {
-        Ok(match self {
-            WidgetCmd::Solid(cmd) => WidgetCmd::Solid(cmd.copy(alloc)?),
-            WidgetCmd::Board(cmd) => WidgetCmd::Board(cmd.copy(alloc)?),
-            WidgetCmd::Label(cmd) => WidgetCmd::Label(cmd.copy(alloc)?),
-            WidgetCmd::Meter(cmd) => WidgetCmd::Meter(cmd.copy(alloc)?),
-        })
+    fn copy(&self, _alloc: Global) -> Result<WidgetCmd, NoMemory> {
+        Ok(*self)
     }
 
     fn same(&self, other: &WidgetCmd) -> bool {
@@ -42,6 +43,8 @@ impl Command for WidgetCmd {
             (WidgetCmd::Solid(cmd), WidgetCmd::Solid(other)) => cmd.same(other),
             (WidgetCmd::Board(cmd), WidgetCmd::Board(other)) => cmd.same(other),
             (WidgetCmd::Label(cmd), WidgetCmd::Label(other)) => cmd.same(other),
+            (WidgetCmd::Lines(cmd), WidgetCmd::Lines(other)) => cmd.same(other),
+            (WidgetCmd::Canvas(cmd), WidgetCmd::Canvas(other)) => cmd.same(other),
             (WidgetCmd::Meter(cmd), WidgetCmd::Meter(other)) => cmd.same(other),
             _ => false,
         }
@@ -52,6 +55,8 @@ impl Command for WidgetCmd {
             WidgetCmd::Solid(cmd) => cmd.print(out),
             WidgetCmd::Board(cmd) => cmd.print(out),
             WidgetCmd::Label(cmd) => cmd.print(out),
+            WidgetCmd::Lines(cmd) => cmd.print(out),
+            WidgetCmd::Canvas(cmd) => cmd.print(out),
             WidgetCmd::Meter(cmd) => cmd.print(out),
         }
     }

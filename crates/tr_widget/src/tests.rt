@@ -10,6 +10,8 @@ use std::test::Fail;
 use tr_base::{Command, Env, Event, Font, Kind, Line, Op, Point, Rect, Size, Tile};
 use tr_client::{Client, Prepared};
 use tr_paint::Paint;
+use w_canvas::{Area, Canvas, CanvasCmd};
+use w_lines::{Lines, LinesCmd};
 use w_meter::{BarNumber, Meter, MeterCmd};
 use w_plain::{Board, BoardCmd, Label, LabelCmd, Shift, Solid, SolidCmd};
 
@@ -145,6 +147,44 @@ fn a_label_obeys_its_laws(rt: HostRuntime) -> Result<(), Fail> {
 }
 
 #[test]
+fn a_typescript_obeys_its_laws(rt: HostRuntime) -> Result<(), Fail> {
+    let alloc = rt.alloc();
+    let want = Want {
+        words: b"line A",
+        value: b"A",
+        patch: 1,
+        kept: common(),
+        answer: (33, b"line !"),
+    };
+    let typescript = Lines::new(alloc)?;
+    let cmd = LinesCmd::Line(Line::of(b"A")?);
+    obeys_its_laws(&rt, alloc, &typescript, &cmd, &want)?;
+    let widget = Widget::Lines(typescript);
+    obeys_its_laws(&rt, alloc, &widget, &WidgetCmd::Lines(cmd), &want)
+}
+
+#[test]
+fn a_canvas_obeys_its_laws(rt: HostRuntime) -> Result<(), Fail> {
+    let alloc = rt.alloc();
+    let want = Want {
+        words: b"swap 0 9 0 9",
+        value: b"1",
+        patch: 1,
+        kept: common(),
+        answer: (8, b"undo"),
+    };
+    let canvas = Canvas::new(alloc)?;
+    let cmd = CanvasCmd::Exchange {
+        area: Area::edges(0, 9, 0, 9),
+        a: 0,
+        b: 1,
+    };
+    obeys_its_laws(&rt, alloc, &canvas, &cmd, &want)?;
+    let widget = Widget::Canvas(canvas);
+    obeys_its_laws(&rt, alloc, &widget, &WidgetCmd::Canvas(cmd), &want)
+}
+
+#[test]
 fn a_meter_obeys_its_laws(rt: HostRuntime) -> Result<(), Fail> {
     let alloc = rt.alloc();
     let want = Want {
@@ -170,6 +210,8 @@ fn contents(alloc: Global) -> Result<Vec<Widget>, Fail> {
     contents.push(Widget::Solid(Solid::new(5)))?;
     contents.push(Widget::Board(Board::new(TILE, Point { h: 1, v: 0 })))?;
     contents.push(Widget::Label(Label::new(Line::of(b"hi")?)?))?;
+    contents.push(Widget::Lines(Lines::new(alloc)?))?;
+    contents.push(Widget::Canvas(Canvas::new(alloc)?))?;
     contents.push(Widget::Meter(Meter::new(alloc, 2)?))?;
     Ok(contents)
 }
@@ -180,6 +222,11 @@ fn commands(alloc: Global) -> Result<Vec<WidgetCmd>, Fail> {
     commands.push(WidgetCmd::Solid(SolidCmd::Tint(7)))?;
     commands.push(WidgetCmd::Board(BoardCmd::Tile(Tile { rows: [0; 8] })))?;
     commands.push(WidgetCmd::Label(LabelCmd::Text(Line::of(b"a")?)))?;
+    commands.push(WidgetCmd::Lines(LinesCmd::Line(Line::of(b"a")?)))?;
+    commands.push(WidgetCmd::Canvas(CanvasCmd::Rect {
+        area: Area::edges(0, 9, 0, 9),
+        tint: 3,
+    }))?;
     commands.push(WidgetCmd::Meter(MeterCmd::Bar {
         bar: BarNumber::of(1),
         height: 3,

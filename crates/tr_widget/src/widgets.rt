@@ -5,6 +5,8 @@ use std::alloc::Global;
 use tr_base::{Command, Env, Event, Line, NoMemory, Rect, Size};
 use tr_client::Client;
 use tr_paint::Batch;
+use w_canvas::Canvas;
+use w_lines::Lines;
 use w_meter::Meter;
 use w_plain::{Board, Label, Solid};
 
@@ -14,6 +16,8 @@ pub enum Widget {
     Solid(Solid),
     Board(Board),
     Label(Label),
+    Lines(Lines),
+    Canvas(Canvas),
     Meter(Meter),
 }
 
@@ -31,6 +35,12 @@ impl Widget {
             }
             Widget::Label(x) => {
                 let _text = x.text();
+            }
+            Widget::Lines(x) => {
+                let _lines = x.lines();
+            }
+            Widget::Canvas(x) => {
+                let _figures = x.figures();
             }
             Widget::Meter(x) => {
                 let _heights = x.heights();
@@ -64,6 +74,8 @@ impl Client for Widget {
             Widget::Solid(x) => Widget::Solid(x.copy(alloc)?),
             Widget::Board(x) => Widget::Board(x.copy(alloc)?),
             Widget::Label(x) => Widget::Label(x.copy(alloc)?),
+            Widget::Lines(x) => Widget::Lines(x.copy(alloc)?),
+            Widget::Canvas(x) => Widget::Canvas(x.copy(alloc)?),
             Widget::Meter(x) => Widget::Meter(x.copy(alloc)?),
         })
     }
@@ -73,6 +85,8 @@ impl Client for Widget {
             (Widget::Solid(x), Widget::Solid(other)) => x.same(other),
             (Widget::Board(x), Widget::Board(other)) => x.same(other),
             (Widget::Label(x), Widget::Label(other)) => x.same(other),
+            (Widget::Lines(x), Widget::Lines(other)) => x.same(other),
+            (Widget::Canvas(x), Widget::Canvas(other)) => x.same(other),
             (Widget::Meter(x), Widget::Meter(other)) => x.same(other),
             _ => {
                 self.known();
@@ -87,6 +101,8 @@ impl Client for Widget {
             Widget::Solid(x) => x.paint(alloc, env, size, clip),
             Widget::Board(x) => x.paint(alloc, env, size, clip),
             Widget::Label(x) => x.paint(alloc, env, size, clip),
+            Widget::Lines(x) => x.paint(alloc, env, size, clip),
+            Widget::Canvas(x) => x.paint(alloc, env, size, clip),
             Widget::Meter(x) => x.paint(alloc, env, size, clip),
         }
     }
@@ -111,6 +127,14 @@ impl Client for Widget {
                 let (next, patch) = x.change(alloc, env, size, cmd)?;
                 Ok((Widget::Label(next), patch))
             }
+            (Widget::Lines(x), WidgetCmd::Lines(cmd)) => {
+                let (next, patch) = x.change(alloc, env, size, cmd)?;
+                Ok((Widget::Lines(next), patch))
+            }
+            (Widget::Canvas(x), WidgetCmd::Canvas(cmd)) => {
+                let (next, patch) = x.change(alloc, env, size, cmd)?;
+                Ok((Widget::Canvas(next), patch))
+            }
             (Widget::Meter(x), WidgetCmd::Meter(cmd)) => {
                 let (next, patch) = x.change(alloc, env, size, cmd)?;
                 Ok((Widget::Meter(next), patch))
@@ -127,6 +151,8 @@ impl Client for Widget {
             Widget::Solid(x) => x.react(alloc, event)?.map(|cmd| WidgetCmd::Solid(cmd)),
             Widget::Board(x) => x.react(alloc, event)?.map(|cmd| WidgetCmd::Board(cmd)),
             Widget::Label(x) => x.react(alloc, event)?.map(|cmd| WidgetCmd::Label(cmd)),
+            Widget::Lines(x) => x.react(alloc, event)?.map(|cmd| WidgetCmd::Lines(cmd)),
+            Widget::Canvas(x) => x.react(alloc, event)?.map(|cmd| WidgetCmd::Canvas(cmd)),
             Widget::Meter(x) => x.react(alloc, event)?.map(|cmd| WidgetCmd::Meter(cmd)),
         })
     }
@@ -136,6 +162,8 @@ impl Client for Widget {
             Widget::Solid(x) => x.value(alloc),
             Widget::Board(x) => x.value(alloc),
             Widget::Label(x) => x.value(alloc),
+            Widget::Lines(x) => x.value(alloc),
+            Widget::Canvas(x) => x.value(alloc),
             Widget::Meter(x) => x.value(alloc),
         }
     }
@@ -145,6 +173,8 @@ impl Client for Widget {
             Widget::Solid(x) => x.keeps(from, to),
             Widget::Board(x) => x.keeps(from, to),
             Widget::Label(x) => x.keeps(from, to),
+            Widget::Lines(x) => x.keeps(from, to),
+            Widget::Canvas(x) => x.keeps(from, to),
             Widget::Meter(x) => x.keeps(from, to),
         }
     }

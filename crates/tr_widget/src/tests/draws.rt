@@ -2,10 +2,13 @@
 ghost use Rattle.std.specs.Prelude.{◌≤◌};
 ghost use Rattle.tr_client.specs.Laws.{IsWindowSize};
 ghost use Rattle.w_plain.specs.Shifts.{IsShift};
+ghost use Rattle.w_canvas.specs.Areas.{IsFigureEdge};
 
 use crate::WidgetCmd;
 use std::alloc::Global;
 use tr_base::{Font, Kind, Line, NoMemory, Point, Rect, Size, Tile};
+use w_canvas::{Area, CanvasCmd};
+use w_lines::LinesCmd;
 use w_meter::{BarNumber, MeterCmd};
 use w_plain::{BoardCmd, LabelCmd, Shift, SolidCmd};
 
@@ -90,13 +93,40 @@ impl Draw {
         Rect::edges(west - 4, west + wide, north - 4, north + high)
     }
 
+    /// An edge in a small window or a little beside it, and now and then a far one.
+    fn edge(&mut self) -> i32
+        ensures { IsFigureEdge result }
+    {
+        match self.byte() {
+            0..10 => -8192,
+            10..20 => 8192,
+            drawn => i32::from(drawn % 30) - 2,
+        }
+    }
+
+    fn area(&mut self) -> Area {
+        Area::edges(self.edge(), self.edge(), self.edge(), self.edge())
+    }
+
     /// A command of any widget.
     pub fn command(&mut self) -> Result<WidgetCmd, NoMemory> {
-        Ok(match self.byte() % 5 {
+        Ok(match self.byte() % 16 {
             0 => WidgetCmd::Solid(SolidCmd::Tint(self.byte())),
             1 => WidgetCmd::Board(BoardCmd::Tile(self.tile())),
             2 => WidgetCmd::Board(BoardCmd::Shift(Shift::by(self.point()))),
             3 => WidgetCmd::Label(LabelCmd::Text(self.line()?)),
+            4..9 => WidgetCmd::Lines(LinesCmd::Line(self.line()?)),
+            9 => WidgetCmd::Lines(LinesCmd::Clear),
+            10 | 11 => WidgetCmd::Canvas(CanvasCmd::Rect {
+                area: self.area(),
+                tint: self.byte() % 20,
+            }),
+            12 => WidgetCmd::Canvas(CanvasCmd::Exchange {
+                area: self.area(),
+                a: self.byte() % 20,
+                b: self.byte() % 20,
+            }),
+            13 => WidgetCmd::Canvas(CanvasCmd::Undo),
             _ => WidgetCmd::Meter(MeterCmd::Bar {
                 bar: BarNumber::of(self.byte() % 5),
                 height: self.byte() % 32,

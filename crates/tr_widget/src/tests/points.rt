@@ -5,9 +5,10 @@ use crate::{Widget, WidgetCmd};
 use std::alloc::Global;
 use std::process::Abort;
 use std::test::Fail;
-use tr_base::{Env, Font, NoMemory, Op, Pair, Point, Size, eff, is_set, tile_bit, whole};
+use tr_base::{Env, Font, Kind, Line, NoMemory, Op, Pair, Point, Size, eff, is_set, tile_bit, whole};
 use tr_client::Client;
 use tr_paint::{Batch, Paint};
+use w_canvas::Figure;
 
 /// The colour that a widget's picture has at a point.
 fn colour(widget: &Widget, env: &Env, size: Size, q: Point) -> u8 {
@@ -18,6 +19,8 @@ fn colour(widget: &Widget, env: &Env, size: Size, q: Point) -> u8 {
             u8::from(tile_bit(&x.tile, from.h, from.v))
         }
         Widget::Label(x) => u8::from(text_bit(env.font, x.text(), q)),
+        Widget::Lines(x) => u8::from(typescript_bit(env.font, x.lines(), size, q)),
+        Widget::Canvas(x) => drawn_colour(x.figures(), env.kind, q),
         Widget::Meter(x) => u8::from(bar_bit(x.heights(), size, q)),
     }
 }
@@ -38,6 +41,34 @@ fn text_bit(font: &Font, text: &[u8], q: Point) -> bool {
         return false;
     };
     is_set(font.glyph_of(*byte)[q.v as usize], (q.h % 8) as u8)
+}
+
+/// The bit of the last lines of a typescript, as many as a window has room for.
+fn typescript_bit(font: &Font, lines: &[Line], size: Size, q: Point) -> bool {
+    if q.v < 0 {
+        return false;
+    }
+    let above = (q.v / 8) as usize;
+    let room = usize::from(size.high / 8);
+    let gone = lines.len().saturating_sub(room);
+    if above >= room {
+        return false;
+    }
+    match lines.get(gone + above) {
+        Some(line) => text_bit(font, line.bytes(), Point { h: q.h, v: q.v % 8 }),
+        None => false,
+    }
+}
+
+/// The colour that figures give a point, one over the other.
+fn drawn_colour(figures: &[Figure], kind: Kind, q: Point) -> u8 {
+    let mut pixel = 0;
+    for figure in figures {
+        if figure.area.rect().has(q) {
+            pixel = eff(kind, figure.op, pixel);
+        }
+    }
+    pixel
 }
 
 /// Whether a point of a window lies in one of the bars.
