@@ -262,27 +262,39 @@ fn a_command_of_another_widget_does_nothing(rt: HostRuntime) -> Result<(), Fail>
     Ok(())
 }
 
-#[test]
-fn a_prepared_widget_is_fitted_anew(rt: HostRuntime) -> Result<(), Fail> {
-    let alloc = rt.alloc();
+/// A command that is prepared for a square of two by two, and fitted anew to a row of three, has this
+/// one tint as its patch.
+fn is_fitted_anew<C: Client>(
+    rt: &impl Abort,
+    alloc: Global,
+    content: &C,
+    cmd: &C::Cmd,
+    want: &(Rect, Op),
+) -> Result<(), Fail> {
     let font = Font::empty(alloc)?;
     let size = Size { wide: 2, high: 2 };
-    let solid = Widget::Solid(Solid::new(5));
-    let again = solid.copy(alloc)?;
-    let mut prepared = Prepared::fresh(alloc, solid, &font, size, Kind::Map8)?;
-    prepared.add(WidgetCmd::Solid(SolidCmd::Tint(7)))?;
-    prepared.add(WidgetCmd::Label(LabelCmd::Text(Line::of(b"a")?)))?;
-    prepared.refit(again, &font, Size { wide: 3, high: 1 }, Kind::Map8)?;
-    assert!(rt; prepared.to.same(&Widget::Solid(Solid::new(7))));
+    let mut prepared = Prepared::fresh(alloc, content.copy(alloc)?, &font, size, Kind::Map8)?;
+    prepared.add(cmd.copy(alloc)?)?;
+    let row = Size { wide: 3, high: 1 };
+    prepared.refit(content.copy(alloc)?, &font, row, Kind::Map8)?;
+    assert!(rt; !prepared.to.same(&prepared.from));
     assert_eq!(rt; prepared.batch.len(), 1);
     for paint in prepared.batch.paints() {
         let tint = match paint {
             Paint::Tint { clip, op } => Some((*clip, *op)),
             _ => None,
         };
-        assert_eq!(rt; tint, Some((Rect::edges(0, 3, 0, 1), Op::Set(7))));
+        assert_eq!(rt; tint, Some(*want));
     }
     Ok(())
+}
+
+#[test]
+fn a_prepared_widget_is_fitted_anew(rt: HostRuntime) -> Result<(), Fail> {
+    let solid = Widget::Solid(Solid::new(5));
+    let cmd = WidgetCmd::Solid(SolidCmd::Tint(7));
+    let want = (Rect::edges(0, 3, 0, 1), Op::Set(7));
+    is_fitted_anew(&rt, rt.alloc(), &solid, &cmd, &want)
 }
 
 #[test]
@@ -291,9 +303,9 @@ fn each_widget_holds_to_its_picture(rt: HostRuntime) -> Result<(), Fail> {
     let mut draw = Draw::new(1);
     for content in contents(alloc)? {
         let mut content = content;
-        for _ in 0..100 {
-            let cmd = draw.command()?;
-            content = holds_to_its_picture(&rt, alloc, &content, &cmd, &mut draw)?;
+        let commands = draw.commands(alloc)?;
+        for cmd in &commands {
+            content = holds_to_its_picture(&rt, alloc, &content, cmd, &mut draw)?;
         }
     }
     Ok(())

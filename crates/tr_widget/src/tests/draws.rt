@@ -108,9 +108,18 @@ impl Draw {
         Area::edges(self.edge(), self.edge(), self.edge(), self.edge())
     }
 
-    /// A command of any widget.
-    pub fn command(&mut self) -> Result<WidgetCmd, NoMemory> {
-        Ok(match self.byte() % 16 {
+    /// Commands of all widgets.
+    pub fn commands(&mut self, alloc: Global) -> Result<Vec<WidgetCmd>, NoMemory> {
+        let mut commands = Vec::new(alloc);
+        for _ in 0..100 {
+            self.add_command(&mut commands)?;
+        }
+        Ok(commands)
+    }
+
+    /// Puts a command of any widget behind the others.
+    fn add_command(&mut self, commands: &mut Vec<WidgetCmd>) -> Result<(), NoMemory> {
+        commands.push(match self.byte() % 16 {
             0 => WidgetCmd::Solid(SolidCmd::Tint(self.byte())),
             1 => WidgetCmd::Board(BoardCmd::Tile(self.tile())),
             2 => WidgetCmd::Board(BoardCmd::Shift(Shift::by(self.point()))),
@@ -131,6 +140,7 @@ impl Draw {
                 bar: BarNumber::of(self.byte() % 5),
                 height: self.byte() % 32,
             }),
-        })
+        })?;
+        Ok(())
     }
 }

@@ -5,7 +5,9 @@ use crate::{Widget, WidgetCmd};
 use std::alloc::Global;
 use std::process::Abort;
 use std::test::Fail;
-use tr_base::{Env, Font, Kind, Line, NoMemory, Op, Pair, Point, Size, eff, is_set, tile_bit, whole};
+use tr_base::{
+    Env, Font, Kind, Line, NoMemory, Op, Pair, Point, Size, eff, is_set, tile_bit, whole,
+};
 use tr_client::Client;
 use tr_paint::{Batch, Paint};
 use w_canvas::Figure;
@@ -219,7 +221,10 @@ pub fn holds_to_its_picture(
             let q = Point { h, v };
             let want = Some(colour(&next, &env, size, q));
             let got = patched.get(q);
-            assert!(rt; got.is_none() || got == want, "{q:?} of {size:?}: {widget:?}, {cmd:?}");
+            assert!(rt;
+                got.is_none() || got == want,
+                "{q:?} of {size:?}: {widget:?}, {cmd:?}"
+            );
             assert_eq!(rt;
                 painted.get(q),
                 if clip.has(q) { want } else { None },
