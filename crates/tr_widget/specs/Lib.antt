@@ -1,0 +1,2 @@
+pub mod Widgets
+pub mod WidgetLaws

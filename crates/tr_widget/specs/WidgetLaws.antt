@@ -1,0 +1,56 @@
+-- A Widget obeys the laws of clients, since each widget does. These are proofs, which stand here since an impl cites nothing else of its crate; no contract cites them.
+use Rattle.std.proofs.Common.{◌≡◌, [], true, refl}
+use Rattle.tr_base.specs.declared.Size.{Size}
+use Rattle.tr_paint.specs.Traces.{Look}
+use Rattle.tr_paint.specs.Patches.{IsPatch}
+use Rattle.tr_paint.proofs.PatchLemmas.{no_patch}
+use Rattle.tr_client.specs.Laws.{IsWindowSize, is_flat, Survives}
+use Rattle.w_plain.specs.SolidLaws.{solid_contents, solid_patches, solid_empty_patches, solid_keeping}
+use Rattle.w_plain.specs.BoardLaws.{board_contents, board_patches, board_empty_patches, board_keeping}
+use Rattle.w_plain.specs.LabelLaws.{label_contents, label_patches, label_empty_patches, label_keeping}
+use Rattle.w_lines.specs.LinesLaws.{lines_contents, lines_patches, lines_empty_patches, lines_keeping}
+use Rattle.w_canvas.specs.CanvasLaws.{canvas_contents, canvas_patches, canvas_empty_patches, canvas_keeping}
+use Rattle.w_meter.specs.MeterLaws.{meter_contents, meter_patches, meter_empty_patches, meter_keeping}
+use Rattle.tr_widget.specs.declared.widgets.Widget.{Widget}
+use Rattle.tr_widget.specs.declared.widgets.Widget.TheVariants.{Solid, Board, Label, Lines, Canvas, Meter}
+use Rattle.tr_widget.specs.declared.commands.WidgetCmd.{WidgetCmd}
+use Rattle.tr_widget.specs.declared.commands.WidgetCmd.TheVariants.{Solid as ToSolid, Board as ToBoard, Label as ToLabel, Lines as ToLines, Canvas as ToCanvas, Meter as ToMeter}
+use Rattle.tr_widget.specs.Widgets.{IsWidget, IsWidgetCmd, widget_pic, widget_next, widget_patch, widget_keeps}
+
+pub widget_contents : (x : Widget) (cmd : WidgetCmd) → IsWidget x → IsWidgetCmd cmd → IsWidget (widget_next x cmd)
+widget_contents (Solid x) (ToSolid cmd) valid known = solid_contents x cmd valid known
+widget_contents (Board x) (ToBoard cmd) valid known = board_contents x cmd valid known
+widget_contents (Label x) (ToLabel cmd) valid known = label_contents x cmd valid known
+widget_contents (Lines x) (ToLines cmd) valid known = lines_contents x cmd valid known
+widget_contents (Canvas x) (ToCanvas cmd) valid known = canvas_contents x cmd valid known
+widget_contents (Meter x) (ToMeter cmd) valid known = meter_contents x cmd valid known
+widget_contents x cmd valid known = valid
+
+pub widget_patches : (look : Look) (size : Size) (x : Widget) (cmd : WidgetCmd) → IsWidget x → IsWidgetCmd cmd → IsWindowSize size →
+    IsPatch look size (widget_patch look size x cmd) (widget_pic look size x) (widget_pic look size (widget_next x cmd))
+widget_patches look size (Solid x) (ToSolid cmd) valid known small = solid_patches look size x cmd valid known small
+widget_patches look size (Board x) (ToBoard cmd) valid known small = board_patches look size x cmd valid known small
+widget_patches look size (Label x) (ToLabel cmd) valid known small = label_patches look size x cmd valid known small
+widget_patches look size (Lines x) (ToLines cmd) valid known small = lines_patches look size x cmd valid known small
+widget_patches look size (Canvas x) (ToCanvas cmd) valid known small = canvas_patches look size x cmd valid known small
+widget_patches look size (Meter x) (ToMeter cmd) valid known small = meter_patches look size x cmd valid known small
+widget_patches look size x cmd valid known small = no_patch look size (widget_pic look size x) (widget_pic look size x) (λ q h. refl)
+
+pub widget_empty_patches : (look : Look) (size : Size) (x : Widget) (cmd : WidgetCmd) → IsWidget x → IsWidgetCmd cmd → IsWindowSize size →
+    is_flat size ≡ true → widget_patch look size x cmd ≡ []
+widget_empty_patches look size (Solid x) (ToSolid cmd) valid known small flat = solid_empty_patches look size x cmd valid known small flat
+widget_empty_patches look size (Board x) (ToBoard cmd) valid known small flat = board_empty_patches look size x cmd valid known small flat
+widget_empty_patches look size (Label x) (ToLabel cmd) valid known small flat = label_empty_patches look size x cmd valid known small flat
+widget_empty_patches look size (Lines x) (ToLines cmd) valid known small flat = lines_empty_patches look size x cmd valid known small flat
+widget_empty_patches look size (Canvas x) (ToCanvas cmd) valid known small flat = canvas_empty_patches look size x cmd valid known small flat
+widget_empty_patches look size (Meter x) (ToMeter cmd) valid known small flat = meter_empty_patches look size x cmd valid known small flat
+widget_empty_patches look size x cmd valid known small flat = refl
+
+pub widget_keeping : (look : Look) (from to : Size) (x : Widget) → IsWidget x → IsWindowSize from → IsWindowSize to →
+    Survives (widget_keeps x from to) from to (widget_pic look from x) (widget_pic look to x)
+widget_keeping look from to (Solid x) valid small small' = solid_keeping look from to x valid small small'
+widget_keeping look from to (Board x) valid small small' = board_keeping look from to x valid small small'
+widget_keeping look from to (Label x) valid small small' = label_keeping look from to x valid small small'
+widget_keeping look from to (Lines x) valid small small' = lines_keeping look from to x valid small small'
+widget_keeping look from to (Canvas x) valid small small' = canvas_keeping look from to x valid small small'
+widget_keeping look from to (Meter x) valid small small' = meter_keeping look from to x valid small small'

@@ -1,0 +1,63 @@
+use std::alloc::Global;
+use tr_base::{Command, NoMemory};
+use w_canvas::CanvasCmd;
+use w_lines::LinesCmd;
+use w_meter::MeterCmd;
+use w_plain::{BoardCmd, LabelCmd, SolidCmd};
+
+/// What one of the widgets can be told.
+#[derive(Clone, Copy, Debug)]
+pub enum WidgetCmd {
+    Solid(SolidCmd),
+    Board(BoardCmd),
+    Label(LabelCmd),
+    Lines(LinesCmd),
+    Canvas(CanvasCmd),
+    Meter(MeterCmd),
+}
+
+impl Command for WidgetCmd {
+    ghost use Rattle.tr_widget.specs.Widgets.{IsWidgetCmd, widget_words};
+
+    ghost valid = { IsWidgetCmd };
+
+    ghost words = { widget_words };
+
+    fn known(&self) {
+        match self {
+            WidgetCmd::Solid(cmd) => cmd.known(),
+            WidgetCmd::Board(cmd) => cmd.known(),
+            WidgetCmd::Label(cmd) => cmd.known(),
+            WidgetCmd::Lines(cmd) => cmd.known(),
+            WidgetCmd::Canvas(cmd) => cmd.known(),
+            WidgetCmd::Meter(cmd) => cmd.known(),
+        }
+    }
+
+    fn copy(&self, _alloc: Global) -> Result<WidgetCmd, NoMemory> {
+        Ok(*self)
+    }
+
+    fn same(&self, other: &WidgetCmd) -> bool {
+        match (self, other) {
+            (WidgetCmd::Solid(cmd), WidgetCmd::Solid(other)) => cmd.same(other),
+            (WidgetCmd::Board(cmd), WidgetCmd::Board(other)) => cmd.same(other),
+            (WidgetCmd::Label(cmd), WidgetCmd::Label(other)) => cmd.same(other),
+            (WidgetCmd::Lines(cmd), WidgetCmd::Lines(other)) => cmd.same(other),
+            (WidgetCmd::Canvas(cmd), WidgetCmd::Canvas(other)) => cmd.same(other),
+            (WidgetCmd::Meter(cmd), WidgetCmd::Meter(other)) => cmd.same(other),
+            _ => false,
+        }
+    }
+
+    fn print(&self, out: &mut Vec<u8>) -> Result<(), NoMemory> {
+        match self {
+            WidgetCmd::Solid(cmd) => cmd.print(out),
+            WidgetCmd::Board(cmd) => cmd.print(out),
+            WidgetCmd::Label(cmd) => cmd.print(out),
+            WidgetCmd::Lines(cmd) => cmd.print(out),
+            WidgetCmd::Canvas(cmd) => cmd.print(out),
+            WidgetCmd::Meter(cmd) => cmd.print(out),
+        }
+    }
+}
