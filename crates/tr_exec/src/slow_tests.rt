@@ -232,7 +232,7 @@ fn leaves_what_is_traced(rt: &impl Abort, alloc: Global, draw: &mut Draw) -> Res
 #[test]
 fn random_batches_are_traced(rt: HostRuntime) -> Result<(), Fail> {
     let mut draw = Draw::new(7);
-    for done in 0..3000 {
+    for done in 0..20_000 {
         leaves_what_is_traced(&rt, rt.alloc(), &mut draw)?;
     }
     Ok(())
