@@ -47,15 +47,21 @@ impl Draw {
         }
     }
 
+    /// Two coordinates, the lesser one first.
+    fn sides(&mut self) -> (i32, i32)
+        ensures low { IsNear result.0 }
+        ensures high { IsNear result.1 }
+    {
+        let (a, b) = (self.coordinate(), self.coordinate());
+        if a < b { (a, b) } else { (b, a) }
+    }
+
     fn rect(&mut self) -> Rect
         ensures { IsNearRect result }
     {
-        Rect::edges(
-            self.coordinate(),
-            self.coordinate(),
-            self.coordinate(),
-            self.coordinate(),
-        )
+        let (west, east) = self.sides();
+        let (north, south) = self.sides();
+        Rect::edges(west, east, north, south)
     }
 
     pub fn size(&mut self) -> Size
@@ -152,10 +158,10 @@ impl Draw {
         }
     }
 
-    /// Up to six commands.
+    /// Up to eleven commands.
     pub fn batch(&mut self, alloc: Global) -> Result<Batch, NoMemory> {
         let mut batch = Batch::new(alloc);
-        for done in 0..self.byte() % 7 {
+        for done in 0..self.byte() % 12 {
             batch.push(self.paint(alloc)?)?;
         }
         Ok(batch)
@@ -166,7 +172,7 @@ impl Draw {
         ensures { IfOk result (λ r. LiesOn size r) }
     {
         let mut points = Region::empty(alloc);
-        for done in 0..self.byte() % 5 {
+        for done in 0..self.byte() % 8 {
             points = points.union(&Region::of_rect(alloc, self.rect())?)?;
         }
         Region::of_rect(alloc, whole(size))?.meet(&points)

@@ -22,8 +22,9 @@ use tr_screen::Screen;
 ///
 /// What is known at first are the pixels of the visible points that aren't bad. Afterwards each
 /// visible point whose colour is known has it, and the bad points among the visible ones are those
-/// whose colour isn't known: what these show is free where a command has touched them. All memory is
-/// taken before the first pixel is written, so after an `Err` nothing has changed.
+/// whose colour isn't known. What these show is free where a command touches them.
+///
+/// All memory is taken before the first pixel is written, so after an `Err` nothing has changed.
 pub fn execute(
     alloc: Global,
     batch: &Batch,
@@ -52,11 +53,12 @@ pub fn execute(
 
     // A visible point that no command touches keeps its pixel, known or not.
     ensures untouched { OnOk result ((p : Point) → holds visible.now p ≡ true →
-        touches batch.now (before_shift p origin) ≡ false → pixel_of screen.new p ≡ pixel_of screen.old p) }
+        touches batch.now (before_shift p origin) ≡ false →
+        pixel_of screen.new p ≡ pixel_of screen.old p) }
 
     // Outside the visible points nothing changes.
-    ensures pixels { OnOk result ((p : Point) → IsOn screen.old.size p → holds visible.now p ≡ false →
-        pixel_of screen.new p ≡ pixel_of screen.old p) }
+    ensures pixels { OnOk result ((p : Point) → IsOn screen.old.size p →
+        holds visible.now p ≡ false → pixel_of screen.new p ≡ pixel_of screen.old p) }
     ensures others { OnOk result ((p : Point) → holds visible.now p ≡ false →
         holds bad.new p ≡ holds bad.old p) }
     ensures size { screen.new.size ≡ screen.old.size }

@@ -29,7 +29,8 @@ impl Site<'_> {
     pub fn paint_all(&self, env: &Env<'_>, batch: &Batch, moves: &[Region], screen: &mut Screen)
         requires origin { IsOrigin self.now.origin }
         requires visible { LiesOn screen.old.size self.now.visible.now }
-        requires moves { AllZip (IsMovedBy self.now.origin self.now.visible.now) batch.now moves.now }
+        requires moves { AllZip (IsMovedBy self.now.origin self.now.visible.now)
+            batch.now moves.now }
         requires count { length moves.now ≡ length batch.now }
         ensures { let look = look_of env.now.kind env.now.font.now in
             let origin = self.now.origin in

@@ -1,5 +1,5 @@
-//! Random batches, each also traced back point by point, by a plain and slow function whose contract
-//! is the definition.
+//! Random batches, each also traced back point by point, by a plain and slow function whose
+//! contract is the definition.
 ghost use Rattle.std.specs.Prelude.{◌≡◌, ◌-ℤ◌, ◌/◌, true, Some, None, if◌then◌else◌, length, slice_index, unsigned_abs};
 ghost use Rattle.tr_base.specs.Rects.{InReach, before_shift, has_point, whole_of};
 ghost use Rattle.tr_base.specs.Fonts.{glyph_bit};
@@ -49,7 +49,8 @@ impl Ground<'_> {
     /// The pixel of a point of the screen, if it is known before any command.
     fn known(&self, p: Point) -> Option<u8>
         requires { has_point (whole_of self.now.screen.now.size) p ≡ true }
-        ensures { result ≡ (if holds self.now.bad.now p then None else Some (pixel_of self.now.screen.now p)) }
+        ensures { let bad = holds self.now.bad.now p in
+            result ≡ (if bad then None else Some (pixel_of self.now.screen.now p)) }
     {
         if self.bad.has(p) {
             None
@@ -58,12 +59,14 @@ impl Ground<'_> {
         }
     }
 
-    /// The colour of a point of the window after commands, if it is known, traced back from the last.
+    /// The colour of a point of the window after commands, traced back from the last one; none
+    /// where it isn't known.
     fn traced(&self, paints: &[Paint], q: Point) -> Option<u8>
         requires batch { IsBatch paints.now }
         requires reach { IsCorner q }
         ensures { let look = look_of self.now.env.kind self.now.env.font.now in
-            let base = base_of self.now.origin self.now.visible.now self.now.bad.now self.now.screen.now in
+            let base = base_of self.now.origin self.now.visible.now self.now.bad.now
+            self.now.screen.now in
             result ≡ after look base paints.now q }
     {
         let p = self.place(q);
@@ -89,7 +92,8 @@ impl Ground<'_> {
         }
     }
 
-    /// What the trace tells of a point of the screen: its pixel, if it is known, and whether it is bad.
+    /// What the trace tells of a point of the screen: its pixel, where that is known, and whether
+    /// the point is bad.
     fn told(&self, paints: &[Paint], p: Point) -> (Option<u8>, bool)
         requires batch { IsBatch paints.now }
         requires h { IsNear p.h }
@@ -228,7 +232,7 @@ fn leaves_what_is_traced(rt: &impl Abort, alloc: Global, draw: &mut Draw) -> Res
 #[test]
 fn random_batches_are_traced(rt: HostRuntime) -> Result<(), Fail> {
     let mut draw = Draw::new(7);
-    for done in 0..3000 {
+    for done in 0..20_000 {
         leaves_what_is_traced(&rt, rt.alloc(), &mut draw)?;
     }
     Ok(())

@@ -37,7 +37,8 @@ pub trait Brush {
 /// meet.
 pub fn paint_within<B: Brush>(screen: &mut Screen, visible: &Region, brush: &B)
     requires { AreOn screen.old.size (in_area (holds visible.now) (B.area brush.now)) }
-    ensures { Repaints (in_area (holds visible.now) (B.area brush.now)) (λ p. B.pixel brush.now p (pixel_of screen.old p)) screen.old screen.new }
+    ensures { let test = in_area (holds visible.now) (B.area brush.now) in
+        Repaints test (λ p. B.pixel brush.now p (pixel_of screen.old p)) screen.old screen.new }
 {
     let area = brush.area();
     if area.is_empty() {

@@ -5,10 +5,10 @@ use Rattle.tr_exec.proofs.draws.Draw.rect.Goals as goal
 
 pub returns : goal.returns
 returns c =
-    let w = c.coordinate.result in
-    let e = c.coordinate-2.result in
-    let n = c.coordinate-3.result in
-    let s = c.coordinate-4.result in
-    let same = cast-rect c.edges.result w e n s w e n s (near-reach w c.coordinate.ensures) (near-reach e c.coordinate-2.ensures)
-    (near-reach n c.coordinate-3.ensures) (near-reach s c.coordinate-4.ensures) c.edges.ensures.edges refl refl refl refl in
-    rw same (rect_near w e n s c.coordinate.ensures c.coordinate-2.ensures c.coordinate-3.ensures c.coordinate-4.ensures)
+    let w = c.sides-west.result.0 in
+    let e = c.sides-west.result.1 in
+    let n = c.sides-north.result.0 in
+    let s = c.sides-north.result.1 in
+    let same = cast-rect c.edges.result w e n s w e n s (near-reach w c.sides-west.ensures.low) (near-reach e c.sides-west.ensures.high)
+    (near-reach n c.sides-north.ensures.low) (near-reach s c.sides-north.ensures.high) c.edges.ensures.edges refl refl refl refl in
+    rw same (rect_near w e n s c.sides-west.ensures.low c.sides-west.ensures.high c.sides-north.ensures.low c.sides-north.ensures.high)
