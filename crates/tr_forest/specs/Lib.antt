@@ -1,0 +1,4 @@
+pub mod Nodes
+pub mod Families
+pub mod Edits
+pub mod Forests
