@@ -1,1 +1,2 @@
 pub mod FamilyLemmas
+pub mod Keeping

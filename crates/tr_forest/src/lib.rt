@@ -15,3 +15,6 @@ pub use edits::{Edit, EditRefused, NodeFault};
 pub use forests::Forest;
 pub use kinds::NodeKind;
 pub use walks::LEVELS;
+
+#[cfg(test)]
+mod tests;
