@@ -106,7 +106,7 @@ still_node t n m change h = record {
 
 -- leaves are counted by their kinds
 
-leaf_test : (k : NodeKind) → is_leaf k ≡ is_some (leaf_of k)
+pub leaf_test : (k : NodeKind) → is_leaf k ≡ is_some (leaf_of k)
 leaf_test (kinds.Leaf leaf shapes) = refl
 leaf_test k = refl
 

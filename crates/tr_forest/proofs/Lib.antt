@@ -1,2 +1,1 @@
 pub mod FamilyLemmas
-pub mod Keeping
