@@ -76,7 +76,10 @@ impl NodeKind {
     pub(crate) fn is_filter(self) -> bool
         ensures { result ≡ is_filter self }
     {
-        self.is_border() || self.is_rigid() || self.is_translate()
+        matches!(
+            self,
+            NodeKind::Border { .. } | NodeKind::Rigid { .. } | NodeKind::Translate { .. }
+        )
     }
 
     /// Which leaf it is.
