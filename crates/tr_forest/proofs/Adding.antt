@@ -4,7 +4,7 @@ use Rattle.std.specs.List.{filter, AllPairs}
 use Rattle.std.specs.Prelude.{is_some}
 use Rattle.std.proofs.lemmas.Bool.Decides.{nat_tests}
 use Rattle.std.proofs.lemmas.Int.{ints}
-use Rattle.std.proofs.lemmas.List.{get_or_append_left}
+use Rattle.std.proofs.lemmas.List.{get_or_append_left, get_or_default}
 use Rattle.std.proofs.lemmas.List.Elements.{filter-append}
 use Rattle.std.proofs.Math.Seq.{get_or-append_seam}
 use Rattle.std.proofs.Math.ListN.{get_or-eq_default}
@@ -18,7 +18,7 @@ use Rattle.tr_forest.specs.Nodes.{Entry, Nodes, IsNode, IsNodeKind, IsNext, IsNe
 use Rattle.tr_forest.specs.Families.{levels, is_among, depth, depth_within}
 use Rattle.tr_forest.specs.Forests.{IsForest}
 use Rattle.tr_forest.specs.Tables.{IsKept, in_table}
-use Rattle.tr_forest.proofs.FamilyLemmas.{depth_zero, depth_suc}
+use Rattle.tr_forest.proofs.FamilyLemmas.{by_within, depth_zero, depth_suc}
 use Rattle.tr_forest.proofs.Keeping.{depth_equal, leaf_test}
 
 -- no nodes
@@ -227,10 +227,10 @@ leaf_stays t kind tint n leaf h = elim (at_added t.entries (fresh kind tint) (fr
 
 -- a node that is no leaf leaves the table as it is
 pub kept_other : (t : Nodes) (leaves : List NodeId) (kind : NodeKind) (tint : ℕ) → IsKept t leaves → CanAdd t kind → is_leaf kind ≡ false → IsKept (added t kind tint) leaves
-kept_other t leaves kind tint k can no = record {
+kept_other t leaves kind tint k can is_none = record {
   forest = forest_added t kind tint k.forest can;
   count = (let more : leaf_count (added t kind tint) ≡ leaf_count t + cond (is_leaf kind) 1 0 = leaves_added t kind tint in
-      let none : cond {A = ℕ} (is_leaf kind) 1 0 ≡ 0 = none_of (is_leaf kind) no in
+      let none : cond {A = ℕ} (is_leaf kind) 1 0 ≡ 0 = none_of (is_leaf kind) is_none in
       let old : length leaves ≡ leaf_count t = k.count in
       omega arith);
   places = λ i h. leaf_stays t kind tint (in_table leaves i) (record { 0 = i }) (k.places i h);
@@ -270,3 +270,14 @@ kept_leaf t leaves kind tint n k can is_one is = record {
       omega (arith, length-append leaves (n ∷ [])));
   places = λ i h. place_added t leaves kind tint n i k can.leaf is_one is h;
 }
+
+-- the table has the node of each leaf
+pub place_is : (t : Nodes) (leaves : List NodeId) (leaf : LeafId) (n : NodeId) → IsKept t leaves → leaf.0 < leaf_count t → n ≡ get_or leaves leaf.0 n → leaf_of (node t n).kind ≡ Some leaf
+place_is t leaves leaf n k h is =
+    let lt : leaf.0 < length leaves = (let same : length leaves ≡ leaf_count t = k.count in omega arith) in
+    let at : n ≡ in_table leaves leaf.0 = is ∙ get_or_default leaves leaf.0 n (record { 0 = 0 }) lt in
+    ap (λ (m : NodeId). leaf_of (node t m).kind) at ∙ k.places leaf.0 lt
+
+-- and that is a node
+pub place_is_node : (t : Nodes) (n : NodeId) (leaf : LeafId) → leaf_of (node t n).kind ≡ Some leaf → IsNode t n
+place_is_node t n leaf h = by_within t n (λ is. is) (λ none. let no : None ≡ Some leaf = sym (ap (λ (e : Entry). leaf_of e.kind) none) ∙ h in absurd cc)

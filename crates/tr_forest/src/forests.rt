@@ -187,7 +187,7 @@ fn add_in(
     ensures err { OnErr result (family.new ≡ family.old) }
 {
     let n = NodeId(family.count() as u16);
-    let is_leaf = matches!(kind, NodeKind::Leaf { .. });
+    let is_leaf = kind.is_leaf();
     leaves.reserve(1)?;
     family.add(kind, tint)?;
     if is_leaf {

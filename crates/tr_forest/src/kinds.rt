@@ -31,8 +31,8 @@ pub enum NodeKind {
 }
 
 impl NodeKind {
-    pub(crate) fn is_leaf(self) -> bool
-        ensures { result ≡ is_leaf self }
+    pub(crate) fn is_leaf(&self) -> bool
+        ensures { result ≡ is_leaf self.now }
     {
         matches!(self, NodeKind::Leaf { .. })
     }
