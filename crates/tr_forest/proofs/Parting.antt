@@ -107,14 +107,16 @@ among_was t new child parent p n forest up e h = by_id p parent
     (ap (λ (k : NodeId). is_among n (node t k).children) is ∙ left.0, left.1))
     (λ ne.
     let old : is_among n (node t p).children ≡ true = sym (ap (is_among n) (e.other_down p ne)) ∙ h in
-    let is_up : (node t n).parent ≡ Some p = forest.children p n old in
-    (old, by_id n child
-    (λ is.
-    let both : Some parent ≡ Some p = sym (ap (λ (k : NodeId). (node t k).parent) is ∙ up) ∙ is_up in
-    let same : p ≡ parent = cc in
-    let test : (p.0 == parent.0) ≡ true = test_same p parent same in
-    absurd cc)
-    (λ other. other)))
+    let is_up : (node t n).parent ≡ Some p = forest.children p n old in (
+      old,
+      by_id n child
+          (λ is.
+          let both : Some parent ≡ Some p = sym (ap (λ (k : NodeId). (node t k).parent) is ∙ up) ∙ is_up in
+          let same : p ≡ parent = cc in
+          let test : (p.0 == parent.0) ≡ true = test_same p parent same in
+          absurd cc)
+          (λ other. other),
+    ))
 
 links_parted : (t new : Nodes) (child parent : NodeId) → IsForest t → (node t child).parent ≡ Some parent → IsParted t new child parent → HasLinks new
 links_parted t new child parent forest up e = record {

@@ -10,12 +10,7 @@ use crate::walks::parent_of;
 use tr_base::{NoMemory, NodeId, Point, Shapes};
 
 /// Makes the child a child of the parent. The parent's list grows first, which alone may fail.
-fn attach(
-    family: &mut Family,
-    child: NodeId,
-    parent: NodeId,
-    at: Point,
-) -> Result<(), NoMemory>
+fn attach(family: &mut Family, child: NodeId, parent: NodeId, at: Point) -> Result<(), NoMemory>
     requires child { IsNode family.old child }
     requires parent { IsNode family.old parent }
     ensures ok { OnOk result (family.new ≡ edited family.old (Edit.Attach child parent at)) }

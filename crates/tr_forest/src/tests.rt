@@ -177,9 +177,15 @@ fn a_z_has_the_newest_in_front(rt: HostRuntime) -> Result<(), Fail> {
     let mut forest = nodes(rt.alloc(), &NodeKind::Z, 3)?;
     assert_eq!(rt; put(&mut forest, 1, 2), Ok(()));
     assert_eq!(rt; put(&mut forest, 3, 2), Ok(()));
-    assert_eq!(rt; forest.children(NodeId(2)), [NodeId(3), NodeId(1)].as_slice());
+    assert_eq!(rt;
+        forest.children(NodeId(2)),
+        [NodeId(3), NodeId(1)].as_slice()
+    );
     assert_eq!(rt; lift(&mut forest, 1), Ok(()));
-    assert_eq!(rt; forest.children(NodeId(2)), [NodeId(1), NodeId(3)].as_slice());
+    assert_eq!(rt;
+        forest.children(NodeId(2)),
+        [NodeId(1), NodeId(3)].as_slice()
+    );
     Ok(())
 }
 
@@ -189,7 +195,10 @@ fn others_have_the_newest_last(rt: HostRuntime) -> Result<(), Fail> {
     assert_eq!(rt; lift(&mut forest, 1), refused(NodeFault::NotChild));
     assert_eq!(rt; put(&mut forest, 1, 2), Ok(()));
     assert_eq!(rt; put(&mut forest, 3, 2), Ok(()));
-    assert_eq!(rt; forest.children(NodeId(2)), [NodeId(1), NodeId(3)].as_slice());
+    assert_eq!(rt;
+        forest.children(NodeId(2)),
+        [NodeId(1), NodeId(3)].as_slice()
+    );
     assert_eq!(rt; lift(&mut forest, 3), refused(NodeFault::WrongKind));
     Ok(())
 }
@@ -266,7 +275,10 @@ fn a_page_is_turned(rt: HostRuntime) -> Result<(), Fail> {
     let no = refused(NodeFault::WrongKind);
     let mut forest = nodes(rt.alloc(), &NodeKind::Page { per: 2, page: 0 }, 1)?;
     assert_eq!(rt; turns(&mut forest, 1), [no, no, no, Ok(())]);
-    assert_eq!(rt; forest.kind_of(NodeId(1)), NodeKind::Page { per: 2, page: 6 });
+    assert_eq!(rt;
+        forest.kind_of(NodeId(1)),
+        NodeKind::Page { per: 2, page: 6 }
+    );
     Ok(())
 }
 
@@ -297,7 +309,10 @@ fn a_child_of_a_z_is_moved(rt: HostRuntime) -> Result<(), Fail> {
     let mut forest = nodes(rt.alloc(), &NodeKind::Z, 1)?;
     let child = NodeId(0);
     let at = Point { h: -5, v: 6 };
-    assert_eq!(rt; tried(&mut forest, Edit::Move { child, at }), refused(NodeFault::NotChild));
+    assert_eq!(rt;
+        tried(&mut forest, Edit::Move { child, at }),
+        refused(NodeFault::NotChild)
+    );
     assert_eq!(rt; put(&mut forest, 0, 1), Ok(()));
     assert_eq!(rt; tried(&mut forest, Edit::Move { child, at }), Ok(()));
     assert_eq!(rt; forest.at_of(child), at);
@@ -313,6 +328,9 @@ fn a_copy_is_equal(rt: HostRuntime) -> Result<(), Fail> {
     assert_eq!(rt; copy.leaves(), 1);
     let size = Size { wide: 9, high: 9 };
     assert_eq!(rt; tried(&mut forest, Edit::Resize { size }), Ok(()));
-    assert_eq!(rt; tried(&mut forest, Edit::Rescreen { kind: Kind::Mono }), Ok(()));
+    assert_eq!(rt;
+        tried(&mut forest, Edit::Rescreen { kind: Kind::Mono }),
+        Ok(())
+    );
     Ok(())
 }
