@@ -1,19 +1,17 @@
 -- After each edit that isn't refused the nodes are still a forest.
-use Rattle.std.proofs.Common.{◌≡◌, ℕ, ◌+◌, ◌≤◌, Bool, true, false, cond, not, ◌&&◌, ◌||◌, ◌==◌, List, [], ◌∷◌, Option, Some, None, nat_lt, length, refl, sym, ap, subst, ◌∙◌, arith}
+use Rattle.std.proofs.Common.{◌≡◌, ℕ, ◌+◌, Bool, true, false, cond, not, ◌&&◌, ◌||◌, ◌==◌, List, [], ◌∷◌, Option, Some, None, nat_lt, length, refl, sym, ap, subst, ◌∙◌, arith}
 use Rattle.std.specs.Prelude.{is_some}
 use Rattle.std.proofs.lemmas.Bool.Decides.{nat_tests}
 use Rattle.tr_base.specs.declared.Point.{Point}
 use Rattle.tr_base.specs.declared.NodeId.{NodeId}
 use Rattle.tr_base.specs.declared.Shapes.{Shapes}
-use Rattle.tr_base.specs.declared.Size.{Size}
-use Rattle.tr_base.specs.Layouts.{farthest, IsOffset}
 use Rattle.tr_forest.specs.declared.kinds.NodeKind.{NodeKind}
 use Rattle.tr_forest.specs.declared.kinds.NodeKind.TheVariants as kinds
 use Rattle.tr_forest.specs.declared.edits.Edit.{Edit}
 use Rattle.tr_forest.specs.declared.edits.Edit.TheVariants as edits
 use Rattle.tr_forest.specs.declared.edits.NodeFault.{NodeFault}
 use Rattle.tr_forest.specs.declared.edits.NodeFault.TheVariants as faults
-use Rattle.tr_forest.specs.Nodes.{Entry, Nodes, IsNode, IsNodeKind, IsSize, node, is_leaf, is_z, is_t, is_page, is_border, is_rigid, is_translate, is_filter, shown_by, leaf_of}
+use Rattle.tr_forest.specs.Nodes.{Entry, Nodes, IsNode, IsNodeKind, node, is_leaf, is_z, is_t, is_border, is_rigid, is_translate, is_filter, shown_by, leaf_of}
 use Rattle.tr_forest.specs.Families.{levels, is_among, depth, height, is_under, of_parent}
 use Rattle.tr_forest.specs.Edits.{IsEdit, edited, refusal, changed, with_child, hung, turned_to, paged, reshaped, at_parent, bereft, loose, lifting, hangs, is_root, is_occupied}
 use Rattle.tr_forest.specs.Forests.{IsForest}

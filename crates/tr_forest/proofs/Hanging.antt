@@ -1,17 +1,15 @@
 -- After an Attach the nodes are still a forest.
-use Rattle.std.proofs.Common.{◌≡◌, ℕ, zero, suc, ◌+◌, ◌<◌, ◌≤◌, Bool, true, false, cond, ◌||◌, ◌==◌, ◌≢◌, ◌⊎◌, inl, inr, List, [], ◌∷◌, ◌++◌, Option, Some, None, nat_lt, length, refl, sym, ap, subst, ◌∙◌, arith}
-use Rattle.std.specs.Prelude.{is_some, not, ◌&&◌}
-use Rattle.std.proofs.lemmas.Bool.Decides.{nat_tests}
+use Rattle.std.proofs.Common.{◌≡◌, ℕ, zero, suc, ◌+◌, ◌≤◌, Bool, true, false, ◌||◌, ◌==◌, ◌⊎◌, inl, inr, List, [], Option, Some, None, length, refl, sym, ap, subst, ◌∙◌, arith}
 use Rattle.tr_base.specs.declared.Point.{Point}
 use Rattle.tr_base.specs.declared.NodeId.{NodeId}
 use Rattle.tr_base.specs.Layouts.{farthest, IsOffset, greatest_by}
 use Rattle.tr_forest.specs.Nodes.{Entry, Nodes, IsNode, node, is_leaf, is_z, is_filter, shown_by}
 use Rattle.tr_forest.specs.Families.{levels, is_among, deeper, depth_within, depth, height, of_parent, is_under_within, is_under}
-use Rattle.tr_forest.specs.Edits.{changed, with_child, hung, hangs, is_root, is_occupied}
+use Rattle.tr_forest.specs.Edits.{changed, with_child, hung}
 use Rattle.tr_forest.specs.Forests.{IsForest}
-use Rattle.tr_forest.proofs.FamilyLemmas.{by_id, tested_same, among_first, depth_zero, depth_suc, depth_law, depth_some, height_law, greatest_member, under_suc}
+use Rattle.tr_forest.proofs.FamilyLemmas.{by_id, among_first, depth_zero, depth_suc, depth_law, depth_some, height_law, greatest_member}
 use Rattle.tr_forest.proofs.Lists.{AreApart, joined, among_joined, length_joined, apart_joined}
-use Rattle.tr_forest.proofs.Keeping.{KeepsValues, HasRanges, HasLinks, Follows, follows, keeps_both, keeps_changed, ranges_of, ranges_changed, changed_here, changed_other, changed_part, still_node}
+use Rattle.tr_forest.proofs.Keeping.{HasRanges, HasLinks, Follows, follows, keeps_both, keeps_changed, ranges_of, ranges_changed, changed_here, changed_other, changed_part, still_node}
 
 -- where no fault is found
 pub record CanHang (t : Nodes) (child parent : NodeId) : Type 0 where

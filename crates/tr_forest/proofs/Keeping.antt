@@ -5,7 +5,6 @@ use Rattle.std.specs.List.{filter, AllPairs}
 use Rattle.std.proofs.lemmas.List.{get_or-set_same, get_or-set_other, length-set}
 use Rattle.std.proofs.lemmas.Bool.Decides.{nat_tests}
 use Rattle.tr_base.specs.declared.NodeId.{NodeId}
-use Rattle.tr_base.specs.declared.LeafId.{LeafId}
 use Rattle.tr_base.specs.Layouts.{farthest, IsOffset}
 use Rattle.tr_forest.specs.declared.kinds.NodeKind.{NodeKind}
 use Rattle.tr_forest.specs.declared.kinds.NodeKind.TheVariants as kinds
@@ -14,7 +13,7 @@ use Rattle.tr_forest.specs.Families.{levels, is_among, deeper, depth_within, dep
 use Rattle.tr_forest.specs.Edits.{changed}
 use Rattle.tr_forest.specs.Forests.{IsForest}
 use Rattle.tr_forest.specs.Tables.{IsKept, in_table}
-use Rattle.tr_forest.proofs.FamilyLemmas.{by_id, tested_same, depth_zero, depth_suc}
+use Rattle.tr_forest.proofs.FamilyLemmas.{by_id, depth_zero, depth_suc}
 
 -- what every edit leaves as it was: how many nodes there are, the root, and which leaf each node is
 pub record KeepsValues (t new : Nodes) : Type 0 where

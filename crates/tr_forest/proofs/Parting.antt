@@ -1,5 +1,5 @@
 -- After a Detach and a Lift the nodes are still a forest.
-use Rattle.std.proofs.Common.{◌≡◌, ℕ, zero, suc, ◌+◌, ◌<◌, ◌≤◌, Bool, true, false, cond, not, ◌==◌, ◌≢◌, List, [], ◌∷◌, Option, Some, None, length, refl, sym, ap, subst, ◌∙◌, arith}
+use Rattle.std.proofs.Common.{◌≡◌, ℕ, zero, suc, ◌≤◌, true, false, cond, ◌==◌, List, ◌∷◌, Option, Some, None, length, refl, sym, ap, subst, ◌∙◌, arith}
 use Rattle.tr_base.specs.declared.NodeId.{NodeId}
 use Rattle.tr_forest.specs.declared.kinds.NodeKind.{NodeKind}
 use Rattle.tr_forest.specs.declared.kinds.NodeKind.TheVariants as kinds
@@ -9,7 +9,7 @@ use Rattle.tr_forest.specs.Edits.{changed, without, bereft, loose, lifting, forg
 use Rattle.tr_forest.specs.Forests.{IsForest}
 use Rattle.tr_forest.proofs.FamilyLemmas.{by_id, test_same, depth_zero, depth_suc, depth_some, parent_is_node}
 use Rattle.tr_forest.proofs.Lists.{AreApart, among_rest, among_left, among_lifted, length_without, apart_without, apart_lifted}
-use Rattle.tr_forest.proofs.Keeping.{KeepsValues, HasRanges, HasLinks, Follows, follows, keeps_both, keeps_changed, ranges_of, ranges_changed, changed_here, changed_other, changed_part, still_node, depth_equal}
+use Rattle.tr_forest.proofs.Keeping.{HasRanges, HasLinks, Follows, follows, keeps_both, keeps_changed, ranges_of, ranges_changed, changed_here, changed_other, changed_part, still_node, depth_equal}
 
 -- a node that forgets a child is of the same kind
 

@@ -1,11 +1,11 @@
 -- Depths, heights and who lies under whom, as the code counts them.
-use Rattle.std.proofs.Common.{◌≡◌, ℕ, zero, suc, ◌+◌, ◌-◌, ◌<◌, ◌≤◌, Bool, true, false, ◌||◌, ◌==◌, max, List, [], ◌∷◌, Option, Some, None, IfSome, length, get_or, drop, refl, sym, ap, subst, ◌∙◌, add-one, arith}
+use Rattle.std.proofs.Common.{◌≡◌, ℕ, ◌+◌, ◌-◌, ◌<◌, ◌≤◌, true, false, ◌==◌, max, List, ◌∷◌, Option, Some, None, IfSome, length, get_or, drop, refl, sym, ap, ◌∙◌, add-one, arith}
 use Rattle.std.proofs.Math.Seq.{drop-cons}
 use Rattle.std.proofs.lemmas.List.{drop_all}
 use Rattle.std.proofs.lemmas.Bool.Decides.{nat_tests}
 use Rattle.tr_base.specs.declared.NodeId.{NodeId}
 use Rattle.tr_base.specs.Layouts.{greatest_by}
-use Rattle.tr_forest.specs.Nodes.{Entry, Nodes, IsNode, node}
+use Rattle.tr_forest.specs.Nodes.{Nodes, IsNode, node}
 use Rattle.tr_forest.specs.Families.{is_among, deeper, depth_within, height_within, of_parent, is_under_within}
 use Rattle.tr_forest.specs.Forests.{IsForest}
 use Rattle.tr_forest.proofs.FamilyLemmas.{same_id, depth_zero, depth_suc, height_zero, height_suc, under_zero, under_suc, under_itself, parent_is_node, child_is_node, among_at}

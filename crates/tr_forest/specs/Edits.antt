@@ -1,5 +1,5 @@
 -- What an edit makes of the nodes, and where it is refused.
-use Rattle.std.specs.Prelude.{◌≡◌, ℕ, ◌+◌, ◌<◌, ◌≤◌, ⊤, Bool, true, false, not, ◌&&◌, ◌||◌, ◌==◌, nat_lt, if◌then◌else◌, List, [], ◌∷◌, ◌++◌, Option, Some, None, is_some, set, length}
+use Rattle.std.specs.Prelude.{◌≡◌, ℕ, ◌+◌, ◌≤◌, ⊤, Bool, true, false, not, ◌&&◌, ◌||◌, ◌==◌, nat_lt, if◌then◌else◌, List, [], ◌∷◌, ◌++◌, Option, Some, None, is_some, set, length}
 use Rattle.std.specs.List.{filter}
 use Rattle.tr_base.specs.declared.Point.{Point}
 use Rattle.tr_base.specs.declared.NodeId.{NodeId}
@@ -124,6 +124,11 @@ hangs t n = is_some (node t n).parent
 -- the node is a filter that has its child
 abbrev pub is_occupied : Nodes → NodeId → Bool
 is_occupied t n = is_filter (node t n).kind && not (length (node t n).children == 0)
+
+-- an Attach makes a list of children longer, and may want memory; no other edit does
+abbrev pub wants_memory : Edit → Bool
+wants_memory (edits.Attach child parent at) = true
+wants_memory edit = false
 
 -- the faults that an edit can have, in their order, and whether it has them
 abbrev pub faults_of : Nodes → Edit → List (Bool × NodeFault)

@@ -1,5 +1,5 @@
 -- What all nodes of a forest keep.
-use Rattle.std.specs.Prelude.{◌≡◌, ◌≢◌, ℕ, ◌≤◌, ◌<◌, true, List, [], AllPairs, Option, Some, None, length}
+use Rattle.std.specs.Prelude.{◌≡◌, ◌≢◌, ◌≤◌, ◌<◌, true, [], AllPairs, Some, None, length}
 use Rattle.tr_base.specs.declared.NodeId.{NodeId}
 use Rattle.tr_base.specs.declared.LeafId.{LeafId}
 use Rattle.tr_base.specs.Layouts.{farthest, IsOffset}

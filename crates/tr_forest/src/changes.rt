@@ -1,7 +1,7 @@
-ghost use Rattle.std.specs.Prelude.{◌≡◌, OnOk, OnErr};
+ghost use Rattle.std.specs.Prelude.{◌≡◌, true, OnOk, OnErr};
 ghost use Rattle.tr_forest.specs.Nodes.{IsNode};
 ghost use Rattle.tr_forest.specs.Forests.{IsForest};
-ghost use Rattle.tr_forest.specs.Edits.{IsEdit, edited};
+ghost use Rattle.tr_forest.specs.Edits.{IsEdit, edited, wants_memory};
 
 use crate::edits::Edit;
 use crate::families::Family;
@@ -64,6 +64,7 @@ pub(crate) fn apply(family: &mut Family, edit: &Edit) -> Result<(), NoMemory>
     requires edit { IsEdit family.old edit.now }
     ensures ok { OnOk result (family.new ≡ edited family.old edit.now) }
     ensures err { OnErr result (family.new ≡ family.old) }
+    ensures memory { OnErr result (wants_memory edit.now ≡ true) }
 {
     match *edit {
         Edit::Attach { child, parent, at } => attach(family, child, parent, at)?,

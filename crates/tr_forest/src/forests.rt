@@ -1,10 +1,10 @@
-ghost use Rattle.std.specs.Prelude.{◌≡◌, ◌<◌, ◌+◌, ℕ, ◌∷◌, ◌++◌, [], length, Some, None, ◌==◌, ◌||◌, IfOk, IfErr, OnOk, OnErr};
+ghost use Rattle.std.specs.Prelude.{◌≡◌, ◌<◌, ◌+◌, ℕ, ◌∷◌, ◌++◌, [], length, Some, None, ◌==◌, ◌||◌, false, IsOk, IfOk, IfErr, OnOk, OnErr};
 ghost use Rattle.tr_base.specs.declared.NodeId.{NodeId};
 ghost use Rattle.tr_base.specs.Layouts.{greatest_by};
 ghost use Rattle.tr_forest.specs.Nodes.{node, fresh, IsNode, IsNodeKind, IsNextLeaf, shown_by, leaf_of, leaf_count};
 ghost use Rattle.tr_forest.specs.Families.{depth, deeper, height, is_under, of_parent};
 ghost use Rattle.tr_forest.specs.Forests.{IsForest};
-ghost use Rattle.tr_forest.specs.Edits.{IsEdit, IsCause, edited, refusal};
+ghost use Rattle.tr_forest.specs.Edits.{IsEdit, IsCause, edited, refusal, wants_memory};
 ghost use Rattle.tr_forest.specs.Tables.{IsKept};
 
 use crate::changes::apply;
@@ -68,12 +68,14 @@ impl Forest {
         set_root_in(&mut self.family, &self.leaves, n);
     }
 
-    /// Changes the nodes as the edit says, or refuses it. Only an Attach may want memory.
+    /// Changes the nodes as the edit says, or refuses it. Of several faults the first one is named.
+    /// Only an Attach may want memory.
     pub fn edit(&mut self, edit: &Edit) -> Result<(), EditRefused>
         requires { IsEdit self.old edit.now }
         ensures ok { OnOk result (self.new ≡ edited self.old edit.now) }
         ensures allowed { OnOk result (refusal self.old edit.now ≡ None) }
         ensures cause { IfErr result (λ e. IsCause (refusal self.old edit.now) e) }
+        ensures succeeds { wants_memory edit.now ≡ false → refusal self.old edit.now ≡ None → IsOk result }
         ensures err { OnErr result (self.new ≡ self.old) }
     {
         edit_in(&mut self.family, &self.leaves, edit)
@@ -213,6 +215,7 @@ fn edit_in(family: &mut Family, leaves: &[NodeId], edit: &Edit) -> Result<(), Ed
     ensures ok { OnOk result (family.new ≡ edited family.old edit.now) }
     ensures allowed { OnOk result (refusal family.old edit.now ≡ None) }
     ensures cause { IfErr result (λ e. IsCause (refusal family.old edit.now) e) }
+    ensures succeeds { wants_memory edit.now ≡ false → refusal family.old edit.now ≡ None → IsOk result }
     ensures err { OnErr result (family.new ≡ family.old) }
 {
     if let Some(fault) = refusal(family, edit) {

@@ -1,4 +1,4 @@
-ghost use Rattle.std.specs.Prelude.{◌≡◌, ◌≤◌, ◌+◌, max, IfSome};
+ghost use Rattle.std.specs.Prelude.{◌≡◌, ◌≤◌, ◌+◌, IfSome};
 ghost use Rattle.tr_forest.specs.Nodes.{IsNode, node};
 ghost use Rattle.tr_forest.specs.Families.{depth_within, height_within, is_under_within};
 ghost use Rattle.tr_forest.specs.Forests.{IsForest};
@@ -65,15 +65,9 @@ pub(crate) fn height_of(family: &Family, levels: u8, n: NodeId) -> u8
     if levels == 0 {
         return 1;
     }
-    let mut most = 0;
+    let mut most: u8 = 0;
     for c in family.children(n) {
-        most = greater(most, height_of(family, levels - 1, *c));
+        most = most.max(height_of(family, levels - 1, *c));
     }
     most + 1
-}
-
-fn greater(a: u8, b: u8) -> u8
-    ensures { result ≡ max a b }
-{
-    if a < b { b } else { a }
 }

@@ -1,4 +1,4 @@
-use Rattle.std.proofs.Common.{◌≡◌, ℕ, ◌<◌, List, ◌∷◌, Result, Ok, Err, IsOk, is_ok, cond, insert, length, vec_len, vec_capacity, ap, refl, ◌∙◌, arith}
+use Rattle.std.proofs.Common.{◌≡◌, ◌<◌, List, ◌∷◌, Result, Ok, Err, IsOk, is_ok, cond, insert, length, vec_len, vec_capacity, ap, refl, ◌∙◌, arith}
 use Rattle.tr_base.specs.declared.NodeId.{NodeId}
 use Rattle.tr_forest.specs.Edits.{without}
 use Rattle.tr_forest.proofs.Lists.{shorter}

@@ -1,4 +1,4 @@
-use Rattle.std.proofs.Common.{not, ◌==◌, rules, ◌≡◌}
+use Rattle.std.proofs.Common.{not, ◌==◌, rules}
 use Rattle.std.proofs.lemmas.Fn.{filter_same}
 use Rattle.tr_base.specs.declared.NodeId.{NodeId}
 use Rattle.tr_forest.proofs.entries.remove.Goals as goal

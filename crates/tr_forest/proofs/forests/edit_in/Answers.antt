@@ -1,4 +1,4 @@
-use Rattle.std.proofs.Common.{sym, subst, List}
+use Rattle.std.proofs.Common.{sym, subst}
 use Rattle.tr_forest.specs.Nodes.{Nodes}
 use Rattle.tr_forest.specs.Tables.{IsKept}
 use Rattle.tr_forest.specs.Edits.{edited}

@@ -1,5 +1,4 @@
-use Rattle.std.proofs.Common.{sym, subst, Some, List}
-use Rattle.tr_base.specs.declared.NodeId.{NodeId}
+use Rattle.std.proofs.Common.{sym, subst}
 use Rattle.tr_forest.specs.Nodes.{Nodes}
 use Rattle.tr_forest.specs.Tables.{IsKept}
 use Rattle.tr_forest.proofs.Adding.{kept_rooted}

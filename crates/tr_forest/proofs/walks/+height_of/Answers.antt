@@ -20,8 +20,8 @@ height_of-requires t c = (
 
 pub loop-c-preserved : goal.loop-c-preserved
 loop-c-preserved t c = record {
-  most = omega (arith, c.greater-most.ensures, c.height_of.ensures.most, c.if-levels-eq0.false);
-  rest = rw c.greater-most.ensures (greatest_next (height_within (c.args.levels - 1) c.args.family.now) c.children-c-items.result.now (record { 0 = 0 }) c.loop-c.c-index c.loop-c.most c.height_of.result
+  most = omega (arith, c.max-most.ensures, c.height_of.ensures.most, c.if-levels-eq0.false);
+  rest = rw c.max-most.ensures (greatest_next (height_within (c.args.levels - 1) c.args.family.now) c.children-c-items.result.now (record { 0 = 0 }) c.loop-c.c-index c.loop-c.most c.height_of.result
       c.loop-c-test.true c.height_of.ensures.height c.loop-c.invariant.rest);
 }
 

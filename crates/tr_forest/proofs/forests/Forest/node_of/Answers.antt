@@ -1,5 +1,4 @@
-use Rattle.std.proofs.Common.{◌≡◌, subst, get_or, ap, ◌∙◌, List}
-use Rattle.tr_base.specs.declared.NodeId.{NodeId}
+use Rattle.std.proofs.Common.{subst, get_or, ap, ◌∙◌}
 use Rattle.tr_forest.specs.Nodes.{Nodes}
 use Rattle.tr_forest.specs.Tables.{IsKept}
 use Rattle.tr_forest.proofs.Adding.{place_is, place_is_node}
