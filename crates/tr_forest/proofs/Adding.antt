@@ -61,7 +61,8 @@ kept_nothing = record {
 
 -- a root
 
-pub kept_rooted : (t : Nodes) (leaves : List NodeId) (n : NodeId) → IsKept t leaves → IsNode t n → (node t n).parent ≡ None → IsKept (record t { root = Some n }) leaves
+pub kept_rooted : (t : Nodes) (leaves : List NodeId) (n : NodeId) → IsKept t leaves → IsNode t n → (node t n).parent ≡ None →
+    IsKept (record t { root = Some n }) leaves
 kept_rooted t leaves n k h top =
     let f : IsForest t = k.forest in
     let new : Nodes = record t { root = Some n } in
@@ -93,7 +94,8 @@ abbrev pub added : Nodes → NodeKind → ℕ → Nodes
 added t kind tint = record t { entries = t.entries ++ fresh kind tint ∷ [] }
 
 -- a part of the nodes in which the new one is like no node
-part_added : {X : Type 0} (part : Entry → X) (es : List Entry) (e d : Entry) (n : ℕ) → part e ≡ part d → part (get_or (es ++ e ∷ []) n d) ≡ part (get_or es n d)
+part_added : {X : Type 0} (part : Entry → X) (es : List Entry) (e d : Entry) (n : ℕ) → part e ≡ part d →
+    part (get_or (es ++ e ∷ []) n d) ≡ part (get_or es n d)
 part_added part [] e d zero h = h
 part_added part [] e d (suc n) h = refl
 part_added part (x ∷ xs) e d zero h = refl
@@ -150,7 +152,8 @@ none_of : (b : Bool) → b ≡ false → cond {A = ℕ} b 1 0 ≡ 0
 none_of true h = cc
 none_of false h = refl
 
-numbered_added : (t : Nodes) (kind : NodeKind) (tint : ℕ) (n : NodeId) (leaf : LeafId) → IsForest t → IsNextLeaf t kind → leaf_of (node (added t kind tint) n).kind ≡ Some leaf →
+numbered_added : (t : Nodes) (kind : NodeKind) (tint : ℕ) (n : NodeId) (leaf : LeafId) → IsForest t → IsNextLeaf t kind →
+    leaf_of (node (added t kind tint) n).kind ≡ Some leaf →
     leaf.0 < leaf_count (added t kind tint)
 numbered_added t kind tint n leaf f next h =
     let more : leaf_count (added t kind tint) ≡ leaf_count t + cond (is_leaf kind) 1 0 = leaves_added t kind tint in
@@ -167,10 +170,12 @@ unlike_added : (t : Nodes) (kind : NodeKind) (tint : ℕ) (m n : NodeId) (leaf :
 unlike_added t kind tint m n leaf f next h k = elim (leaf_added t kind tint m leaf h) [
   | inl new ↦ (elim (leaf_added t kind tint n leaf k) [
     | inl new2 ↦ new.0 ∙ sym new2.0
-    | inr old2 ↦ (let is : leaf.0 ≡ leaf_count t = next_of t kind leaf next new.1 in let lt : leaf.0 < leaf_count t = f.numbered n leaf old2 in absurd (omega arith))
+    | inr old2 ↦ (let is : leaf.0 ≡ leaf_count t = next_of t kind leaf next new.1 in let lt : leaf.0 < leaf_count t = f.numbered n leaf old2 in absurd
+        (omega arith))
   ])
   | inr old ↦ (elim (leaf_added t kind tint n leaf k) [
-    | inl new2 ↦ (let is : leaf.0 ≡ leaf_count t = next_of t kind leaf next new2.1 in let lt : leaf.0 < leaf_count t = f.numbered m leaf old in absurd (omega arith))
+    | inl new2 ↦ (let is : leaf.0 ≡ leaf_count t = next_of t kind leaf next new2.1 in let lt : leaf.0 < leaf_count t = f.numbered m leaf old in absurd
+        (omega arith))
     | inr old2 ↦ f.unlike m n leaf old old2
   ])
 ]
@@ -185,8 +190,10 @@ kind_added P t kind tint n here there = elim (at_added t.entries (fresh kind tin
 pub forest_added : (t : Nodes) (kind : NodeKind) (tint : ℕ) → IsForest t → CanAdd t kind → IsForest (added t kind tint)
 forest_added t kind tint f can =
     let new : Nodes = added t kind tint in
-    let up : (n : NodeId) → (node new n).parent ≡ (node t n).parent = λ n. part_added (λ e. e.parent) t.entries (fresh kind tint) (fresh kinds.H 0) n.0 refl in
-    let down : (n : NodeId) → (node new n).children ≡ (node t n).children = λ n. part_added (λ e. e.children) t.entries (fresh kind tint) (fresh kinds.H 0) n.0 refl in
+    let up : (n : NodeId) → (node new n).parent ≡ (node t n).parent = λ n. part_added (λ e. e.parent) t.entries (fresh kind tint)
+        (fresh kinds.H 0) n.0 refl in
+    let down : (n : NodeId) → (node new n).children ≡ (node t n).children = λ n. part_added (λ e. e.children) t.entries (fresh kind tint)
+        (fresh kinds.H 0) n.0 refl in
     let place : (n : NodeId) → (node new n).at ≡ (node t n).at = λ n. part_added (λ e. e.at) t.entries (fresh kind tint) (fresh kinds.H 0) n.0 refl in
     record {
       count = (let room : length t.entries < 256 = can.room in omega (arith, length-append t.entries (fresh kind tint ∷ [])));
@@ -194,7 +201,8 @@ forest_added t kind tint f can =
       children = λ n c h. up c ∙ f.children n c (sym (ap (is_among c) (down n)) ∙ h);
       once = λ n. subst (λ (cs : List NodeId). AllPairs (λ a b. a.0 ≢ b.0) cs) (sym (down n)) (f.once n);
       depths = λ n. subst (λ (d : ℕ). d ≤ levels) (sym (depth_equal 16 t new up n)) (f.depths n);
-      root = λ n h. (let old : IsNode t n = f.root n h in record { within = (let lt : n.0 < length t.entries = old.within in omega (arith, length-append t.entries (fresh kind tint ∷ []))) });
+      root = λ n h. (let old : IsNode t n = f.root n h in record { within =
+          (let lt : n.0 < length t.entries = old.within in omega (arith, length-append t.entries (fresh kind tint ∷ []))) });
       top = λ n h. up n ∙ f.top n h;
       leaves = λ n h. elim (at_added t.entries (fresh kind tint) (fresh kinds.H 0) n.0) [
         | inl both ↦ ap (λ (e : Entry). e.children) both.1
@@ -210,13 +218,15 @@ forest_added t kind tint f can =
       ];
       kinds = λ n. kind_added IsNodeKind t kind tint n can.range (f.kinds n);
       offsets = λ n. subst (λ (p : Point). IsOffset farthest p) (sym (place n)) (f.offsets n);
-      leaf_numbers = (let most : leaf_count t + cond (is_leaf kind) 1 0 ≤ 32 = room_for t kind can.leaf f.leaf_numbers in subst (λ (k : ℕ). k ≤ 32) (sym (leaves_added t kind tint)) most);
+      leaf_numbers = (let most : leaf_count t + cond (is_leaf kind) 1 0 ≤ 32 = room_for t kind can.leaf f.leaf_numbers in subst (λ (k : ℕ). k ≤ 32)
+          (sym (leaves_added t kind tint)) most);
       numbered = λ n leaf h. numbered_added t kind tint n leaf f can.leaf h;
       unlike = λ m n leaf h k. unlike_added t kind tint m n leaf f can.leaf h k;
     }
 
 -- a leaf is still that leaf
-leaf_stays : (t : Nodes) (kind : NodeKind) (tint : ℕ) (n : NodeId) (leaf : LeafId) → leaf_of (node t n).kind ≡ Some leaf → leaf_of (node (added t kind tint) n).kind ≡ Some leaf
+leaf_stays : (t : Nodes) (kind : NodeKind) (tint : ℕ) (n : NodeId) (leaf : LeafId) → leaf_of (node t n).kind ≡ Some leaf →
+    leaf_of (node (added t kind tint) n).kind ≡ Some leaf
 leaf_stays t kind tint n leaf h = elim (at_added t.entries (fresh kind tint) (fresh kinds.H 0) n.0) [
   | inl both ↦
       (let past : node t n ≡ fresh kinds.H 0 = get_or-eq_default t.entries (fresh kinds.H 0) (omega (arith, both.0)) in
@@ -226,7 +236,8 @@ leaf_stays t kind tint n leaf h = elim (at_added t.entries (fresh kind tint) (fr
 ]
 
 -- a node that is no leaf leaves the table as it is
-pub kept_other : (t : Nodes) (leaves : List NodeId) (kind : NodeKind) (tint : ℕ) → IsKept t leaves → CanAdd t kind → is_leaf kind ≡ false → IsKept (added t kind tint) leaves
+pub kept_other : (t : Nodes) (leaves : List NodeId) (kind : NodeKind) (tint : ℕ) → IsKept t leaves → CanAdd t kind → is_leaf kind ≡ false →
+    IsKept (added t kind tint) leaves
 kept_other t leaves kind tint k can is_none = record {
   forest = forest_added t kind tint k.forest can;
   count = (let more : leaf_count (added t kind tint) ≡ leaf_count t + cond (is_leaf kind) 1 0 = leaves_added t kind tint in
@@ -241,7 +252,8 @@ leaf_is : (t : Nodes) (kind : NodeKind) → IsNextLeaf t kind → is_leaf kind �
 leaf_is t (kinds.Leaf leaf shapes) next h = (let id : ℕ → LeafId = λ k. record { 0 = k } in ap (λ (k : ℕ). Some (id k)) next.next)
 leaf_is t kind next h = cc
 
-place_added : (t : Nodes) (leaves : List NodeId) (kind : NodeKind) (tint : ℕ) (n : NodeId) (i : ℕ) → IsKept t leaves → IsNextLeaf t kind → is_leaf kind ≡ true → n.0 ≡ length t.entries →
+place_added : (t : Nodes) (leaves : List NodeId) (kind : NodeKind) (tint : ℕ) (n : NodeId) (i : ℕ) → IsKept t leaves → IsNextLeaf t kind →
+    is_leaf kind ≡ true → n.0 ≡ length t.entries →
     i < length (leaves ++ n ∷ []) → leaf_of (node (added t kind tint) (in_table (leaves ++ n ∷ []) i)).kind ≡ Some (record { 0 = i })
 place_added t leaves kind tint n i k next is_one is h = by_test (nat_lt i (length leaves)) refl
   where
@@ -254,13 +266,15 @@ place_added t leaves kind tint n i k next is_one is h = by_test (nat_lt i (lengt
         let ge : length leaves ≤ i = grind (arith, nat_tests) in
         let last : i ≡ length leaves = omega (arith, length-append leaves (n ∷ [])) in
         let this : in_table (leaves ++ n ∷ []) i ≡ n = ap (in_table (leaves ++ n ∷ [])) last ∙ get_or-append_seam leaves n [] (record { 0 = 0 }) in
-        let new : node (added t kind tint) n ≡ fresh kind tint = ap (λ (x : ℕ). get_or (t.entries ++ fresh kind tint ∷ []) x (fresh kinds.H 0)) is ∙ get_or-append_seam t.entries (fresh kind tint) [] (fresh kinds.H 0) in
+        let new : node (added t kind tint) n ≡ fresh kind tint = ap (λ (x : ℕ). get_or (t.entries ++ fresh kind tint ∷ []) x (fresh kinds.H 0)) is
+            ∙ get_or-append_seam t.entries (fresh kind tint) [] (fresh kinds.H 0) in
         let id : ℕ → LeafId = λ x. record { 0 = x } in
         ap (λ (m : NodeId). leaf_of (node (added t kind tint) m).kind) this ∙ ap (λ (e : Entry). leaf_of e.kind) new ∙ leaf_is t kind next is_one
         ∙ ap (λ (x : ℕ). Some (id x)) (sym (last ∙ k.count))
 
 -- a leaf gets the next place of the table
-pub kept_leaf : (t : Nodes) (leaves : List NodeId) (kind : NodeKind) (tint : ℕ) (n : NodeId) → IsKept t leaves → CanAdd t kind → is_leaf kind ≡ true → n.0 ≡ length t.entries →
+pub kept_leaf : (t : Nodes) (leaves : List NodeId) (kind : NodeKind) (tint : ℕ) (n : NodeId) → IsKept t leaves → CanAdd t kind → is_leaf kind ≡ true →
+    n.0 ≡ length t.entries →
     IsKept (added t kind tint) (leaves ++ n ∷ [])
 kept_leaf t leaves kind tint n k can is_one is = record {
   forest = forest_added t kind tint k.forest can;
@@ -272,7 +286,8 @@ kept_leaf t leaves kind tint n k can is_one is = record {
 }
 
 -- the table has the node of each leaf
-pub place_is : (t : Nodes) (leaves : List NodeId) (leaf : LeafId) (n : NodeId) → IsKept t leaves → leaf.0 < leaf_count t → n ≡ get_or leaves leaf.0 n → leaf_of (node t n).kind ≡ Some leaf
+pub place_is : (t : Nodes) (leaves : List NodeId) (leaf : LeafId) (n : NodeId) → IsKept t leaves → leaf.0 < leaf_count t → n ≡ get_or leaves leaf.0 n →
+    leaf_of (node t n).kind ≡ Some leaf
 place_is t leaves leaf n k h is =
     let lt : leaf.0 < length leaves = (let same : length leaves ≡ leaf_count t = k.count in omega arith) in
     let at : n ≡ in_table leaves leaf.0 = is ∙ get_or_default leaves leaf.0 n (record { 0 = 0 }) lt in

@@ -15,7 +15,7 @@ use Rattle.tr_forest.specs.Nodes.{Entry, Nodes, IsNode, IsNodeKind, node, is_lea
 use Rattle.tr_forest.specs.Families.{levels, is_among, depth, height, is_under, of_parent}
 use Rattle.tr_forest.specs.Edits.{IsEdit, edited, refusal, changed, with_child, hung, turned_to, paged, reshaped, at_parent, bereft, loose, lifting, hangs, is_root, is_occupied}
 use Rattle.tr_forest.specs.Forests.{IsForest}
-use Rattle.tr_forest.proofs.FamilyLemmas.{test_same}
+use Rattle.tr_forest.proofs.FamilyLemmas.{either, test_same}
 use Rattle.tr_forest.proofs.Keeping.{Follows, IsLike, follows_like, changed_count}
 use Rattle.tr_forest.proofs.Hanging.{CanHang, follows_hung}
 use Rattle.tr_forest.proofs.Parting.{follows_parted, follows_lifted}
@@ -44,10 +44,6 @@ some_value (Some x) h = (x, refl)
 no_items : (cs : List NodeId) → (length cs == 0) ≡ true → cs ≡ []
 no_items [] h = refl
 no_items (c ∷ cs) h = let none : length (c ∷ cs) ≡ 0 = grind (arith, nat_tests) in absurd (omega arith)
-
-either : (a b : Bool) → (a || b) ≡ false → (a ≡ false) × (b ≡ false)
-either true b h = cc
-either false b h = (refl, h)
 
 free_of : (b : Bool) (cs : List NodeId) → (b && not (length cs == 0)) ≡ false → b ≡ true → cs ≡ []
 free_of true cs h is = no_items cs (negated (length cs == 0) h)
@@ -79,7 +75,8 @@ can_hang t child parent at h =
 
 -- edits that leave all links as they are
 
-like_turned : (t : Nodes) (n : NodeId) (kind : NodeKind) → IsForest t → leaf_of kind ≡ leaf_of (node t n).kind → is_filter kind ≡ is_filter (node t n).kind → IsNodeKind kind →
+like_turned : (t : Nodes) (n : NodeId) (kind : NodeKind) → IsForest t → leaf_of kind ≡ leaf_of (node t n).kind →
+    is_filter kind ≡ is_filter (node t n).kind → IsNodeKind kind →
     ((child : NodeId) → shown_by kind ≡ Some child → is_among child (node t n).children ≡ true) → IsLike (node t n) (turned_to kind (node t n))
 like_turned t n kind forest leaf filter range shown = record {
   parent = refl;
@@ -142,12 +139,14 @@ reshaped_kind shapes (kinds.Leaf leaf old) h = h
 reshaped_kind shapes k h = h
 
 -- a filter of another value is a filter
-follows_filter : (t : Nodes) (n : NodeId) (kind : NodeKind) → IsForest t → IsNode t n → leaf_of kind ≡ None → is_filter kind ≡ true → shown_by kind ≡ None → IsNodeKind kind →
+follows_filter : (t : Nodes) (n : NodeId) (kind : NodeKind) → IsForest t → IsNode t n → leaf_of kind ≡ None → is_filter kind ≡ true →
+    shown_by kind ≡ None → IsNodeKind kind →
     (leaf_of (node t n).kind ≡ None) × (is_filter (node t n).kind ≡ true) → Follows t (changed n (turned_to kind) t)
 follows_filter t n kind forest h leaf filter shown range old = follows_like t n (turned_to kind) forest h
     (like_turned t n kind forest (leaf ∙ sym old.0) (filter ∙ sym old.1) range (λ child k. let no : None ≡ Some child = sym shown ∙ k in cc))
 
-follows_shown : (t : Nodes) (n child : NodeId) → IsForest t → IsNode t n → is_t (node t n).kind ≡ true → is_among child (node t n).children ≡ true → Follows t (changed n (turned_to (kinds.T (Some child))) t)
+follows_shown : (t : Nodes) (n child : NodeId) → IsForest t → IsNode t n → is_t (node t n).kind ≡ true → is_among child (node t n).children ≡ true →
+    Follows t (changed n (turned_to (kinds.T (Some child))) t)
 follows_shown t n child forest h is among =
     let old = t_like (node t n).kind is in
     follows_like t n (turned_to (kinds.T (Some child))) forest h (like_turned t n (kinds.T (Some child)) forest (sym old.0) (sym old.1) tt (λ c k.
@@ -159,58 +158,72 @@ follows_same t forest = record { values = record { count = refl; root = refl; le
 
 -- edits of children
 
-hangs_in_z : (t : Nodes) (child parent : NodeId) → (node t child).parent ≡ Some parent → of_parent (node t child).parent (λ p. not (is_z (node t p).kind)) ≡ false → is_z (node t parent).kind ≡ true
+hangs_in_z : (t : Nodes) (child parent : NodeId) → (node t child).parent ≡ Some parent →
+    of_parent (node t child).parent (λ p. not (is_z (node t p).kind)) ≡ false → is_z (node t parent).kind ≡ true
 hangs_in_z t child parent up h = negated (is_z (node t parent).kind) (sym (ap (λ o. of_parent o (λ p. not (is_z (node t p).kind))) up) ∙ h)
 
 follows_detached : (t : Nodes) (child : NodeId) → IsForest t → IsNode t child → hangs t child ≡ true → Follows t (edited t (edits.Detach child))
 follows_detached t child forest h hang =
     let up = some_value (node t child).parent hang in
-    subst (λ (o : Option NodeId). Follows t (changed child loose (at_parent o (λ parent. changed parent (bereft child)) t))) (sym up.1) (follows_parted t child up.0 forest h up.1)
+    subst (λ (o : Option NodeId). Follows t (changed child loose (at_parent o (λ parent. changed parent (bereft child)) t))) (sym up.1)
+        (follows_parted t child up.0 forest h up.1)
 
 follows_lift : (t : Nodes) (child : NodeId) → IsForest t → refusal t (edits.Lift child) ≡ None → Follows t (edited t (edits.Lift child))
 follows_lift t child forest h =
-    let a = passed (of_parent (node t child).parent (λ p. not (is_z (node t p).kind))) faults.WrongKind (cond (not (hangs t child)) (Some faults.NotChild) None) h in
+    let a = passed (of_parent (node t child).parent (λ p. not (is_z (node t p).kind))) faults.WrongKind
+        (cond (not (hangs t child)) (Some faults.NotChild) None) h in
     let hang : hangs t child ≡ true = negated (hangs t child) (single (not (hangs t child)) faults.NotChild a.1) in
     let up = some_value (node t child).parent hang in
-    subst (λ (o : Option NodeId). Follows t (at_parent o (λ parent. changed parent (lifting child)) t)) (sym up.1) (follows_lifted t child up.0 forest up.1 (hangs_in_z t child up.0 up.1 a.0))
+    subst (λ (o : Option NodeId). Follows t (at_parent o (λ parent. changed parent (lifting child)) t)) (sym up.1)
+        (follows_lifted t child up.0 forest up.1 (hangs_in_z t child up.0 up.1 a.0))
 
 -- the nodes after an edit that isn't refused
 pub follows_edited : (t : Nodes) (edit : Edit) → IsForest t → IsEdit t edit → refusal t edit ≡ None → Follows t (edited t edit)
 follows_edited t (edits.Attach child parent at) forest is h = follows_hung t child parent at forest is.0 is.1 is.2 (can_hang t child parent at h)
-follows_edited t (edits.Detach child) forest is h = follows_detached t child forest is (negated (hangs t child) (single (not (hangs t child)) faults.NotChild h))
+follows_edited t (edits.Detach child) forest is h = follows_detached t child forest is
+    (negated (hangs t child) (single (not (hangs t child)) faults.NotChild h))
 follows_edited t (edits.Tint n tint) forest is h = follows_like t n (λ e. record e { tint = tint }) forest is
     (record { parent = refl; children = refl; leaf = refl; filter = refl; kind = forest.kinds n; offset = forest.offsets n; shown = forest.shown n })
 follows_edited t (edits.Border n width) forest is h =
-    follows_filter t n (kinds.Border width) forest is refl refl refl tt (border_like (node t n).kind (negated (is_border (node t n).kind) (single (not (is_border (node t n).kind)) faults.WrongKind h)))
+    follows_filter t n (kinds.Border width) forest is refl refl refl tt
+        (border_like (node t n).kind (negated (is_border (node t n).kind) (single (not (is_border (node t n).kind)) faults.WrongKind h)))
 follows_edited t (edits.Offset n by) forest is h =
-    follows_filter t n (kinds.Translate by) forest is.0 refl refl refl is.1 (translate_like (node t n).kind (negated (is_translate (node t n).kind) (single (not (is_translate (node t n).kind)) faults.WrongKind h)))
+    follows_filter t n (kinds.Translate by) forest is.0 refl refl refl is.1
+        (translate_like (node t n).kind (negated (is_translate (node t n).kind) (single (not (is_translate (node t n).kind)) faults.WrongKind h)))
 follows_edited t (edits.Fix n size) forest is h =
-    follows_filter t n (kinds.Rigid size) forest is.0 refl refl refl is.1 (rigid_like (node t n).kind (negated (is_rigid (node t n).kind) (single (not (is_rigid (node t n).kind)) faults.WrongKind h)))
+    follows_filter t n (kinds.Rigid size) forest is.0 refl refl refl is.1
+        (rigid_like (node t n).kind (negated (is_rigid (node t n).kind) (single (not (is_rigid (node t n).kind)) faults.WrongKind h)))
 follows_edited t (edits.Move child at) forest is h = follows_like t child (λ e. record e { at = at }) forest is.0
     (record { parent = refl; children = refl; leaf = refl; filter = refl; kind = forest.kinds child; offset = is.1; shown = forest.shown child })
 follows_edited t (edits.Lift child) forest is h = follows_lift t child forest h
 follows_edited t (edits.Show n child) forest is h =
     let a = passed (not (is_t (node t n).kind)) faults.WrongKind (cond (not (is_among child (node t n).children)) (Some faults.NotChild) None) h in
-    follows_shown t n child forest is.0 (negated (is_t (node t n).kind) a.0) (negated (is_among child (node t n).children) (single (not (is_among child (node t n).children)) faults.NotChild a.1))
+    follows_shown t n child forest is.0 (negated (is_t (node t n).kind) a.0)
+        (negated (is_among child (node t n).children) (single (not (is_among child (node t n).children)) faults.NotChild a.1))
 follows_edited t (edits.Turn n page) forest is h = follows_like t n (λ e. turned_to (paged page e.kind) e) forest is
-    (like_turned t n (paged page (node t n).kind) forest (paged_leaf page (node t n).kind) (paged_filter page (node t n).kind) (paged_kind page (node t n).kind (forest.kinds n))
+    (like_turned t n (paged page (node t n).kind) forest (paged_leaf page (node t n).kind) (paged_filter page (node t n).kind)
+        (paged_kind page (node t n).kind (forest.kinds n))
     (λ child k. forest.shown n child (sym (paged_shown page (node t n).kind) ∙ k)))
 follows_edited t (edits.Shapes n shapes) forest is h = follows_like t n (λ e. turned_to (reshaped shapes e.kind) e) forest is
-    (like_turned t n (reshaped shapes (node t n).kind) forest (reshaped_leaf shapes (node t n).kind) (reshaped_filter shapes (node t n).kind) (reshaped_kind shapes (node t n).kind (forest.kinds n))
+    (like_turned t n (reshaped shapes (node t n).kind) forest (reshaped_leaf shapes (node t n).kind) (reshaped_filter shapes (node t n).kind)
+        (reshaped_kind shapes (node t n).kind (forest.kinds n))
     (λ child k. forest.shown n child (sym (reshaped_shown shapes (node t n).kind) ∙ k)))
 follows_edited t (edits.Resize size) forest is h = follows_same t forest
 follows_edited t (edits.Rescreen kind) forest is h = follows_same t forest
 
 -- an edit adds no node and takes none away
 
-count_at_parent : (o : Option NodeId) (change : NodeId → Entry → Entry) (t : Nodes) → length (at_parent o (λ parent. changed parent (change parent)) t).entries ≡ length t.entries
+count_at_parent : (o : Option NodeId) (change : NodeId → Entry → Entry) (t : Nodes) →
+    length (at_parent o (λ parent. changed parent (change parent)) t).entries ≡ length t.entries
 count_at_parent None change t = refl
 count_at_parent (Some parent) change t = changed_count t parent (change parent)
 
 pub count_edited : (t : Nodes) (edit : Edit) → length (edited t edit).entries ≡ length t.entries
-count_edited t (edits.Attach child parent at) = changed_count (changed parent (with_child child) t) child (hung parent at) ∙ changed_count t parent (with_child child)
+count_edited t (edits.Attach child parent at) = changed_count (changed parent (with_child child) t) child (hung parent at)
+    ∙ changed_count t parent (with_child child)
 count_edited t (edits.Detach child) =
-    changed_count (at_parent (node t child).parent (λ parent. changed parent (bereft child)) t) child loose ∙ count_at_parent (node t child).parent (λ parent. bereft child) t
+    changed_count (at_parent (node t child).parent (λ parent. changed parent (bereft child)) t) child loose
+        ∙ count_at_parent (node t child).parent (λ parent. bereft child) t
 count_edited t (edits.Tint n tint) = changed_count t n (λ e. record e { tint = tint })
 count_edited t (edits.Border n width) = changed_count t n (turned_to (kinds.Border width))
 count_edited t (edits.Offset n by) = changed_count t n (turned_to (kinds.Translate by))

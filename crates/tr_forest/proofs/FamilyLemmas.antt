@@ -33,9 +33,13 @@ by_id {P = P} a b same apart = by_test (a.0 == b.0) refl
 
 -- lists of children
 
-or_true : (b : Bool) → (b || true) ≡ true
+pub or_true : (b : Bool) → (b || true) ≡ true
 or_true true = refl
 or_true false = refl
+
+pub either : (a b : Bool) → (a || b) ≡ false → (a ≡ false) × (b ≡ false)
+either true b h = cc
+either false b h = (refl, h)
 
 pub among_first : (n : NodeId) (ns : List NodeId) → is_among n (n ∷ ns) ≡ true
 among_first n ns = rw (test_same n n refl) refl
@@ -116,6 +120,14 @@ depth_law t n f = sym (depth_enough 16 t n (f.depths n)) ∙ depth_suc 16 t n
 pub depth_child : (t : Nodes) (n child : NodeId) → IsForest t → is_among child (node t n).children ≡ true → depth t child ≡ depth t n + 1
 depth_child t n child f h = depth_law t child f ∙ ap (λ o. deeper o (depth t)) (f.children n child h)
 
+pub deeper_same : (o : Option NodeId) (u v : NodeId → ℕ) → ((p : NodeId) → o ≡ Some p → u p ≡ v p) → deeper o u ≡ deeper o v
+deeper_same None u v h = refl
+deeper_same (Some p) u v h = ap (λ k. k + 1) (h p refl)
+
+pub deeper_le : (o : Option NodeId) (u v : NodeId → ℕ) → ((p : NodeId) → u p ≤ v p) → deeper o u ≤ deeper o v
+deeper_le None u v h = omega arith
+deeper_le (Some p) u v h = let le : u p ≤ v p = h p in omega arith
+
 deeper_some : (o : Option NodeId) (u : NodeId → ℕ) → 1 ≤ deeper o u
 deeper_some None u = omega arith
 deeper_some (Some p) u = omega arith
@@ -141,7 +153,8 @@ greatest_none (x ∷ xs) u h = absurd (h x (among_first x xs))
 pub greatest_member : (ns : List NodeId) (u : NodeId → ℕ) (n : NodeId) → is_among n ns ≡ true → u n ≤ greatest_by u ns
 greatest_member [] u n h = cc
 greatest_member (x ∷ xs) u n h =
-    elim (among_split n x xs h) [ inl e ↦ (let same : u n ≡ u x = ap u e in omega arith) | inr k ↦ (let le : u n ≤ greatest_by u xs = greatest_member xs u n k in omega arith) ]
+    elim (among_split n x xs h) [ inl e ↦ (let same : u n ≡ u x = ap u e in omega arith) | inr k ↦
+        (let le : u n ≤ greatest_by u xs = greatest_member xs u n k in omega arith) ]
 
 pub height_zero : (t : Nodes) (n : NodeId) → height_within 0 t n ≡ 1
 unfolding height_within
@@ -171,11 +184,13 @@ pub under_zero : (t : Nodes) (top n : NodeId) → is_under_within 0 t top n ≡ 
 unfolding is_under_within
 under_zero t top n = refl
 
-pub under_suc : (f : ℕ) (t : Nodes) (top n : NodeId) → is_under_within (suc f) t top n ≡ ((n.0 == top.0) || of_parent (node t n).parent (is_under_within f t top))
+pub under_suc : (f : ℕ) (t : Nodes) (top n : NodeId) → is_under_within (suc f) t top n ≡
+    ((n.0 == top.0) || of_parent (node t n).parent (is_under_within f t top))
 unfolding is_under_within
 under_suc f t top n = refl
 
-of_parent_enough : (o : Option NodeId) (u v : NodeId → Bool) (d : NodeId → ℕ) (m : ℕ) → deeper o d ≤ suc m → ((p : NodeId) → d p ≤ m → u p ≡ v p) → of_parent o u ≡ of_parent o v
+of_parent_enough : (o : Option NodeId) (u v : NodeId → Bool) (d : NodeId → ℕ) (m : ℕ) → deeper o d ≤ suc m → ((p : NodeId) → d p ≤ m → u p ≡ v p) →
+    of_parent o u ≡ of_parent o v
 of_parent_enough None u v d m h ih = refl
 of_parent_enough (Some p) u v d m h ih = ih p (omega arith)
 
@@ -242,7 +257,8 @@ under_holder_here f t n child m h e =
     under_suc f t n m ∙ rw (up, under_itself f t n n refl) (or_true (m.0 == n.0))
 
 -- who is under a child of n is under n, a step further
-under_holder : (f : ℕ) (t : Nodes) (n child m : NodeId) → (node t child).parent ≡ Some n → is_under_within f t child m ≡ true → is_under_within (suc f) t n m ≡ true
+under_holder : (f : ℕ) (t : Nodes) (n child m : NodeId) → (node t child).parent ≡ Some n → is_under_within f t child m ≡ true →
+    is_under_within (suc f) t n m ≡ true
 under_holder zero t n child m h under = under_holder_here zero t n child m h (tested_same m child (sym (under_zero t child m) ∙ under))
 under_holder (suc f) t n child m h under = by_id m child (λ e. under_holder_here (suc f) t n child m h e) (λ ne.
     let above : of_parent (node t m).parent (is_under_within f t child) ≡ true = sym (under_suc f t child m ∙ rw ne refl) ∙ under in

@@ -7,7 +7,7 @@ use Rattle.tr_forest.specs.Nodes.{Entry, Nodes, IsNode, node, is_leaf, is_z, is_
 use Rattle.tr_forest.specs.Families.{levels, is_among, deeper, depth_within, depth, height, of_parent, is_under_within, is_under}
 use Rattle.tr_forest.specs.Edits.{changed, with_child, hung}
 use Rattle.tr_forest.specs.Forests.{IsForest}
-use Rattle.tr_forest.proofs.FamilyLemmas.{by_id, among_first, depth_zero, depth_suc, depth_law, depth_some, height_law, greatest_member}
+use Rattle.tr_forest.proofs.FamilyLemmas.{by_id, or_true, either, deeper_same, deeper_le, among_first, depth_zero, depth_suc, depth_law, depth_some, height_law, greatest_member}
 use Rattle.tr_forest.proofs.Lists.{AreApart, joined, among_joined, length_joined, apart_joined}
 use Rattle.tr_forest.proofs.Keeping.{HasRanges, HasLinks, Follows, follows, keeps_both, keeps_changed, ranges_of, ranges_changed, changed_here, changed_other, changed_part, still_node}
 
@@ -39,25 +39,17 @@ hung_is t child parent at hc hp =
     record {
       root = refl;
       child_up = ap (λ (e : Entry). e.parent) (changed_here u child (hung parent at) hu);
-      other_up = λ n ne. ap (λ (e : Entry). e.parent) (changed_other u child n (hung parent at) ne) ∙ changed_part (λ (e : Entry). e.parent) t parent n (with_child child) hp refl;
-      down = changed_part (λ (e : Entry). e.children) u child parent (hung parent at) hu refl ∙ ap (λ (e : Entry). e.children) (changed_here t parent (with_child child) hp);
-      other_down = λ n ne. changed_part (λ (e : Entry). e.children) u child n (hung parent at) hu refl ∙ ap (λ (e : Entry). e.children) (changed_other t parent n (with_child child) ne);
-      kinds = λ n. changed_part (λ (e : Entry). e.kind) u child n (hung parent at) hu refl ∙ changed_part (λ (e : Entry). e.kind) t parent n (with_child child) hp refl;
+      other_up = λ n ne. ap (λ (e : Entry). e.parent) (changed_other u child n (hung parent at) ne)
+          ∙ changed_part (λ (e : Entry). e.parent) t parent n (with_child child) hp refl;
+      down = changed_part (λ (e : Entry). e.children) u child parent (hung parent at) hu refl
+          ∙ ap (λ (e : Entry). e.children) (changed_here t parent (with_child child) hp);
+      other_down = λ n ne. changed_part (λ (e : Entry). e.children) u child n (hung parent at) hu refl
+          ∙ ap (λ (e : Entry). e.children) (changed_other t parent n (with_child child) ne);
+      kinds = λ n. changed_part (λ (e : Entry). e.kind) u child n (hung parent at) hu refl
+          ∙ changed_part (λ (e : Entry). e.kind) t parent n (with_child child) hp refl;
     }
 
 -- depths
-
-either : (a b : Bool) → (a || b) ≡ false → (a ≡ false) × (b ≡ false)
-either true b h = cc
-either false b h = (refl, h)
-
-deeper_same : (o : Option NodeId) (u v : NodeId → ℕ) → ((p : NodeId) → o ≡ Some p → u p ≡ v p) → deeper o u ≡ deeper o v
-deeper_same None u v h = refl
-deeper_same (Some p) u v h = ap (λ k. k + 1) (h p refl)
-
-deeper_le : (o : Option NodeId) (u v : NodeId → ℕ) → ((p : NodeId) → u p ≤ v p) → deeper o u ≤ deeper o v
-deeper_le None u v h = omega arith
-deeper_le (Some p) u v h = let le : u p ≤ v p = h p in omega arith
 
 -- more steps count no less
 depth_le : (f g : ℕ) (t : Nodes) (n : NodeId) → f ≤ g → depth_within f t n ≤ depth_within g t n
@@ -67,14 +59,16 @@ depth_le (suc f) zero t n h = absurd (omega arith)
 depth_le (suc f) (suc g) t n h = deeper_le (node t n).parent (depth_within f t) (depth_within g t) (λ p. depth_le f g t p (omega arith))
 
 -- who isn't under the child has its depth still
-depth_beside : (f g : ℕ) (t new : Nodes) (child parent n : NodeId) → IsHung t new child parent → f ≤ g → is_under_within g t child n ≡ false → depth_within f new n ≡ depth_within f t n
+depth_beside : (f g : ℕ) (t new : Nodes) (child parent n : NodeId) → IsHung t new child parent → f ≤ g → is_under_within g t child n ≡ false →
+    depth_within f new n ≡ depth_within f t n
 unfolding depth_within is_under_within
 depth_beside zero g t new child parent n e h k = refl
 depth_beside (suc f) zero t new child parent n e h k = absurd (omega arith)
 depth_beside (suc f) (suc g) t new child parent n e h k =
     let both = either (n.0 == child.0) (of_parent (node t n).parent (is_under_within g t child)) k in
     ap (λ o. deeper o (depth_within f new)) (e.other_up n both.0)
-    ∙ deeper_same (node t n).parent (depth_within f new) (depth_within f t) (λ p is. depth_beside f g t new child parent p e (omega arith) (sym (ap (λ o. of_parent o (is_under_within g t child)) is) ∙ both.1))
+    ∙ deeper_same (node t n).parent (depth_within f new) (depth_within f t)
+        (λ p is. depth_beside f g t new child parent p e (omega arith) (sym (ap (λ o. of_parent o (is_under_within g t child)) is) ∙ both.1))
 
 -- a parent is higher than its child
 height_up : (t : Nodes) (n q : NodeId) → IsForest t → (node t n).parent ≡ Some q → height t n + 1 ≤ height t q
@@ -113,7 +107,8 @@ bounded (suc f) t new child parent forest e apart h n = by_id n child
     let le : depth_within f t parent ≤ depth t parent = depth_le f 16 t parent (omega arith) in
     let tall : height t n ≡ height t child = ap (height t) is in
     inr (omega arith))
-    (λ other. bounded_up f t new child parent n (node t n).parent forest (e.other_up n other) refl (λ q. bounded f t new child parent forest e apart (omega arith) q))
+    (λ other. bounded_up f t new child parent n (node t n).parent forest (e.other_up n other) refl
+        (λ q. bounded f t new child parent forest e apart (omega arith) q))
 
 depths_hold : (t new : Nodes) (child parent n : NodeId) → IsForest t → IsHung t new child parent → CanHang t child parent → depth new n ≤ levels
 depths_hold t new child parent n forest e a =
@@ -124,30 +119,32 @@ depths_hold t new child parent n forest e a =
 
 -- who is whose child
 
-or_true : (b : Bool) → (b || true) ≡ true
-or_true true = refl
-or_true false = refl
-
-among_new : (t new : Nodes) (child parent p n : NodeId) → IsHung t new child parent → is_among n (node t p).children ≡ true → is_among n (node new p).children ≡ true
+among_new : (t new : Nodes) (child parent p n : NodeId) → IsHung t new child parent → is_among n (node t p).children ≡ true →
+    is_among n (node new p).children ≡ true
 among_new t new child parent p n e h = by_id p parent
     (λ is.
     let old : is_among n (node t parent).children ≡ true = sym (ap (λ (k : NodeId). is_among n (node t k).children) is) ∙ h in
-    ap (λ (k : NodeId). is_among n (node new k).children) is ∙ ap (is_among n) e.down ∙ among_joined (is_z (node t parent).kind) n child (node t parent).children
+    ap (λ (k : NodeId). is_among n (node new k).children) is ∙ ap (is_among n) e.down
+        ∙ among_joined (is_z (node t parent).kind) n child (node t parent).children
     ∙ ap (λ b. (child.0 == n.0) || b) old ∙ or_true (child.0 == n.0))
     (λ other. ap (is_among n) (e.other_down p other) ∙ h)
 
 among_child : (t new : Nodes) (child parent : NodeId) → IsHung t new child parent → is_among child (node new parent).children ≡ true
-among_child t new child parent e = ap (is_among child) e.down ∙ among_joined (is_z (node t parent).kind) child child (node t parent).children ∙ among_first child (node t parent).children
+among_child t new child parent e = ap (is_among child) e.down ∙ among_joined (is_z (node t parent).kind) child child (node t parent).children
+    ∙ among_first child (node t parent).children
 
 split_or : (child n : NodeId) (b : Bool) → ((child.0 == n.0) || b) ≡ true → (n ≡ child) ⊎ (b ≡ true)
 split_or child n b h = by_id child n (λ e. inl (sym e)) (λ ne. inr (sym (ap (λ t. t || b) ne) ∙ h))
 
-among_old : (t new : Nodes) (child parent p n : NodeId) → IsHung t new child parent → is_among n (node new p).children ≡ true → ((n ≡ child) × (p ≡ parent)) ⊎ (is_among n (node t p).children ≡ true)
+among_old : (t new : Nodes) (child parent p n : NodeId) → IsHung t new child parent → is_among n (node new p).children ≡ true →
+    ((n ≡ child) × (p ≡ parent)) ⊎ (is_among n (node t p).children ≡ true)
 among_old t new child parent p n e h = by_id p parent
     (λ is.
     let here : ((child.0 == n.0) || is_among n (node t parent).children) ≡ true =
-    sym (ap (λ (k : NodeId). is_among n (node new k).children) is ∙ ap (is_among n) e.down ∙ among_joined (is_z (node t parent).kind) n child (node t parent).children) ∙ h in
-    elim (split_or child n (is_among n (node t parent).children) here) [ inl same ↦ inl (same, is) | inr old ↦ inr (ap (λ (k : NodeId). is_among n (node t k).children) is ∙ old) ])
+    sym (ap (λ (k : NodeId). is_among n (node new k).children) is ∙ ap (is_among n) e.down
+        ∙ among_joined (is_z (node t parent).kind) n child (node t parent).children) ∙ h in
+    elim (split_or child n (is_among n (node t parent).children) here) [ inl same ↦ inl (same, is) | inr old ↦ inr
+        (ap (λ (k : NodeId). is_among n (node t k).children) is ∙ old) ])
     (λ other. inr (sym (ap (is_among n) (e.other_down p other)) ∙ h))
 
 -- the child was nobody's
@@ -164,13 +161,15 @@ links_hung t new child parent forest e a = record {
       (λ is.
       let up : Some parent ≡ Some p = sym (ap (λ (k : NodeId). (node new k).parent) is ∙ e.child_up) ∙ h in
       let same : p ≡ parent = cc in
-      ap (λ (k : NodeId). is_among n (node new k).children) same ∙ ap (λ (k : NodeId). is_among k (node new parent).children) is ∙ among_child t new child parent e)
+      ap (λ (k : NodeId). is_among n (node new k).children) same ∙ ap (λ (k : NodeId). is_among k (node new parent).children) is
+          ∙ among_child t new child parent e)
       (λ other. among_new t new child parent p n e (forest.parents n p (sym (e.other_up n other) ∙ h)));
   children = λ n c h. elim (among_old t new child parent n c e h) [
     | inl both ↦ ap (λ (k : NodeId). (node new k).parent) both.0 ∙ e.child_up ∙ ap (λ (k : NodeId). Some k) (sym both.1)
     | inr old ↦
         (let up : (node t c).parent ≡ Some n = forest.children n c old in
-        by_id c child (λ is. (let none : (node t c).parent ≡ None = ap (λ (k : NodeId). (node t k).parent) is ∙ a.loose in absurd cc)) (λ other. e.other_up c other ∙ up))
+        by_id c child (λ is. (let none : (node t c).parent ≡ None = ap (λ (k : NodeId). (node t k).parent) is ∙ a.loose in absurd cc))
+            (λ other. e.other_up c other ∙ up))
   ];
   once = λ n. by_id n parent
       (λ is. subst (λ (k : NodeId). AreApart (node new k).children) (sym is) (subst (λ (cs : List NodeId). AreApart cs) (sym e.down)
@@ -191,13 +190,15 @@ links_hung t new child parent forest e a = record {
       let none : (node t parent).children ≡ [] = a.free (sym (ap (λ (k : NodeId). is_filter (node t k).kind) is) ∙ old) in
       let count : length (node t parent).children ≡ 0 = ap (λ (cs : List NodeId). length cs) none in
       let here : length (node new n).children ≡ length (node t parent).children + 1 =
-      ap (λ (k : NodeId). length (node new k).children) is ∙ ap (λ (cs : List NodeId). length cs) e.down ∙ length_joined (is_z (node t parent).kind) child (node t parent).children in
+      ap (λ (k : NodeId). length (node new k).children) is ∙ ap (λ (cs : List NodeId). length cs) e.down
+          ∙ length_joined (is_z (node t parent).kind) child (node t parent).children in
       omega arith)
       (λ other. subst (λ (cs : List NodeId). length cs ≤ 1) (sym (e.other_down n other)) (forest.filters n old)));
   shown = λ n c h. among_new t new child parent n c e (forest.shown n c (sym (ap shown_by (e.kinds n)) ∙ h));
 }
 
-pub follows_hung : (t : Nodes) (child parent : NodeId) (at : Point) → IsForest t → IsNode t child → IsNode t parent → IsOffset farthest at → CanHang t child parent →
+pub follows_hung : (t : Nodes) (child parent : NodeId) (at : Point) → IsForest t → IsNode t child → IsNode t parent → IsOffset farthest at →
+    CanHang t child parent →
     Follows t (hanging t child parent at)
 follows_hung t child parent at forest hc hp far a =
     let u : Nodes = changed parent (with_child child) t in

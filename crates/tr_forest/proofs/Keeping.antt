@@ -13,7 +13,7 @@ use Rattle.tr_forest.specs.Families.{levels, is_among, deeper, depth_within, dep
 use Rattle.tr_forest.specs.Edits.{changed}
 use Rattle.tr_forest.specs.Forests.{IsForest}
 use Rattle.tr_forest.specs.Tables.{IsKept, in_table}
-use Rattle.tr_forest.proofs.FamilyLemmas.{by_id, depth_zero, depth_suc}
+use Rattle.tr_forest.proofs.FamilyLemmas.{by_id, deeper_same, depth_zero, depth_suc}
 
 -- what every edit leaves as it was: how many nodes there are, the root, and which leaf each node is
 pub record KeepsValues (t new : Nodes) : Type 0 where
@@ -63,7 +63,8 @@ follows t new f v r l = record {
     children = l.children;
     once = l.once;
     depths = l.depths;
-    root = λ n h. (let old : IsNode t n = f.root n (sym v.root ∙ h) in record { within = (let lt : n.0 < length t.entries = old.within in let same : length new.entries ≡ length t.entries = v.count in omega arith) });
+    root = λ n h. (let old : IsNode t n = f.root n (sym v.root ∙ h) in record { within =
+        (let lt : n.0 < length t.entries = old.within in let same : length new.entries ≡ length t.entries = v.count in omega arith) });
     top = l.top;
     leaves = l.leaves;
     filters = l.filters;
@@ -71,7 +72,8 @@ follows t new f v r l = record {
     kinds = r.kinds;
     offsets = r.offsets;
     leaf_numbers = (let most : leaf_count t ≤ 32 = f.leaf_numbers in let same : leaf_count new ≡ leaf_count t = v.leaf_count in omega arith);
-    numbered = λ n leaf h. (let old : leaf.0 < leaf_count t = f.numbered n leaf (sym (v.leaf n) ∙ h) in let same : leaf_count new ≡ leaf_count t = v.leaf_count in omega arith);
+    numbered = λ n leaf h. (let old : leaf.0 < leaf_count t = f.numbered n leaf
+        (sym (v.leaf n) ∙ h) in let same : leaf_count new ≡ leaf_count t = v.leaf_count in omega arith);
     unlike = λ m n leaf h k. f.unlike m n leaf (sym (v.leaf m) ∙ h) (sym (v.leaf n) ∙ k);
   };
 }
@@ -89,10 +91,12 @@ pub changed_here : (t : Nodes) (n : NodeId) (change : Entry → Entry) → IsNod
 changed_here t n change h = get_or-set_same t.entries n.0 (change (node t n)) (fresh kinds.H 0) h.within
 
 pub changed_other : (t : Nodes) (n m : NodeId) (change : Entry → Entry) → (m.0 == n.0) ≡ false → node (changed n change t) m ≡ node t m
-changed_other t n m change h = get_or-set_other t.entries n.0 m.0 (change (node t n)) (fresh kinds.H 0) (λ e. let test : (m.0 == n.0) ≡ true = grind (arith, nat_tests) in cc)
+changed_other t n m change h = get_or-set_other t.entries n.0 m.0 (change (node t n)) (fresh kinds.H 0)
+    (λ e. let test : (m.0 == n.0) ≡ true = grind (arith, nat_tests) in cc)
 
 -- a part of the nodes that the change leaves as it is
-pub changed_part : {X : Type 0} (part : Entry → X) (t : Nodes) (n m : NodeId) (change : Entry → Entry) → IsNode t n → part (change (node t n)) ≡ part (node t n) →
+pub changed_part : {X : Type 0} (part : Entry → X) (t : Nodes) (n m : NodeId) (change : Entry → Entry) → IsNode t n →
+    part (change (node t n)) ≡ part (node t n) →
     part (node (changed n change t) m) ≡ part (node t m)
 changed_part {X = X} part t n m change h same = by_id m n
     (λ e. subst (λ (k : NodeId). part (node (changed n change t) k) ≡ part (node t k)) (sym e) (ap part (changed_here t n change h) ∙ same))
@@ -103,7 +107,8 @@ changed_count t n change = length-set t.entries n.0 (change (node t n))
 
 pub still_node : (t : Nodes) (n m : NodeId) (change : Entry → Entry) → IsNode t m → IsNode (changed n change t) m
 still_node t n m change h = record {
-  within = (let lt : m.0 < length t.entries = h.within in let same : length (set t.entries n.0 (change (node t n))) ≡ length t.entries = length-set t.entries n.0 (change (node t n)) in omega arith);
+  within = (let lt : m.0 < length t.entries = h.within in let same : length
+      (set t.entries n.0 (change (node t n))) ≡ length t.entries = length-set t.entries n.0 (change (node t n)) in omega arith);
 }
 
 -- leaves are counted by their kinds
@@ -130,7 +135,8 @@ leaves_set (x ∷ xs) zero e d h same =
 leaves_set (x ∷ xs) (suc k) e d h same =
     leaves_step (is_leaf x.kind) x x (filter (λ e. is_leaf e.kind) (set xs k e)) (filter (λ e. is_leaf e.kind) xs) (leaves_set xs k e d (omega arith) same)
 
-pub keeps_changed : (t : Nodes) (n : NodeId) (change : Entry → Entry) → IsNode t n → leaf_of (change (node t n)).kind ≡ leaf_of (node t n).kind → KeepsValues t (changed n change t)
+pub keeps_changed : (t : Nodes) (n : NodeId) (change : Entry → Entry) → IsNode t n → leaf_of (change (node t n)).kind ≡ leaf_of (node t n).kind →
+    KeepsValues t (changed n change t)
 keeps_changed t n change h same = record {
   count = length-set t.entries n.0 (change (node t n));
   root = refl;
@@ -138,29 +144,29 @@ keeps_changed t n change h same = record {
   leaf_count = leaves_set t.entries n.0 (change (node t n)) (fresh kinds.H 0) h.within (same_leaf_test (change (node t n)).kind (node t n).kind same);
 }
 
-pub ranges_changed : (t : Nodes) (n : NodeId) (change : Entry → Entry) → IsNode t n → HasRanges t → IsNodeKind (change (node t n)).kind → IsOffset farthest (change (node t n)).at →
+pub ranges_changed : (t : Nodes) (n : NodeId) (change : Entry → Entry) → IsNode t n → HasRanges t → IsNodeKind (change (node t n)).kind →
+    IsOffset farthest (change (node t n)).at →
     HasRanges (changed n change t)
 ranges_changed t n change h r kind at = record {
   kinds = λ m. by_id m n
-      (λ e. subst (λ (k : NodeId). IsNodeKind (node (changed n change t) k).kind) (sym e) (subst (λ (x : Entry). IsNodeKind x.kind) (sym (changed_here t n change h)) kind))
+      (λ e. subst (λ (k : NodeId). IsNodeKind (node (changed n change t) k).kind) (sym e)
+          (subst (λ (x : Entry). IsNodeKind x.kind) (sym (changed_here t n change h)) kind))
       (λ ne. subst (λ (x : Entry). IsNodeKind x.kind) (sym (changed_other t n m change ne)) (r.kinds m));
   offsets = λ m. by_id m n
-      (λ e. subst (λ (k : NodeId). IsOffset farthest (node (changed n change t) k).at) (sym e) (subst (λ (x : Entry). IsOffset farthest x.at) (sym (changed_here t n change h)) at))
+      (λ e. subst (λ (k : NodeId). IsOffset farthest (node (changed n change t) k).at) (sym e)
+          (subst (λ (x : Entry). IsOffset farthest x.at) (sym (changed_here t n change h)) at))
       (λ ne. subst (λ (x : Entry). IsOffset farthest x.at) (sym (changed_other t n m change ne)) (r.offsets m));
 }
 
 -- the same links
 
-deeper_equal : (o : Option NodeId) (u v : NodeId → ℕ) → ((p : NodeId) → u p ≡ v p) → deeper o u ≡ deeper o v
-deeper_equal None u v h = refl
-deeper_equal (Some p) u v h = ap (λ k. k + 1) (h p)
-
 -- depths are told by parents alone
-pub depth_equal : (f : ℕ) (t new : Nodes) → ((n : NodeId) → (node new n).parent ≡ (node t n).parent) → (n : NodeId) → depth_within f new n ≡ depth_within f t n
+pub depth_equal : (f : ℕ) (t new : Nodes) → ((n : NodeId) → (node new n).parent ≡ (node t n).parent) → (n : NodeId) →
+    depth_within f new n ≡ depth_within f t n
 depth_equal zero t new h n = depth_zero new n ∙ sym (depth_zero t n)
 depth_equal (suc f) t new h n =
     depth_suc f new n ∙ ap (λ o. deeper o (depth_within f new)) (h n)
-    ∙ deeper_equal (node t n).parent (depth_within f new) (depth_within f t) (depth_equal f t new h) ∙ sym (depth_suc f t n)
+    ∙ deeper_same (node t n).parent (depth_within f new) (depth_within f t) (λ p is. depth_equal f t new h p) ∙ sym (depth_suc f t n)
 
 -- a node that has the same parent and children as another, and is the same leaf
 pub record IsLike (old new : Entry) : Type 0 where
@@ -172,7 +178,8 @@ pub record IsLike (old new : Entry) : Type 0 where
   pub offset : IsOffset farthest new.at
   pub shown : (child : NodeId) → shown_by new.kind ≡ Some child → is_among child old.children ≡ true
 
-pub follows_like : (t : Nodes) (n : NodeId) (change : Entry → Entry) → IsForest t → IsNode t n → IsLike (node t n) (change (node t n)) → Follows t (changed n change t)
+pub follows_like : (t : Nodes) (n : NodeId) (change : Entry → Entry) → IsForest t → IsNode t n → IsLike (node t n) (change (node t n)) →
+    Follows t (changed n change t)
 follows_like t n change f h like =
     let new : Nodes = changed n change t in
     let up : (m : NodeId) → (node new m).parent ≡ (node t m).parent = λ m. changed_part (λ e. e.parent) t n m change h like.parent in
@@ -183,11 +190,14 @@ follows_like t n change f h like =
       once = λ m. subst (λ (cs : List NodeId). AllPairs (λ a b. a.0 ≢ b.0) cs) (sym (down m)) (f.once m);
       depths = λ m. subst (λ (k : ℕ). k ≤ levels) (sym (depth_equal 16 t new up m)) (f.depths m);
       top = λ m k. up m ∙ f.top m k;
-      leaves = λ m k. down m ∙ f.leaves m (sym (changed_part (λ e. is_leaf e.kind) t n m change h (same_leaf_test (change (node t n)).kind (node t n).kind like.leaf)) ∙ k);
-      filters = λ m k. subst (λ (cs : List NodeId). length cs ≤ 1) (sym (down m)) (f.filters m (sym (changed_part (λ e. is_filter e.kind) t n m change h like.filter) ∙ k));
+      leaves = λ m k. down m ∙ f.leaves m (sym (changed_part (λ e. is_leaf e.kind) t n m change h
+          (same_leaf_test (change (node t n)).kind (node t n).kind like.leaf)) ∙ k);
+      filters = λ m k. subst (λ (cs : List NodeId). length cs ≤ 1) (sym (down m))
+          (f.filters m (sym (changed_part (λ e. is_filter e.kind) t n m change h like.filter) ∙ k));
       shown = λ m c k. by_id m n
           (λ e.
-          let here : shown_by (change (node t n)).kind ≡ Some c = sym (ap (λ (x : NodeId). shown_by (node new x).kind) e ∙ ap (λ (x : Entry). shown_by x.kind) (changed_here t n change h)) ∙ k in
+          let here : shown_by (change (node t n)).kind ≡ Some c = sym (ap (λ (x : NodeId). shown_by (node new x).kind) e
+              ∙ ap (λ (x : Entry). shown_by x.kind) (changed_here t n change h)) ∙ k in
           ap (is_among c) (down m) ∙ ap (λ (x : NodeId). is_among c (node t x).children) e ∙ like.shown c here)
           (λ ne. ap (is_among c) (down m) ∙ f.shown m c (sym (ap (λ (x : Entry). shown_by x.kind) (changed_other t n m change ne)) ∙ k));
     })

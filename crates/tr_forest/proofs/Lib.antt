@@ -6,3 +6,4 @@ pub mod Hanging
 pub mod Parting
 pub mod Editing
 pub mod Adding
+mod Examples

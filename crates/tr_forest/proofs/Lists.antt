@@ -107,7 +107,8 @@ among_lifted m n ns h = by_id m n
     (λ e. ap (λ k. is_among k (n ∷ without n ns)) e ∙ among_first n (without n ns) ∙ sym (ap (λ k. is_among k ns) e ∙ h))
     (λ ne. ap (λ b. b || is_among m (without n ns)) (eq_sym n.0 m.0 ∙ ne) ∙ among_rest m n ns ne)
 
-shorter_by : (b : Bool) (x : NodeId) (xs ys : List NodeId) → length ys ≤ length xs → (b ≡ false → length ys < length xs) → length (cond (not b) (x ∷ ys) ys) < length (x ∷ xs)
+shorter_by : (b : Bool) (x : NodeId) (xs ys : List NodeId) → length ys ≤ length xs → (b ≡ false → length ys < length xs) →
+    length (cond (not b) (x ∷ ys) ys) < length (x ∷ xs)
 shorter_by true x xs ys le lt = omega arith
 shorter_by false x xs ys le lt = let less : length ys < length xs = lt refl in omega arith
 

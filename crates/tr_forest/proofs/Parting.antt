@@ -7,7 +7,7 @@ use Rattle.tr_forest.specs.Nodes.{Entry, Nodes, IsNode, IsNodeKind, node, is_lea
 use Rattle.tr_forest.specs.Families.{levels, is_among, deeper, depth_within, depth}
 use Rattle.tr_forest.specs.Edits.{changed, without, bereft, loose, lifting, forgetting}
 use Rattle.tr_forest.specs.Forests.{IsForest}
-use Rattle.tr_forest.proofs.FamilyLemmas.{by_id, test_same, depth_zero, depth_suc, depth_some, parent_is_node}
+use Rattle.tr_forest.proofs.FamilyLemmas.{by_id, deeper_le, test_same, depth_zero, depth_suc, depth_some, parent_is_node}
 use Rattle.tr_forest.proofs.Lists.{AreApart, among_rest, among_left, among_lifted, length_without, apart_without, apart_lifted}
 use Rattle.tr_forest.proofs.Keeping.{HasRanges, HasLinks, Follows, follows, keeps_both, keeps_changed, ranges_of, ranges_changed, changed_here, changed_other, changed_part, still_node, depth_equal}
 
@@ -62,16 +62,15 @@ parted_is t child parent hc hp =
     record {
       root = refl;
       child_up = ap (λ (e : Entry). e.parent) (changed_here u child loose hu);
-      other_up = λ n ne. ap (λ (e : Entry). e.parent) (changed_other u child n loose ne) ∙ changed_part (λ (e : Entry). e.parent) t parent n (bereft child) hp refl;
+      other_up = λ n ne. ap (λ (e : Entry). e.parent) (changed_other u child n loose ne)
+          ∙ changed_part (λ (e : Entry). e.parent) t parent n (bereft child) hp refl;
       down = changed_part (λ (e : Entry). e.children) u child parent loose hu refl ∙ ap (λ (e : Entry). e.children) (changed_here t parent (bereft child) hp);
-      other_down = λ n ne. changed_part (λ (e : Entry). e.children) u child n loose hu refl ∙ ap (λ (e : Entry). e.children) (changed_other t parent n (bereft child) ne);
+      other_down = λ n ne. changed_part (λ (e : Entry). e.children) u child n loose hu refl
+          ∙ ap (λ (e : Entry). e.children) (changed_other t parent n (bereft child) ne);
       kind = changed_part (λ (e : Entry). e.kind) u child parent loose hu refl ∙ ap (λ (e : Entry). e.kind) (changed_here t parent (bereft child) hp);
-      other_kind = λ n ne. changed_part (λ (e : Entry). e.kind) u child n loose hu refl ∙ ap (λ (e : Entry). e.kind) (changed_other t parent n (bereft child) ne);
+      other_kind = λ n ne. changed_part (λ (e : Entry). e.kind) u child n loose hu refl
+          ∙ ap (λ (e : Entry). e.kind) (changed_other t parent n (bereft child) ne);
     }
-
-deeper_less : (o : Option NodeId) (u v : NodeId → ℕ) → ((p : NodeId) → u p ≤ v p) → deeper o u ≤ deeper o v
-deeper_less None u v h = omega arith
-deeper_less (Some p) u v h = let le : u p ≤ v p = h p in omega arith
 
 -- nobody is deeper
 depth_less : (f : ℕ) (t new : Nodes) (child parent n : NodeId) → IsParted t new child parent → depth_within f new n ≤ depth_within f t n
@@ -83,14 +82,16 @@ depth_less (suc f) t new child parent n e = by_id n child
     let some : 1 ≤ depth_within (suc f) t n = depth_some (suc f) t n in
     omega arith)
     (λ other.
-    let a : depth_within (suc f) new n ≡ deeper (node t n).parent (depth_within f new) = depth_suc f new n ∙ ap (λ o. deeper o (depth_within f new)) (e.other_up n other) in
+    let a : depth_within (suc f) new n ≡ deeper (node t n).parent (depth_within f new) = depth_suc f new n
+        ∙ ap (λ o. deeper o (depth_within f new)) (e.other_up n other) in
     let b : depth_within (suc f) t n ≡ deeper (node t n).parent (depth_within f t) = depth_suc f t n in
     let le : deeper (node t n).parent (depth_within f new) ≤ deeper (node t n).parent (depth_within f t) =
-    deeper_less (node t n).parent (depth_within f new) (depth_within f t) (λ p. depth_less f t new child parent p e) in
+    deeper_le (node t n).parent (depth_within f new) (depth_within f t) (λ p. depth_less f t new child parent p e) in
     omega arith)
 
 -- who was a child, and isn't the one that left, is a child still
-among_stays : (t new : Nodes) (child parent p n : NodeId) → IsParted t new child parent → (n.0 == child.0) ≡ false → is_among n (node t p).children ≡ true → is_among n (node new p).children ≡ true
+among_stays : (t new : Nodes) (child parent p n : NodeId) → IsParted t new child parent → (n.0 == child.0) ≡ false →
+    is_among n (node t p).children ≡ true → is_among n (node new p).children ≡ true
 among_stays t new child parent p n e other h = by_id p parent
     (λ is.
     let old : is_among n (node t parent).children ≡ true = sym (ap (λ (k : NodeId). is_among n (node t k).children) is) ∙ h in
@@ -98,11 +99,13 @@ among_stays t new child parent p n e other h = by_id p parent
     (λ ne. ap (is_among n) (e.other_down p ne) ∙ h)
 
 -- who is a child was one, and isn't the one that left
-among_was : (t new : Nodes) (child parent p n : NodeId) → IsForest t → (node t child).parent ≡ Some parent → IsParted t new child parent → is_among n (node new p).children ≡ true →
+among_was : (t new : Nodes) (child parent p n : NodeId) → IsForest t → (node t child).parent ≡ Some parent → IsParted t new child parent →
+    is_among n (node new p).children ≡ true →
     (is_among n (node t p).children ≡ true) × ((n.0 == child.0) ≡ false)
 among_was t new child parent p n forest up e h = by_id p parent
     (λ is.
-    let here : is_among n (without child (node t parent).children) ≡ true = sym (ap (λ (k : NodeId). is_among n (node new k).children) is ∙ ap (is_among n) e.down) ∙ h in
+    let here : is_among n (without child (node t parent).children) ≡ true = sym
+        (ap (λ (k : NodeId). is_among n (node new k).children) is ∙ ap (is_among n) e.down) ∙ h in
     let left = among_left n child (node t parent).children here in
     (ap (λ (k : NodeId). is_among n (node t k).children) is ∙ left.0, left.1))
     (λ ne.
@@ -125,7 +128,8 @@ links_parted t new child parent forest up e = record {
       (λ other. among_stays t new child parent p n e other (forest.parents n p (sym (e.other_up n other) ∙ h)));
   children = λ n c h. (let was = among_was t new child parent n c forest up e h in e.other_up c was.1 ∙ forest.children n c was.0);
   once = λ n. by_id n parent
-      (λ is. subst (λ (k : NodeId). AreApart (node new k).children) (sym is) (subst (λ (cs : List NodeId). AreApart cs) (sym e.down) (apart_without child (node t parent).children (forest.once parent))))
+      (λ is. subst (λ (k : NodeId). AreApart (node new k).children) (sym is)
+          (subst (λ (cs : List NodeId). AreApart cs) (sym e.down) (apart_without child (node t parent).children (forest.once parent))))
       (λ other. subst (λ (cs : List NodeId). AreApart cs) (sym (e.other_down n other)) (forest.once n));
   depths = λ n. (let old : depth t n ≤ levels = forest.depths n in let le : depth new n ≤ depth t n = depth_less 16 t new child parent n e in omega arith);
   top = λ n h. by_id n child
@@ -133,15 +137,18 @@ links_parted t new child parent forest up e = record {
       (λ other. e.other_up n other ∙ forest.top n (sym e.root ∙ h));
   leaves = λ n h. by_id n parent
       (λ is.
-      let kind : is_leaf (node t parent).kind ≡ true = sym (ap (λ (k : NodeId). is_leaf (node new k).kind) is ∙ ap is_leaf e.kind ∙ forgetting_is_leaf child (node t parent).kind) ∙ h in
+      let kind : is_leaf (node t parent).kind ≡ true = sym (ap (λ (k : NodeId). is_leaf (node new k).kind) is ∙ ap is_leaf e.kind
+          ∙ forgetting_is_leaf child (node t parent).kind) ∙ h in
       ap (λ (k : NodeId). (node new k).children) is ∙ e.down ∙ ap (without child) (forest.leaves parent kind))
       (λ other. e.other_down n other ∙ forest.leaves n (sym (ap is_leaf (e.other_kind n other)) ∙ h));
   filters = λ n h. by_id n parent
       (λ is.
-      let kind : is_filter (node t parent).kind ≡ true = sym (ap (λ (k : NodeId). is_filter (node new k).kind) is ∙ ap is_filter e.kind ∙ forgetting_filter child (node t parent).kind) ∙ h in
+      let kind : is_filter (node t parent).kind ≡ true = sym (ap (λ (k : NodeId). is_filter (node new k).kind) is ∙ ap is_filter e.kind
+          ∙ forgetting_filter child (node t parent).kind) ∙ h in
       let old : length (node t parent).children ≤ 1 = forest.filters parent kind in
       let less : length (without child (node t parent).children) ≤ length (node t parent).children = length_without child (node t parent).children in
-      let here : length (node new n).children ≡ length (without child (node t parent).children) = ap (λ (k : NodeId). length (node new k).children) is ∙ ap (λ (cs : List NodeId). length cs) e.down in
+      let here : length (node new n).children ≡ length (without child (node t parent).children) = ap (λ (k : NodeId). length (node new k).children) is
+          ∙ ap (λ (cs : List NodeId). length cs) e.down in
       omega arith)
       (λ other. subst (λ (cs : List NodeId). length cs ≤ 1) (sym (e.other_down n other)) (forest.filters n (sym (ap is_filter (e.other_kind n other)) ∙ h)));
   shown = λ n c h. by_id n parent
@@ -151,14 +158,17 @@ links_parted t new child parent forest up e = record {
       (λ other. ap (is_among c) (e.other_down n other) ∙ forest.shown n c (sym (ap shown_by (e.other_kind n other)) ∙ h));
 }
 
-pub follows_parted : (t : Nodes) (child parent : NodeId) → IsForest t → IsNode t child → (node t child).parent ≡ Some parent → Follows t (parting t child parent)
+pub follows_parted : (t : Nodes) (child parent : NodeId) → IsForest t → IsNode t child → (node t child).parent ≡ Some parent →
+    Follows t (parting t child parent)
 follows_parted t child parent forest hc up =
     let hp : IsNode t parent = parent_is_node t child parent forest up in
     let u : Nodes = changed parent (bereft child) t in
     let hu : IsNode u child = still_node t parent child (bereft child) hc in
-    let ranges : HasRanges u = ranges_changed t parent (bereft child) hp (ranges_of t forest) (forgetting_kind child (node t parent).kind (forest.kinds parent)) (forest.offsets parent) in
+    let ranges : HasRanges u = ranges_changed t parent (bereft child) hp (ranges_of t forest)
+        (forgetting_kind child (node t parent).kind (forest.kinds parent)) (forest.offsets parent) in
     follows t (parting t child parent) forest
-    (keeps_both t u (parting t child parent) (keeps_changed t parent (bereft child) hp (forgetting_leaf child (node t parent).kind)) (keeps_changed u child loose hu refl))
+    (keeps_both t u (parting t child parent) (keeps_changed t parent (bereft child) hp (forgetting_leaf child (node t parent).kind))
+        (keeps_changed u child loose hu refl))
     (ranges_changed u child loose hu ranges (ranges.kinds child) (ranges.offsets child))
     (links_parted t (parting t child parent) child parent forest up (parted_is t child parent hc hp))
 
@@ -188,17 +198,21 @@ lifted_is t child parent hp = record {
 }
 
 -- the same nodes are children of each
-among_same : (t new : Nodes) (child parent p n : NodeId) → is_among child (node t parent).children ≡ true → IsLifted t new child parent → is_among n (node new p).children ≡ is_among n (node t p).children
+among_same : (t new : Nodes) (child parent p n : NodeId) → is_among child (node t parent).children ≡ true → IsLifted t new child parent →
+    is_among n (node new p).children ≡ is_among n (node t p).children
 among_same t new child parent p n h e = by_id p parent
-    (λ is. ap (λ (k : NodeId). is_among n (node new k).children) is ∙ ap (is_among n) e.down ∙ among_lifted n child (node t parent).children h ∙ sym (ap (λ (k : NodeId). is_among n (node t k).children) is))
+    (λ is. ap (λ (k : NodeId). is_among n (node new k).children) is ∙ ap (is_among n) e.down ∙ among_lifted n child (node t parent).children h
+        ∙ sym (ap (λ (k : NodeId). is_among n (node t k).children) is))
     (λ ne. ap (is_among n) (e.other_down p ne))
 
-links_lifted : (t new : Nodes) (child parent : NodeId) → IsForest t → new.root ≡ t.root → is_among child (node t parent).children ≡ true → is_z (node t parent).kind ≡ true → IsLifted t new child parent → HasLinks new
+links_lifted : (t new : Nodes) (child parent : NodeId) → IsForest t → new.root ≡ t.root → is_among child (node t parent).children ≡ true →
+    is_z (node t parent).kind ≡ true → IsLifted t new child parent → HasLinks new
 links_lifted t new child parent forest root h z e = record {
   parents = λ n p k. among_same t new child parent p n h e ∙ forest.parents n p (sym (e.up n) ∙ k);
   children = λ n c k. e.up c ∙ forest.children n c (sym (among_same t new child parent n c h e) ∙ k);
   once = λ n. by_id n parent
-      (λ is. subst (λ (k : NodeId). AreApart (node new k).children) (sym is) (subst (λ (cs : List NodeId). AreApart cs) (sym e.down) (apart_lifted child (node t parent).children (forest.once parent))))
+      (λ is. subst (λ (k : NodeId). AreApart (node new k).children) (sym is)
+          (subst (λ (cs : List NodeId). AreApart cs) (sym e.down) (apart_lifted child (node t parent).children (forest.once parent))))
       (λ other. subst (λ (cs : List NodeId). AreApart cs) (sym (e.other_down n other)) (forest.once n));
   depths = λ n. subst (λ (k : ℕ). k ≤ levels) (sym (depth_equal 16 t new e.up n)) (forest.depths n);
   top = λ n k. e.up n ∙ forest.top n (sym root ∙ k);
@@ -211,7 +225,8 @@ links_lifted t new child parent forest root h z e = record {
   shown = λ n c k. among_same t new child parent n c h e ∙ forest.shown n c (sym (ap shown_by (e.kinds n)) ∙ k);
 }
 
-pub follows_lifted : (t : Nodes) (child parent : NodeId) → IsForest t → (node t child).parent ≡ Some parent → is_z (node t parent).kind ≡ true → Follows t (changed parent (lifting child) t)
+pub follows_lifted : (t : Nodes) (child parent : NodeId) → IsForest t → (node t child).parent ≡ Some parent → is_z (node t parent).kind ≡ true →
+    Follows t (changed parent (lifting child) t)
 follows_lifted t child parent forest up z =
     let hp : IsNode t parent = parent_is_node t child parent forest up in
     follows t (changed parent (lifting child) t) forest (keeps_changed t parent (lifting child) hp refl)

@@ -34,10 +34,6 @@ impl Family {
         }
     }
 
-    pub(crate) fn allocator(&self) -> Global {
-        *self.nodes.allocator()
-    }
-
     pub(crate) fn count(&self) -> usize
         ensures { result ≡ length self.now.entries }
     {
@@ -100,7 +96,7 @@ impl Family {
         ensures ok { OnOk result (self.new ≡ record self.old { entries = self.old.entries ++ fresh kind tint ∷ [] }) }
         ensures err { OnErr result (self.new ≡ self.old) }
     {
-        let node = Node::new(self.allocator(), kind, tint);
+        let node = Node::new(*self.nodes.allocator(), kind, tint);
         self.nodes.push(node)?;
         Ok(())
     }
@@ -176,7 +172,7 @@ impl Family {
         ensures { IfOk result (λ f. f ≡ self.now) }
     {
         Ok(Family {
-            nodes: copy_nodes(self.allocator(), &self.nodes)?,
+            nodes: copy_nodes(*self.nodes.allocator(), &self.nodes)?,
             root: self.root,
         })
     }

@@ -12,7 +12,8 @@ height_of-requires t c = (
   (
     c.requires.forest,
     (
-      child_in c.args.family.now c.args.n c.children-c-items.result.now c.loop-c.c-index (record { 0 = 0 }) c.requires.forest c.children-c-items.ensures c.loop-c-test.true,
+      child_in c.args.family.now c.args.n c.children-c-items.result.now c.loop-c.c-index
+          (record { 0 = 0 }) c.requires.forest c.children-c-items.ensures c.loop-c-test.true,
       omega arith,
     ),
   ),
@@ -21,7 +22,8 @@ height_of-requires t c = (
 pub loop-c-preserved : goal.loop-c-preserved
 loop-c-preserved t c = record {
   most = omega (arith, c.max-most.ensures, c.height_of.ensures.most, c.if-levels-eq0.false);
-  rest = rw c.max-most.ensures (greatest_next (height_within (c.args.levels - 1) c.args.family.now) c.children-c-items.result.now (record { 0 = 0 }) c.loop-c.c-index c.loop-c.most c.height_of.result
+  rest = rw c.max-most.ensures (greatest_next (height_within (c.args.levels - 1) c.args.family.now) c.children-c-items.result.now
+      (record { 0 = 0 }) c.loop-c.c-index c.loop-c.most c.height_of.result
       c.loop-c-test.true c.height_of.ensures.height c.loop-c.invariant.rest);
 }
 

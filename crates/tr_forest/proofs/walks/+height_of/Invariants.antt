@@ -10,5 +10,6 @@ decreases-height_of l = l.levels
 abbrev pub invariant-loop-c : goal.invariant-loop-c
 invariant-loop-c l = record {
   most : l.most ≤ l.levels;
-  rest : max l.most (greatest_by (height_within (l.levels - 1) l.family) (drop l.c-index l.c-items)) ≡ greatest_by (height_within (l.levels - 1) l.family) l.c-items;
+  rest : max l.most (greatest_by (height_within (l.levels - 1) l.family) (drop l.c-index l.c-items)) ≡ greatest_by
+      (height_within (l.levels - 1) l.family) l.c-items;
 }

@@ -12,4 +12,5 @@ pub returns-in_default : goal.returns-in_default
 returns-in_default t c = under_up c.args.levels c.args.family.now c.args.top c.args.n None c.if-n-top.false c.if-levels-eq0.false c.in_default.ensures.value
 
 pub returns : goal.returns
-returns t c = c.lies_under.ensures ∙ under_up c.args.levels c.args.family.now c.args.top c.args.n (Some c.in-Some.parent) c.if-n-top.false c.if-levels-eq0.false c.in-Some.ensures.value
+returns t c = c.lies_under.ensures ∙ under_up c.args.levels c.args.family.now c.args.top c.args.n
+    (Some c.in-Some.parent) c.if-n-top.false c.if-levels-eq0.false c.in-Some.ensures.value

@@ -5,7 +5,8 @@ use Rattle.tr_forest.proofs.Adding.{place_is, place_is_node}
 use Rattle.tr_forest.proofs.forests.Forest.node_of.Goals as goal
 
 pub returns-clause-leaf : goal.returns-clause-leaf
-returns-clause-leaf c = place_is c.args.self.now c.self.inside.leaves.items c.args.leaf c.index.result.now (subst (λ (t : Nodes). IsKept t c.self.inside.leaves.items) c.self.view_is c.self.invariant) c.requires
+returns-clause-leaf c = place_is c.args.self.now c.self.inside.leaves.items c.args.leaf c.index.result.now
+    (subst (λ (t : Nodes). IsKept t c.self.inside.leaves.items) c.self.view_is c.self.invariant) c.requires
     (c.index.ensures ∙ ap (λ k. get_or c.self.inside.leaves.items k c.index.result.now) c.from.ensures)
 
 pub returns-clause-node : goal.returns-clause-node
