@@ -191,9 +191,9 @@ pub forest_added : (t : Nodes) (kind : NodeKind) (tint : ℕ) → IsForest t →
 forest_added t kind tint f can =
     let new : Nodes = added t kind tint in
     let up : (n : NodeId) → (node new n).parent ≡ (node t n).parent = λ n. part_added (λ e. e.parent) t.entries (fresh kind tint)
-        (fresh kinds.H 0) n.0 refl in
+    (fresh kinds.H 0) n.0 refl in
     let down : (n : NodeId) → (node new n).children ≡ (node t n).children = λ n. part_added (λ e. e.children) t.entries (fresh kind tint)
-        (fresh kinds.H 0) n.0 refl in
+    (fresh kinds.H 0) n.0 refl in
     let place : (n : NodeId) → (node new n).at ≡ (node t n).at = λ n. part_added (λ e. e.at) t.entries (fresh kind tint) (fresh kinds.H 0) n.0 refl in
     record {
       count = (let room : length t.entries < 256 = can.room in omega (arith, length-append t.entries (fresh kind tint ∷ [])));
@@ -201,8 +201,10 @@ forest_added t kind tint f can =
       children = λ n c h. up c ∙ f.children n c (sym (ap (is_among c) (down n)) ∙ h);
       once = λ n. subst (λ (cs : List NodeId). AllPairs (λ a b. a.0 ≢ b.0) cs) (sym (down n)) (f.once n);
       depths = λ n. subst (λ (d : ℕ). d ≤ levels) (sym (depth_equal 16 t new up n)) (f.depths n);
-      root = λ n h. (let old : IsNode t n = f.root n h in record { within =
-          (let lt : n.0 < length t.entries = old.within in omega (arith, length-append t.entries (fresh kind tint ∷ []))) });
+      root = λ n h. (let old : IsNode t n = f.root n h in record {
+        within =
+            (let lt : n.0 < length t.entries = old.within in omega (arith, length-append t.entries (fresh kind tint ∷ [])));
+      });
       top = λ n h. up n ∙ f.top n h;
       leaves = λ n h. elim (at_added t.entries (fresh kind tint) (fresh kinds.H 0) n.0) [
         | inl both ↦ ap (λ (e : Entry). e.children) both.1
@@ -267,7 +269,7 @@ place_added t leaves kind tint n i k next is_one is h = by_test (nat_lt i (lengt
         let last : i ≡ length leaves = omega (arith, length-append leaves (n ∷ [])) in
         let this : in_table (leaves ++ n ∷ []) i ≡ n = ap (in_table (leaves ++ n ∷ [])) last ∙ get_or-append_seam leaves n [] (record { 0 = 0 }) in
         let new : node (added t kind tint) n ≡ fresh kind tint = ap (λ (x : ℕ). get_or (t.entries ++ fresh kind tint ∷ []) x (fresh kinds.H 0)) is
-            ∙ get_or-append_seam t.entries (fresh kind tint) [] (fresh kinds.H 0) in
+        ∙ get_or-append_seam t.entries (fresh kind tint) [] (fresh kinds.H 0) in
         let id : ℕ → LeafId = λ x. record { 0 = x } in
         ap (λ (m : NodeId). leaf_of (node (added t kind tint) m).kind) this ∙ ap (λ (e : Entry). leaf_of e.kind) new ∙ leaf_is t kind next is_one
         ∙ ap (λ (x : ℕ). Some (id x)) (sym (last ∙ k.count))

@@ -166,16 +166,16 @@ follows_detached : (t : Nodes) (child : NodeId) → IsForest t → IsNode t chil
 follows_detached t child forest h hang =
     let up = some_value (node t child).parent hang in
     subst (λ (o : Option NodeId). Follows t (changed child loose (at_parent o (λ parent. changed parent (bereft child)) t))) (sym up.1)
-        (follows_parted t child up.0 forest h up.1)
+    (follows_parted t child up.0 forest h up.1)
 
 follows_lift : (t : Nodes) (child : NodeId) → IsForest t → refusal t (edits.Lift child) ≡ None → Follows t (edited t (edits.Lift child))
 follows_lift t child forest h =
     let a = passed (of_parent (node t child).parent (λ p. not (is_z (node t p).kind))) faults.WrongKind
-        (cond (not (hangs t child)) (Some faults.NotChild) None) h in
+    (cond (not (hangs t child)) (Some faults.NotChild) None) h in
     let hang : hangs t child ≡ true = negated (hangs t child) (single (not (hangs t child)) faults.NotChild a.1) in
     let up = some_value (node t child).parent hang in
     subst (λ (o : Option NodeId). Follows t (at_parent o (λ parent. changed parent (lifting child)) t)) (sym up.1)
-        (follows_lifted t child up.0 forest up.1 (hangs_in_z t child up.0 up.1 a.0))
+    (follows_lifted t child up.0 forest up.1 (hangs_in_z t child up.0 up.1 a.0))
 
 -- the nodes after an edit that isn't refused
 pub follows_edited : (t : Nodes) (edit : Edit) → IsForest t → IsEdit t edit → refusal t edit ≡ None → Follows t (edited t edit)
@@ -186,27 +186,27 @@ follows_edited t (edits.Tint n tint) forest is h = follows_like t n (λ e. recor
     (record { parent = refl; children = refl; leaf = refl; filter = refl; kind = forest.kinds n; offset = forest.offsets n; shown = forest.shown n })
 follows_edited t (edits.Border n width) forest is h =
     follows_filter t n (kinds.Border width) forest is refl refl refl tt
-        (border_like (node t n).kind (negated (is_border (node t n).kind) (single (not (is_border (node t n).kind)) faults.WrongKind h)))
+    (border_like (node t n).kind (negated (is_border (node t n).kind) (single (not (is_border (node t n).kind)) faults.WrongKind h)))
 follows_edited t (edits.Offset n by) forest is h =
     follows_filter t n (kinds.Translate by) forest is.0 refl refl refl is.1
-        (translate_like (node t n).kind (negated (is_translate (node t n).kind) (single (not (is_translate (node t n).kind)) faults.WrongKind h)))
+    (translate_like (node t n).kind (negated (is_translate (node t n).kind) (single (not (is_translate (node t n).kind)) faults.WrongKind h)))
 follows_edited t (edits.Fix n size) forest is h =
     follows_filter t n (kinds.Rigid size) forest is.0 refl refl refl is.1
-        (rigid_like (node t n).kind (negated (is_rigid (node t n).kind) (single (not (is_rigid (node t n).kind)) faults.WrongKind h)))
+    (rigid_like (node t n).kind (negated (is_rigid (node t n).kind) (single (not (is_rigid (node t n).kind)) faults.WrongKind h)))
 follows_edited t (edits.Move child at) forest is h = follows_like t child (λ e. record e { at = at }) forest is.0
     (record { parent = refl; children = refl; leaf = refl; filter = refl; kind = forest.kinds child; offset = is.1; shown = forest.shown child })
 follows_edited t (edits.Lift child) forest is h = follows_lift t child forest h
 follows_edited t (edits.Show n child) forest is h =
     let a = passed (not (is_t (node t n).kind)) faults.WrongKind (cond (not (is_among child (node t n).children)) (Some faults.NotChild) None) h in
     follows_shown t n child forest is.0 (negated (is_t (node t n).kind) a.0)
-        (negated (is_among child (node t n).children) (single (not (is_among child (node t n).children)) faults.NotChild a.1))
+    (negated (is_among child (node t n).children) (single (not (is_among child (node t n).children)) faults.NotChild a.1))
 follows_edited t (edits.Turn n page) forest is h = follows_like t n (λ e. turned_to (paged page e.kind) e) forest is
     (like_turned t n (paged page (node t n).kind) forest (paged_leaf page (node t n).kind) (paged_filter page (node t n).kind)
-        (paged_kind page (node t n).kind (forest.kinds n))
+    (paged_kind page (node t n).kind (forest.kinds n))
     (λ child k. forest.shown n child (sym (paged_shown page (node t n).kind) ∙ k)))
 follows_edited t (edits.Shapes n shapes) forest is h = follows_like t n (λ e. turned_to (reshaped shapes e.kind) e) forest is
     (like_turned t n (reshaped shapes (node t n).kind) forest (reshaped_leaf shapes (node t n).kind) (reshaped_filter shapes (node t n).kind)
-        (reshaped_kind shapes (node t n).kind (forest.kinds n))
+    (reshaped_kind shapes (node t n).kind (forest.kinds n))
     (λ child k. forest.shown n child (sym (reshaped_shown shapes (node t n).kind) ∙ k)))
 follows_edited t (edits.Resize size) forest is h = follows_same t forest
 follows_edited t (edits.Rescreen kind) forest is h = follows_same t forest
@@ -223,7 +223,7 @@ count_edited t (edits.Attach child parent at) = changed_count (changed parent (w
     ∙ changed_count t parent (with_child child)
 count_edited t (edits.Detach child) =
     changed_count (at_parent (node t child).parent (λ parent. changed parent (bereft child)) t) child loose
-        ∙ count_at_parent (node t child).parent (λ parent. bereft child) t
+    ∙ count_at_parent (node t child).parent (λ parent. bereft child) t
 count_edited t (edits.Tint n tint) = changed_count t n (λ e. record e { tint = tint })
 count_edited t (edits.Border n width) = changed_count t n (turned_to (kinds.Border width))
 count_edited t (edits.Offset n by) = changed_count t n (turned_to (kinds.Translate by))

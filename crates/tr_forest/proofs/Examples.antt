@@ -1,7 +1,6 @@
 -- What the definitions say of three nodes, computed.
-use Rattle.std.proofs.Common.{◌≡◌, ℕ, pos, List, [], ◌∷◌, Option, Some, None, refl}
+use Rattle.std.proofs.Common.{◌≡◌, ℕ, pos, [], ◌∷◌, Some, None, refl}
 use Rattle.tr_base.specs.declared.NodeId.{NodeId}
-use Rattle.tr_base.specs.declared.Point.{Point}
 use Rattle.tr_forest.specs.declared.kinds.NodeKind.{NodeKind}
 use Rattle.tr_forest.specs.declared.kinds.NodeKind.TheVariants as kinds
 use Rattle.tr_forest.specs.declared.edits.Edit.{Edit}

@@ -153,8 +153,11 @@ greatest_none (x ∷ xs) u h = absurd (h x (among_first x xs))
 pub greatest_member : (ns : List NodeId) (u : NodeId → ℕ) (n : NodeId) → is_among n ns ≡ true → u n ≤ greatest_by u ns
 greatest_member [] u n h = cc
 greatest_member (x ∷ xs) u n h =
-    elim (among_split n x xs h) [ inl e ↦ (let same : u n ≡ u x = ap u e in omega arith) | inr k ↦
-        (let le : u n ≤ greatest_by u xs = greatest_member xs u n k in omega arith) ]
+    elim (among_split n x xs h) [
+      | inl e ↦ (let same : u n ≡ u x = ap u e in omega arith)
+      | inr k ↦
+          (let le : u n ≤ greatest_by u xs = greatest_member xs u n k in omega arith)
+    ]
 
 pub height_zero : (t : Nodes) (n : NodeId) → height_within 0 t n ≡ 1
 unfolding height_within

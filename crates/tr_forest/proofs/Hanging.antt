@@ -68,7 +68,7 @@ depth_beside (suc f) (suc g) t new child parent n e h k =
     let both = either (n.0 == child.0) (of_parent (node t n).parent (is_under_within g t child)) k in
     ap (λ o. deeper o (depth_within f new)) (e.other_up n both.0)
     ∙ deeper_same (node t n).parent (depth_within f new) (depth_within f t)
-        (λ p is. depth_beside f g t new child parent p e (omega arith) (sym (ap (λ o. of_parent o (is_under_within g t child)) is) ∙ both.1))
+    (λ p is. depth_beside f g t new child parent p e (omega arith) (sym (ap (λ o. of_parent o (is_under_within g t child)) is) ∙ both.1))
 
 -- a parent is higher than its child
 height_up : (t : Nodes) (n q : NodeId) → IsForest t → (node t n).parent ≡ Some q → height t n + 1 ≤ height t q
@@ -108,7 +108,7 @@ bounded (suc f) t new child parent forest e apart h n = by_id n child
     let tall : height t n ≡ height t child = ap (height t) is in
     inr (omega arith))
     (λ other. bounded_up f t new child parent n (node t n).parent forest (e.other_up n other) refl
-        (λ q. bounded f t new child parent forest e apart (omega arith) q))
+    (λ q. bounded f t new child parent forest e apart (omega arith) q))
 
 depths_hold : (t new : Nodes) (child parent n : NodeId) → IsForest t → IsHung t new child parent → CanHang t child parent → depth new n ≤ levels
 depths_hold t new child parent n forest e a =
@@ -125,7 +125,7 @@ among_new t new child parent p n e h = by_id p parent
     (λ is.
     let old : is_among n (node t parent).children ≡ true = sym (ap (λ (k : NodeId). is_among n (node t k).children) is) ∙ h in
     ap (λ (k : NodeId). is_among n (node new k).children) is ∙ ap (is_among n) e.down
-        ∙ among_joined (is_z (node t parent).kind) n child (node t parent).children
+    ∙ among_joined (is_z (node t parent).kind) n child (node t parent).children
     ∙ ap (λ b. (child.0 == n.0) || b) old ∙ or_true (child.0 == n.0))
     (λ other. ap (is_among n) (e.other_down p other) ∙ h)
 
@@ -142,9 +142,12 @@ among_old t new child parent p n e h = by_id p parent
     (λ is.
     let here : ((child.0 == n.0) || is_among n (node t parent).children) ≡ true =
     sym (ap (λ (k : NodeId). is_among n (node new k).children) is ∙ ap (is_among n) e.down
-        ∙ among_joined (is_z (node t parent).kind) n child (node t parent).children) ∙ h in
-    elim (split_or child n (is_among n (node t parent).children) here) [ inl same ↦ inl (same, is) | inr old ↦ inr
-        (ap (λ (k : NodeId). is_among n (node t k).children) is ∙ old) ])
+    ∙ among_joined (is_z (node t parent).kind) n child (node t parent).children) ∙ h in
+    elim (split_or child n (is_among n (node t parent).children) here) [
+      | inl same ↦ inl (same, is)
+      | inr old ↦ inr
+          (ap (λ (k : NodeId). is_among n (node t k).children) is ∙ old)
+    ])
     (λ other. inr (sym (ap (is_among n) (e.other_down p other)) ∙ h))
 
 -- the child was nobody's
@@ -162,14 +165,14 @@ links_hung t new child parent forest e a = record {
       let up : Some parent ≡ Some p = sym (ap (λ (k : NodeId). (node new k).parent) is ∙ e.child_up) ∙ h in
       let same : p ≡ parent = cc in
       ap (λ (k : NodeId). is_among n (node new k).children) same ∙ ap (λ (k : NodeId). is_among k (node new parent).children) is
-          ∙ among_child t new child parent e)
+      ∙ among_child t new child parent e)
       (λ other. among_new t new child parent p n e (forest.parents n p (sym (e.other_up n other) ∙ h)));
   children = λ n c h. elim (among_old t new child parent n c e h) [
     | inl both ↦ ap (λ (k : NodeId). (node new k).parent) both.0 ∙ e.child_up ∙ ap (λ (k : NodeId). Some k) (sym both.1)
     | inr old ↦
         (let up : (node t c).parent ≡ Some n = forest.children n c old in
         by_id c child (λ is. (let none : (node t c).parent ≡ None = ap (λ (k : NodeId). (node t k).parent) is ∙ a.loose in absurd cc))
-            (λ other. e.other_up c other ∙ up))
+        (λ other. e.other_up c other ∙ up))
   ];
   once = λ n. by_id n parent
       (λ is. subst (λ (k : NodeId). AreApart (node new k).children) (sym is) (subst (λ (cs : List NodeId). AreApart cs) (sym e.down)
@@ -191,7 +194,7 @@ links_hung t new child parent forest e a = record {
       let count : length (node t parent).children ≡ 0 = ap (λ (cs : List NodeId). length cs) none in
       let here : length (node new n).children ≡ length (node t parent).children + 1 =
       ap (λ (k : NodeId). length (node new k).children) is ∙ ap (λ (cs : List NodeId). length cs) e.down
-          ∙ length_joined (is_z (node t parent).kind) child (node t parent).children in
+      ∙ length_joined (is_z (node t parent).kind) child (node t parent).children in
       omega arith)
       (λ other. subst (λ (cs : List NodeId). length cs ≤ 1) (sym (e.other_down n other)) (forest.filters n old)));
   shown = λ n c h. among_new t new child parent n c e (forest.shown n c (sym (ap shown_by (e.kinds n)) ∙ h));

@@ -1,5 +1,5 @@
 -- What a change of one node leaves as it was, and when the nodes stay a forest.
-use Rattle.std.proofs.Common.{◌≡◌, ℕ, zero, suc, ◌+◌, ◌<◌, ◌≤◌, Bool, true, false, cond, ◌==◌, ◌≢◌, List, [], ◌∷◌, Option, Some, None, length, get_or, set, refl, sym, ap, subst, ◌∙◌, arith}
+use Rattle.std.proofs.Common.{◌≡◌, ℕ, zero, suc, ◌<◌, ◌≤◌, Bool, true, false, cond, ◌==◌, ◌≢◌, List, [], ◌∷◌, Some, None, length, get_or, set, refl, sym, ap, subst, ◌∙◌, arith}
 use Rattle.std.specs.Prelude.{is_some}
 use Rattle.std.specs.List.{filter, AllPairs}
 use Rattle.std.proofs.lemmas.List.{get_or-set_same, get_or-set_other, length-set}
@@ -63,8 +63,10 @@ follows t new f v r l = record {
     children = l.children;
     once = l.once;
     depths = l.depths;
-    root = λ n h. (let old : IsNode t n = f.root n (sym v.root ∙ h) in record { within =
-        (let lt : n.0 < length t.entries = old.within in let same : length new.entries ≡ length t.entries = v.count in omega arith) });
+    root = λ n h. (let old : IsNode t n = f.root n (sym v.root ∙ h) in record {
+      within =
+          (let lt : n.0 < length t.entries = old.within in let same : length new.entries ≡ length t.entries = v.count in omega arith);
+    });
     top = l.top;
     leaves = l.leaves;
     filters = l.filters;
@@ -150,11 +152,11 @@ pub ranges_changed : (t : Nodes) (n : NodeId) (change : Entry → Entry) → IsN
 ranges_changed t n change h r kind at = record {
   kinds = λ m. by_id m n
       (λ e. subst (λ (k : NodeId). IsNodeKind (node (changed n change t) k).kind) (sym e)
-          (subst (λ (x : Entry). IsNodeKind x.kind) (sym (changed_here t n change h)) kind))
+      (subst (λ (x : Entry). IsNodeKind x.kind) (sym (changed_here t n change h)) kind))
       (λ ne. subst (λ (x : Entry). IsNodeKind x.kind) (sym (changed_other t n m change ne)) (r.kinds m));
   offsets = λ m. by_id m n
       (λ e. subst (λ (k : NodeId). IsOffset farthest (node (changed n change t) k).at) (sym e)
-          (subst (λ (x : Entry). IsOffset farthest x.at) (sym (changed_here t n change h)) at))
+      (subst (λ (x : Entry). IsOffset farthest x.at) (sym (changed_here t n change h)) at))
       (λ ne. subst (λ (x : Entry). IsOffset farthest x.at) (sym (changed_other t n m change ne)) (r.offsets m));
 }
 
@@ -197,7 +199,7 @@ follows_like t n change f h like =
       shown = λ m c k. by_id m n
           (λ e.
           let here : shown_by (change (node t n)).kind ≡ Some c = sym (ap (λ (x : NodeId). shown_by (node new x).kind) e
-              ∙ ap (λ (x : Entry). shown_by x.kind) (changed_here t n change h)) ∙ k in
+          ∙ ap (λ (x : Entry). shown_by x.kind) (changed_here t n change h)) ∙ k in
           ap (is_among c) (down m) ∙ ap (λ (x : NodeId). is_among c (node t x).children) e ∙ like.shown c here)
           (λ ne. ap (is_among c) (down m) ∙ f.shown m c (sym (ap (λ (x : Entry). shown_by x.kind) (changed_other t n m change ne)) ∙ k));
     })

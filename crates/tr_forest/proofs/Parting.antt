@@ -1,5 +1,5 @@
 -- After a Detach and a Lift the nodes are still a forest.
-use Rattle.std.proofs.Common.{◌≡◌, ℕ, zero, suc, ◌≤◌, true, false, cond, ◌==◌, List, ◌∷◌, Option, Some, None, length, refl, sym, ap, subst, ◌∙◌, arith}
+use Rattle.std.proofs.Common.{◌≡◌, ℕ, zero, suc, ◌≤◌, true, false, cond, ◌==◌, List, ◌∷◌, Some, None, length, refl, sym, ap, subst, ◌∙◌, arith}
 use Rattle.tr_base.specs.declared.NodeId.{NodeId}
 use Rattle.tr_forest.specs.declared.kinds.NodeKind.{NodeKind}
 use Rattle.tr_forest.specs.declared.kinds.NodeKind.TheVariants as kinds
@@ -83,7 +83,7 @@ depth_less (suc f) t new child parent n e = by_id n child
     omega arith)
     (λ other.
     let a : depth_within (suc f) new n ≡ deeper (node t n).parent (depth_within f new) = depth_suc f new n
-        ∙ ap (λ o. deeper o (depth_within f new)) (e.other_up n other) in
+    ∙ ap (λ o. deeper o (depth_within f new)) (e.other_up n other) in
     let b : depth_within (suc f) t n ≡ deeper (node t n).parent (depth_within f t) = depth_suc f t n in
     let le : deeper (node t n).parent (depth_within f new) ≤ deeper (node t n).parent (depth_within f t) =
     deeper_le (node t n).parent (depth_within f new) (depth_within f t) (λ p. depth_less f t new child parent p e) in
@@ -105,7 +105,7 @@ among_was : (t new : Nodes) (child parent p n : NodeId) → IsForest t → (node
 among_was t new child parent p n forest up e h = by_id p parent
     (λ is.
     let here : is_among n (without child (node t parent).children) ≡ true = sym
-        (ap (λ (k : NodeId). is_among n (node new k).children) is ∙ ap (is_among n) e.down) ∙ h in
+    (ap (λ (k : NodeId). is_among n (node new k).children) is ∙ ap (is_among n) e.down) ∙ h in
     let left = among_left n child (node t parent).children here in
     (ap (λ (k : NodeId). is_among n (node t k).children) is ∙ left.0, left.1))
     (λ ne.
@@ -129,7 +129,7 @@ links_parted t new child parent forest up e = record {
   children = λ n c h. (let was = among_was t new child parent n c forest up e h in e.other_up c was.1 ∙ forest.children n c was.0);
   once = λ n. by_id n parent
       (λ is. subst (λ (k : NodeId). AreApart (node new k).children) (sym is)
-          (subst (λ (cs : List NodeId). AreApart cs) (sym e.down) (apart_without child (node t parent).children (forest.once parent))))
+      (subst (λ (cs : List NodeId). AreApart cs) (sym e.down) (apart_without child (node t parent).children (forest.once parent))))
       (λ other. subst (λ (cs : List NodeId). AreApart cs) (sym (e.other_down n other)) (forest.once n));
   depths = λ n. (let old : depth t n ≤ levels = forest.depths n in let le : depth new n ≤ depth t n = depth_less 16 t new child parent n e in omega arith);
   top = λ n h. by_id n child
@@ -138,17 +138,17 @@ links_parted t new child parent forest up e = record {
   leaves = λ n h. by_id n parent
       (λ is.
       let kind : is_leaf (node t parent).kind ≡ true = sym (ap (λ (k : NodeId). is_leaf (node new k).kind) is ∙ ap is_leaf e.kind
-          ∙ forgetting_is_leaf child (node t parent).kind) ∙ h in
+      ∙ forgetting_is_leaf child (node t parent).kind) ∙ h in
       ap (λ (k : NodeId). (node new k).children) is ∙ e.down ∙ ap (without child) (forest.leaves parent kind))
       (λ other. e.other_down n other ∙ forest.leaves n (sym (ap is_leaf (e.other_kind n other)) ∙ h));
   filters = λ n h. by_id n parent
       (λ is.
       let kind : is_filter (node t parent).kind ≡ true = sym (ap (λ (k : NodeId). is_filter (node new k).kind) is ∙ ap is_filter e.kind
-          ∙ forgetting_filter child (node t parent).kind) ∙ h in
+      ∙ forgetting_filter child (node t parent).kind) ∙ h in
       let old : length (node t parent).children ≤ 1 = forest.filters parent kind in
       let less : length (without child (node t parent).children) ≤ length (node t parent).children = length_without child (node t parent).children in
       let here : length (node new n).children ≡ length (without child (node t parent).children) = ap (λ (k : NodeId). length (node new k).children) is
-          ∙ ap (λ (cs : List NodeId). length cs) e.down in
+      ∙ ap (λ (cs : List NodeId). length cs) e.down in
       omega arith)
       (λ other. subst (λ (cs : List NodeId). length cs ≤ 1) (sym (e.other_down n other)) (forest.filters n (sym (ap is_filter (e.other_kind n other)) ∙ h)));
   shown = λ n c h. by_id n parent
@@ -165,10 +165,10 @@ follows_parted t child parent forest hc up =
     let u : Nodes = changed parent (bereft child) t in
     let hu : IsNode u child = still_node t parent child (bereft child) hc in
     let ranges : HasRanges u = ranges_changed t parent (bereft child) hp (ranges_of t forest)
-        (forgetting_kind child (node t parent).kind (forest.kinds parent)) (forest.offsets parent) in
+    (forgetting_kind child (node t parent).kind (forest.kinds parent)) (forest.offsets parent) in
     follows t (parting t child parent) forest
     (keeps_both t u (parting t child parent) (keeps_changed t parent (bereft child) hp (forgetting_leaf child (node t parent).kind))
-        (keeps_changed u child loose hu refl))
+    (keeps_changed u child loose hu refl))
     (ranges_changed u child loose hu ranges (ranges.kinds child) (ranges.offsets child))
     (links_parted t (parting t child parent) child parent forest up (parted_is t child parent hc hp))
 
@@ -202,7 +202,7 @@ among_same : (t new : Nodes) (child parent p n : NodeId) → is_among child (nod
     is_among n (node new p).children ≡ is_among n (node t p).children
 among_same t new child parent p n h e = by_id p parent
     (λ is. ap (λ (k : NodeId). is_among n (node new k).children) is ∙ ap (is_among n) e.down ∙ among_lifted n child (node t parent).children h
-        ∙ sym (ap (λ (k : NodeId). is_among n (node t k).children) is))
+    ∙ sym (ap (λ (k : NodeId). is_among n (node t k).children) is))
     (λ ne. ap (is_among n) (e.other_down p ne))
 
 links_lifted : (t new : Nodes) (child parent : NodeId) → IsForest t → new.root ≡ t.root → is_among child (node t parent).children ≡ true →
@@ -212,7 +212,7 @@ links_lifted t new child parent forest root h z e = record {
   children = λ n c k. e.up c ∙ forest.children n c (sym (among_same t new child parent n c h e) ∙ k);
   once = λ n. by_id n parent
       (λ is. subst (λ (k : NodeId). AreApart (node new k).children) (sym is)
-          (subst (λ (cs : List NodeId). AreApart cs) (sym e.down) (apart_lifted child (node t parent).children (forest.once parent))))
+      (subst (λ (cs : List NodeId). AreApart cs) (sym e.down) (apart_lifted child (node t parent).children (forest.once parent))))
       (λ other. subst (λ (cs : List NodeId). AreApart cs) (sym (e.other_down n other)) (forest.once n));
   depths = λ n. subst (λ (k : ℕ). k ≤ levels) (sym (depth_equal 16 t new e.up n)) (forest.depths n);
   top = λ n k. e.up n ∙ forest.top n (sym root ∙ k);

@@ -12,8 +12,8 @@ pub returns : goal.returns
 returns c =
     let less : length (without c.args.child c.args.children.now.items) < length c.args.children.now.items = shorter c.args.child c.args.children.now.items c.requires in
     let count : length c.remove.new.children.items ≡ length (without c.args.child c.args.children.now.items) = ap
-        (λ (ns : List NodeId). length ns) c.remove.ensures.others in
+    (λ (ns : List NodeId). length ns) c.remove.ensures.others in
     let room : vec_len c.remove.new.children < vec_capacity c.remove.new.children = omega
-        (arith, c.remove.new.children.ok, c.args.children.now.ok, c.remove.ensures.capacity) in
+    (arith, c.remove.new.children.ok, c.args.children.now.ok, c.remove.ensures.capacity) in
     c.insert-room.ensures.items ∙ put c.insert-room.result c.remove.new.children.items c.args.child (c.insert-room.ensures.succeeds room)
     ∙ ap (λ (ns : List NodeId). c.args.child ∷ ns) c.remove.ensures.others
