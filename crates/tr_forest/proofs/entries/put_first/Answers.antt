@@ -10,7 +10,8 @@ put (Err e) ns n h = cc
 
 pub returns : goal.returns
 returns c =
-    let less : length (without c.args.child c.args.children.now.items) < length c.args.children.now.items = shorter c.args.child c.args.children.now.items c.requires in
+    let less : length (without c.args.child c.args.children.now.items) < length c.args.children.now.items =
+    shorter c.args.child c.args.children.now.items c.requires in
     let count : length c.remove.new.children.items ≡ length (without c.args.child c.args.children.now.items) = ap
     (λ (ns : List NodeId). length ns) c.remove.ensures.others in
     let room : vec_len c.remove.new.children < vec_capacity c.remove.new.children = omega

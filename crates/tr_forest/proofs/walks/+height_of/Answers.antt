@@ -28,4 +28,5 @@ loop-c-preserved t c = record {
 }
 
 pub returns-clause-height : goal.returns-clause-height
-returns-clause-height t c = greatest_last c.args.levels c.args.family.now c.args.n c.children-c-items.result.now c.loop-c.c-index c.loop-c.most c.if-levels-eq0.false (omega arith) c.children-c-items.ensures c.loop-c.invariant.rest
+returns-clause-height t c = greatest_last c.args.levels c.args.family.now c.args.n c.children-c-items.result.now c.loop-c.c-index c.loop-c.most
+    c.if-levels-eq0.false (omega arith) c.children-c-items.ensures c.loop-c.invariant.rest
