@@ -1,0 +1,4 @@
+pub mod Trees
+pub mod Wishes
+pub mod Places
+pub mod Tables
