@@ -2,3 +2,4 @@ pub mod Trees
 pub mod Wishes
 pub mod Places
 pub mod Tables
+pub mod Laying

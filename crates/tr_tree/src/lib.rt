@@ -2,6 +2,7 @@
 //! wants, and the domain that each node gets.
 #![tactic(auto)]
 
+mod domains;
 mod rooms;
 mod trees;
 
