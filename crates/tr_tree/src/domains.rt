@@ -83,7 +83,7 @@ fn lay(plan: &Plan<'_>, n: NodeId, room: &mut Room, domains: &mut Vec<Rect>)
 }
 
 /// Copies the children's shapes out of the table.
-fn gather(shapes: &[Shapes], children: &[NodeId], gathered: &mut Vec<Shapes>)
+pub(crate) fn gather(shapes: &[Shapes], children: &[NodeId], gathered: &mut Vec<Shapes>)
     requires within { All (λ child. child.0 < length shapes.now) children.now }
     requires room { length children.now ≤ length gathered.old.items }
     ensures shapes { take (length children.now) gathered.new.items ≡ map (shape_in shapes.now) children.now }
