@@ -1,0 +1,4 @@
+pub mod ChildLemmas
+pub mod ShapeLemmas
+pub mod FillLemmas
+pub mod LayoutLemmas
