@@ -1,6 +1,5 @@
 ghost use Rattle.std.specs.Prelude.{◌≡◌, length};
 ghost use Rattle.tr_forest.specs.Nodes.{node, IsNode};
-ghost use Rattle.tr_forest.specs.Forests.{IsForest};
 
 use crate::entries::Node;
 use crate::kinds::NodeKind;
@@ -23,18 +22,13 @@ impl Model for Forest {
 
     ghost Value = { Nodes };
 
-    ghost use Rattle.tr_forest.specs.Forests.{IsForest};
-
     ghost view = { λ f. record { entries = f.nodes.items; root = f.root } };
-
-    ghost invariant = { λ f. IsForest (record { entries = f.nodes.items; root = f.root }) };
 }
 
 impl Forest {
     /// How many nodes there are.
     pub fn count(&self) -> usize
-        ensures count { result ≡ length self.now.entries }
-        ensures invariant { IsForest self.now }
+        ensures { result ≡ length self.now.entries }
     {
         self.nodes.len()
     }

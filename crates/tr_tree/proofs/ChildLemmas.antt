@@ -1,9 +1,9 @@
 -- How many children a node has, and that each node lies below a topmost one.
-use Rattle.std.proofs.Common.{◌≡◌, ◌≢◌, ℕ, zero, suc, ◌+◌, ◌<◌, ◌≤◌, true, false, ◌||◌, ◌==◌, List, [], ◌∷◌, Option, Some, None, length, length-map, get_or, map, Bool, refl, sym, ap, subst, ◌∙◌, arith}
+use Rattle.std.proofs.Common.{◌≡◌, ◌≢◌, ℕ, zero, suc, ◌+◌, ◌<◌, ◌≤◌, true, false, ◌||◌, ◌==◌, List, [], ◌∷◌, Option, Some, None, length, get_or, map, Bool, refl, sym, ap, subst, ◌∙◌, arith}
 use Rattle.std.specs.Prelude.{nat_eq}
 use Rattle.std.specs.List.{list_any}
 use Rattle.std.proofs.lemmas.Bool.Decides.{nat_tests}
-use Rattle.std.proofs.lemmas.List.{get_or-map}
+use Rattle.std.proofs.lemmas.List.{get_or-map, length-map}
 use Rattle.std.proofs.lemmas.Map.Keys.{IsDistinct-from_apart}
 use Rattle.std.proofs.lemmas.Map.Steps.{length-le_from_distinct_below}
 use Rattle.tr_base.specs.declared.NodeId.{NodeId}
@@ -56,11 +56,12 @@ numbers cs = map (λ c. c.0) cs
 
 number_among : (q : NodeId) (cs : List NodeId) → list_any (nat_eq q.0) (numbers cs) ≡ true → is_among q cs ≡ true
 number_among q [] h = absurd cc
-number_among q (c ∷ cs) h = by_test (nat_eq q.0 c.0) refl h
+number_among q (c ∷ cs) h = by_test (nat_eq q.0 c.0) refl h (number_among q cs)
   where
-    by_test : (b : Bool) → nat_eq q.0 c.0 ≡ b → (b || list_any (nat_eq q.0) (numbers cs)) ≡ true → is_among q (c ∷ cs) ≡ true
-    by_test true e k = let same : (c.0 == q.0) ≡ true = grind (arith, nat_tests) in ap (λ b. b || is_among q cs) same
-    by_test false e k = among_later q c cs (number_among q cs k)
+    by_test : (b : Bool) → nat_eq q.0 c.0 ≡ b → (b || list_any (nat_eq q.0) (numbers cs)) ≡ true →
+        (list_any (nat_eq q.0) (numbers cs) ≡ true → is_among q cs ≡ true) → is_among q (c ∷ cs) ≡ true
+    by_test true e k ih = let same : (c.0 == q.0) ≡ true = grind (arith, nat_tests) in ap (λ b. b || is_among q cs) same
+    by_test false e k ih = among_later q c cs (ih k)
 
 number_at : (cs : List NodeId) (k d : ℕ) (n : NodeId) → k < length cs → get_or (numbers cs) k d ≡ (get_or cs k n).0
 number_at cs k d n lt = get_or-map (λ (c : NodeId). c.0) cs k n d lt
@@ -71,14 +72,14 @@ apart : (t : Nodes) → IsForest t → (n : NodeId) → (i j d : ℕ) → i < j 
 apart t forest n i zero d lt le = absurd (omega arith)
 apart t forest n zero (suc j) d lt le =
     let cs : List NodeId = (node t n).children in
-    let within : j < length cs = omega (arith, length-map (λ (c : NodeId). c.0) cs) in
+    let within : j < length cs = omega (arith, length-map cs (λ (c : NodeId). c.0)) in
     let among : is_among (get_or cs j n) cs ≡ true = among_at cs j n within in
     let is : get_or (numbers cs) j d ≡ (get_or cs j n).0 = number_at cs j d n within in
     let ne : n.0 ≢ (get_or cs j n).0 = λ e. not_own_child t forest n (subst (λ (c : NodeId). is_among c cs ≡ true) (sym (same_id n (get_or cs j n) e)) among) in
     rw is (grind (arith, nat_tests))
 apart t forest n (suc i) (suc j) d lt le =
     let cs : List NodeId = (node t n).children in
-    let within : j < length cs = omega (arith, length-map (λ (c : NodeId). c.0) cs) in
+    let within : j < length cs = omega (arith, length-map cs (λ (c : NodeId). c.0)) in
     let first : get_or (numbers cs) i d ≡ (get_or cs i n).0 = number_at cs i d n (omega arith) in
     let second : get_or (numbers cs) j d ≡ (get_or cs j n).0 = number_at cs j d n within in
     let ne : (get_or cs i n).0 ≢ (get_or cs j n).0 = forest.once n i j n (omega arith) within in
@@ -90,7 +91,7 @@ children_few t forest n inside =
     let cs : List NodeId = (node t n).children in
     let most : length (n.0 ∷ numbers cs) ≤ length t.entries = length-le_from_distinct_below (n.0 ∷ numbers cs) (length t.entries)
     (IsDistinct-from_apart nat_eq (n.0 ∷ numbers cs) (apart t forest n)) below in
-    omega (arith, length-map (λ (c : NodeId). c.0) cs)
+    omega (arith, length-map cs (λ (c : NodeId). c.0))
   where
     by_test : (q : ℕ) (b : Bool) → nat_eq q n.0 ≡ b → (b || list_any (nat_eq q) (numbers (node t n).children)) ≡ true → q < length t.entries
     by_test q true e k = let same : q ≡ n.0 = grind (arith, nat_tests) in omega (arith, inside.within)
@@ -100,5 +101,9 @@ children_few t forest n inside =
     below q h = by_test q (nat_eq q n.0) refl h
 
 -- each child is a node
-pub children_inside : (t : Nodes) → IsForest t → (n : NodeId) (k : ℕ) (d : NodeId) → k < length (node t n).children → IsNode t (get_or (node t n).children k d)
-children_inside t forest n k d lt = child_is_node t n (get_or (node t n).children k d) forest (among_at (node t n).children k d lt)
+pub children_within : (t : Nodes) → IsForest t → (n : NodeId) (cs : List NodeId) (count : ℕ) → cs ≡ (node t n).children → count ≡ length t.entries →
+    (k : ℕ) (d : NodeId) → k < length cs → (get_or cs k d).0 < count
+children_within t forest n cs count is e k d lt =
+    let among : is_among (get_or cs k d) (node t n).children ≡ true = sym (ap (is_among (get_or cs k d)) is) ∙ among_at cs k d lt in
+    let inside : IsNode t (get_or cs k d) = child_is_node t n (get_or cs k d) forest among in
+    omega (arith, inside.within)

@@ -1,4 +1,3 @@
 pub mod ChildLemmas
 pub mod ShapeLemmas
 pub mod FillLemmas
-pub mod LayoutLemmas
