@@ -1,5 +1,5 @@
 -- The nodes of a tree of windows: what each of them is, and whose child.
-use Rattle.std.specs.Prelude.{ℕ, pos, ◌≤◌, ◌<◌, ⊤, Bool, true, false, List, [], Option, Some, None, get_or, length}
+use Rattle.std.specs.Prelude.{◌≡◌, ℕ, pos, ◌≤◌, ◌<◌, ⊤, Bool, true, false, List, [], Option, Some, None, get_or, length}
 use Rattle.std.specs.List.{filter}
 use Rattle.tr_base.specs.declared.Point.{Point}
 use Rattle.tr_base.specs.declared.Size.{Size}
@@ -89,6 +89,16 @@ leaf_of kind = None
 -- how many leaves there are
 abbrev pub leaf_count : Nodes → ℕ
 leaf_count t = length (filter (λ e. is_leaf e.kind) t.entries)
+
+-- a leaf has the next number, and there are at most 32
+pub record IsNext (t : Nodes) (leaf : LeafId) : Type 0 where
+  pub next : leaf.0 ≡ leaf_count t
+  pub room : leaf_count t < 32
+
+-- where a node that is to be added is a leaf, it is the next leaf
+abbrev pub IsNextLeaf : Nodes → NodeKind → Type 0
+IsNextLeaf t (kinds.Leaf leaf shapes) = IsNext t leaf
+IsNextLeaf t kind = ⊤
 
 -- the sides of a size are no longer than the greatest length
 pub record IsSize (size : Size) : Type 0 where

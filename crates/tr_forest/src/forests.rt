@@ -1,36 +1,90 @@
-ghost use Rattle.std.specs.Prelude.{◌≡◌, length};
-ghost use Rattle.tr_forest.specs.Nodes.{node, IsNode};
+ghost use Rattle.std.specs.Prelude.{◌≡◌, ◌<◌, ◌+◌, ℕ, ◌∷◌, ◌++◌, [], length, Some, None, ◌==◌, ◌||◌, IfOk, IfErr, OnOk, OnErr};
+ghost use Rattle.tr_base.specs.declared.NodeId.{NodeId};
+ghost use Rattle.tr_base.specs.Layouts.{greatest_by};
+ghost use Rattle.tr_forest.specs.Nodes.{node, fresh, IsNode, IsNodeKind, IsNextLeaf, shown_by, leaf_of, leaf_count};
+ghost use Rattle.tr_forest.specs.Families.{depth, deeper, height, is_under, of_parent};
+ghost use Rattle.tr_forest.specs.Forests.{IsForest};
+ghost use Rattle.tr_forest.specs.Edits.{IsEdit, IsCause, edited, refusal};
+ghost use Rattle.tr_forest.specs.Tables.{IsKept};
 
-use crate::entries::Node;
+use crate::changes::apply;
+use crate::edits::{Edit, EditRefused};
+use crate::families::Family;
 use crate::kinds::NodeKind;
+use crate::refusals::refusal;
+use std::alloc::Global;
 use std::marker::Model;
-use tr_base::NodeId;
-
-/// How many nodes may lie one below another.
-pub const LEVELS: u8 = 16;
+use tr_base::{LeafId, NoMemory, NodeId, Point};
 
 /// At most 256 nodes, of which one may be the root. What hangs nowhere is kept too, whole.
 #[derive(Drop)]
 pub struct Forest {
-    nodes: Vec<Node>,
-    root: Option<NodeId>,
+    family: Family,
     leaves: Vec<NodeId>,
 }
 
 impl Model for Forest {
     ghost use Rattle.tr_forest.specs.Nodes.{Nodes};
+    ghost use Rattle.tr_forest.specs.Tables.{IsKept};
 
     ghost Value = { Nodes };
 
-    ghost view = { λ f. record { entries = f.nodes.items; root = f.root } };
+    ghost view = { λ f. f.family };
+
+    ghost invariant = { λ f. IsKept f.family f.leaves.items };
 }
 
 impl Forest {
+    /// No nodes.
+    pub fn new(alloc: Global) -> Forest
+        ensures { result ≡ record { entries = []; root = None } }
+    {
+        Forest {
+            family: Family::new(alloc),
+            leaves: Vec::new(alloc),
+        }
+    }
+
+    /// Adds a node that hangs nowhere. Nodes are numbered from 0 as they are added.
+    pub fn add(&mut self, kind: NodeKind, tint: u8) -> Result<NodeId, NoMemory>
+        requires room { length self.old.entries < 256 }
+        requires kind { IsNodeKind kind }
+        requires shown { shown_by kind ≡ None }
+        requires leaf { IsNextLeaf self.old kind }
+        ensures id { IfOk result (λ n. n.0 ≡ length self.old.entries) }
+        ensures ok { OnOk result (self.new ≡ record self.old { entries = self.old.entries ++ fresh kind tint ∷ [] }) }
+        ensures err { OnErr result (self.new ≡ self.old) }
+    {
+        add_in(&mut self.family, &mut self.leaves, kind, tint)
+    }
+
+    /// Chooses the root.
+    pub fn set_root(&mut self, n: NodeId)
+        requires none { self.old.root ≡ None }
+        requires node { IsNode self.old n }
+        requires top { (node self.old n).parent ≡ None }
+        ensures { self.new ≡ record self.old { root = Some n } }
+    {
+        set_root_in(&mut self.family, &self.leaves, n);
+    }
+
+    /// Changes the nodes as the edit says, or refuses it. Only an Attach may want memory.
+    pub fn edit(&mut self, edit: &Edit) -> Result<(), EditRefused>
+        requires { IsEdit self.old edit.now }
+        ensures ok { OnOk result (self.new ≡ edited self.old edit.now) }
+        ensures allowed { OnOk result (refusal self.old edit.now ≡ None) }
+        ensures cause { IfErr result (λ e. IsCause (refusal self.old edit.now) e) }
+        ensures err { OnErr result (self.new ≡ self.old) }
+    {
+        edit_in(&mut self.family, &self.leaves, edit)
+    }
+
     /// How many nodes there are.
     pub fn count(&self) -> usize
-        ensures { result ≡ length self.now.entries }
+        ensures count { result ≡ length self.now.entries }
+        ensures invariant { IsForest self.now }
     {
-        self.nodes.len()
+        self.family.count()
     }
 
     /// What a node is.
@@ -38,8 +92,7 @@ impl Forest {
         requires { IsNode self.now n }
         ensures { result ≡ (node self.now n).kind }
     {
-        let node = &self.nodes[usize::from(n.0)];
-        node.kind
+        self.family.kind_of(n)
     }
 
     /// The tint of a node's frame.
@@ -47,8 +100,15 @@ impl Forest {
         requires { IsNode self.now n }
         ensures { result ≡ (node self.now n).tint }
     {
-        let node = &self.nodes[usize::from(n.0)];
-        node.tint
+        self.family.tint_of(n)
+    }
+
+    /// Where a node stands in a Z.
+    pub fn at_of(&self, n: NodeId) -> Point
+        requires { IsNode self.now n }
+        ensures { result ≡ (node self.now n).at }
+    {
+        self.family.at_of(n)
     }
 
     /// Whose child a node is.
@@ -56,8 +116,7 @@ impl Forest {
         requires { IsNode self.now n }
         ensures { result ≡ (node self.now n).parent }
     {
-        let node = &self.nodes[usize::from(n.0)];
-        node.parent
+        self.family.parent(n)
     }
 
     /// A node's children, from front to back or in the order in which they stand.
@@ -65,14 +124,99 @@ impl Forest {
         requires { IsNode self.now n }
         ensures { result.now ≡ (node self.now n).children }
     {
-        let node = &self.nodes[usize::from(n.0)];
-        &node.children
+        self.family.children(n)
     }
 
     /// The root, once it was chosen.
     pub fn root(&self) -> Option<NodeId>
         ensures { result ≡ self.now.root }
     {
-        self.root
+        self.family.root()
     }
+
+    /// How many leaves were added.
+    pub fn leaves(&self) -> u8
+        ensures { result ≡ leaf_count self.now }
+    {
+        self.leaves.len() as u8
+    }
+
+    /// Which node a leaf is.
+    pub fn node_of(&self, leaf: LeafId) -> NodeId
+        requires { leaf.0 < leaf_count self.now }
+        ensures leaf { leaf_of (node self.now result).kind ≡ Some leaf }
+        ensures node { IsNode self.now result }
+    {
+        self.leaves[usize::from(leaf.0)]
+    }
+
+    /// The same nodes once more.
+    pub fn copy(&self) -> Result<Forest, NoMemory>
+        ensures { IfOk result (λ f. f ≡ self.now) }
+    {
+        let family = self.family.copy()?;
+        let leaves = Vec::from_slice(*self.leaves.allocator(), &self.leaves)?;
+        Ok(Forest { family, leaves })
+    }
+
+    /// Sixteen steps are enough, so depths, heights and who lies below whom are those of trees of any
+    /// depth. It does nothing.
+    pub fn levels_suffice(&self)
+        ensures depths { (n : NodeId) → depth self.now n ≡ deeper (node self.now n).parent (depth self.now) }
+        ensures heights { (n : NodeId) → height self.now n ≡ greatest_by (height self.now) (node self.now n).children + 1 }
+        ensures under { (top n : NodeId) → is_under self.now top n ≡ ((n.0 == top.0) || of_parent (node self.now n).parent (is_under self.now top)) }
+    {
+        let _family = &self.family;
+    }
+}
+
+fn add_in(
+    family: &mut Family,
+    leaves: &mut Vec<NodeId>,
+    kind: NodeKind,
+    tint: u8,
+) -> Result<NodeId, NoMemory>
+    requires kept { IsKept family.old leaves.old.items }
+    requires room { length family.old.entries < 256 }
+    requires kind { IsNodeKind kind }
+    requires shown { shown_by kind ≡ None }
+    requires leaf { IsNextLeaf family.old kind }
+    ensures kept { IsKept family.new leaves.new.items }
+    ensures id { IfOk result (λ n. n.0 ≡ length family.old.entries) }
+    ensures ok { OnOk result (family.new ≡ record family.old { entries = family.old.entries ++ fresh kind tint ∷ [] }) }
+    ensures err { OnErr result (family.new ≡ family.old) }
+{
+    let n = NodeId(family.count() as u16);
+    leaves.reserve(1)?;
+    family.add(kind, tint)?;
+    if kind.is_leaf() {
+        leaves.push(n)?;
+    }
+    Ok(n)
+}
+
+fn set_root_in(family: &mut Family, leaves: &[NodeId], n: NodeId)
+    requires kept { IsKept family.old leaves.now }
+    requires node { IsNode family.old n }
+    requires top { (node family.old n).parent ≡ None }
+    ensures kept { IsKept family.new leaves.now }
+    ensures root { family.new ≡ record family.old { root = Some n } }
+{
+    family.set_root(n);
+}
+
+fn edit_in(family: &mut Family, leaves: &[NodeId], edit: &Edit) -> Result<(), EditRefused>
+    requires kept { IsKept family.old leaves.now }
+    requires edit { IsEdit family.old edit.now }
+    ensures kept { IsKept family.new leaves.now }
+    ensures ok { OnOk result (family.new ≡ edited family.old edit.now) }
+    ensures allowed { OnOk result (refusal family.old edit.now ≡ None) }
+    ensures cause { IfErr result (λ e. IsCause (refusal family.old edit.now) e) }
+    ensures err { OnErr result (family.new ≡ family.old) }
+{
+    if let Some(fault) = refusal(family, edit) {
+        return Err(EditRefused::Fault(fault));
+    }
+    apply(family, edit)?;
+    Ok(())
 }

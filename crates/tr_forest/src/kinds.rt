@@ -1,3 +1,7 @@
+ghost use Rattle.std.specs.Prelude.{◌≡◌};
+ghost use Rattle.tr_forest.specs.Nodes.{is_leaf, is_z, is_t, is_page, is_border, is_rigid, is_translate, is_filter, leaf_of};
+ghost use Rattle.tr_forest.specs.Edits.{forgetting, paged, reshaped};
+
 use tr_base::{LeafId, NodeId, Point, Shapes, Size};
 
 /// What a node does with its children.
@@ -24,4 +28,94 @@ pub enum NodeKind {
     Pack { down: bool, gap: u8 },
     /// A window, which wants these lengths.
     Leaf { leaf: LeafId, shapes: Shapes },
+}
+
+impl NodeKind {
+    pub(crate) fn is_leaf(self) -> bool
+        ensures { result ≡ is_leaf self }
+    {
+        matches!(self, NodeKind::Leaf { .. })
+    }
+
+    pub(crate) fn is_z(self) -> bool
+        ensures { result ≡ is_z self }
+    {
+        matches!(self, NodeKind::Z)
+    }
+
+    pub(crate) fn is_t(self) -> bool
+        ensures { result ≡ is_t self }
+    {
+        matches!(self, NodeKind::T { .. })
+    }
+
+    pub(crate) fn is_page(self) -> bool
+        ensures { result ≡ is_page self }
+    {
+        matches!(self, NodeKind::Page { .. })
+    }
+
+    pub(crate) fn is_border(self) -> bool
+        ensures { result ≡ is_border self }
+    {
+        matches!(self, NodeKind::Border { .. })
+    }
+
+    pub(crate) fn is_rigid(self) -> bool
+        ensures { result ≡ is_rigid self }
+    {
+        matches!(self, NodeKind::Rigid { .. })
+    }
+
+    pub(crate) fn is_translate(self) -> bool
+        ensures { result ≡ is_translate self }
+    {
+        matches!(self, NodeKind::Translate { .. })
+    }
+
+    pub(crate) fn is_filter(self) -> bool
+        ensures { result ≡ is_filter self }
+    {
+        self.is_border() || self.is_rigid() || self.is_translate()
+    }
+
+    /// Which leaf it is.
+    pub(crate) fn leaf(self) -> Option<LeafId>
+        ensures { result ≡ leaf_of self }
+    {
+        match self {
+            NodeKind::Leaf { leaf, .. } => Some(leaf),
+            _ => None,
+        }
+    }
+
+    /// The same kind, which doesn't name the child any more.
+    pub(crate) fn forgetting(self, child: NodeId) -> NodeKind
+        ensures { result ≡ forgetting child self }
+    {
+        match self {
+            NodeKind::T { shown: Some(shown) } if shown.0 == child.0 => NodeKind::T { shown: None },
+            _ => self,
+        }
+    }
+
+    /// The same kind; a Page shows this page.
+    pub(crate) fn paged(self, page: u8) -> NodeKind
+        ensures { result ≡ paged page self }
+    {
+        match self {
+            NodeKind::Page { per, .. } => NodeKind::Page { per, page },
+            _ => self,
+        }
+    }
+
+    /// The same kind; a leaf wants these lengths.
+    pub(crate) fn reshaped(self, shapes: Shapes) -> NodeKind
+        ensures { result ≡ reshaped shapes self }
+    {
+        match self {
+            NodeKind::Leaf { leaf, .. } => NodeKind::Leaf { leaf, shapes },
+            _ => self,
+        }
+    }
 }

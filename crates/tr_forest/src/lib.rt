@@ -2,11 +2,19 @@
 //! change that, with what refuses them. Where windows lie is the business of the layers above.
 #![tactic(auto)]
 
+mod changes;
 mod edits;
 mod entries;
+mod families;
 mod forests;
 mod kinds;
+mod refusals;
+mod walks;
 
 pub use edits::{Edit, EditRefused, NodeFault};
-pub use forests::{Forest, LEVELS};
+pub use forests::Forest;
 pub use kinds::NodeKind;
+pub use walks::LEVELS;
+
+#[cfg(test)]
+mod tests;
