@@ -1,3 +1,4 @@
 pub mod ChildLemmas
 pub mod ShapeLemmas
 pub mod FillLemmas
+pub mod LayoutLemmas

@@ -3,3 +3,4 @@ pub mod Wishes
 pub mod Places
 pub mod Tables
 pub mod Filling
+pub mod Ready
