@@ -4,7 +4,7 @@ use Rattle.std.specs.List.{filter, AllPairs}
 use Rattle.std.specs.Prelude.{is_some}
 use Rattle.std.proofs.lemmas.Bool.Decides.{nat_tests}
 use Rattle.std.proofs.lemmas.Int.{ints}
-use Rattle.std.proofs.lemmas.List.{get_or_append_left}
+use Rattle.std.proofs.lemmas.List.{get_or_append_left, get_or_default}
 use Rattle.std.proofs.lemmas.List.Elements.{filter-append}
 use Rattle.std.proofs.Math.Seq.{get_or-append_seam}
 use Rattle.std.proofs.Math.ListN.{get_or-eq_default}
@@ -18,7 +18,7 @@ use Rattle.tr_forest.specs.Nodes.{Entry, Nodes, IsNode, IsNodeKind, IsNext, IsNe
 use Rattle.tr_forest.specs.Families.{levels, is_among, depth, depth_within}
 use Rattle.tr_forest.specs.Forests.{IsForest}
 use Rattle.tr_forest.specs.Tables.{IsKept, in_table}
-use Rattle.tr_forest.proofs.FamilyLemmas.{depth_zero, depth_suc}
+use Rattle.tr_forest.proofs.FamilyLemmas.{by_within, depth_zero, depth_suc}
 use Rattle.tr_forest.proofs.Keeping.{depth_equal, leaf_test}
 
 -- no nodes
@@ -131,7 +131,7 @@ room_for t kind next h = omega arith
 -- what is asked of a node that is to be added
 pub record CanAdd (t : Nodes) (kind : NodeKind) : Type 0 where
   pub room : length t.entries < 256
-  pub kind : IsNodeKind kind
+  pub range : IsNodeKind kind
   pub shown : shown_by kind ≡ None
   pub leaf : IsNextLeaf t kind
 
@@ -142,6 +142,14 @@ leaf_added t kind tint n leaf h = elim (at_added t.entries (fresh kind tint) (fr
   | inr same ↦ inr (sym (ap (λ (e : Entry). leaf_of e.kind) same) ∙ h)
 ]
 
+one_of : (b : Bool) → b ≡ true → cond {A = ℕ} b 1 0 ≡ 1
+one_of true h = refl
+one_of false h = cc
+
+none_of : (b : Bool) → b ≡ false → cond {A = ℕ} b 1 0 ≡ 0
+none_of true h = cc
+none_of false h = refl
+
 numbered_added : (t : Nodes) (kind : NodeKind) (tint : ℕ) (n : NodeId) (leaf : LeafId) → IsForest t → IsNextLeaf t kind → leaf_of (node (added t kind tint) n).kind ≡ Some leaf →
     leaf.0 < leaf_count (added t kind tint)
 numbered_added t kind tint n leaf f next h =
@@ -149,7 +157,7 @@ numbered_added t kind tint n leaf f next h =
     elim (leaf_added t kind tint n leaf h) [
       | inl new ↦
           (let is : leaf.0 ≡ leaf_count t = next_of t kind leaf next new.1 in
-          let one : cond (is_leaf kind) 1 0 ≡ 1 = ap (λ b. cond b 1 0) (leaf_yes kind leaf new.1) in
+          let one : cond {A = ℕ} (is_leaf kind) 1 0 ≡ 1 = one_of (is_leaf kind) (leaf_yes kind leaf new.1) in
           omega arith)
       | inr old ↦ (let lt : leaf.0 < leaf_count t = f.numbered n leaf old in omega arith)
     ]
@@ -200,7 +208,7 @@ forest_added t kind tint f can =
         | inl both ↦ (let no : None ≡ Some c = sym (ap (λ (e : Entry). shown_by e.kind) both.1 ∙ can.shown) ∙ h in absurd cc)
         | inr same ↦ ap (is_among c) (down n) ∙ f.shown n c (sym (ap (λ (e : Entry). shown_by e.kind) same) ∙ h)
       ];
-      kinds = λ n. kind_added IsNodeKind t kind tint n can.kind (f.kinds n);
+      kinds = λ n. kind_added IsNodeKind t kind tint n can.range (f.kinds n);
       offsets = λ n. subst (λ (p : Point). IsOffset farthest p) (sym (place n)) (f.offsets n);
       leaf_numbers = (let most : leaf_count t + cond (is_leaf kind) 1 0 ≤ 32 = room_for t kind can.leaf f.leaf_numbers in subst (λ (k : ℕ). k ≤ 32) (sym (leaves_added t kind tint)) most);
       numbered = λ n leaf h. numbered_added t kind tint n leaf f can.leaf h;
@@ -219,10 +227,10 @@ leaf_stays t kind tint n leaf h = elim (at_added t.entries (fresh kind tint) (fr
 
 -- a node that is no leaf leaves the table as it is
 pub kept_other : (t : Nodes) (leaves : List NodeId) (kind : NodeKind) (tint : ℕ) → IsKept t leaves → CanAdd t kind → is_leaf kind ≡ false → IsKept (added t kind tint) leaves
-kept_other t leaves kind tint k can no = record {
+kept_other t leaves kind tint k can is_none = record {
   forest = forest_added t kind tint k.forest can;
   count = (let more : leaf_count (added t kind tint) ≡ leaf_count t + cond (is_leaf kind) 1 0 = leaves_added t kind tint in
-      let none : cond (is_leaf kind) 1 0 ≡ 0 = ap (λ b. cond b 1 0) no in
+      let none : cond {A = ℕ} (is_leaf kind) 1 0 ≡ 0 = none_of (is_leaf kind) is_none in
       let old : length leaves ≡ leaf_count t = k.count in
       omega arith);
   places = λ i h. leaf_stays t kind tint (in_table leaves i) (record { 0 = i }) (k.places i h);
@@ -235,7 +243,7 @@ leaf_is t kind next h = cc
 
 place_added : (t : Nodes) (leaves : List NodeId) (kind : NodeKind) (tint : ℕ) (n : NodeId) (i : ℕ) → IsKept t leaves → IsNextLeaf t kind → is_leaf kind ≡ true → n.0 ≡ length t.entries →
     i < length (leaves ++ n ∷ []) → leaf_of (node (added t kind tint) (in_table (leaves ++ n ∷ []) i)).kind ≡ Some (record { 0 = i })
-place_added t leaves kind tint n i k next yes is h = by_test (nat_lt i (length leaves)) refl
+place_added t leaves kind tint n i k next is_one is h = by_test (nat_lt i (length leaves)) refl
   where
     by_test : (b : Bool) → nat_lt i (length leaves) ≡ b → leaf_of (node (added t kind tint) (in_table (leaves ++ n ∷ []) i)).kind ≡ Some (record { 0 = i })
     by_test true e =
@@ -248,17 +256,28 @@ place_added t leaves kind tint n i k next yes is h = by_test (nat_lt i (length l
         let this : in_table (leaves ++ n ∷ []) i ≡ n = ap (in_table (leaves ++ n ∷ [])) last ∙ get_or-append_seam leaves n [] (record { 0 = 0 }) in
         let new : node (added t kind tint) n ≡ fresh kind tint = ap (λ (x : ℕ). get_or (t.entries ++ fresh kind tint ∷ []) x (fresh kinds.H 0)) is ∙ get_or-append_seam t.entries (fresh kind tint) [] (fresh kinds.H 0) in
         let id : ℕ → LeafId = λ x. record { 0 = x } in
-        ap (λ (m : NodeId). leaf_of (node (added t kind tint) m).kind) this ∙ ap (λ (e : Entry). leaf_of e.kind) new ∙ leaf_is t kind next yes
+        ap (λ (m : NodeId). leaf_of (node (added t kind tint) m).kind) this ∙ ap (λ (e : Entry). leaf_of e.kind) new ∙ leaf_is t kind next is_one
         ∙ ap (λ (x : ℕ). Some (id x)) (sym (last ∙ k.count))
 
 -- a leaf gets the next place of the table
 pub kept_leaf : (t : Nodes) (leaves : List NodeId) (kind : NodeKind) (tint : ℕ) (n : NodeId) → IsKept t leaves → CanAdd t kind → is_leaf kind ≡ true → n.0 ≡ length t.entries →
     IsKept (added t kind tint) (leaves ++ n ∷ [])
-kept_leaf t leaves kind tint n k can yes is = record {
+kept_leaf t leaves kind tint n k can is_one is = record {
   forest = forest_added t kind tint k.forest can;
   count = (let more : leaf_count (added t kind tint) ≡ leaf_count t + cond (is_leaf kind) 1 0 = leaves_added t kind tint in
-      let one : cond (is_leaf kind) 1 0 ≡ 1 = ap (λ b. cond b 1 0) yes in
+      let one : cond {A = ℕ} (is_leaf kind) 1 0 ≡ 1 = one_of (is_leaf kind) is_one in
       let old : length leaves ≡ leaf_count t = k.count in
       omega (arith, length-append leaves (n ∷ [])));
-  places = λ i h. place_added t leaves kind tint n i k can.leaf yes is h;
+  places = λ i h. place_added t leaves kind tint n i k can.leaf is_one is h;
 }
+
+-- the table has the node of each leaf
+pub place_is : (t : Nodes) (leaves : List NodeId) (leaf : LeafId) (n : NodeId) → IsKept t leaves → leaf.0 < leaf_count t → n ≡ get_or leaves leaf.0 n → leaf_of (node t n).kind ≡ Some leaf
+place_is t leaves leaf n k h is =
+    let lt : leaf.0 < length leaves = (let same : length leaves ≡ leaf_count t = k.count in omega arith) in
+    let at : n ≡ in_table leaves leaf.0 = is ∙ get_or_default leaves leaf.0 n (record { 0 = 0 }) lt in
+    ap (λ (m : NodeId). leaf_of (node t m).kind) at ∙ k.places leaf.0 lt
+
+-- and that is a node
+pub place_is_node : (t : Nodes) (n : NodeId) (leaf : LeafId) → leaf_of (node t n).kind ≡ Some leaf → IsNode t n
+place_is_node t n leaf h = by_within t n (λ is. is) (λ none. let no : None ≡ Some leaf = sym (ap (λ (e : Entry). leaf_of e.kind) none) ∙ h in absurd cc)

@@ -61,7 +61,7 @@ among_at (n ∷ ns) (suc k) d h = among_later (get_or ns k d) n ns (among_at ns 
 pub none_there : (t : Nodes) (n : NodeId) → length t.entries ≤ n.0 → node t n ≡ fresh kinds.H 0
 none_there t n h = get_or-eq_default t.entries (fresh kinds.H 0) h
 
-by_within : {P : Type 0} (t : Nodes) (n : NodeId) → (IsNode t n → P) → (node t n ≡ fresh kinds.H 0 → P) → P
+pub by_within : {P : Type 0} (t : Nodes) (n : NodeId) → (IsNode t n → P) → (node t n ≡ fresh kinds.H 0 → P) → P
 by_within {P = P} t n within past = by_test (nat_lt n.0 (length t.entries)) refl
   where
     by_test : (b : Bool) → nat_lt n.0 (length t.entries) ≡ b → P

@@ -106,3 +106,12 @@ pub among_lifted : (m n : NodeId) (ns : List NodeId) → is_among n ns ≡ true 
 among_lifted m n ns h = by_id m n
     (λ e. ap (λ k. is_among k (n ∷ without n ns)) e ∙ among_first n (without n ns) ∙ sym (ap (λ k. is_among k ns) e ∙ h))
     (λ ne. ap (λ b. b || is_among m (without n ns)) (eq_sym n.0 m.0 ∙ ne) ∙ among_rest m n ns ne)
+
+shorter_by : (b : Bool) (x : NodeId) (xs ys : List NodeId) → length ys ≤ length xs → (b ≡ false → length ys < length xs) → length (cond (not b) (x ∷ ys) ys) < length (x ∷ xs)
+shorter_by true x xs ys le lt = omega arith
+shorter_by false x xs ys le lt = let less : length ys < length xs = lt refl in omega arith
+
+-- one of a list is taken out
+pub shorter : (n : NodeId) (ns : List NodeId) → is_among n ns ≡ true → length (without n ns) < length ns
+shorter n [] h = cc
+shorter n (x ∷ xs) h = shorter_by (x.0 == n.0) x xs (without n xs) (length_without n xs) (λ e. shorter n xs (sym (ap (λ b. b || is_among n xs) e) ∙ h))

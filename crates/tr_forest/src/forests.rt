@@ -187,9 +187,10 @@ fn add_in(
     ensures err { OnErr result (family.new ≡ family.old) }
 {
     let n = NodeId(family.count() as u16);
+    let is_leaf = kind.is_leaf();
     leaves.reserve(1)?;
     family.add(kind, tint)?;
-    if kind.is_leaf() {
+    if is_leaf {
         leaves.push(n)?;
     }
     Ok(n)

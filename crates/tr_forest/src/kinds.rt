@@ -31,8 +31,8 @@ pub enum NodeKind {
 }
 
 impl NodeKind {
-    pub(crate) fn is_leaf(self) -> bool
-        ensures { result ≡ is_leaf self }
+    pub(crate) fn is_leaf(&self) -> bool
+        ensures { result ≡ is_leaf self.now }
     {
         matches!(self, NodeKind::Leaf { .. })
     }
@@ -76,7 +76,10 @@ impl NodeKind {
     pub(crate) fn is_filter(self) -> bool
         ensures { result ≡ is_filter self }
     {
-        self.is_border() || self.is_rigid() || self.is_translate()
+        matches!(
+            self,
+            NodeKind::Border { .. } | NodeKind::Rigid { .. } | NodeKind::Translate { .. }
+        )
     }
 
     /// Which leaf it is.

@@ -1,0 +1,13 @@
+use Rattle.std.proofs.Common.{◌≡◌, subst, get_or, ap, ◌∙◌, List}
+use Rattle.tr_base.specs.declared.NodeId.{NodeId}
+use Rattle.tr_forest.specs.Nodes.{Nodes}
+use Rattle.tr_forest.specs.Tables.{IsKept}
+use Rattle.tr_forest.proofs.Adding.{place_is, place_is_node}
+use Rattle.tr_forest.proofs.forests.Forest.node_of.Goals as goal
+
+pub returns-clause-leaf : goal.returns-clause-leaf
+returns-clause-leaf c = place_is c.args.self.now c.self.inside.leaves.items c.args.leaf c.index.result.now (subst (λ (t : Nodes). IsKept t c.self.inside.leaves.items) c.self.view_is c.self.invariant) c.requires
+    (c.index.ensures ∙ ap (λ k. get_or c.self.inside.leaves.items k c.index.result.now) c.from.ensures)
+
+pub returns-clause-node : goal.returns-clause-node
+returns-clause-node c = place_is_node c.args.self.now c.index.result.now c.args.leaf (returns-clause-leaf c)
