@@ -6,6 +6,7 @@ use Rattle.tr_base.specs.declared.Size.{Size}
 use Rattle.tr_base.specs.declared.Kind.{Kind}
 use Rattle.tr_base.specs.declared.Shapes.{Shapes}
 use Rattle.tr_base.specs.declared.Point.{Point}
+use Rattle.tr_base.specs.Layouts.{IsDomain}
 use Rattle.tr_base.specs.Rects.{Edges, empty_rect, whole_of}
 use Rattle.tr_forest.specs.declared.NodeKind.{NodeKind}
 use Rattle.tr_forest.specs.declared.NodeKind.TheVariants as kinds
@@ -33,9 +34,6 @@ pub record AreAlike (t u : Nodes) : Type 0 where
   pub ats : (n : NodeId) → (node u n).at ≡ (node t n).at
   pub parents : (n : NodeId) → (node u n).parent ≡ (node t n).parent
   pub children : (n : NodeId) → (node u n).children ≡ (node t n).children
-
-pub alike_itself : (t : Nodes) → AreAlike t t
-alike_itself t = record { count = refl; root = refl; kinds = λ n. refl; ats = λ n. refl; parents = λ n. refl; children = λ n. refl }
 
 -- a part of the entries that a change of one of them leaves as it is
 part_same : {X : Type 0} (f : Entry → X) (t : Nodes) (n : NodeId) (e : Entry) (m : NodeId) → IsNode t n → f e ≡ f (node t n) →
@@ -121,6 +119,7 @@ laid_out_alike t u size l alike laid = record {
         let before : Seen = record { nodes = t; size = size; kind = kind } in
         let after : Seen = record { nodes = u; size = size; kind = kind } in
         laid.domains.each kind n ∙ sym (domains_within_alike 16 before after alike refl n);
+    small = laid.domains.small;
   };
 }
 
@@ -134,24 +133,12 @@ laid_out_tinted t u edit n tint before after l is fits new size laid =
     subst (λ (w : Nodes). IsLaidOut w after l) (sym nodes) (subst (λ (s : Size). IsLaidOut (edited t (edits.Tint n tint)) s l) (sym same)
     (laid_out_alike t (edited t (edits.Tint n tint)) before l (tinted_alike t n tint inside) laid))
 
--- a copy of the tables, or the tables with more memory
-pub same_places_itself : (l : Layout) → HaveSamePlaces l l
-same_places_itself l = record { shapes = refl; domains = refl; room_shapes = refl; room_places = refl }
-
 pub places_same : (a b : Layout) (count : ℕ) → HaveSamePlaces a b → HavePlaces count a → HavePlaces count b
 places_same a b count same places = record {
   shapes = ap length same.shapes ∙ places.shapes;
   domains = ap length same.domains ∙ places.domains;
   room_shapes = ap length same.room_shapes ∙ places.room_shapes;
   room_places = ap length same.room_places ∙ places.room_places;
-}
-
-pub laid_out_same : (t : Nodes) (size : Size) (a b : Layout) → HaveSamePlaces a b → IsLaidOut t size a → IsLaidOut t size b
-laid_out_same t size a b same laid = record {
-  screen = laid.screen;
-  places = places_same a b (length t.entries) same laid.places;
-  shapes = record { each = λ n. ap (λ xs. shape_in xs n) same.shapes ∙ laid.shapes.each n };
-  domains = record { each = λ kind n. ap (λ xs. domain_in xs n) same.domains ∙ laid.domains.each kind n };
 }
 
 -- the shapes don't hang on the root
@@ -164,32 +151,3 @@ pub places_for_added : (t u : Nodes) (kind : NodeKind) (tint : ℕ) (before l : 
     ((count : ℕ) → HavePlaces count before → HavePlaces (count + 1) l) → HavePlaces (length t.entries) before → HavePlaces (length u.entries) l
 places_for_added t u kind tint before l is more places =
     subst (λ (k : ℕ). HavePlaces k l) (sym (ap (λ (w : Nodes). length w.entries) is ∙ length-append t.entries (fresh kind tint ∷ []))) (more (length t.entries) places)
-
--- what the tables answer
-pub shape_read : (t : Nodes) (size : Size) (l : Layout) (n : NodeId) (x : Shapes) → IsLaidOut t size l → IsNode t n → x ≡ get_or l.shapes.items n.0 x → x ≡ shape t n
-shape_read t size l n x laid inside is =
-    let within : n.0 < length t.entries = inside.within in
-    let count : length l.shapes.items ≡ length t.entries = laid.places.shapes in
-    get_or_read_under l.shapes.items n.0 (length l.shapes.items) x no_shapes is (omega arith) refl ∙ laid.shapes.each n
-
-pub domain_read : (t : Seen) (l : Layout) (n : NodeId) (x : Edges) → IsLaidOut t.nodes t.size l → IsNode t.nodes n → x ≡ get_or l.domains.items n.0 x → x ≡ domain t n
-domain_read t l n x laid inside is =
-    let within : n.0 < length t.nodes.entries = inside.within in
-    let count : length l.domains.items ≡ length t.nodes.entries = laid.places.domains in
-    get_or_read_under l.domains.items n.0 (length l.domains.items) x empty_rect is (omega arith) refl ∙ laid.domains.each t.kind n
-
--- the size of the screen stays one
-pub size_after_fits : (t : Nodes) (edit : Edit) (size : Size) → IsEdit t edit → IsScreenSize size → IsScreenSize (size_after edit size)
-size_after_fits t (edits.Resize new) size is old = is
-size_after_fits t (edits.Attach child parent at) size is old = old
-size_after_fits t (edits.Detach child) size is old = old
-size_after_fits t (edits.Tint n tint) size is old = old
-size_after_fits t (edits.Border n width) size is old = old
-size_after_fits t (edits.Offset n by) size is old = old
-size_after_fits t (edits.Fix n size') size is old = old
-size_after_fits t (edits.Move child at) size is old = old
-size_after_fits t (edits.Lift child) size is old = old
-size_after_fits t (edits.Show n child) size is old = old
-size_after_fits t (edits.Turn n page) size is old = old
-size_after_fits t (edits.Shapes n shapes) size is old = old
-size_after_fits t (edits.Rescreen kind) size is old = old

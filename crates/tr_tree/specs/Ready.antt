@@ -3,12 +3,14 @@ use Rattle.std.specs.Prelude.{◌≡◌, ℕ, ◌<◌, length, vec_len, vec_capa
 use Rattle.tr_base.specs.declared.NodeId.{NodeId}
 use Rattle.tr_base.specs.declared.Kind.{Kind}
 use Rattle.tr_base.specs.declared.Size.{Size}
+use Rattle.tr_base.specs.Layouts.{IsDomain}
 use Rattle.tr_forest.specs.Nodes.{Nodes}
 use Rattle.tr_forest.specs.Edits.{IsScreenSize}
 use Rattle.tr_tree.specs.declared.layouts.Layout.{Layout}
 use Rattle.tr_tree.specs.Wishes.{shape}
 use Rattle.tr_tree.specs.Places.{domain}
 use Rattle.tr_tree.specs.Tables.{shape_in, domain_in}
+use Rattle.tr_tree.specs.Laying.{on_screen}
 
 -- the tables and the room have so many places
 pub record HavePlaces (count : ℕ) (l : Layout) : Type 0 where
@@ -23,8 +25,8 @@ pub record HasShapes (t : Nodes) (l : Layout) : Type 0 where
 
 -- the table has the domain of each node on a screen of this size, whatever its kind
 pub record HasDomains (t : Nodes) (size : Size) (l : Layout) : Type 0 where
-  pub each : (kind : Kind) (n : NodeId) →
-      domain_in l.domains.items n ≡ domain (record { nodes = t; size = size; kind = kind }) n
+  pub each : (kind : Kind) (n : NodeId) → domain_in l.domains.items n ≡ domain (on_screen t size kind) n
+  pub small : (n : NodeId) → IsDomain (domain_in l.domains.items n)
 
 -- the tables have the shapes and the domain of each node on a screen of this size
 pub record IsLaidOut (t : Nodes) (size : Size) (l : Layout) : Type 0 where

@@ -1,7 +1,7 @@
 ghost use Rattle.std.specs.Prelude.{◌≡◌, ◌+◌, ℕ, IfOk, OnOk, length};
 ghost use Rattle.tr_forest.specs.Edits.{IsScreenSize};
 
-use crate::domains::lay_out;
+use crate::domains::{Plan, lay_out};
 use crate::rooms::Room;
 use crate::wishes::{fill_shapes, no_shapes};
 use std::alloc::Global;
@@ -63,7 +63,12 @@ impl Layout {
         requires shapes { HasShapes forest.now self.old }
         ensures { IsLaidOut forest.now size self.new }
     {
-        lay_out(forest, size, &self.shapes, &mut self.room, &mut self.domains);
+        let plan = Plan {
+            forest,
+            size,
+            shapes: &self.shapes,
+        };
+        lay_out(&plan, &mut self.room, &mut self.domains);
     }
 
     /// Finds the shapes and the domains anew. It takes no memory.

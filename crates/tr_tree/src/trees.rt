@@ -1,6 +1,7 @@
 ghost use Rattle.std.specs.Prelude.{◌≡◌, ◌<◌, ◌++◌, ◌∷◌, [], IfOk, IfErr, OnOk, OnErr, Some, None, map, length, if◌then◌else◌};
 ghost use Rattle.tr_base.specs.declared.NodeId.{NodeId};
 ghost use Rattle.tr_base.specs.Rects.{whole_of};
+ghost use Rattle.tr_base.specs.Layouts.{IsDomain};
 ghost use Rattle.tr_forest.specs.Nodes.{node, fresh, IsNode, IsNodeKind, IsNextLeaf, shown_by, leaf_of, leaf_count};
 ghost use Rattle.tr_forest.specs.Forests.{IsForest};
 ghost use Rattle.tr_forest.specs.Edits.{IsEdit, IsCause, IsScreenSize, refusal, is_root};
@@ -127,7 +128,8 @@ impl Tree {
     /// empty where the node gets no place.
     pub fn domain(&self, n: NodeId) -> Rect
         requires { IsNode self.now.nodes n }
-        ensures { result ≡ domain self.now n }
+        ensures domain { result ≡ domain self.now n }
+        ensures small { IsDomain result }
     {
         self.layout.domains[usize::from(n.0)]
     }
