@@ -10,3 +10,6 @@ mod wishes;
 
 pub use tr_forest::{Edit, EditRefused, NodeFault, NodeKind};
 pub use trees::Tree;
+
+#[cfg(test)]
+mod tests;
