@@ -15,10 +15,10 @@ use Rattle.tr_forest.specs.declared.edits.NodeFault.{NodeFault}
 use Rattle.tr_forest.specs.declared.edits.NodeFault.TheVariants as faults
 use Rattle.tr_forest.specs.Nodes.{Entry, Nodes, IsNode, IsNodeKind, IsSize, node, is_leaf, is_z, is_t, is_page, is_border, is_rigid, is_translate, is_filter, shown_by, leaf_of}
 use Rattle.tr_forest.specs.Families.{levels, is_among, depth, height, is_under, of_parent}
-use Rattle.tr_forest.specs.Edits.{IsEdit, edited, refusal, changed, turned_to, paged, reshaped, at_parent, bereft, loose, lifting, hangs, is_root, is_occupied}
+use Rattle.tr_forest.specs.Edits.{IsEdit, edited, refusal, changed, with_child, hung, turned_to, paged, reshaped, at_parent, bereft, loose, lifting, hangs, is_root, is_occupied}
 use Rattle.tr_forest.specs.Forests.{IsForest}
 use Rattle.tr_forest.proofs.FamilyLemmas.{test_same}
-use Rattle.tr_forest.proofs.Keeping.{KeepsValues, HasRanges, HasLinks, Follows, IsLike, follows, follows_like}
+use Rattle.tr_forest.proofs.Keeping.{Follows, IsLike, follows_like, changed_count}
 use Rattle.tr_forest.proofs.Hanging.{CanHang, follows_hung}
 use Rattle.tr_forest.proofs.Parting.{follows_parted, follows_lifted}
 
@@ -202,3 +202,25 @@ follows_edited t (edits.Shapes n shapes) forest is h = follows_like t n (λ e. t
     (λ child k. forest.shown n child (sym (reshaped_shown shapes (node t n).kind) ∙ k)))
 follows_edited t (edits.Resize size) forest is h = follows_same t forest
 follows_edited t (edits.Rescreen kind) forest is h = follows_same t forest
+
+-- an edit adds no node and takes none away
+
+count_at_parent : (o : Option NodeId) (change : NodeId → Entry → Entry) (t : Nodes) → length (at_parent o (λ parent. changed parent (change parent)) t).entries ≡ length t.entries
+count_at_parent None change t = refl
+count_at_parent (Some parent) change t = changed_count t parent (change parent)
+
+pub count_edited : (t : Nodes) (edit : Edit) → length (edited t edit).entries ≡ length t.entries
+count_edited t (edits.Attach child parent at) = changed_count (changed parent (with_child child) t) child (hung parent at) ∙ changed_count t parent (with_child child)
+count_edited t (edits.Detach child) =
+    changed_count (at_parent (node t child).parent (λ parent. changed parent (bereft child)) t) child loose ∙ count_at_parent (node t child).parent (λ parent. bereft child) t
+count_edited t (edits.Tint n tint) = changed_count t n (λ e. record e { tint = tint })
+count_edited t (edits.Border n width) = changed_count t n (turned_to (kinds.Border width))
+count_edited t (edits.Offset n by) = changed_count t n (turned_to (kinds.Translate by))
+count_edited t (edits.Fix n size) = changed_count t n (turned_to (kinds.Rigid size))
+count_edited t (edits.Move child at) = changed_count t child (λ e. record e { at = at })
+count_edited t (edits.Lift child) = count_at_parent (node t child).parent (λ parent. lifting child) t
+count_edited t (edits.Show n child) = changed_count t n (turned_to (kinds.T (Some child)))
+count_edited t (edits.Turn n page) = changed_count t n (λ e. turned_to (paged page e.kind) e)
+count_edited t (edits.Shapes n shapes) = changed_count t n (λ e. turned_to (reshaped shapes e.kind) e)
+count_edited t (edits.Resize size) = refl
+count_edited t (edits.Rescreen kind) = refl

@@ -99,6 +99,9 @@ changed_part {X = X} part t n m change h same = by_id m n
     (λ e. subst (λ (k : NodeId). part (node (changed n change t) k) ≡ part (node t k)) (sym e) (ap part (changed_here t n change h) ∙ same))
     (λ ne. ap part (changed_other t n m change ne))
 
+pub changed_count : (t : Nodes) (n : NodeId) (change : Entry → Entry) → length (changed n change t).entries ≡ length t.entries
+changed_count t n change = length-set t.entries n.0 (change (node t n))
+
 pub still_node : (t : Nodes) (n m : NodeId) (change : Entry → Entry) → IsNode t m → IsNode (changed n change t) m
 still_node t n m change h = record {
   within = (let lt : m.0 < length t.entries = h.within in let same : length (set t.entries n.0 (change (node t n))) ≡ length t.entries = length-set t.entries n.0 (change (node t n)) in omega arith);

@@ -1,4 +1,4 @@
-ghost use Rattle.std.specs.Prelude.{◌≡◌, ◌+◌, ◌<◌, ◌≤◌, length, None, IfOk};
+ghost use Rattle.std.specs.Prelude.{◌≡◌, ◌+◌, ◌<◌, ◌≤◌, false, length, None, IfOk};
 ghost use Rattle.tr_forest.specs.Nodes.{IsNodeKind, IsNode, shown_by, is_leaf, leaf_count};
 ghost use Rattle.tr_forest.specs.Edits.{IsEdit};
 
@@ -24,10 +24,10 @@ fn lengths(n: u16) -> Shapes
 }
 
 /// A leaf, node 0, and so many nodes of one kind, from 1. Each of them hangs nowhere.
-fn nodes(alloc: Global, kind: NodeKind, count: u16) -> Result<Forest, NoMemory>
-    requires kind { IsNodeKind kind }
-    requires shown { shown_by kind ≡ None }
-    requires leaf { is_leaf kind ≡ false }
+fn nodes(alloc: Global, kind: &NodeKind, count: u16) -> Result<Forest, NoMemory>
+    requires kind { IsNodeKind kind.now }
+    requires shown { shown_by kind.now ≡ None }
+    requires leaf { is_leaf kind.now ≡ false }
     requires count { count ≤ 20 }
     ensures { IfOk result (λ f. length f.entries ≡ count + 1) }
 {
@@ -38,7 +38,7 @@ fn nodes(alloc: Global, kind: NodeKind, count: u16) -> Result<Forest, NoMemory>
     };
     forest.add(leaf, 0)?;
     for _i in 0..count {
-        forest.add(kind, 0)?;
+        forest.add(*kind, 0)?;
     }
     Ok(forest)
 }
@@ -92,13 +92,23 @@ fn show(forest: &mut Forest, node: u16, child: u16) -> Result<(), EditRefused>
     tried(forest, Edit::Show { node, child })
 }
 
+/// What an edit of a leaf's lengths answers.
+fn reshape(forest: &mut Forest, node: u16) -> Result<(), EditRefused>
+    requires { node < length forest.old.entries }
+    ensures { length forest.new.entries ≡ length forest.old.entries }
+{
+    let node = NodeId(node);
+    let shapes = lengths(3);
+    tried(forest, Edit::Shapes { node, shapes })
+}
+
 fn refused(fault: NodeFault) -> Result<(), EditRefused> {
     Err(EditRefused::Fault(fault))
 }
 
 #[test]
 fn attach_names_the_least_fault(rt: HostRuntime) -> Result<(), Fail> {
-    let mut forest = nodes(rt.alloc(), NodeKind::H, 3)?;
+    let mut forest = nodes(rt.alloc(), &NodeKind::H, 3)?;
     assert_eq!(rt; put(&mut forest, 1, 1), refused(NodeFault::Cycle));
     assert_eq!(rt; put(&mut forest, 0, 1), Ok(()));
     assert_eq!(rt; put(&mut forest, 1, 0), refused(NodeFault::WrongKind));
@@ -110,7 +120,7 @@ fn attach_names_the_least_fault(rt: HostRuntime) -> Result<(), Fail> {
 
 #[test]
 fn a_filter_has_one_child(rt: HostRuntime) -> Result<(), Fail> {
-    let mut forest = nodes(rt.alloc(), NodeKind::Border { width: 1 }, 3)?;
+    let mut forest = nodes(rt.alloc(), &NodeKind::Border { width: 1 }, 3)?;
     assert_eq!(rt; put(&mut forest, 1, 2), Ok(()));
     assert_eq!(rt; put(&mut forest, 3, 2), refused(NodeFault::Occupied));
     assert_eq!(rt; put(&mut forest, 1, 2), refused(NodeFault::Occupied));
@@ -146,7 +156,7 @@ fn chain(alloc: Global, count: u16) -> Result<Forest, NoMemory>
     requires { count ≤ 20 }
     ensures { IfOk result (λ f. length f.entries ≡ count + 1) }
 {
-    let mut forest = nodes(alloc, NodeKind::V, count)?;
+    let mut forest = nodes(alloc, &NodeKind::V, count)?;
     for i in 0..count {
         let _put = put(&mut forest, i, i + 1);
     }
@@ -164,7 +174,7 @@ fn sixteen_are_enough(rt: HostRuntime) -> Result<(), Fail> {
 
 #[test]
 fn a_z_has_the_newest_in_front(rt: HostRuntime) -> Result<(), Fail> {
-    let mut forest = nodes(rt.alloc(), NodeKind::Z, 3)?;
+    let mut forest = nodes(rt.alloc(), &NodeKind::Z, 3)?;
     assert_eq!(rt; put(&mut forest, 1, 2), Ok(()));
     assert_eq!(rt; put(&mut forest, 3, 2), Ok(()));
     assert_eq!(rt; forest.children(NodeId(2)), [NodeId(3), NodeId(1)].as_slice());
@@ -175,7 +185,7 @@ fn a_z_has_the_newest_in_front(rt: HostRuntime) -> Result<(), Fail> {
 
 #[test]
 fn others_have_the_newest_last(rt: HostRuntime) -> Result<(), Fail> {
-    let mut forest = nodes(rt.alloc(), NodeKind::H, 3)?;
+    let mut forest = nodes(rt.alloc(), &NodeKind::H, 3)?;
     assert_eq!(rt; lift(&mut forest, 1), refused(NodeFault::NotChild));
     assert_eq!(rt; put(&mut forest, 1, 2), Ok(()));
     assert_eq!(rt; put(&mut forest, 3, 2), Ok(()));
@@ -186,7 +196,7 @@ fn others_have_the_newest_last(rt: HostRuntime) -> Result<(), Fail> {
 
 #[test]
 fn a_child_that_leaves_is_forgotten(rt: HostRuntime) -> Result<(), Fail> {
-    let mut forest = nodes(rt.alloc(), NodeKind::T { shown: None }, 2)?;
+    let mut forest = nodes(rt.alloc(), &NodeKind::T { shown: None }, 2)?;
     assert_eq!(rt; show(&mut forest, 1, 2), refused(NodeFault::NotChild));
     assert_eq!(rt; put(&mut forest, 2, 1), Ok(()));
     assert_eq!(rt; show(&mut forest, 1, 2), Ok(()));
@@ -199,7 +209,7 @@ fn a_child_that_leaves_is_forgotten(rt: HostRuntime) -> Result<(), Fail> {
 
 #[test]
 fn only_a_t_shows(rt: HostRuntime) -> Result<(), Fail> {
-    let mut forest = nodes(rt.alloc(), NodeKind::H, 2)?;
+    let mut forest = nodes(rt.alloc(), &NodeKind::H, 2)?;
     assert_eq!(rt; put(&mut forest, 2, 1), Ok(()));
     assert_eq!(rt; show(&mut forest, 1, 2), refused(NodeFault::WrongKind));
     Ok(())
@@ -223,7 +233,7 @@ fn turns(forest: &mut Forest, n: u16) -> [Result<(), EditRefused>; 4]
 #[test]
 fn edits_are_for_their_kinds(rt: HostRuntime) -> Result<(), Fail> {
     let no = refused(NodeFault::WrongKind);
-    let mut forest = nodes(rt.alloc(), NodeKind::Border { width: 1 }, 1)?;
+    let mut forest = nodes(rt.alloc(), &NodeKind::Border { width: 1 }, 1)?;
     assert_eq!(rt; turns(&mut forest, 1), [Ok(()), no, no, no]);
     assert_eq!(rt; forest.kind_of(NodeId(1)), NodeKind::Border { width: 9 });
     assert_eq!(rt; turns(&mut forest, 0), [no, no, no, no]);
@@ -233,7 +243,7 @@ fn edits_are_for_their_kinds(rt: HostRuntime) -> Result<(), Fail> {
 #[test]
 fn a_translate_has_an_offset(rt: HostRuntime) -> Result<(), Fail> {
     let no = refused(NodeFault::WrongKind);
-    let mut forest = nodes(rt.alloc(), NodeKind::Translate { by: HERE }, 1)?;
+    let mut forest = nodes(rt.alloc(), &NodeKind::Translate { by: HERE }, 1)?;
     assert_eq!(rt; turns(&mut forest, 1), [no, Ok(()), no, no]);
     let by = Point { h: 2, v: -3 };
     assert_eq!(rt; forest.kind_of(NodeId(1)), NodeKind::Translate { by });
@@ -244,7 +254,7 @@ fn a_translate_has_an_offset(rt: HostRuntime) -> Result<(), Fail> {
 fn a_rigid_has_a_size(rt: HostRuntime) -> Result<(), Fail> {
     let no = refused(NodeFault::WrongKind);
     let size = Size { wide: 0, high: 1 };
-    let mut forest = nodes(rt.alloc(), NodeKind::Rigid { size }, 1)?;
+    let mut forest = nodes(rt.alloc(), &NodeKind::Rigid { size }, 1)?;
     assert_eq!(rt; turns(&mut forest, 1), [no, no, Ok(()), no]);
     let size = Size { wide: 4, high: 5 };
     assert_eq!(rt; forest.kind_of(NodeId(1)), NodeKind::Rigid { size });
@@ -254,31 +264,37 @@ fn a_rigid_has_a_size(rt: HostRuntime) -> Result<(), Fail> {
 #[test]
 fn a_page_is_turned(rt: HostRuntime) -> Result<(), Fail> {
     let no = refused(NodeFault::WrongKind);
-    let mut forest = nodes(rt.alloc(), NodeKind::Page { per: 2, page: 0 }, 1)?;
+    let mut forest = nodes(rt.alloc(), &NodeKind::Page { per: 2, page: 0 }, 1)?;
     assert_eq!(rt; turns(&mut forest, 1), [no, no, no, Ok(())]);
     assert_eq!(rt; forest.kind_of(NodeId(1)), NodeKind::Page { per: 2, page: 6 });
     Ok(())
 }
 
 #[test]
-fn a_leaf_has_lengths_and_no_tint(rt: HostRuntime) -> Result<(), Fail> {
-    let no = refused(NodeFault::WrongKind);
-    let mut forest = nodes(rt.alloc(), NodeKind::H, 1)?;
+fn a_leaf_has_lengths(rt: HostRuntime) -> Result<(), Fail> {
+    let mut forest = nodes(rt.alloc(), &NodeKind::H, 1)?;
+    assert_eq!(rt; reshape(&mut forest, 1), refused(NodeFault::WrongKind));
+    assert_eq!(rt; reshape(&mut forest, 0), Ok(()));
+    let leaf = LeafId(0);
     let shapes = lengths(3);
-    let (leaf, other) = (NodeId(0), NodeId(1));
-    assert_eq!(rt; tried(&mut forest, Edit::Shapes { node: leaf, shapes }), Ok(()));
-    let kind = NodeKind::Leaf { leaf: LeafId(0), shapes };
-    assert_eq!(rt; forest.kind_of(leaf), kind);
-    assert_eq!(rt; tried(&mut forest, Edit::Shapes { node: other, shapes }), no);
-    assert_eq!(rt; tried(&mut forest, Edit::Tint { node: leaf, tint: 5 }), no);
-    assert_eq!(rt; tried(&mut forest, Edit::Tint { node: other, tint: 5 }), Ok(()));
-    assert_eq!(rt; forest.tint_of(other), 5);
+    assert_eq!(rt; forest.kind_of(NodeId(0)), NodeKind::Leaf { leaf, shapes });
+    Ok(())
+}
+
+#[test]
+fn a_leaf_has_no_tint(rt: HostRuntime) -> Result<(), Fail> {
+    let mut forest = nodes(rt.alloc(), &NodeKind::H, 1)?;
+    let (leaf, node, tint) = (NodeId(0), NodeId(1), 5);
+    let no = refused(NodeFault::WrongKind);
+    assert_eq!(rt; tried(&mut forest, Edit::Tint { node: leaf, tint }), no);
+    assert_eq!(rt; tried(&mut forest, Edit::Tint { node, tint }), Ok(()));
+    assert_eq!(rt; forest.tint_of(node), 5);
     Ok(())
 }
 
 #[test]
 fn a_child_of_a_z_is_moved(rt: HostRuntime) -> Result<(), Fail> {
-    let mut forest = nodes(rt.alloc(), NodeKind::Z, 1)?;
+    let mut forest = nodes(rt.alloc(), &NodeKind::Z, 1)?;
     let child = NodeId(0);
     let at = Point { h: -5, v: 6 };
     assert_eq!(rt; tried(&mut forest, Edit::Move { child, at }), refused(NodeFault::NotChild));
@@ -290,7 +306,7 @@ fn a_child_of_a_z_is_moved(rt: HostRuntime) -> Result<(), Fail> {
 
 #[test]
 fn a_copy_is_equal(rt: HostRuntime) -> Result<(), Fail> {
-    let mut forest = nodes(rt.alloc(), NodeKind::H, 1)?;
+    let mut forest = nodes(rt.alloc(), &NodeKind::H, 1)?;
     assert_eq!(rt; put(&mut forest, 0, 1), Ok(()));
     let copy = forest.copy()?;
     assert_eq!(rt; copy.children(NodeId(1)), [NodeId(0)].as_slice());

@@ -71,7 +71,7 @@ child_stands t forest n places old new k d s are spread lt =
     let deep : depth t.nodes c ≡ depth t.nodes n + 1 = depth_child t.nodes n c forest (among_at cs k d lt) in
     let some : 1 ≤ depth t.nodes n = depth_some 16 t.nodes n in
     let far : IsAt (depth t.nodes n - 1 + 1) place =
-        at_child (depth t.nodes n - 1) (domain t n) place s.at (all_or (Fits (domain t n)) (child_places t.nodes n (domain t n)) k empty_rect (subst (All (Fits (domain t n))) are.right are.fit) (fits_empty (domain t n))) in
+    at_child (depth t.nodes n - 1) (domain t n) place s.at (all_or (Fits (domain t n)) (child_places t.nodes n (domain t n)) k empty_rect (subst (All (Fits (domain t n))) are.right are.fit) (fits_empty (domain t n))) in
     record {
       right = spread.placed k d lt ∙ sym (get_or-take (length cs) places k empty_rect lt) ∙ ap (λ (l : List Edges). get_or l k empty_rect) are.right ∙ sym is;
       at = subst (IsAt (depth t.nodes c - 1)) (sym is) (at_more (depth t.nodes n - 1 + 1) (depth t.nodes c - 1) place (omega arith) far);

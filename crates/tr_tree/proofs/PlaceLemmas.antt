@@ -17,6 +17,7 @@ use Rattle.tr_forest.specs.Families.{is_among}
 use Rattle.tr_forest.specs.Forests.{IsForest}
 use Rattle.tr_forest.proofs.FamilyLemmas.{among_at, child_is_node}
 use Rattle.tr_tree.specs.Wishes.{shape}
+use Rattle.tr_tree.proofs.ShapeLemmas.{map_among}
 use Rattle.tr_tree.specs.Tables.{shape_in}
 use Rattle.tr_tree.specs.Places.{places_of, child_places}
 use Rattle.tr_tree.specs.Laying.{offsets_of, Fits, IsParent, ArePlaced}
@@ -61,14 +62,10 @@ none_placed (p ∷ ps) cs h none = absurd (omega (arith, ap length none))
 pub child_read : (t : Nodes) → IsForest t → (n : NodeId) (cs : List NodeId) (i : ℕ) (d : NodeId) → cs ≡ (node t n).children → i < length cs → IsNode t (get_or cs i d)
 child_read t forest n cs i d is lt = child_is_node t n (get_or cs i d) forest (subst (λ (l : List NodeId). is_among (get_or cs i d) l ≡ true) is (among_at cs i d lt))
 
-same_map : (t : Nodes) (table : List Shapes) (cs : List NodeId) → ((m : NodeId) → shape_in table m ≡ shape t m) → map (shape_in table) cs ≡ map (shape t) cs
-same_map t table [] are = refl
-same_map t table (c ∷ cs) are = rw (are c, same_map t table cs are) refl
-
 -- the shapes that were read from the table are the children's
 pub shapes_read : (t : Nodes) (n : NodeId) (table shapes : List Shapes) (cs : List NodeId) → ((m : NodeId) → shape_in table m ≡ shape t m) → cs ≡ (node t n).children →
     shapes ≡ map (shape_in table) cs → shapes ≡ map (shape t) (node t n).children
-shapes_read t n table shapes cs are is read = read ∙ same_map t table cs are ∙ ap (map (shape t)) is
+shapes_read t n table shapes cs are is read = read ∙ map_among cs (shape_in table) (shape t) (λ m _. are m) ∙ ap (map (shape t)) is
 
 -- ---- the children of a Z
 
@@ -88,7 +85,7 @@ over_more t n e shapes cs i now at r d s parent is lt stands place so_far =
     let within : i < length shapes = omega (arith, same_count t n e shapes parent) in
     let all : i < length (z_places e (offsets_of t n) shapes) = omega (arith, over_count t n e shapes parent) in
     let offset : at ≡ get_or (offsets_of t n) i at =
-        stands ∙ ap (λ (l : List NodeId). (node t (get_or l i d)).at) is ∙ sym (get_or-map (λ (c : NodeId). (node t c).at) (node t n).children i d at below) in
+    stands ∙ ap (λ (l : List NodeId). (node t (get_or l i d)).at) is ∙ sym (get_or-map (λ (c : NodeId). (node t c).at) (node t n).children i d at below) in
     let child : Shapes = get_or shapes i s in
     taken_more (z_places e (offsets_of t n) shapes) (take i now) i r all
     (z_place_read e (offsets_of t n) shapes i at child r short within (get_or_default shapes i s child within)

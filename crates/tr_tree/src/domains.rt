@@ -6,12 +6,12 @@ ghost use Rattle.tr_base.specs.Layouts.{farthest, preferred_place, IsDomain, IsN
 ghost use Rattle.tr_stack.specs.Stacks.{z_places, t_places, page_places};
 ghost use Rattle.tr_forest.specs.Nodes.{node, IsNode};
 ghost use Rattle.tr_forest.specs.Forests.{IsForest};
-ghost use Rattle.tr_tree.specs.Wishes.{shape};
-ghost use Rattle.tr_tree.specs.Places.{index_of, shown_index, child_places, domain};
-ghost use Rattle.tr_tree.specs.Tables.{shape_in, domain_in};
+ghost use Rattle.tr_tree.specs.Places.{index_of, shown_index, domain};
+ghost use Rattle.tr_tree.specs.Tables.{domain_in};
 ghost use Rattle.tr_tree.specs.Laying.{on_screen, laid, offsets_of, IsPlan, HasRoom, Spreads, IsParent, ArePlaced, Stands, Lays};
 
 use crate::rooms::Room;
+use crate::wishes::gather;
 use tr_base::{NodeId, Point, Rect, Shapes, Size, empty_place, preferred_place, whole};
 use tr_filter::border_place;
 use tr_forest::{Forest, NodeKind};
@@ -32,7 +32,8 @@ pub(crate) fn lay_out(plan: &Plan<'_>, room: &mut Room, domains: &mut Vec<Rect>)
     requires plan { IsPlan plan.now.forest.now plan.now.size plan.now.shapes.now }
     requires room { HasRoom plan.now.forest.now room.old }
     requires count { length domains.old.items ≡ length plan.now.forest.now.entries }
-    ensures domains { (kind : Kind) (n : NodeId) → domain_in domains.new.items n ≡ domain (on_screen plan.now.forest.now plan.now.size kind) n }
+    ensures domains { (kind : Kind) (n : NodeId) →
+        domain_in domains.new.items n ≡ domain (on_screen plan.now.forest.now plan.now.size kind) n }
     ensures small { (n : NodeId) → IsDomain (domain_in domains.new.items n) }
     ensures room { HasRoom plan.now.forest.now room.new }
     ensures count { length domains.new.items ≡ length plan.now.forest.now.entries }
@@ -68,7 +69,7 @@ fn lay(plan: &Plan<'_>, n: NodeId, room: &mut Room, domains: &mut Vec<Rect>)
     ensures count { length domains.new.items ≡ length plan.now.forest.now.entries }
 {
     let children = plan.forest.children(n);
-    gather(plan.shapes, children, &mut room.shapes);
+    gather(children, plan.shapes, &mut room.shapes);
     let parent = Parent {
         forest: plan.forest,
         n,
@@ -79,18 +80,6 @@ fn lay(plan: &Plan<'_>, n: NodeId, room: &mut Room, domains: &mut Vec<Rect>)
     spread(children, &room.places, domains);
     for child in children {
         lay(plan, *child, room, domains);
-    }
-}
-
-/// Copies the children's shapes out of the table.
-pub(crate) fn gather(shapes: &[Shapes], children: &[NodeId], gathered: &mut Vec<Shapes>)
-    requires within { All (λ child. child.0 < length shapes.now) children.now }
-    requires room { length children.now ≤ length gathered.old.items }
-    ensures shapes { take (length children.now) gathered.new.items ≡ map (shape_in shapes.now) children.now }
-    ensures count { length gathered.new.items ≡ length gathered.old.items }
-{
-    for (i, child) in children.iter().enumerate() {
-        gathered[i] = shapes[usize::from(child.0)];
     }
 }
 
@@ -118,10 +107,10 @@ struct Parent<'a> {
 
 /// Places the children of a node, which are so many, into the first places of the room.
 fn place_first(parent: &Parent<'_>, count: usize, places: &mut Vec<Rect>)
-    requires parent { IsParent parent.now.forest.now parent.now.n parent.now.rect parent.now.shapes.now }
+    requires parent { let p = parent.now in IsParent p.forest.now p.n p.rect p.shapes.now }
     requires count { count ≡ length (node parent.now.forest.now parent.now.n).children }
     requires room { count ≤ length places.old.items }
-    ensures places { ArePlaced parent.now.forest.now parent.now.n parent.now.rect (take count places.new.items) }
+    ensures places { let p = parent.now in ArePlaced p.forest.now p.n p.rect (take count places.new.items) }
     ensures count { length places.new.items ≡ length places.old.items }
 {
     place_front(parent, count, places);
@@ -129,19 +118,19 @@ fn place_first(parent: &Parent<'_>, count: usize, places: &mut Vec<Rect>)
 
 /// The same in a slice, for the prover: it sees through a range of a slice, but not of a `Vec`.
 fn place_front(parent: &Parent<'_>, count: usize, places: &mut [Rect])
-    requires parent { IsParent parent.now.forest.now parent.now.n parent.now.rect parent.now.shapes.now }
+    requires parent { let p = parent.now in IsParent p.forest.now p.n p.rect p.shapes.now }
     requires count { count ≡ length (node parent.now.forest.now parent.now.n).children }
     requires room { count ≤ length places.old }
-    ensures { ArePlaced parent.now.forest.now parent.now.n parent.now.rect (take count places.new) }
+    ensures { let p = parent.now in ArePlaced p.forest.now p.n p.rect (take count places.new) }
 {
     place_children(parent, &mut places[..count]);
 }
 
 /// Places the children of a node, by its kind.
 fn place_children(parent: &Parent<'_>, places: &mut [Rect])
-    requires parent { IsParent parent.now.forest.now parent.now.n parent.now.rect parent.now.shapes.now }
+    requires parent { let p = parent.now in IsParent p.forest.now p.n p.rect p.shapes.now }
     requires room { length places.old ≡ length (node parent.now.forest.now parent.now.n).children }
-    ensures { ArePlaced parent.now.forest.now parent.now.n parent.now.rect places.new }
+    ensures { let p = parent.now in ArePlaced p.forest.now p.n p.rect places.new }
 {
     let rect = parent.rect;
     let shapes = parent.shapes;
@@ -161,9 +150,10 @@ fn place_children(parent: &Parent<'_>, places: &mut [Rect])
 
 /// The children of a Z, each at its own offset.
 fn place_over(parent: &Parent<'_>, places: &mut [Rect])
-    requires parent { IsParent parent.now.forest.now parent.now.n parent.now.rect parent.now.shapes.now }
+    requires parent { let p = parent.now in IsParent p.forest.now p.n p.rect p.shapes.now }
     requires room { length places.old ≡ length (node parent.now.forest.now parent.now.n).children }
-    ensures places { places.new ≡ z_places parent.now.rect (offsets_of parent.now.forest.now parent.now.n) parent.now.shapes.now }
+    ensures places { let p = parent.now in
+        places.new ≡ z_places p.rect (offsets_of p.forest.now p.n) p.shapes.now }
     ensures near { All (λ child. IsNear farthest child parent.now.rect) places.new }
 {
     let children = parent.forest.children(parent.n);

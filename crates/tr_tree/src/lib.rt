@@ -3,8 +3,13 @@
 #![tactic(auto)]
 
 mod domains;
+mod layouts;
 mod rooms;
 mod trees;
+mod wishes;
 
 pub use tr_forest::{Edit, EditRefused, NodeFault, NodeKind};
 pub use trees::Tree;
+
+#[cfg(test)]
+mod tests;

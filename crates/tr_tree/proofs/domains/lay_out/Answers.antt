@@ -23,7 +23,7 @@ returns-in-Some-clause-domains c = λ kind n.
     let is = sym c.root.ensures ∙ c.in-Some.is in
     let root_is : IsNode c.args.plan.now.forest.now c.in-Some.root = c.count.ensures.invariant.root c.in-Some.root is in
     let all = laid_all s c.count.ensures.invariant c.in-Some.root c.clear.new.domains.items c.lay.new.domains.items c.whole.result is c.clear.ensures.empty
-        (rw c.from.ensures at c.lay.ensures.lays) n in
+    (rw c.from.ensures at c.lay.ensures.lays) n in
     all.right ∙ any_kind c.args.plan.now.forest.now c.args.plan.now.size kind n
 
 pub returns-in-Some-clause-small : goal.returns-in-Some-clause-small
@@ -31,11 +31,11 @@ returns-in-Some-clause-small c = λ n.
     let s = laid c.args.plan.now.forest.now c.args.plan.now.size in
     let is = sym c.root.ensures ∙ c.in-Some.is in
     let all = laid_all s c.count.ensures.invariant c.in-Some.root c.clear.new.domains.items c.lay.new.domains.items c.whole.result is c.clear.ensures.empty
-        (rw c.from.ensures at c.lay.ensures.lays) n in
+    (rw c.from.ensures at c.lay.ensures.lays) n in
     subst IsDomain (sym all.right) (at_is_domain (domain s n) all.at)
 
 pub returns-in_default-clause-domains : goal.returns-in_default-clause-domains
 returns-in_default-clause-domains c = λ kind n.
     let all = laid_none (laid c.args.plan.now.forest.now c.args.plan.now.size) c.count.ensures.invariant c.clear.new.domains.items
-        (sym c.root.ensures ∙ c.in_default.is) c.clear.ensures.empty n in
+    (sym c.root.ensures ∙ c.in_default.is) c.clear.ensures.empty n in
     all.right ∙ any_kind c.args.plan.now.forest.now c.args.plan.now.size kind n
