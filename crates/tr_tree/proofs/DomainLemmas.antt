@@ -21,7 +21,8 @@ use Rattle.tr_tree.proofs.FitLemmas.{all_empty, all_or}
 
 -- ---- the law of domains
 
-below_same : (t : Nodes) (child : NodeId) (o : Option NodeId) (u v : NodeId → Edges) → ((p : NodeId) → o ≡ Some p → u p ≡ v p) → place_below t child o u ≡ place_below t child o v
+below_same : (t : Nodes) (child : NodeId) (o : Option NodeId) (u v : NodeId → Edges) → ((p : NodeId) → o ≡ Some p → u p ≡ v p) →
+    place_below t child o u ≡ place_below t child o v
 below_same t child None u v h = refl
 below_same t child (Some p) u v h =
     ap (λ (e : Edges). get_or (child_places t p e) (index_of child (node t p).children) empty_rect) (h p refl)
@@ -101,7 +102,8 @@ none_placed t forest n k =
     (all_empty (node t n).kind cs (map (λ c. (node t c).at) cs) (map (shape t) cs) (forest.kinds n)) refl
 
 -- a child of an empty domain has an empty one
-pub empty_below : (t : Seen) → IsForest t.nodes → (n parent : NodeId) → (node t.nodes n).parent ≡ Some parent → domain t parent ≡ empty_rect → domain t n ≡ empty_rect
+pub empty_below : (t : Seen) → IsForest t.nodes → (n parent : NodeId) → (node t.nodes n).parent ≡ Some parent → domain t parent ≡ empty_rect →
+    domain t n ≡ empty_rect
 empty_below t forest n parent up none =
     domain_below t forest n parent up
     ∙ ap (λ (e : Edges). get_or (child_places t.nodes parent e) (index_of n (node t.nodes parent).children) empty_rect) none
@@ -113,7 +115,8 @@ pub record IsLoose (t : Nodes) (loose : NodeId → Bool) : Type 0 where
   pub parents : (n parent : NodeId) → loose n ≡ true → (node t n).parent ≡ Some parent → loose parent ≡ true
 
 -- they lie nowhere
-loose_within : (f : ℕ) (t : Seen) → IsForest t.nodes → (loose : NodeId → Bool) → IsLoose t.nodes loose → (n : NodeId) → loose n ≡ true → domain_within f t n ≡ empty_rect
+loose_within : (f : ℕ) (t : Seen) → IsForest t.nodes → (loose : NodeId → Bool) → IsLoose t.nodes loose → (n : NodeId) → loose n ≡ true →
+    domain_within f t n ≡ empty_rect
 unfolding domain_within
 loose_within zero t forest loose is n h = refl
 loose_within (suc f) t forest loose is n h =

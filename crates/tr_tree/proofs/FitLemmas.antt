@@ -135,7 +135,8 @@ fits_side_by_side vertical e cs own d = each_by e (place_of vertical e cs) (leng
         own_turned vertical (r.west +ℤ pos (start_of room.0 ls k)) (r.west +ℤ pos (start_of room.0 ls k) +ℤ pos (length_of room.0 ls k))
         (r.north +ℤ pos 0) (r.north +ℤ pos 0 +ℤ pos room.1)
 
-pub fits_over : (e : Edges) (ats : List Point) (cs : List Shapes) → All (λ (c : Edges). IsNear farthest c e) (z_places e ats cs) → All (Fits e) (z_places e ats cs)
+pub fits_over : (e : Edges) (ats : List Point) (cs : List Shapes) → All (λ (c : Edges). IsNear farthest c e) (z_places e ats cs) →
+    All (Fits e) (z_places e ats cs)
 fits_over e ats cs near = λ k d lt. fits_near e (get_or (z_places e ats cs) k d) (own_places ats cs k d lt) (near k d lt)
   where
     own_places : (ats : List Point) (cs : List Shapes) → All IsOwn (z_places e ats cs)

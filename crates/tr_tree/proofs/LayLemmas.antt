@@ -51,7 +51,8 @@ spread_more cs places old i now c r once within lt is at s = record {
         let child : get_or cs i d ≡ c = get_or_default cs i d c lt ∙ sym is in
         get_or-set_other now c.0 (get_or cs k d).0 r empty_rect (subst (λ (n : NodeId). (get_or cs k d).0 ≢ n.0) child apart) ∙ s.placed k d earlier
 
-pub spread_all : (cs : List NodeId) (places old : List Edges) (i : ℕ) (now : List Edges) → length cs ≤ i → Spreading cs places old i now → Spreads cs places old now
+pub spread_all : (cs : List NodeId) (places old : List Edges) (i : ℕ) (now : List Edges) → length cs ≤ i → Spreading cs places old i now →
+    Spreads cs places old now
 spread_all cs places old i now le s = record { placed = λ k d lt. s.placed k d (omega arith); others = s.others }
 
 -- ---- going down
@@ -61,7 +62,8 @@ stands_laid t forest n table s = record { right = s.right; at = at_more (depth t
 
 -- the children have their places
 pub child_stands : (t : Seen) → IsForest t.nodes → (n : NodeId) (places old new : List Edges) (k : ℕ) (d : NodeId) → Stands t n old →
-    ArePlaced t.nodes n (domain t n) (take (length (node t.nodes n).children) places) → Spreads (node t.nodes n).children places old new → k < length (node t.nodes n).children →
+    ArePlaced t.nodes n (domain t n) (take (length (node t.nodes n).children) places) → Spreads (node t.nodes n).children places old new →
+    k < length (node t.nodes n).children →
     Stands t (get_or (node t.nodes n).children k d) new
 child_stands t forest n places old new k d s are spread lt =
     let cs : List NodeId = (node t.nodes n).children in
@@ -70,8 +72,9 @@ child_stands t forest n places old new k d s are spread lt =
     let is : domain t c ≡ place = child_domain t forest n k d lt in
     let deep : depth t.nodes c ≡ depth t.nodes n + 1 = depth_child t.nodes n c forest (among_at cs k d lt) in
     let some : 1 ≤ depth t.nodes n = depth_some 16 t.nodes n in
-    let far : IsAt (depth t.nodes n - 1 + 1) place =
-    at_child (depth t.nodes n - 1) (domain t n) place s.at (all_or (Fits (domain t n)) (child_places t.nodes n (domain t n)) k empty_rect (subst (All (Fits (domain t n))) are.right are.fit) (fits_empty (domain t n))) in
+    let fit : All (Fits (domain t n)) (child_places t.nodes n (domain t n)) = subst (All (Fits (domain t n))) are.right are.fit in
+    let far : IsAt (depth t.nodes n - 1 + 1) place = at_child (depth t.nodes n - 1) (domain t n) place s.at
+    (all_or (Fits (domain t n)) (child_places t.nodes n (domain t n)) k empty_rect fit (fits_empty (domain t n))) in
     record {
       right = spread.placed k d lt ∙ sym (get_or-take (length cs) places k empty_rect lt) ∙ ap (λ (l : List Edges). get_or l k empty_rect) are.right ∙ sym is;
       at = subst (IsAt (depth t.nodes c - 1)) (sym is) (at_more (depth t.nodes n - 1 + 1) (depth t.nodes c - 1) place (omega arith) far);
@@ -104,7 +107,8 @@ laying_first t forest n places old new s are spread = record {
     by_test m h false k = record { right = spread.others m k ∙ h.right; at = h.at }
 
 -- the same with the children and the rectangle as they were read
-pub laying_from : (t : Seen) → IsForest t.nodes → (n : NodeId) (cs : List NodeId) (rect : Edges) (places old new : List Edges) → cs ≡ (node t.nodes n).children →
+pub laying_from : (t : Seen) → IsForest t.nodes → (n : NodeId) (cs : List NodeId) (rect : Edges) (places old new : List Edges) →
+    cs ≡ (node t.nodes n).children →
     rect ≡ domain t n → Stands t n old → ArePlaced t.nodes n rect (take (length cs) places) → Spreads cs places old new → Laying t n old cs cs new
 laying_from t forest n cs rect places old new is here s are spread =
     subst (λ (l : List NodeId). ArePlaced t.nodes n (domain t n) (take (length l) places) → Spreads l places old new → Laying t n old l l new) (sym is)
@@ -140,14 +144,16 @@ laying_last t forest n i old now le l = record {
   ];
 }
 
-pub laying_end : (t : Seen) → IsForest t.nodes → (n : NodeId) (cs : List NodeId) (i : ℕ) (old now : List Edges) → cs ≡ (node t.nodes n).children → length cs ≤ i →
+pub laying_end : (t : Seen) → IsForest t.nodes → (n : NodeId) (cs : List NodeId) (i : ℕ) (old now : List Edges) → cs ≡ (node t.nodes n).children →
+    length cs ≤ i →
     Laying t n old cs (drop i cs) now → Lays t n old now
 laying_end t forest n cs i old now is le l =
     subst (λ (l : List NodeId). length l ≤ i → Laying t n old l (drop i l) now → Lays t n old now) (sym is)
     (λ most m. laying_last t forest n i old now most m) le l
 
 -- the rectangle that was read from the table
-pub domain_read : (t : Seen) (n : NodeId) (table : List Edges) (i : ℕ) (r : Edges) → n.0 < length table → i ≡ n.0 → r ≡ get_or table i r → domain_in table n ≡ domain t n → r ≡ domain t n
+pub domain_read : (t : Seen) (n : NodeId) (table : List Edges) (i : ℕ) (r : Edges) → n.0 < length table → i ≡ n.0 → r ≡ get_or table i r →
+    domain_in table n ≡ domain t n → r ≡ domain t n
 domain_read t n table i r lt at is right = get_or_read table n.0 r lt (is ∙ ap (λ k. get_or table k r) at) empty_rect ∙ right
 
 -- ---- from an empty table
@@ -156,7 +162,8 @@ empty_laid : (t : Seen) (table : List Edges) (n : NodeId) → domain_in table n 
 empty_laid t table n none is = record { right = none ∙ sym is; at = subst (IsAt 15) (sym is) (at_empty 15) }
 
 -- without a root the empty table is right
-pub laid_none : (t : Seen) → IsForest t.nodes → (table : List Edges) → t.nodes.root ≡ None → ((n : NodeId) → domain_in table n ≡ empty_rect) → (n : NodeId) → IsLaid t table n
+pub laid_none : (t : Seen) → IsForest t.nodes → (table : List Edges) → t.nodes.root ≡ None → ((n : NodeId) → domain_in table n ≡ empty_rect) →
+    (n : NodeId) → IsLaid t table n
 laid_none t forest table none empty n = empty_laid t table n (empty n) (loose_domain t forest (λ _. true) (no_root t.nodes none) n refl)
 
 pub root_stands : (t : Seen) → IsForest t.nodes → IsScreenSize t.size → (root : NodeId) (table : List Edges) (r : Edges) → t.nodes.root ≡ Some root →
@@ -179,4 +186,5 @@ laid_all t forest root table new r is empty lays n = by_test (is_under t.nodes r
         let none : domain t n ≡ empty_rect = loose_domain t forest (λ m. not (is_under t.nodes root m)) (off_root t.nodes forest root is) n (ap not h) in
         lays.stays n (by_id n root
         (λ same. let yes : is_under t.nodes root n ≡ true = ap (is_under t.nodes root) same ∙ under_itself 16 t.nodes root root refl in absurd cc)
-        (λ other. empty_laid t (set table root.0 r) n (get_or-set_other table root.0 n.0 r empty_rect (λ e. test_apart n root other (same_id n root e)) ∙ empty n) none))
+        (λ other. empty_laid t (set table root.0 r) n (get_or-set_other table root.0 n.0 r empty_rect (λ e. test_apart n root other (same_id n root e))
+        ∙ empty n) none))

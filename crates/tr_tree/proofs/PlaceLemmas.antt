@@ -23,7 +23,8 @@ use Rattle.tr_tree.specs.Places.{places_of, child_places}
 use Rattle.tr_tree.specs.Laying.{offsets_of, Fits, IsParent, ArePlaced}
 
 -- what is placed by the node's kind and its children's shapes
-pub placed_by : (t : Nodes) (n : NodeId) (e : Edges) (shapes : List Shapes) (kind : NodeKind) (places : List Edges) → IsParent t n e shapes → kind ≡ (node t n).kind →
+pub placed_by : (t : Nodes) (n : NodeId) (e : Edges) (shapes : List Shapes) (kind : NodeKind) (places : List Edges) → IsParent t n e shapes →
+    kind ≡ (node t n).kind →
     places ≡ places_of kind (node t n).children (offsets_of t n) shapes e →
     All (Fits e) (places_of kind (node t n).children (offsets_of t n) shapes e) → ArePlaced t n e places
 placed_by t n e shapes kind places parent is are fit = record {
@@ -59,11 +60,14 @@ none_placed [] cs h none = refl
 none_placed (p ∷ ps) cs h none = absurd (omega (arith, ap length none))
 
 -- a child that is read from the list of children is a node
-pub child_read : (t : Nodes) → IsForest t → (n : NodeId) (cs : List NodeId) (i : ℕ) (d : NodeId) → cs ≡ (node t n).children → i < length cs → IsNode t (get_or cs i d)
-child_read t forest n cs i d is lt = child_is_node t n (get_or cs i d) forest (subst (λ (l : List NodeId). is_among (get_or cs i d) l ≡ true) is (among_at cs i d lt))
+pub child_read : (t : Nodes) → IsForest t → (n : NodeId) (cs : List NodeId) (i : ℕ) (d : NodeId) → cs ≡ (node t n).children → i < length cs →
+    IsNode t (get_or cs i d)
+child_read t forest n cs i d is lt =
+    child_is_node t n (get_or cs i d) forest (subst (λ (l : List NodeId). is_among (get_or cs i d) l ≡ true) is (among_at cs i d lt))
 
 -- the shapes that were read from the table are the children's
-pub shapes_read : (t : Nodes) (n : NodeId) (table shapes : List Shapes) (cs : List NodeId) → ((m : NodeId) → shape_in table m ≡ shape t m) → cs ≡ (node t n).children →
+pub shapes_read : (t : Nodes) (n : NodeId) (table shapes : List Shapes) (cs : List NodeId) → ((m : NodeId) → shape_in table m ≡ shape t m) →
+    cs ≡ (node t n).children →
     shapes ≡ map (shape_in table) cs → shapes ≡ map (shape t) (node t n).children
 shapes_read t n table shapes cs are is read = read ∙ map_among cs (shape_in table) (shape t) (λ m _. are m) ∙ ap (map (shape t)) is
 
@@ -72,11 +76,13 @@ shapes_read t n table shapes cs are is read = read ∙ map_among cs (shape_in ta
 offsets_count : (t : Nodes) (n : NodeId) → length (offsets_of t n) ≡ length (node t n).children
 offsets_count t n = length-map (node t n).children (λ (c : NodeId). (node t c).at)
 
-pub over_count : (t : Nodes) (n : NodeId) (e : Edges) (shapes : List Shapes) → IsParent t n e shapes → length (z_places e (offsets_of t n) shapes) ≡ length (node t n).children
+pub over_count : (t : Nodes) (n : NodeId) (e : Edges) (shapes : List Shapes) → IsParent t n e shapes →
+    length (z_places e (offsets_of t n) shapes) ≡ length (node t n).children
 over_count t n e shapes parent =
     length-z_places e (offsets_of t n) shapes (offsets_count t n ∙ sym (same_count t n e shapes parent)) ∙ same_count t n e shapes parent
 
-pub over_more : (t : Nodes) (n : NodeId) (e : Edges) (shapes : List Shapes) (cs : List NodeId) (i : ℕ) (now : List Edges) (at : Point) (r : Edges) (d : NodeId) (s : Shapes) →
+pub over_more : (t : Nodes) (n : NodeId) (e : Edges) (shapes : List Shapes) (cs : List NodeId) (i : ℕ) (now : List Edges)
+    (at : Point) (r : Edges) (d : NodeId) (s : Shapes) →
     IsParent t n e shapes → cs ≡ (node t n).children → i < length cs → at ≡ (node t (get_or cs i d)).at → r ≡ preferred_place e at (get_or shapes i s) →
     take i now ≡ take i (z_places e (offsets_of t n) shapes) → take i now ++ r ∷ [] ≡ take (i + 1) (z_places e (offsets_of t n) shapes)
 over_more t n e shapes cs i now at r d s parent is lt stands place so_far =
@@ -97,7 +103,9 @@ taken_all answer now i le most e = sym (take_all i now le) ∙ e ∙ take_all i 
 
 -- ---- the child of a Translate
 
-pub moved_more : (place : Shapes → Edges) (shapes : List Shapes) (places : List Edges) (i : ℕ) (s : Shapes) (r : Edges) → i < length shapes → s ≡ get_or shapes i s →
+pub moved_more : (place : Shapes → Edges) (shapes : List Shapes) (places : List Edges) (i : ℕ) (s : Shapes) (r : Edges) → i < length shapes →
+    s ≡ get_or shapes i s →
     r ≡ place s → places ≡ map place (take i shapes) → places ++ r ∷ [] ≡ map place (take (i + 1) shapes)
 moved_more place shapes places i s r lt is at so_far =
-    ap (λ (l : List Edges). l ++ r ∷ []) so_far ∙ ap (λ (e : Edges). map place (take i shapes) ++ e ∷ []) (at ∙ ap place is) ∙ sym (map_more place shapes i s lt)
+    ap (λ (l : List Edges). l ++ r ∷ []) so_far ∙ ap (λ (e : Edges). map place (take i shapes) ++ e ∷ []) (at ∙ ap place is)
+    ∙ sym (map_more place shapes i s lt)

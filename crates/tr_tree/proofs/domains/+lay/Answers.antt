@@ -66,7 +66,8 @@ loop-child-init t c =
       room = record { shapes = c.gather.ensures.room ∙ c.requires.room.shapes; places = c.place_first.ensures.count ∙ c.requires.room.places };
       count = c.spread.ensures.count ∙ c.requires.count;
       laying = laying_from s c.requires.forest c.args.n c.children-children.result.now c.index.result.now c.place_first.new.places.items
-          c.args.domains.now.items c.spread.new.domains.items c.children-children.ensures here c.requires.own c.place_first.ensures.places c.spread.ensures.spreads;
+          c.args.domains.now.items c.spread.new.domains.items c.children-children.ensures here c.requires.own c.place_first.ensures.places
+          c.spread.ensures.spreads;
     }
 
 pub lay-requires : goal.lay-requires

@@ -49,7 +49,8 @@ pub returns-in-Z : goal.returns-in-Z
 returns-in-Z c =
     let p = c.args.parent.now in
     placed_by p.forest.now p.n p.rect p.shapes.now kinds.Z _ c.requires.parent (sym c.in-Z.is ∙ c.kind_of.ensures) c.place_over.ensures.places
-    (fits_over p.rect (offsets_of p.forest.now p.n) p.shapes.now (All-same (λ (child : Edges). IsNear farthest child p.rect) _ _ (sym c.place_over.ensures.places) c.place_over.ensures.near))
+    (fits_over p.rect (offsets_of p.forest.now p.n) p.shapes.now
+    (All-same (λ (child : Edges). IsNear farthest child p.rect) _ _ (sym c.place_over.ensures.places) c.place_over.ensures.near))
 
 pub returns-in-T : goal.returns-in-T
 returns-in-T c =
