@@ -3,14 +3,14 @@ use Rattle.std.proofs.Common.{◌≡◌, ℕ, ◌+◌, ◌-◌, ◌*◌, ◌<◌
 use Rattle.std.specs.Prelude.{sum_by}
 use Rattle.std.specs.List.{range_with_len}
 use Rattle.std.proofs.lemmas.Int.{ints}
-use Rattle.std.proofs.lemmas.List.{length-map, get_or_append_left, get_or-append_right, get_or-map, append_assoc, take-take, take_at, map-id}
+use Rattle.std.proofs.lemmas.List.{length-map, get_or_append_left, get_or-append_right, get_or-map, append_assoc, take-take, take_all, take_at, map-id}
 use Rattle.std.proofs.lemmas.List.FromFn.{map-range_with_len_more}
 use Rattle.std.proofs.lemmas.List.Sums.{sum_by_more, sum_by-append, sum_by_push, sum_by-take-le, sum-map}
 use Rattle.tr_base.specs.declared.shapes.Shapes.{Shapes}
 use Rattle.tr_base.specs.Rects.{Edges, IsRect, empty_rect, sides_of}
 use Rattle.tr_base.specs.Shapes.{Lengths}
-use Rattle.tr_base.specs.Layouts.{longest, along, turned, placed, IsPartOf, ShareNoPoint}
-use Rattle.tr_base.proofs.LayoutLemmas.{empty_is_rect, part-placed, part_of_empty, apart_across, turned_is_rect, turned_turned, turned_part, turned_apart, turned_empty}
+use Rattle.tr_base.specs.Layouts.{longest, along, turned, placed, places_by, IsPartOf, ShareNoPoint}
+use Rattle.tr_base.proofs.LayoutLemmas.{length-places_by, empty_is_rect, part-placed, part_of_empty, apart_across, turned_is_rect, turned_turned, turned_part, turned_apart, turned_empty}
 use Rattle.tr_hv.specs.declared.places.Wishes.{Wishes}
 use Rattle.tr_hv.specs.Sums.{IsWithin}
 use Rattle.tr_hv.specs.Places.{wishes, granted, length_of, start_of, place_across, place_of}
@@ -292,6 +292,14 @@ pub place_is : (vertical : Bool) (e : Edges) (cs : List Shapes) (k : ℕ) (sides
     start ≡ start_of sides.0 (map (along vertical) cs) k → size ≡ length_of sides.0 (map (along vertical) cs) k →
     turned vertical (placed (turned vertical e) (pos start) (pos 0) (size, sides.1)) ≡ place_of vertical e cs k
 place_is vertical e cs k sides start size is begins lasts = rw (begins, lasts, is) refl
+
+-- room of the right length that is filled from the front holds all places in the end
+pub placed_all : (place : ℕ → Edges) (items : List Edges) (i count : ℕ) → take i items ≡ places_by place i → length items ≡ count → count ≤ i →
+    items ≡ places_by place count
+placed_all place items i count e is le =
+    let all : items ≡ places_by place i = sym (take_all i items (omega arith)) ∙ e in
+    let same : i ≡ count = omega (arith, ap length all, length-places_by place i) in
+    subst (λ (k : ℕ). items ≡ places_by place k) same all
 
 -- how great the sums are, with one more child
 pub within_more : (n i : ℕ) (b w next : Wishes) → IsWithin (longest * (n + i)) b → IsWithin longest w →

@@ -4,7 +4,7 @@
 
 mod places;
 
-pub use places::{place, shape};
+pub use places::{place, place_into, shape};
 
 #[cfg(test)]
 mod tests;

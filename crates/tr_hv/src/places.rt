@@ -6,7 +6,8 @@ ghost use Rattle.tr_hv.specs.Sums.{IsWithin};
 
 use std::alloc::Global;
 use tr_base::{
-    NoMemory, Rect, Shape, Shapes, along, maxima, placed_along, shapes_of, sides_along, sums,
+    NoMemory, Rect, Shape, Shapes, along, empty_place, maxima, placed_along, shapes_of,
+    sides_along, sums,
 };
 
 /// The shape of a V, or of an H where `vertical` is false: along it the sums of the children's
@@ -38,18 +39,32 @@ pub fn place(
     ensures apart { IfOk result (λ v. AllPairs ShareNoPoint v.items) }
     ensures empty { rect ≡ empty_rect → IfOk result (λ v. All (λ child. child ≡ empty_rect) v.items) }
 {
+    let mut places = vec![in alloc; empty_place(); children.len()]?;
+    place_into(vertical, rect, children, &mut places);
+    Ok(places)
+}
+
+/// The same, into room that the caller lends: as many rectangles as there are children, whatever
+/// they were. It takes no memory.
+pub fn place_into(vertical: bool, rect: Rect, children: &[Shapes], rects: &mut [Rect])
+    requires domain { IsDomain rect }
+    requires count { length children.now ≤ 255 }
+    requires room { length rects.old ≡ length children.now }
+    ensures places { rects.new ≡ places vertical rect children.now }
+    ensures part { All (λ child. IsPartOf child rect) rects.new }
+    ensures apart { AllPairs ShareNoPoint rects.new }
+    ensures empty { rect ≡ empty_rect → All (λ child. child ≡ empty_rect) rects.new }
+{
     let (room, beside) = sides_along(vertical, &rect);
     let mut before = first_before(&totals(vertical, children));
     let mut start = 0;
-    let mut places = Vec::with_capacity(alloc, children.len())?;
-    for child in children {
+    for (i, child) in children.iter().enumerate() {
         let wishes = wishes_of(&along(vertical, child));
         let length = granted(room, &before, &wishes);
-        places.push(placed_along(vertical, &rect, (start, 0), (length, beside)))?;
+        rects[i] = placed_along(vertical, &rect, (start, 0), (length, beside));
         before = sum_of(&before, &wishes);
         start += length;
     }
-    Ok(places)
 }
 
 /// A child's wishes: its `lo`, what it then lacks to its `pref`, and what it then lacks to its

@@ -56,3 +56,12 @@ fn a_v_stacks_its_children(rt: HostRuntime) -> Result<(), Fail> {
     assert_eq!(rt; places.as_slice(), want.as_slice());
     Ok(())
 }
+
+#[test]
+fn lent_room_is_filled(rt: HostRuntime) {
+    let rect = Rect::edges(10, 14, 5, 15);
+    let mut rects = [rect; 2];
+    place_into(true, rect, &children(), &mut rects);
+    let want = [Rect::edges(10, 14, 5, 13), Rect::edges(10, 14, 13, 15)];
+    assert_eq!(rt; rects, want);
+}

@@ -161,7 +161,7 @@ row_over e gap deep rows row (x ∷ xs) is le =
     grows y a b side le = omega arith
 
 -- ---- the places of all rows
-all_of_places : (P : Edges → Type 0) (place : PlaceOf) (passed rows : List (List Extent)) →
+pub all_of_places : (P : Edges → Type 0) (place : PlaceOf) (passed rows : List (List Extent)) →
     ((rs : List (List Extent)) (r : List Extent) (x : Extent) → P (place rs r x)) → All P (all_places place passed rows)
 all_of_places P place passed [] each = All-nil P
 all_of_places P place passed (row ∷ rows) each =

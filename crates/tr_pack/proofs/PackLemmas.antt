@@ -1,13 +1,13 @@
 -- Where packed children stand.
 use Rattle.std.proofs.Common.{◌≡◌, ℕ, ◌+◌, ◌-◌, ◌*◌, ◌<◌, ◌≤◌, min, pos, Bool, true, false, cond, List, [], ◌∷◌, ◌++◌, drop, length, get_or, refl, sym, ap, ◌∙◌, arith, length-append}
-use Rattle.std.specs.Prelude.{All, sum_by, nat_le, not}
+use Rattle.std.specs.Prelude.{All, sum_by, nat_le}
 use Rattle.std.proofs.lemmas.Bool.Decides.{nat_tests}
 use Rattle.std.proofs.lemmas.List.{append-nil, append_assoc, drop_more, drop_all, get_or-map, length-map}
 use Rattle.std.proofs.lemmas.List.Elements.{All-nil, All-cons}
 use Rattle.std.proofs.lemmas.List.Sums.{sum_by-cons, sum_by_push}
 use Rattle.tr_base.specs.declared.shapes.Shapes.{Shapes}
 use Rattle.tr_base.specs.Rects.{Edges, meet_of, sides_of}
-use Rattle.tr_base.specs.Layouts.{along, turned, placed}
+use Rattle.tr_base.specs.Layouts.{turned, placed}
 use Rattle.tr_base.proofs.LayoutLemmas.{greatest_by_push, turned-meet_of}
 use Rattle.tr_pack.specs.declared.packs.Pen.{Pen}
 use Rattle.tr_pack.specs.Cuts.{Extent, extent_of, extents, row_length, cut_from, cut}

@@ -4,7 +4,7 @@
 
 mod packs;
 
-pub use packs::{pack_place, pack_shape};
+pub use packs::{Rows, pack_place, pack_place_into, pack_shape};
 
 #[cfg(test)]
 mod tests;

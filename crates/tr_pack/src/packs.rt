@@ -7,8 +7,8 @@ ghost use Rattle.tr_pack.specs.Pens.{moved_for, passed};
 
 use std::alloc::Global;
 use tr_base::{
-    LONGEST, NoMemory, Rect, Shape, Shapes, along, maxima, no_lengths, placed_along, shapes_of,
-    sides_along, sums,
+    LONGEST, NoMemory, Rect, Shape, Shapes, along, empty_place, maxima, no_lengths, placed_along,
+    shapes_of, sides_along, sums,
 };
 
 /// The shape of a node that packs its children in rows, which go across, or down where `down` is
@@ -49,22 +49,44 @@ pub fn pack_place(
     ensures apart { IfOk result (λ v. AllPairs ShareNoPoint v.items) }
     ensures empty { rect ≡ empty_rect → IfOk result (λ v. All (λ child. child ≡ empty_rect) v.items) }
 {
-    let (room, side) = sides_along(down, &rect);
+    let mut places = vec![in alloc; empty_place(); children.len()]?;
+    pack_place_into(rect, Rows { down, gap }, children, &mut places);
+    Ok(places)
+}
+
+/// Which way the rows of a packing node go, and how many points lie between neighbours.
+#[derive(Clone, Copy, Debug, PartialEq, Eq)]
+pub struct Rows {
+    /// The rows go down, one east of another, and not across, one below another.
+    pub down: bool,
+    /// Between neighbours in a row, and between rows.
+    pub gap: u8,
+}
+
+/// The same as `pack_place`, into room that the caller lends: as many rectangles as there are
+/// children, whatever they were. It takes no memory.
+pub fn pack_place_into(rect: Rect, rows: Rows, children: &[Shapes], rects: &mut [Rect])
+    requires domain { IsDomain rect }
+    requires room { length rects.old ≡ length children.now }
+    ensures places { rects.new ≡ pack_places rows.down rows.gap rect children.now }
+    ensures part { All (λ child. IsPartOf child rect) rects.new }
+    ensures apart { AllPairs ShareNoPoint rects.new }
+    ensures empty { rect ≡ empty_rect → All (λ child. child ≡ empty_rect) rects.new }
+{
+    let (room, side) = sides_along(rows.down, &rect);
     let mut pen = Pen {
         along: 0,
         start: 0,
         deep: 0,
     };
-    let mut places = Vec::with_capacity(alloc, children.len())?;
-    for child in children {
-        let long = preferred(down, child).min(room);
-        let deep = preferred(!down, child);
-        pen = moved_for((room, side), gap, &pen, long);
-        let whole = placed_along(down, &rect, (pen.along, pen.start), (long, deep));
-        places.push(rect.meet(&whole))?;
-        pen = passed(gap, &pen, long, deep);
+    for (i, child) in children.iter().enumerate() {
+        let long = preferred(rows.down, child).min(room);
+        let deep = preferred(!rows.down, child);
+        pen = moved_for((room, side), rows.gap, &pen, long);
+        let whole = placed_along(rows.down, &rect, (pen.along, pen.start), (long, deep));
+        rects[i] = rect.meet(&whole);
+        pen = passed(rows.gap, &pen, long, deep);
     }
-    Ok(places)
 }
 
 /// Where the next child would stand.

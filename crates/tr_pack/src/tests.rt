@@ -100,3 +100,17 @@ fn columns_go_down(rt: HostRuntime) -> Result<(), Fail> {
     assert_eq!(rt; places.as_slice(), want.as_slice());
     Ok(())
 }
+
+#[test]
+fn lent_room_is_filled(rt: HostRuntime) {
+    let rect = Rect::edges(10, 20, 0, 3);
+    let rows = Rows { down: true, gap: 1 };
+    let mut rects = [rect; 3];
+    pack_place_into(rect, rows, &children(), &mut rects);
+    let want = [
+        Rect::edges(10, 12, 0, 1),
+        Rect::edges(13, 16, 0, 2),
+        Rect::edges(17, 19, 0, 1),
+    ];
+    assert_eq!(rt; rects, want);
+}

@@ -67,6 +67,12 @@ strip_part e per k is lt =
     let height = (sides_of e).1 / per in
     part-placed e 0 (k * height) ((sides_of e).0, height) is (omega arith) (strip_within (sides_of e).1 per k lt)
 
+-- the strips of an empty node are empty
+pub strip_empty : (per k : ℕ) → k < per → strip empty_rect per k ≡ empty_rect
+strip_empty per k lt =
+    part_of_empty (pos 0 +ℤ pos 0) (pos 0 +ℤ pos 0 +ℤ pos 0) (pos 0 +ℤ pos (k * (0 / per))) (pos 0 +ℤ pos (k * (0 / per)) +ℤ pos (0 / per))
+    (strip_part empty_rect per k empty_is_rect lt)
+
 -- a later strip begins where the earlier one ends, or beyond
 pub strips_apart : (e : Edges) (per a b : ℕ) → a < b → ShareNoPoint (strip e per a) (strip e per b)
 strips_apart e per a b lt =
@@ -112,12 +118,7 @@ page_apart e per page i j some lt = by_tests (eqb (i / per) page) (eqb (j / per)
 pub page_empty : (e : Edges) (per page k : ℕ) → 1 ≤ per → e ≡ empty_rect → page_place e per page k ≡ empty_rect
 page_empty e per page k some h =
     ap (λ (r : Edges). page_place r per page k) h
-    ∙ by_page_place (λ (r : Edges). r ≡ empty_rect) empty_rect per page k (none (k % per) (mod_below k per some)) refl
-  where
-    none : (i : ℕ) → i < per → strip empty_rect per i ≡ empty_rect
-    none i lt =
-        part_of_empty (pos 0 +ℤ pos 0) (pos 0 +ℤ pos 0 +ℤ pos 0) (pos 0 +ℤ pos (i * (0 / per))) (pos 0 +ℤ pos (i * (0 / per)) +ℤ pos (0 / per))
-        (strip_part empty_rect per i empty_is_rect lt)
+    ∙ by_page_place (λ (r : Edges). r ≡ empty_rect) empty_rect per page k (strip_empty per (k % per) (mod_below k per some)) refl
 
 -- nothing of an empty Z is shown
 pub z_empty : (e : Edges) (ats : List Point) (cs : List Shapes) → e ≡ empty_rect → All (λ (r : Edges). r ≡ empty_rect) (z_places e ats cs)

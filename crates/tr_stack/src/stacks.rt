@@ -64,7 +64,7 @@ pub fn t_place(alloc: Global, rect: Rect, shown: usize, count: usize) -> Result<
 {
     let mut places = Vec::with_capacity(alloc, count)?;
     for k in 0..count {
-        places.push(t_child(&rect, shown, k))?;
+        places.push(t_child(rect, shown, k))?;
     }
     Ok(places)
 }
@@ -86,29 +86,36 @@ pub fn page_place(
     ensures apart { IfOk result (λ v. AllPairs ShareNoPoint v.items) }
     ensures empty { rect ≡ empty_rect → IfOk result (λ v. All (λ child. child ≡ empty_rect) v.items) }
 {
-    let size = strip_size(&rect, per);
     let mut places = Vec::with_capacity(alloc, count)?;
     for k in 0..count {
-        places.push(page_child(&rect, size, per, page, k))?;
+        places.push(page_child(rect, per, page, k))?;
     }
     Ok(places)
 }
 
-fn t_child(rect: &Rect, shown: usize, k: usize) -> Rect
-    ensures { result ≡ t_child rect.now shown k }
+/// Where a T has its child number `k`, counted from 0: the shown one has the whole rectangle, and
+/// any other is empty.
+pub fn t_child(rect: Rect, shown: usize, k: usize) -> Rect
+    ensures place { result ≡ t_child rect shown k }
+    ensures part { IsPartOf result rect }
+    ensures empty { rect ≡ empty_rect → result ≡ empty_rect }
 {
-    if k == shown { *rect } else { empty_place() }
+    if k == shown { rect } else { empty_place() }
 }
 
-fn page_child(rect: &Rect, size: (u32, u32), per: u8, page: u8, k: usize) -> Rect
-    requires domain { IsDomain rect.now }
-    requires size { size ≡ strip_size rect.now per }
+/// Where a Page that shows `per` children at a time has its child number `k`, counted from 0 like
+/// the pages: in its strip of the page, or empty where it is on another page.
+pub fn page_child(rect: Rect, per: u8, page: u8, k: usize) -> Rect
+    requires domain { IsDomain rect }
     requires per { 1 ≤ per }
-    ensures { result ≡ page_child rect.now per page k }
+    ensures place { result ≡ page_child rect per page k }
+    ensures part { IsPartOf result rect }
+    ensures empty { rect ≡ empty_rect → result ≡ empty_rect }
 {
     let count = usize::from(per);
+    let size = strip_size(&rect, per);
     if k / count == usize::from(page) {
-        strip(rect, size, per, k % count)
+        strip(&rect, size, per, k % count)
     } else {
         empty_place()
     }

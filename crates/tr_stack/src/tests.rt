@@ -77,3 +77,13 @@ fn a_page_shows_its_children_in_strips(rt: HostRuntime) -> Result<(), Fail> {
     assert_eq!(rt; past.as_slice(), [none, none, none].as_slice());
     Ok(())
 }
+
+#[test]
+fn one_child_is_placed(rt: HostRuntime) {
+    let rect = Rect::edges(0, 3, 0, 5);
+    let none = Rect::edges(0, 0, 0, 0);
+    assert_eq!(rt; t_child(rect, 1, 1), rect);
+    assert_eq!(rt; t_child(rect, 1, 0), none);
+    assert_eq!(rt; page_child(rect, 2, 1, 3), Rect::edges(0, 3, 2, 4));
+    assert_eq!(rt; page_child(rect, 2, 1, 1), none);
+}

@@ -1,0 +1,9 @@
+pub mod ChildLemmas
+pub mod ShapeLemmas
+pub mod FillLemmas
+pub mod KinLemmas
+pub mod FitLemmas
+pub mod DomainLemmas
+pub mod PlaceLemmas
+pub mod LayLemmas
+pub mod LayoutLemmas

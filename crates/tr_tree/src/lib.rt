@@ -2,8 +2,14 @@
 //! wants, and the domain that each node gets.
 #![tactic(auto)]
 
+mod domains;
+mod layouts;
 mod rooms;
 mod trees;
+mod wishes;
 
 pub use tr_forest::{Edit, EditRefused, NodeFault, NodeKind};
 pub use trees::Tree;
+
+#[cfg(test)]
+mod tests;

@@ -1,4 +1,6 @@
-use tr_base::{Rect, Shapes};
+ghost use Rattle.std.specs.Prelude.{◌≡◌, IfOk};
+
+use tr_base::{NoMemory, Rect, Shapes};
 
 /// Room for the shapes and the places of one node's children while the tree is laid out, as long as
 /// there are nodes, so that laying out takes no memory.
@@ -6,4 +8,16 @@ use tr_base::{Rect, Shapes};
 pub(crate) struct Room {
     pub(crate) shapes: Vec<Shapes>,
     pub(crate) places: Vec<Rect>,
+}
+
+impl Room {
+    pub(crate) fn copy(&self) -> Result<Room, NoMemory>
+        ensures shapes { IfOk result (λ r. r.shapes.items ≡ self.now.shapes.items) }
+        ensures places { IfOk result (λ r. r.places.items ≡ self.now.places.items) }
+    {
+        Ok(Room {
+            shapes: Vec::from_slice(*self.shapes.allocator(), &self.shapes)?,
+            places: Vec::from_slice(*self.places.allocator(), &self.places)?,
+        })
+    }
 }

@@ -1,33 +1,139 @@
-ghost use Rattle.std.specs.Prelude.{◌≡◌, length};
-ghost use Rattle.tr_forest.specs.Nodes.{node, IsNode};
-ghost use Rattle.tr_tree.specs.Places.{domain};
+ghost use Rattle.std.specs.Prelude.{◌≡◌, ◌<◌, ◌++◌, ◌∷◌, [], IfOk, IfErr, OnOk, OnErr, Some, None, map, length, if◌then◌else◌};
+ghost use Rattle.tr_base.specs.declared.NodeId.{NodeId};
+ghost use Rattle.tr_base.specs.Rects.{whole_of};
+ghost use Rattle.tr_base.specs.Layouts.{IsDomain};
+ghost use Rattle.tr_forest.specs.Nodes.{node, fresh, IsNode, IsNodeKind, IsNextLeaf, shown_by, leaf_of, leaf_count};
+ghost use Rattle.tr_forest.specs.Forests.{IsForest};
+ghost use Rattle.tr_forest.specs.Edits.{IsEdit, IsCause, IsScreenSize, refusal, is_root};
+ghost use Rattle.tr_tree.specs.Trees.{size_after, kind_after, edited_tree};
+ghost use Rattle.tr_tree.specs.Wishes.{shape, shape_of};
+ghost use Rattle.tr_tree.specs.Places.{domain, place_below};
 
+use crate::layouts::Layout;
+use std::alloc::Global;
 use std::marker::Model;
-use tr_base::{Kind, NodeId, Rect, Shapes, Size};
-use tr_forest::{Forest, NodeKind};
+use tr_base::{Kind, LeafId, NoMemory, NodeId, Point, Rect, Shapes, Size};
+use tr_forest::{Edit, EditRefused, Forest, NodeKind};
 
-/// A tree of windows, and the screen that it has.
+/// A tree of windows of at most 256 nodes, and the screen that it has.
 #[derive(Drop)]
 pub struct Tree {
     forest: Forest,
     size: Size,
     kind: Kind,
-    shapes: Vec<Shapes>,
-    domains: Vec<Rect>,
+    layout: Layout,
 }
 
 impl Model for Tree {
     ghost use Rattle.tr_tree.specs.Trees.{Seen};
-    ghost use Rattle.tr_tree.specs.Tables.{IsTree};
+    ghost use Rattle.tr_tree.specs.Ready.{IsLaidOut};
 
     ghost Value = { Seen };
 
     ghost view = { λ t. record { nodes = t.forest; size = t.size; kind = t.kind } };
 
-    ghost invariant = { λ t. IsTree (record { nodes = t.forest; size = t.size; kind = t.kind }) t.shapes.items t.domains.items };
+    ghost invariant = { λ t. IsLaidOut t.forest t.size t.layout };
 }
 
 impl Tree {
+    /// No nodes, on a screen of 1 to 1024 points each way.
+    pub fn new(alloc: Global, size: Size, kind: Kind) -> Result<Tree, NoMemory>
+        requires { IsScreenSize size }
+        ensures { IfOk result (λ t. t ≡ record {
+          nodes = record { entries = []; root = None };
+          size = size;
+          kind = kind;
+        }) }
+    {
+        let forest = Forest::new(alloc);
+        let mut layout = Layout::new(alloc);
+        layout.fill(&forest, size);
+        Ok(Tree {
+            forest,
+            size,
+            kind,
+            layout,
+        })
+    }
+
+    /// Adds a node that hangs nowhere. Nodes are numbered from 0 as they are added, and so are
+    /// leaves.
+    pub fn add(&mut self, kind: NodeKind, tint: u8) -> Result<NodeId, NoMemory>
+        requires room { length self.old.nodes.entries < 256 }
+        requires kind { IsNodeKind kind }
+        requires shown { shown_by kind ≡ None }
+        requires leaf { IsNextLeaf self.old.nodes kind }
+        ensures id { IfOk result (λ n. n.0 ≡ length self.old.nodes.entries) }
+        ensures ok { OnOk result (self.new ≡ record self.old {
+          nodes = record self.old.nodes { entries = self.old.nodes.entries ++ fresh kind tint ∷ [] };
+        }) }
+        ensures err { OnErr result (self.new ≡ self.old) }
+    {
+        self.layout.reserve()?;
+        let n = self.forest.add(kind, tint)?;
+        self.layout.grow();
+        self.layout.fill(&self.forest, self.size);
+        Ok(n)
+    }
+
+    /// Chooses the root, which has the whole screen.
+    pub fn set_root(&mut self, n: NodeId)
+        requires none { self.old.nodes.root ≡ None }
+        requires node { IsNode self.old.nodes n }
+        requires top { (node self.old.nodes n).parent ≡ None }
+        ensures { self.new ≡ record self.old { nodes = record self.old.nodes { root = Some n } } }
+    {
+        self.forest.set_root(n);
+        self.layout.place(&self.forest, self.size);
+    }
+
+    /// Changes the tree as the edit says, or refuses it. Only an Attach may want memory.
+    pub fn edit(&mut self, edit: &Edit) -> Result<(), EditRefused>
+        requires { IsEdit self.old.nodes edit.now }
+        ensures ok { OnOk result (self.new ≡ edited_tree self.old edit.now) }
+        ensures allowed { OnOk result (refusal self.old.nodes edit.now ≡ None) }
+        ensures cause { IfErr result (λ e. IsCause (refusal self.old.nodes edit.now) e) }
+        ensures err { OnErr result (self.new ≡ self.old) }
+    {
+        self.forest.edit(edit)?;
+        self.size = size_after(edit, self.size);
+        self.kind = kind_after(edit, self.kind);
+        match edit {
+            Edit::Tint { .. } => {}
+            Edit::Rescreen { .. } => {}
+            Edit::Resize { .. } => self.layout.place(&self.forest, self.size),
+            _ => self.layout.fill(&self.forest, self.size),
+        }
+        Ok(())
+    }
+
+    /// How many nodes there are.
+    pub fn count(&self) -> usize
+        ensures count { result ≡ length self.now.nodes.entries }
+        ensures invariant { IsForest self.now.nodes }
+        ensures size { IsScreenSize self.now.size }
+    {
+        self.forest.count()
+    }
+
+    /// The lengths that a node wants.
+    pub fn shape(&self, n: NodeId) -> Shapes
+        requires { IsNode self.now.nodes n }
+        ensures { result ≡ shape self.now.nodes n }
+    {
+        self.layout.shapes[usize::from(n.0)]
+    }
+
+    /// The domain of a node, in the screen's coordinates. It may reach past its parent's, and is
+    /// empty where the node gets no place.
+    pub fn domain(&self, n: NodeId) -> Rect
+        requires { IsNode self.now.nodes n }
+        ensures domain { result ≡ domain self.now n }
+        ensures small { IsDomain result }
+    {
+        self.layout.domains[usize::from(n.0)]
+    }
+
     /// What a node is.
     pub fn kind_of(&self, n: NodeId) -> NodeKind
         requires { IsNode self.now.nodes n }
@@ -36,20 +142,20 @@ impl Tree {
         self.forest.kind_of(n)
     }
 
-    /// The domain of a node, in the screen's coordinates.
-    pub fn domain(&self, n: NodeId) -> Rect
-        requires { IsNode self.now.nodes n }
-        ensures { result ≡ domain self.now n }
-    {
-        self.domains[usize::from(n.0)]
-    }
-
     /// The tint of a node's frame.
     pub fn tint_of(&self, n: NodeId) -> u8
         requires { IsNode self.now.nodes n }
         ensures { result ≡ (node self.now.nodes n).tint }
     {
         self.forest.tint_of(n)
+    }
+
+    /// Where a node stands in a Z.
+    pub fn at_of(&self, n: NodeId) -> Point
+        requires { IsNode self.now.nodes n }
+        ensures { result ≡ (node self.now.nodes n).at }
+    {
+        self.forest.at_of(n)
     }
 
     /// Whose child a node is.
@@ -66,6 +172,22 @@ impl Tree {
         ensures { result.now ≡ (node self.now.nodes n).children }
     {
         self.forest.children(n)
+    }
+
+    /// How many leaves were added.
+    pub fn leaves(&self) -> u8
+        ensures { result ≡ leaf_count self.now.nodes }
+    {
+        self.forest.leaves()
+    }
+
+    /// Which node a leaf is.
+    pub fn node_of(&self, leaf: LeafId) -> NodeId
+        requires { leaf.0 < leaf_count self.now.nodes }
+        ensures leaf { leaf_of (node self.now.nodes result).kind ≡ Some leaf }
+        ensures node { IsNode self.now.nodes result }
+    {
+        self.forest.node_of(leaf)
     }
 
     /// The root, once it was chosen.
@@ -87,5 +209,49 @@ impl Tree {
         ensures { result ≡ self.now.kind }
     {
         self.kind
+    }
+
+    /// The same tree once more.
+    pub fn copy(&self) -> Result<Tree, NoMemory>
+        ensures { IfOk result (λ t. t ≡ self.now) }
+    {
+        Ok(Tree {
+            forest: self.forest.copy()?,
+            size: self.size,
+            kind: self.kind,
+            layout: self.layout.copy()?,
+        })
+    }
+
+    /// Sixteen levels are enough, so shapes and domains are those of trees of any depth. It does
+    /// nothing.
+    pub fn levels_suffice(&self)
+        ensures shapes { (n : NodeId) → let t = self.now.nodes in
+            shape t n ≡ shape_of (node t n).kind (map (shape t) (node t n).children) }
+        ensures domains { (n : NodeId) → let t = self.now in
+            domain t n ≡ (if is_root t.nodes n then whole_of t.size
+            else place_below t.nodes n (node t.nodes n).parent (domain t)) }
+    {
+        let _count = self.forest.count();
+    }
+}
+
+/// The size of the screen after an edit.
+fn size_after(edit: &Edit, size: Size) -> Size
+    ensures { result ≡ size_after edit.now size }
+{
+    match edit {
+        Edit::Resize { size } => *size,
+        _ => size,
+    }
+}
+
+/// The kind of the screen's pixels after an edit.
+fn kind_after(edit: &Edit, kind: Kind) -> Kind
+    ensures { result ≡ kind_after edit.now kind }
+{
+    match edit {
+        Edit::Rescreen { kind } => *kind,
+        _ => kind,
     }
 }

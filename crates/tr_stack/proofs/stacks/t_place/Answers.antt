@@ -8,7 +8,7 @@ use Rattle.tr_stack.proofs.stacks.t_place.Goals as goal
 
 pub loop-k-preserved : goal.loop-k-preserved
 loop-k-preserved c =
-    c.in_ok-push.ensures.items ∙ places_by_more (t_place c.args.rect c.args.shown) _ _ _ c.loop-k.invariant c.t_child.ensures
+    c.in_ok-push.ensures.items ∙ places_by_more (t_place c.args.rect c.args.shown) _ _ _ c.loop-k.invariant c.t_child.ensures.place
 
 pub returns-clause-count : goal.returns-clause-count
 returns-clause-count c =

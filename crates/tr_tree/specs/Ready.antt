@@ -1,0 +1,50 @@
+-- For the crate's own functions: the tables of a tree.
+use Rattle.std.specs.Prelude.{◌≡◌, ℕ, ◌<◌, length, vec_len, vec_capacity}
+use Rattle.tr_base.specs.declared.NodeId.{NodeId}
+use Rattle.tr_base.specs.declared.Kind.{Kind}
+use Rattle.tr_base.specs.declared.Size.{Size}
+use Rattle.tr_base.specs.Layouts.{IsDomain}
+use Rattle.tr_forest.specs.Nodes.{Nodes}
+use Rattle.tr_forest.specs.Edits.{IsScreenSize}
+use Rattle.tr_tree.specs.declared.layouts.Layout.{Layout}
+use Rattle.tr_tree.specs.Wishes.{shape}
+use Rattle.tr_tree.specs.Places.{domain}
+use Rattle.tr_tree.specs.Tables.{shape_in, domain_in}
+use Rattle.tr_tree.specs.Laying.{on_screen}
+
+-- the tables and the room have so many places
+pub record HavePlaces (count : ℕ) (l : Layout) : Type 0 where
+  pub shapes : length l.shapes.items ≡ count
+  pub domains : length l.domains.items ≡ count
+  pub room_shapes : length l.room.shapes.items ≡ count
+  pub room_places : length l.room.places.items ≡ count
+
+-- the table has the shapes of each node
+pub record HasShapes (t : Nodes) (l : Layout) : Type 0 where
+  pub each : (n : NodeId) → shape_in l.shapes.items n ≡ shape t n
+
+-- the table has the domain of each node on a screen of this size, whatever its kind
+pub record HasDomains (t : Nodes) (size : Size) (l : Layout) : Type 0 where
+  pub each : (kind : Kind) (n : NodeId) → domain_in l.domains.items n ≡ domain (on_screen t size kind) n
+  pub small : (n : NodeId) → IsDomain (domain_in l.domains.items n)
+
+-- the tables have the shapes and the domain of each node on a screen of this size
+pub record IsLaidOut (t : Nodes) (size : Size) (l : Layout) : Type 0 where
+  pub screen : IsScreenSize size
+  pub places : HavePlaces (length t.entries) l
+  pub shapes : HasShapes t l
+  pub domains : HasDomains t size l
+
+-- the tables and the room have the same places
+pub record HaveSamePlaces (a b : Layout) : Type 0 where
+  pub shapes : b.shapes.items ≡ a.shapes.items
+  pub domains : b.domains.items ≡ a.domains.items
+  pub room_shapes : b.room.shapes.items ≡ a.room.shapes.items
+  pub room_places : b.room.places.items ≡ a.room.places.items
+
+-- one place more takes no memory
+pub record HasSpare (l : Layout) : Type 0 where
+  pub shapes : vec_len l.shapes < vec_capacity l.shapes
+  pub domains : vec_len l.domains < vec_capacity l.domains
+  pub room_shapes : vec_len l.room.shapes < vec_capacity l.room.shapes
+  pub room_places : vec_len l.room.places < vec_capacity l.room.places

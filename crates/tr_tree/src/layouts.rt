@@ -1,0 +1,93 @@
+ghost use Rattle.std.specs.Prelude.{◌≡◌, ◌+◌, ℕ, IfOk, OnOk, length};
+ghost use Rattle.tr_forest.specs.Edits.{IsScreenSize};
+
+use crate::domains::{Plan, lay_out};
+use crate::rooms::Room;
+use crate::wishes::{fill_shapes, no_shapes};
+use std::alloc::Global;
+use tr_base::{NoMemory, Rect, Shapes, Size, empty_place};
+use tr_forest::Forest;
+
+/// The shapes and the domain of each node, and the room in which they are found.
+#[derive(Drop)]
+pub(crate) struct Layout {
+    pub(crate) shapes: Vec<Shapes>,
+    pub(crate) domains: Vec<Rect>,
+    pub(crate) room: Room,
+}
+
+impl Layout {
+    ghost use Rattle.tr_tree.specs.Ready.{HavePlaces, HasShapes, IsLaidOut, HaveSamePlaces, HasSpare};
+
+    /// For no nodes.
+    pub(crate) fn new(alloc: Global) -> Layout
+        ensures { HavePlaces 0 result }
+    {
+        Layout {
+            shapes: Vec::new(alloc),
+            domains: Vec::new(alloc),
+            room: Room {
+                shapes: Vec::new(alloc),
+                places: Vec::new(alloc),
+            },
+        }
+    }
+
+    /// Takes the memory for one more node.
+    pub(crate) fn reserve(&mut self) -> Result<(), NoMemory>
+        ensures ok { OnOk result (HasSpare self.new) }
+        ensures same { HaveSamePlaces self.old self.new }
+    {
+        self.shapes.reserve(1)?;
+        self.domains.reserve(1)?;
+        self.room.shapes.reserve(1)?;
+        self.room.places.reserve(1)?;
+        Ok(())
+    }
+
+    /// Has places for one more node.
+    pub(crate) fn grow(&mut self)
+        requires { HasSpare self.old }
+        ensures { (count : ℕ) → HavePlaces count self.old → HavePlaces (count + 1) self.new }
+    {
+        self.shapes.push_reserved(no_shapes());
+        self.domains.push_reserved(empty_place());
+        self.room.shapes.push_reserved(no_shapes());
+        self.room.places.push_reserved(empty_place());
+    }
+
+    /// Finds the domains anew. It takes no memory.
+    pub(crate) fn place(&mut self, forest: &Forest, size: Size)
+        requires size { IsScreenSize size }
+        requires places { HavePlaces (length forest.now.entries) self.old }
+        requires shapes { HasShapes forest.now self.old }
+        ensures { IsLaidOut forest.now size self.new }
+    {
+        let plan = Plan {
+            forest,
+            size,
+            shapes: &self.shapes,
+        };
+        lay_out(&plan, &mut self.room, &mut self.domains);
+    }
+
+    /// Finds the shapes and the domains anew. It takes no memory.
+    pub(crate) fn fill(&mut self, forest: &Forest, size: Size)
+        requires size { IsScreenSize size }
+        requires places { HavePlaces (length forest.now.entries) self.old }
+        ensures { IsLaidOut forest.now size self.new }
+    {
+        fill_shapes(forest, &mut self.room.shapes, &mut self.shapes);
+        self.place(forest, size);
+    }
+
+    pub(crate) fn copy(&self) -> Result<Layout, NoMemory>
+        ensures { IfOk result (λ l. HaveSamePlaces self.now l) }
+    {
+        Ok(Layout {
+            shapes: Vec::from_slice(*self.shapes.allocator(), &self.shapes)?,
+            domains: Vec::from_slice(*self.domains.allocator(), &self.domains)?,
+            room: self.room.copy()?,
+        })
+    }
+}
