@@ -23,7 +23,7 @@ use Rattle.tr_tree.specs.Wishes.{shape, no_shapes}
 use Rattle.tr_tree.specs.Places.{index_of, places_of, child_places, place_below, domain, domain_within}
 use Rattle.tr_tree.specs.Tables.{shape_in, domain_in}
 use Rattle.tr_tree.specs.Ready.{HavePlaces, HasShapes, HasDomains, IsLaidOut, HaveSamePlaces}
-use Rattle.tr_tree.proofs.ChildLemmas.{numbers_apart}
+use Rattle.tr_tree.proofs.TopLemmas.{numbers_apart}
 use Rattle.tr_tree.proofs.ShapeLemmas.{map_among, shapes_same}
 
 -- nodes that differ at most in their tints
@@ -74,29 +74,6 @@ below_alike t u alike n (Some p) up down h =
     ap (λ e. get_or (child_places u p e) (index_of n (node u p).children) empty_rect) (h p)
     ∙ ap (λ es. get_or es (index_of n (node u p).children) empty_rect) (child_places_alike t u alike p (up p))
     ∙ ap (λ cs. get_or (child_places t p (up p)) (index_of n cs) empty_rect) (alike.children p)
-
-domain_suc : (f : ℕ) (t : Seen) (n : NodeId) →
-    domain_within (suc f) t n ≡ cond (is_root t.nodes n) (whole_of t.size) (place_below t.nodes n (node t.nodes n).parent (domain_within f t))
-unfolding domain_within
-domain_suc f t n = refl
-
-below_same : (t : Nodes) (n : NodeId) (o : Option NodeId) (up down : NodeId → Edges) (depths : NodeId → ℕ) (most : ℕ) → deeper o depths ≤ suc most →
-    ((p : NodeId) → depths p ≤ most → down p ≡ up p) → place_below t n o down ≡ place_below t n o up
-below_same t n None up down depths most le h = refl
-below_same t n (Some p) up down depths most le h = ap (λ e. get_or (child_places t p e) (index_of n (node t p).children) empty_rect) (h p (omega arith))
-
-domain_enough : (f : ℕ) (t : Seen) (n : NodeId) → depth_within f t.nodes n ≤ f → domain_within (suc f) t n ≡ domain_within f t n
-domain_enough zero t n le = let one : depth_within 0 t.nodes n ≡ 1 = depth_zero t.nodes n in absurd (omega arith)
-domain_enough (suc f) t n le =
-    domain_suc (suc f) t n
-    ∙ ap (λ e. cond (is_root t.nodes n) (whole_of t.size) e)
-        (below_same t.nodes n (node t.nodes n).parent (domain_within f t) (domain_within (suc f) t) (depth_within f t.nodes) f (rw depth_suc at le) (λ p k. domain_enough f t p k))
-    ∙ sym (domain_suc f t n)
-
--- the domains, by an equation that counts no levels
-pub domain_law : (t : Seen) → IsForest t.nodes → (n : NodeId) →
-    domain t n ≡ cond (is_root t.nodes n) (whole_of t.size) (place_below t.nodes n (node t.nodes n).parent (domain t))
-domain_law t forest n = sym (domain_enough 16 t n (forest.depths n)) ∙ domain_suc 16 t n
 
 -- trees that differ at most in tints and in the kind of the screen have the same domains
 domains_within_alike : (f : ℕ) (t u : Seen) → AreAlike t.nodes u.nodes → u.size ≡ t.size → (n : NodeId) → domain_within f u n ≡ domain_within f t n

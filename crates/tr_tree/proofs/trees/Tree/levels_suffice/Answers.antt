@@ -1,7 +1,7 @@
 use Rattle.std.proofs.Common.{subst}
 use Rattle.tr_forest.specs.Forests.{IsForest}
 use Rattle.tr_tree.specs.Trees.{Seen}
-use Rattle.tr_tree.proofs.LayoutLemmas.{domain_law}
+use Rattle.tr_tree.proofs.DomainLemmas.{domain_law}
 use Rattle.tr_tree.proofs.ShapeLemmas.{shape_law}
 use Rattle.tr_tree.proofs.trees.Tree.levels_suffice.Goals as goal
 

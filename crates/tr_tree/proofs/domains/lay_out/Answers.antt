@@ -1,0 +1,41 @@
+use Rattle.std.proofs.Common.{◌≡◌, ◌<◌, Some, length, subst, sym, ◌∙◌, arith}
+use Rattle.tr_base.specs.Rects.{Edges}
+use Rattle.tr_base.specs.Layouts.{IsDomain}
+use Rattle.tr_forest.specs.Nodes.{IsNode}
+use Rattle.tr_tree.specs.Places.{domain}
+use Rattle.tr_tree.specs.Laying.{laid}
+use Rattle.tr_tree.proofs.DomainLemmas.{any_kind}
+use Rattle.tr_tree.proofs.FitLemmas.{at_is_domain}
+use Rattle.tr_tree.proofs.LayLemmas.{laid_none, laid_all, root_stands}
+use Rattle.tr_tree.proofs.domains.lay_out.Goals as goal
+
+pub lay-requires-clause-own : goal.lay-requires-clause-own
+lay-requires-clause-own c =
+    let is = sym c.root.ensures ∙ c.in-Some.is in
+    let root_is : IsNode c.args.plan.now.forest.now c.in-Some.root = c.count.ensures.invariant.root c.in-Some.root is in
+    rw c.from.ensures
+    (root_stands (laid c.args.plan.now.forest.now c.args.plan.now.size) c.count.ensures.invariant c.requires.plan.screen c.in-Some.root
+    c.clear.new.domains.items c.whole.result is (omega (arith, root_is.within, c.clear.ensures.count, c.requires.count)) c.whole.ensures.edges)
+
+pub returns-in-Some-clause-domains : goal.returns-in-Some-clause-domains
+returns-in-Some-clause-domains c = λ kind n.
+    let s = laid c.args.plan.now.forest.now c.args.plan.now.size in
+    let is = sym c.root.ensures ∙ c.in-Some.is in
+    let root_is : IsNode c.args.plan.now.forest.now c.in-Some.root = c.count.ensures.invariant.root c.in-Some.root is in
+    let all = laid_all s c.count.ensures.invariant c.in-Some.root c.clear.new.domains.items c.lay.new.domains.items c.whole.result is c.clear.ensures.empty
+        (rw c.from.ensures at c.lay.ensures.lays) n in
+    all.right ∙ any_kind c.args.plan.now.forest.now c.args.plan.now.size kind n
+
+pub returns-in-Some-clause-small : goal.returns-in-Some-clause-small
+returns-in-Some-clause-small c = λ n.
+    let s = laid c.args.plan.now.forest.now c.args.plan.now.size in
+    let is = sym c.root.ensures ∙ c.in-Some.is in
+    let all = laid_all s c.count.ensures.invariant c.in-Some.root c.clear.new.domains.items c.lay.new.domains.items c.whole.result is c.clear.ensures.empty
+        (rw c.from.ensures at c.lay.ensures.lays) n in
+    subst IsDomain (sym all.right) (at_is_domain (domain s n) all.at)
+
+pub returns-in_default-clause-domains : goal.returns-in_default-clause-domains
+returns-in_default-clause-domains c = λ kind n.
+    let all = laid_none (laid c.args.plan.now.forest.now c.args.plan.now.size) c.count.ensures.invariant c.clear.new.domains.items
+        (sym c.root.ensures ∙ c.in_default.is) c.clear.ensures.empty n in
+    all.right ∙ any_kind c.args.plan.now.forest.now c.args.plan.now.size kind n

@@ -1,0 +1,94 @@
+-- For the crate's own functions: a table of domains that is filled from the root downwards.
+use Rattle.std.specs.Prelude.{◌≡◌, ℕ, ◌*◌, ◌-◌, ◌<◌, ◌≤◌, pos, neg_ℤ, ◌≤ℤ◌, true, false, List, map, length, get_or, All}
+use Rattle.tr_base.specs.declared.NodeId.{NodeId}
+use Rattle.tr_base.specs.declared.Shapes.{Shapes}
+use Rattle.tr_base.specs.declared.Point.{Point}
+use Rattle.tr_base.specs.declared.Size.{Size}
+use Rattle.tr_base.specs.declared.Kind.{Kind}
+use Rattle.tr_base.specs.declared.Kind.TheVariants.{Mono}
+use Rattle.tr_base.specs.Rects.{Edges, empty_rect, rect_of, sides_of}
+use Rattle.tr_base.specs.Layouts.{longest, IsDomain, IsNear}
+use Rattle.tr_forest.specs.Nodes.{Nodes, IsNode, node}
+use Rattle.tr_forest.specs.Forests.{IsForest}
+use Rattle.tr_forest.specs.Families.{depth, is_among, is_under}
+use Rattle.tr_forest.specs.Edits.{IsScreenSize}
+use Rattle.tr_tree.specs.declared.rooms.Room.{Room}
+use Rattle.tr_tree.specs.Trees.{Seen}
+use Rattle.tr_tree.specs.Wishes.{shape}
+use Rattle.tr_tree.specs.Places.{child_places, domain}
+use Rattle.tr_tree.specs.Tables.{shape_in, domain_in}
+
+-- these nodes on a screen of this size and kind
+abbrev pub on_screen : Nodes → Size → Kind → Seen
+on_screen t size kind = record { nodes = t; size = size; kind = kind }
+
+-- the same on a screen of one kind: where nodes lie doesn't depend on it
+abbrev pub laid : Nodes → Size → Seen
+laid t size = on_screen t size Mono
+
+-- what domains are found from: the size is a screen's, and the table has the shapes of each node
+pub record IsPlan (t : Nodes) (size : Size) (shapes : List Shapes) : Type 0 where
+  pub screen : IsScreenSize size
+  pub count : length shapes ≡ length t.entries
+  pub shapes_are : (n : NodeId) → shape_in shapes n ≡ shape t n
+
+-- there is room for the shapes and for the places of one node's children
+pub record HasRoom (t : Nodes) (room : Room) : Type 0 where
+  pub shapes : length room.shapes.items ≡ length t.entries
+  pub places : length room.places.items ≡ length t.entries
+
+-- each child has its place from the list, and all others are as they were
+pub record Spreads (cs : List NodeId) (places old new : List Edges) : Type 0 where
+  pub placed : (k : ℕ) (d : NodeId) → k < length cs → domain_in new (get_or cs k d) ≡ get_or places k empty_rect
+  pub others : (m : NodeId) → is_among m cs ≡ false → domain_in new m ≡ domain_in old m
+
+-- it is the rectangle of its edges
+pub record IsOwn (e : Edges) : Type 0 where
+  pub edges : rect_of e.west e.east e.north e.south ≡ e
+
+-- a child is near its node, and the rectangle of its edges
+pub record Fits (e c : Edges) : Type 0 where
+  pub own : IsOwn c
+  pub near : IsNear longest c e
+
+-- where a node's children stand, if it is a Z
+abbrev pub offsets_of : Nodes → NodeId → List Point
+offsets_of t n = map (λ c. (node t c).at) (node t n).children
+
+-- a node whose children can be placed, its rectangle, and their shapes
+pub record IsParent (t : Nodes) (n : NodeId) (e : Edges) (shapes : List Shapes) : Type 0 where
+  pub forest : IsForest t
+  pub is_node : IsNode t n
+  pub own : IsOwn e
+  pub small : IsDomain e
+  pub shapes_are : shapes ≡ map (shape t) (node t n).children
+
+-- these are the places of a node's children, by its rectangle
+pub record ArePlaced (t : Nodes) (n : NodeId) (e : Edges) (places : List Edges) : Type 0 where
+  pub right : places ≡ child_places t n e
+  pub fit : All (Fits e) places
+
+-- so many lengths away from the corner of the screen, each way
+pub record IsAt (far : ℕ) (e : Edges) : Type 0 where
+  pub own : IsOwn e
+  pub west : neg_ℤ (pos (longest * far)) ≤ℤ e.west
+  pub east : e.west ≤ℤ pos (longest * far)
+  pub north : neg_ℤ (pos (longest * far)) ≤ℤ e.north
+  pub south : e.north ≤ℤ pos (longest * far)
+  pub wide : (sides_of e).0 ≤ longest
+  pub high : (sides_of e).1 ≤ longest
+
+-- the table has the domain of a node, which is at most one length further away than its parent's
+pub record Stands (t : Seen) (n : NodeId) (table : List Edges) : Type 0 where
+  pub right : domain_in table n ≡ domain t n
+  pub at : IsAt (depth t.nodes n - 1) (domain t n)
+
+-- the table has the domain of a node, and that isn't far away: no node has more than 15 above it
+pub record IsLaid (t : Seen) (table : List Edges) (n : NodeId) : Type 0 where
+  pub right : domain_in table n ≡ domain t n
+  pub at : IsAt 15 (domain t n)
+
+-- what was right is right, and so are n and all below it
+pub record Lays (t : Seen) (n : NodeId) (old new : List Edges) : Type 0 where
+  pub stays : (m : NodeId) → IsLaid t old m → IsLaid t new m
+  pub below : (m : NodeId) → is_under t.nodes n m ≡ true → IsLaid t new m
