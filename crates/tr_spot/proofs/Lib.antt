@@ -1,0 +1,6 @@
+pub mod NodeLemmas
+pub mod OwnerLemmas
+pub mod WayLemmas
+pub mod ChildLemmas
+pub mod SpotLemmas
+pub mod GainLemmas

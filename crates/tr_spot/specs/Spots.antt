@@ -1,5 +1,5 @@
 -- Who owns a point of the screen.
-use Rattle.std.specs.Prelude.{ℕ, zero, suc, ◌-ℤ◌, Bool, false, ◌==◌, if◌then◌else◌, List, [], ◌∷◌, Option, Some, None, get_or}
+use Rattle.std.specs.Prelude.{◌≡◌, ◌<◌, ℕ, zero, suc, ◌-ℤ◌, Bool, true, false, ◌==◌, if◌then◌else◌, List, [], Option, Some, None, IsSome, get_or, length}
 use Rattle.std.specs.List.{find}
 use Rattle.tr_base.specs.declared.Point.{Point}
 use Rattle.tr_base.specs.declared.Size.{Size}
@@ -8,12 +8,17 @@ use Rattle.tr_base.specs.declared.LeafId.{LeafId}
 use Rattle.tr_base.specs.declared.Spot.{Spot}
 use Rattle.tr_base.specs.declared.Spot.TheVariants as spots
 use Rattle.tr_base.specs.Rects.{Edges, has_point, sides_of, whole_of}
+use Rattle.tr_region.specs.Points.{holds}
 use Rattle.tr_forest.specs.declared.NodeKind.{NodeKind}
 use Rattle.tr_forest.specs.declared.NodeKind.TheVariants as kinds
 use Rattle.tr_forest.specs.Nodes.{node}
 use Rattle.tr_forest.specs.Families.{levels}
 use Rattle.tr_tree.specs.Trees.{Seen}
 use Rattle.tr_tree.specs.Places.{domain}
+
+-- the root was chosen
+abbrev pub HasRoot : Seen → Type 0
+HasRoot t = IsSome t.nodes.root
 
 -- the owner below a child that has the point; where no child has it, the node itself
 abbrev pub followed : NodeId → (NodeId → NodeId) → Option NodeId → NodeId
@@ -62,6 +67,21 @@ abbrev pub is_on_frame : NodeId → Spot → Bool
 is_on_frame n (spots.Frame m tint kind) = m.0 == n.0
 is_on_frame n spot = false
 
+-- the spot is that of a node of this kind: part of the leaf that it is, or else on its frame
+abbrev pub is_spot_as : NodeKind → NodeId → Spot → Bool
+is_spot_as (kinds.Leaf leaf shapes) n spot = is_in_leaf leaf spot
+is_spot_as kind n spot = is_on_frame n spot
+
+-- the spot is that of this node
+abbrev pub is_spot_of : Seen → NodeId → Spot → Bool
+is_spot_of t n spot = is_spot_as (node t.nodes n).kind n spot
+
 -- the region of a node in a list of one for each node
 abbrev pub region_of : List (List Edges) → NodeId → List Edges
 region_of regions n = get_or regions n.0 []
+
+-- regions of nodes, and a rectangle whose points they have, each of them once
+pub record CoverOnce (screen : Edges) (regions : List (List Edges)) : Type 0 where
+  pub each : (p : Point) → has_point screen p ≡ true → (n : NodeId) × ((n.0 < length regions) × (holds (region_of regions n) p ≡ true))
+  pub once : (m n : NodeId) (p : Point) → holds (region_of regions m) p ≡ true → holds (region_of regions n) p ≡ true → m.0 ≡ n.0
+  pub within : (n : NodeId) (p : Point) → holds (region_of regions n) p ≡ true → has_point screen p ≡ true

@@ -1,14 +1,84 @@
-ghost use Rattle.std.specs.Prelude.{◌≡◌};
-ghost use Rattle.tr_spot.specs.Spots.{is_in_leaf, spot};
+ghost use Rattle.std.specs.Prelude.{◌≡◌, ◌-ℤ◌, true};
+ghost use Rattle.tr_base.specs.Rects.{InReach, has_point, whole_of};
+ghost use Rattle.tr_base.specs.Layouts.{IsDomain};
+ghost use Rattle.tr_forest.specs.Nodes.{node, IsNode};
+ghost use Rattle.tr_forest.specs.Edits.{IsScreenSize};
+ghost use Rattle.tr_spot.specs.Spots.{HasRoot, from_corner, size_of, spot_on, spot};
 
-use tr_base::{LeafId, Spot};
-use tr_tree::Tree;
+use crate::owners::owner_of;
+use tr_base::{NodeId, Point, Rect, Size, Spot, sides, whole};
+use tr_tree::{NodeKind, Tree};
 
-pub fn is_leaf_spot(leaf: LeafId, spot: Spot) -> bool
-    ensures { result ≡ is_in_leaf leaf spot }
+/// What a point belongs to. It takes no memory, and looks only at nodes whose domain has the point
+/// and at their siblings in front.
+pub fn spot_at(tree: &Tree, p: Point) -> Spot
+    requires { HasRoot tree.now }
+    ensures { result ≡ spot tree.now p }
 {
-    match spot {
-        Spot::Leaf { leaf: l, .. } => l.0 == leaf.0,
-        _ => false,
+    // Called for what it tells the prover: that the nodes are a forest, and the screen has a size.
+    let _ = tree.count();
+    if !whole(tree.size()).has(p) {
+        return Spot::Off;
+    }
+    let root = tree.root().unwrap();
+    spot_on(tree, p, owner_of(tree, root, p))
+}
+
+/// What a point belongs to, by its owner.
+fn spot_on(tree: &Tree, p: Point, n: NodeId) -> Spot
+    requires size { IsScreenSize tree.now.size }
+    requires screen { has_point (whole_of tree.now.size) p ≡ true }
+    requires node { IsNode tree.now.nodes n }
+    ensures { result ≡ spot_on tree.now p n (node tree.now.nodes n).kind }
+{
+    let kind = tree.kind();
+    match tree.kind_of(n) {
+        NodeKind::Leaf { leaf, .. } => {
+            let domain = tree.domain(n);
+            Spot::Leaf {
+                leaf,
+                at: from_corner(&domain, p),
+                size: size_of(&domain),
+                kind,
+            }
+        }
+        _ => Spot::Frame {
+            node: n,
+            tint: tree.tint_of(n),
+            kind,
+        },
+    }
+}
+
+/// A point by its distance from a rectangle's corner.
+fn from_corner(rect: &Rect, p: Point) -> Point
+    requires across { InReach p.h }
+    requires down { InReach p.v }
+    ensures { result ≡ from_corner rect.now p }
+{
+    Point {
+        h: distance(p.h, rect.west()),
+        v: distance(p.v, rect.north()),
+    }
+}
+
+/// How far a coordinate is from another one.
+fn distance(x: i32, from: i32) -> i32
+    requires x { InReach x }
+    requires from { InReach from }
+    ensures { result ≡ x -ℤ from }
+{
+    x - from
+}
+
+/// The size of a node's rectangle.
+fn size_of(rect: &Rect) -> Size
+    requires { IsDomain rect.now }
+    ensures { result ≡ size_of rect.now }
+{
+    let (wide, high) = sides(rect);
+    Size {
+        wide: wide as u16,
+        high: high as u16,
     }
 }

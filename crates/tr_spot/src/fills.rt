@@ -1,0 +1,78 @@
+ghost use Rattle.std.specs.Prelude.{◌≡◌, ◌<◌, ℕ, [], length, IfOk, OnOk};
+ghost use Rattle.tr_base.specs.declared.Point.{Point};
+ghost use Rattle.tr_base.specs.declared.NodeId.{NodeId};
+ghost use Rattle.tr_base.specs.Rects.{whole_of};
+ghost use Rattle.tr_region.specs.Points.{holds};
+ghost use Rattle.tr_forest.specs.Nodes.{IsNode};
+ghost use Rattle.tr_forest.specs.Forests.{IsForest};
+ghost use Rattle.tr_spot.specs.Spots.{HasRoot, CoverOnce, owner, spot, is_spot_of, region_of};
+ghost use Rattle.tr_spot.specs.Gains.{Gains, always};
+
+use crate::owners::domain_of;
+use std::alloc::Global;
+use tr_base::{NoMemory, NodeId, whole};
+use tr_region::Region;
+use tr_tree::Tree;
+
+/// The region of each node, by the nodes' numbers, in one walk from front to back over what is
+/// still uncovered: a leaf's visible points, another node's frame.
+pub fn regions(alloc: Global, tree: &Tree) -> Result<Vec<Region>, NoMemory>
+    requires { HasRoot tree.now }
+    ensures count { IfOk result (λ r. length r.items ≡ length tree.now.nodes.entries) }
+    ensures points { IfOk result (λ r. (n : NodeId) (p : Point) → IsNode tree.now.nodes n →
+        holds (region_of r.items n) p ≡ is_spot_of tree.now n (spot tree.now p)) }
+    ensures cover { IfOk result (λ r. CoverOnce (whole_of tree.now.size) r.items) }
+{
+    let root = tree.root().unwrap();
+    let mut regions = empty_regions(alloc, tree.count())?;
+    let screen = Region::of_rect(alloc, whole(tree.size()))?;
+    fill(alloc, tree, root, screen, &mut regions)?;
+    Ok(regions)
+}
+
+fn empty_regions(alloc: Global, count: usize) -> Result<Vec<Region>, NoMemory>
+    ensures count { IfOk result (λ r. length r.items ≡ count) }
+    ensures empty { IfOk result (λ r. (n : NodeId) → region_of r.items n ≡ []) }
+{
+    let mut regions = Vec::with_capacity(alloc, count)?;
+    for _n in 0..count {
+        regions.push(Region::empty(alloc))?;
+    }
+    Ok(regions)
+}
+
+/// Adds to each node's region the points of a part of n that the node owns.
+fn fill(
+    alloc: Global,
+    tree: &Tree,
+    n: NodeId,
+    part: Region,
+    regions: &mut Vec<Region>,
+) -> Result<(), NoMemory>
+    requires forest { IsForest tree.now.nodes }
+    requires node { IsNode tree.now.nodes n }
+    requires regions { length regions.old.items ≡ length tree.now.nodes.entries }
+    ensures count { OnOk result (length regions.new.items ≡ length tree.now.nodes.entries) }
+    ensures gains { OnOk result (Gains part (owner tree.now n) regions.old.items regions.new.items) }
+{
+    let mut left = part;
+    for child in tree.children(n) {
+        let domain = domain_of(alloc, tree, *child)?;
+        let below = left.meet(&domain)?;
+        left = left.minus(&domain)?;
+        fill(alloc, tree, *child, below, regions)?;
+    }
+    add(regions, n, &left)
+}
+
+/// Adds points to the region of a node.
+fn add(regions: &mut Vec<Region>, n: NodeId, part: &Region) -> Result<(), NoMemory>
+    requires { n.0 < length regions.old.items }
+    ensures count { OnOk result (length regions.new.items ≡ length regions.old.items) }
+    ensures gains { OnOk result (Gains part.now (always n) regions.old.items regions.new.items) }
+{
+    let n = usize::from(n.0);
+    let sum = regions[n].union(part)?;
+    regions[n] = sum;
+    Ok(())
+}

@@ -1,0 +1,117 @@
+ghost use Rattle.std.specs.Prelude.{◌≡◌, ◌<◌, ◌&&◌, IfOk};
+ghost use Rattle.tr_base.specs.declared.Point.{Point};
+ghost use Rattle.tr_region.specs.Points.{holds};
+ghost use Rattle.tr_forest.specs.Nodes.{node, leaf_count, IsNode};
+ghost use Rattle.tr_forest.specs.Forests.{IsForest};
+ghost use Rattle.tr_forest.specs.Edits.{is_root};
+ghost use Rattle.tr_spot.specs.Spots.{is_in_leaf, is_on_frame, is_spot_of, spot};
+ghost use Rattle.tr_spot.specs.Ways.{front, is_it, is_nobody, comes_to};
+
+use crate::owners::domain_of;
+use std::alloc::Global;
+use tr_base::{LeafId, NoMemory, NodeId, empty_place, whole};
+use tr_region::Region;
+use tr_tree::{NodeKind, Tree};
+
+/// The points that belong to a leaf.
+pub fn visible(alloc: Global, tree: &Tree, leaf: LeafId) -> Result<Region, NoMemory>
+    requires { leaf.0 < leaf_count tree.now.nodes }
+    ensures points { IfOk result (λ r. (p : Point) → holds r p ≡ is_in_leaf leaf (spot tree.now p)) }
+{
+    // Called for what it tells the prover: that the nodes are a forest.
+    let _ = tree.count();
+    owned(alloc, tree, tree.node_of(leaf))
+}
+
+/// The points that belong to a node's frame. A leaf has none.
+pub fn frame(alloc: Global, tree: &Tree, n: NodeId) -> Result<Region, NoMemory>
+    requires { IsNode tree.now.nodes n }
+    ensures points { IfOk result (λ r. (p : Point) → holds r p ≡ is_on_frame n (spot tree.now p)) }
+{
+    // Called for what it tells the prover: that the nodes are a forest.
+    let _ = tree.count();
+    if let NodeKind::Leaf { .. } = tree.kind_of(n) {
+        return Ok(Region::empty(alloc));
+    }
+    owned(alloc, tree, n)
+}
+
+/// The points whose spot is that of the node: where the walk from the root comes to it, and finds
+/// no child to go on to.
+fn owned(alloc: Global, tree: &Tree, n: NodeId) -> Result<Region, NoMemory>
+    requires forest { IsForest tree.now.nodes }
+    requires node { IsNode tree.now.nodes n }
+    ensures { IfOk result (λ r. (p : Point) → holds r p ≡ is_spot_of tree.now n (spot tree.now p)) }
+{
+    let all = reached(alloc, tree, n)?;
+    uncovered(alloc, tree, n, all)
+}
+
+/// The points at which the walk from the root comes to the node.
+fn reached(alloc: Global, tree: &Tree, n: NodeId) -> Result<Region, NoMemory>
+    requires forest { IsForest tree.now.nodes }
+    requires node { IsNode tree.now.nodes n }
+    ensures { IfOk result (λ r. (p : Point) → holds r p ≡ comes_to tree.now p n) }
+{
+    if is_root(tree, n) {
+        return Region::of_rect(alloc, whole(tree.size()));
+    }
+    match tree.parent(n) {
+        None => Region::of_rect(alloc, empty_place()),
+        Some(parent) => {
+            let above = reached(alloc, tree, parent)?;
+            passed_on(alloc, tree, parent, n, &above)
+        }
+    }
+}
+
+fn is_root(tree: &Tree, n: NodeId) -> bool
+    ensures { result ≡ is_root tree.now.nodes n }
+{
+    match tree.root() {
+        Some(root) => root.0 == n.0,
+        None => false,
+    }
+}
+
+/// The points of a part of the parent that go on to the child: its domain has them, and that of no
+/// child in front.
+fn passed_on(
+    alloc: Global,
+    tree: &Tree,
+    parent: NodeId,
+    child: NodeId,
+    part: &Region,
+) -> Result<Region, NoMemory>
+    requires forest { IsForest tree.now.nodes }
+    requires parent { IsNode tree.now.nodes parent }
+    requires child { IsNode tree.now.nodes child }
+    ensures { IfOk result (λ r. (p : Point) →
+        holds r p ≡ holds part.now p && is_it child (front tree.now p (node tree.now.nodes parent).children)) }
+{
+    let domain = domain_of(alloc, tree, child)?;
+    let mut left = part.meet(&domain)?;
+    for sibling in tree.children(parent) {
+        if sibling.0 == child.0 {
+            return Ok(left);
+        }
+        let in_front = domain_of(alloc, tree, *sibling)?;
+        left = left.minus(&in_front)?;
+    }
+    Ok(Region::empty(alloc))
+}
+
+/// The points of a part of the node that no child's domain has.
+fn uncovered(alloc: Global, tree: &Tree, n: NodeId, part: Region) -> Result<Region, NoMemory>
+    requires forest { IsForest tree.now.nodes }
+    requires node { IsNode tree.now.nodes n }
+    ensures { IfOk result (λ r. (p : Point) →
+        holds r p ≡ holds part p && is_nobody (front tree.now p (node tree.now.nodes n).children)) }
+{
+    let mut left = part;
+    for child in tree.children(n) {
+        let covered = domain_of(alloc, tree, *child)?;
+        left = left.minus(&covered)?;
+    }
+    Ok(left)
+}
