@@ -1,5 +1,5 @@
 -- Windows that show the last lines of a typescript.
-use Rattle.std.specs.Prelude.{ℕ, ◌+◌, ◌-◌, ◌*◌, ◌/◌, ◌≤◌, ◌==◌, ℤ, pos, neg_ℤ, nat_lt, min, Bool, if◌then◌else◌, List, [], ◌∷◌, ◌++◌, length, drop, slice_index_or, unsigned_abs, All, Option, Some, None, codes}
+use Rattle.std.specs.Prelude.{ℕ, ◌-◌, ◌*◌, ◌/◌, ◌≤◌, ◌==◌, pos, neg_ℤ, nat_lt, min, Bool, if◌then◌else◌, List, [], ◌∷◌, ◌++◌, length, drop, slice_index_or, unsigned_abs, All, Option, Some, None, codes}
 use Rattle.tr_base.specs.declared.Point.{Point}
 use Rattle.tr_base.specs.declared.Size.{Size}
 use Rattle.tr_base.specs.declared.Event.{Event}
@@ -53,18 +53,14 @@ abbrev pub in_cells : ℕ → List ℕ → Point → Bool
 in_cells above line q = has_point (cells_of (begin_of above) (length line)) q
 
 -- the colour of a point by the line that stands there below so many others: the text is foreground, and what is beside it background
-abbrev pub colour_beside : Look → ℕ → List ℕ → Point → ℕ
-colour_beside look above line q = if in_cells above line q then colour_of (text_bit look.font (begin_of above) line q) else 0
+abbrev pub line_colour : Look → ℕ → List ℕ → Point → ℕ
+line_colour look above line q = if in_cells above line q then colour_of (text_bit look.font (begin_of above) line q) else 0
 
 -- the colour of a point where these lines stand one below the other; below the last one all is background
 abbrev pub colour_in : Look → List (List ℕ) → Point → ℕ
 colour_in look lines q =
     let above = unsigned_abs q.v / 8 in
-    colour_beside look above (slice_index_or lines above []) q
-
--- how many lines a window shows at most
-abbrev pub most_shown : Size → ℕ
-most_shown size = min (room size) most_lines
+    line_colour look above (slice_index_or lines above []) q
 
 -- a window shows the last lines, as many as it has room for
 abbrev pub lines_pic : Look → Size → List (List ℕ) → Point → ℕ
@@ -75,7 +71,7 @@ abbrev pub lines_next : List (List ℕ) → LinesCmd → List (List ℕ)
 lines_next lines (Line line) = last_of most_lines (lines ++ line ∷ [])
 lines_next lines Clear = []
 
--- the part of a window where a line stands that has so many above it, and those below that have fewer than `end` above them
+-- the part of a window where those lines stand that have at least `above` and fewer than `end` others above them
 abbrev pub area_of : Size → ℕ → ℕ → Edges
 area_of size above end = rect_of (pos 0) (pos size.wide) (pos (8 * above)) (pos (8 * end))
 
@@ -96,6 +92,10 @@ abbrev pub moved_up : Size → ℕ → List ℕ → List Paint
 moved_up size count line =
     let last = count - 1 in
     batch_of (Scroll (area_of size 0 last) upwards ∷ Tint (area_of size last count) Bg ∷ Text (whole_of size) (begin_of last) plain line ∷ [])
+
+-- how many lines a window shows at most
+abbrev pub most_shown : Size → ℕ
+most_shown size = min (room size) most_lines
 
 -- a new line is written below the others; where there is no room, they move upwards; and where no line has room, nothing is painted
 abbrev pub line_patch : Size → List (List ℕ) → List ℕ → List Paint

@@ -1,10 +1,10 @@
 -- A Lines obeys the laws of clients. These are proofs, which stand here since an impl cites nothing else of its crate; no contract cites them.
-use Rattle.std.proofs.Common.{◌≡◌, ℕ, ◌+◌, ◌-◌, ◌*◌, ◌/◌, ◌<◌, ◌≤◌, ◌==◌, min, ℤ, pos, neg_ℤ, ◌+ℤ◌, ◌-ℤ◌, ◌≤ℤ◌, Bool, true, false, ◌&&◌, cond, List, [], ◌∷◌, ◌++◌, length, drop, take, get_or, refl, sym, ap, subst, ◌∙◌, arith, add-one, eqb-true}
+use Rattle.std.proofs.Common.{◌≡◌, ℕ, ◌+◌, ◌-◌, ◌*◌, ◌/◌, ◌<◌, ◌≤◌, ◌==◌, min, ℤ, pos, neg_ℤ, ◌+ℤ◌, ◌-ℤ◌, ◌≤ℤ◌, Bool, true, false, ◌&&◌, cond, List, [], ◌∷◌, ◌++◌, length, drop, get_or, refl, sym, ap, subst, ◌∙◌, arith, add-one, eqb-true}
 use Rattle.std.specs.Prelude.{nat_lt, nat_le, slice_index, unsigned_abs}
 use Rattle.std.proofs.lemmas.Int.{ints}
 use Rattle.std.proofs.lemmas.Bool.Decides.{nat_tests}
 use Rattle.std.proofs.lemmas.Bool.{eqb-false}
-use Rattle.std.proofs.lemmas.List.{append-nil, length-append, length-drop, length-take, drop-drop, drop-append-le, drop_all, get_or_append_left, get_or_push, get_or_past}
+use Rattle.std.proofs.lemmas.List.{append-nil, length-append, length-drop, drop-drop, drop-append-le, drop_all, get_or_append_left, get_or_push, get_or_past}
 use Rattle.std.proofs.lemmas.List.Elements.{All-nil, All-push, All-drop}
 use borrow.Author.Tests.{ltb-true}
 use Rattle.tr_base.specs.declared.Point.{Point}
@@ -20,7 +20,7 @@ use Rattle.tr_paint.specs.declared.Paint.TheVariants.{Tint, Text, Scroll}
 use Rattle.tr_paint.specs.Paints.{cells_of, text_bit}
 use Rattle.tr_paint.specs.Traces.{Look, Deed, Keep, Lose, From, Value, Change, deed}
 use Rattle.tr_paint.specs.Patches.{IsPatch}
-use Rattle.tr_paint.specs.Batches.{kept, batch_of}
+use Rattle.tr_paint.specs.Batches.{kept}
 use Rattle.tr_paint.proofs.PatchLemmas.{Gives, no_patch, kept_patch, two_patches}
 use Rattle.tr_paint.specs.Paintings.{IsPainting}
 use Rattle.tr_paint.proofs.PaintingLemmas.{Makes, painting_alone, painting_more, painting_along, painting_is_patch}
@@ -31,7 +31,7 @@ use Rattle.tr_client.proofs.FlatLemmas.{flat-whole, meet-nothing}
 use Rattle.tr_client.proofs.PlainLemmas.{text-makes, meet-inside}
 use Rattle.w_lines.specs.declared.commands.LinesCmd.{LinesCmd}
 use Rattle.w_lines.specs.declared.commands.LinesCmd.TheVariants.{Line, Clear}
-use Rattle.w_lines.specs.Lines.{IsLines, IsLinesCmd, most_lines, last_of, room, most_shown, begin_of, in_cells, colour_beside, colour_in, lines_pic, lines_next, area_of, upwards, cleared, written_below, moved_up, line_patch, lines_patch, lines_keeps}
+use Rattle.w_lines.specs.Lines.{IsLines, IsLinesCmd, most_lines, last_of, room, most_shown, begin_of, in_cells, line_colour, colour_in, lines_pic, lines_next, area_of, upwards, cleared, written_below, moved_up, line_patch, lines_patch, lines_keeps}
 
 -- the cells of a line hold only points that have as many lines above them
 cells-above : (above : ℕ) (line : List ℕ) (q : Point) → in_cells above line q ≡ true → unsigned_abs q.v / 8 ≡ above
@@ -44,7 +44,7 @@ cells-above above line q here =
     down above v h = grind (arith, ints, nat_tests)
 
 -- where a line has no text all is background
-no_text : (look : Look) (above : ℕ) (q : Point) → colour_beside look above [] q ≡ 0
+no_text : (look : Look) (above : ℕ) (q : Point) → line_colour look above [] q ≡ 0
 no_text look above q = ap (λ b. cond b (colour_of (text_bit look.font (begin_of above) [] q)) 0) nowhere
   where
     nowhere : in_cells above [] q ≡ false
@@ -56,7 +56,7 @@ no_text look above q = ap (λ b. cond b (colour_of (text_bit look.font (begin_of
 colour-beyond : (look : Look) (lines : List (List ℕ)) (q : Point) → length lines ≤ unsigned_abs q.v / 8 → colour_in look lines q ≡ 0
 colour-beyond look lines q past =
     let above = unsigned_abs q.v / 8 in
-    ap (λ (line : List ℕ). colour_beside look above line q) (get_or_past lines above [] past) ∙ no_text look above q
+    ap (λ (line : List ℕ). line_colour look above line q) (get_or_past lines above [] past) ∙ no_text look above q
 
 -- one item more is found at its own place alone
 get_or-more : (xs : List (List ℕ)) (x : List ℕ) (i : ℕ) → (i ≡ length xs → ⊥) → get_or (xs ++ x ∷ []) i [] ≡ get_or xs i []
@@ -79,19 +79,19 @@ colour-more look lines line q = by_test (unsigned_abs q.v / 8) (unsigned_abs q.v
     written b old = cond b (colour_of (text_bit look.font (begin_of (length lines)) line q)) old
 
     by_test : (above : ℕ) (b : Bool) → unsigned_abs q.v / 8 ≡ above → (above == length lines) ≡ b →
-        written (in_cells (length lines) line q) (colour_beside look above (get_or lines above []) q)
-        ≡ colour_beside look above (get_or (lines ++ line ∷ []) above []) q
+        written (in_cells (length lines) line q) (line_colour look above (get_or lines above []) q)
+        ≡ line_colour look above (get_or (lines ++ line ∷ []) above []) q
     by_test above true is same =
         let here : above ≡ length lines = eqb-true above (length lines) same in
         let past = get_or_past lines (length lines) [] (omega arith) in
         rw here
-        (ap (λ (old : List ℕ). written (in_cells (length lines) line q) (colour_beside look (length lines) old q)) past
+        (ap (λ (old : List ℕ). written (in_cells (length lines) line q) (line_colour look (length lines) old q)) past
         ∙ ap (λ old. written (in_cells (length lines) line q) old) (no_text look (length lines) q)
-        ∙ ap (λ (new : List ℕ). colour_beside look (length lines) new q) (sym (get_or_push lines line [] (length lines) refl)))
+        ∙ ap (λ (new : List ℕ). line_colour look (length lines) new q) (sym (get_or_push lines line [] (length lines) refl)))
     by_test above false is apart =
         let beside : above ≡ length lines → ⊥ = eqb-false above (length lines) apart in
-        ap (λ b. written b (colour_beside look above (get_or lines above []) q)) (outside (in_cells (length lines) line q) refl beside)
-        ∙ ap (λ (new : List ℕ). colour_beside look above new q) (sym (get_or-more lines line above beside))
+        ap (λ b. written b (line_colour look above (get_or lines above []) q)) (outside (in_cells (length lines) line q) refl beside)
+        ∙ ap (λ (new : List ℕ). line_colour look above new q) (sym (get_or-more lines line above beside))
       where
         outside : (b : Bool) → in_cells (length lines) line q ≡ b → (above ≡ length lines → ⊥) → in_cells (length lines) line q ≡ false
         outside true inside apart = absurd (apart (sym is ∙ cells-above (length lines) line q inside))
@@ -99,7 +99,7 @@ colour-more look lines line q = by_test (unsigned_abs q.v / 8) (unsigned_abs q.v
 
 -- a line that stands one lower has the same colours eight points further down
 colour-lower : (look : Look) (above : ℕ) (line : List ℕ) (q : Point) →
-    colour_beside look (above + 1) line (before_shift q upwards) ≡ colour_beside look above line q
+    line_colour look (above + 1) line (before_shift q upwards) ≡ line_colour look above line q
 colour-lower look above line q =
     ap (λ b. coloured b (q.h -ℤ pos 0 -ℤ pos 0) (q.v -ℤ neg_ℤ (pos 8) -ℤ pos (8 * (above + 1)))) inside
     ∙ ap (λ h. coloured (in_cells above line q) h (q.v -ℤ neg_ℤ (pos 8) -ℤ pos (8 * (above + 1)))) (across q.h)
@@ -137,8 +137,8 @@ colour-moved : (look : Look) (first : List ℕ) (lines : List (List ℕ)) (q : P
 colour-moved look first lines q inside =
     let above = unsigned_abs q.v / 8 in
     let next = ap (λ n. get_or (first ∷ lines) n []) (add-one above) in
-    ap (λ n. colour_beside look n (get_or (first ∷ lines) n []) (before_shift q upwards)) (lower q.v inside)
-    ∙ ap (λ (line : List ℕ). colour_beside look (above + 1) line (before_shift q upwards)) next
+    ap (λ n. line_colour look n (get_or (first ∷ lines) n []) (before_shift q upwards)) (lower q.v inside)
+    ∙ ap (λ (line : List ℕ). line_colour look (above + 1) line (before_shift q upwards)) next
     ∙ colour-lower look above (get_or lines above []) q
   where
     lower : (v : ℤ) → pos 0 ≤ℤ v → unsigned_abs (v -ℤ neg_ℤ (pos 8)) / 8 ≡ unsigned_abs v / 8 + 1

@@ -26,8 +26,8 @@ pub fn begin_of(above: usize) -> Point
     }
 }
 
-/// The part of a window where a line stands that has so many above it, and those below that have
-/// fewer than `end` above them.
+/// The part of a window where those lines stand that have at least `above` and fewer than `end`
+/// others above them.
 pub fn area_of(size: Size, above: usize, end: usize) -> Rect
     requires size { IsWindowSize size }
     requires above { 8 * above ≤ longest }

@@ -9,7 +9,7 @@ const SQUARE: Size = Size { wide: 16, high: 16 };
 
 /// What a paint command does, beside its area.
 #[derive(Clone, Copy, Debug, PartialEq, Eq)]
-enum Deed {
+enum Seen {
     Clear,
     Write(Point),
     Move(Point),
@@ -21,18 +21,18 @@ fn point(h: i32, v: i32) -> Point {
 }
 
 /// What the commands of a batch do, each with its area.
-fn deeds_of(alloc: Global, batch: &Batch) -> Result<Vec<(Deed, Rect)>, Fail> {
-    let mut deeds = Vec::new(alloc);
+fn seen_of(alloc: Global, batch: &Batch) -> Result<Vec<(Seen, Rect)>, Fail> {
+    let mut all = Vec::new(alloc);
     for paint in batch.paints() {
-        let deed = match paint {
-            Paint::Tint { op: Op::Bg, .. } => Deed::Clear,
-            Paint::Text { at, .. } => Deed::Write(*at),
-            Paint::Scroll { delta, .. } => Deed::Move(*delta),
-            _ => Deed::Other,
+        let seen = match paint {
+            Paint::Tint { op: Op::Bg, .. } => Seen::Clear,
+            Paint::Text { at, .. } => Seen::Write(*at),
+            Paint::Scroll { delta, .. } => Seen::Move(*delta),
+            _ => Seen::Other,
         };
-        deeds.push((deed, paint.area()))?;
+        all.push((seen, paint.area()))?;
     }
-    Ok(deeds)
+    Ok(all)
 }
 
 /// The typescript after these keys.
@@ -69,24 +69,24 @@ fn lines_move_up_where_there_is_no_room(rt: HostRuntime) -> Result<(), Fail> {
     let line = LinesCmd::Line(Line::of(b"AB")?);
     let (_, patch) = full.change(alloc, &env, SQUARE, &empty_line)?;
     let mut want = Vec::new(alloc);
-    want.push((Deed::Move(point(0, -8)), Rect::edges(0, 16, 0, 8)))?;
-    want.push((Deed::Clear, Rect::edges(0, 16, 8, 16)))?;
-    assert_eq!(rt; deeds_of(alloc, &patch)?.as_slice(), want.as_slice());
+    want.push((Seen::Move(point(0, -8)), Rect::edges(0, 16, 0, 8)))?;
+    want.push((Seen::Clear, Rect::edges(0, 16, 8, 16)))?;
+    assert_eq!(rt; seen_of(alloc, &patch)?.as_slice(), want.as_slice());
     let (next, patch) = full.change(alloc, &env, SQUARE, &line)?;
-    want.push((Deed::Write(point(0, 8)), Rect::edges(0, 16, 8, 16)))?;
-    assert_eq!(rt; deeds_of(alloc, &patch)?.as_slice(), want.as_slice());
+    want.push((Seen::Write(point(0, 8)), Rect::edges(0, 16, 8, 16)))?;
+    assert_eq!(rt; seen_of(alloc, &patch)?.as_slice(), want.as_slice());
     assert_eq!(rt; next.value(alloc)?.bytes(), b"AB".as_slice());
     let tall = Size { wide: 9, high: 24 };
     let (_, patch) = full.change(alloc, &env, tall, &line)?;
-    let want = [(Deed::Write(point(0, 16)), Rect::edges(0, 9, 16, 24))];
-    assert_eq!(rt; deeds_of(alloc, &patch)?.as_slice(), want.as_slice());
+    let want = [(Seen::Write(point(0, 16)), Rect::edges(0, 9, 16, 24))];
+    assert_eq!(rt; seen_of(alloc, &patch)?.as_slice(), want.as_slice());
     let (_, patch) = full.change(alloc, &env, Size { wide: 16, high: 7 }, &line)?;
     assert!(rt; patch.is_empty());
     let (_, patch) = full.change(alloc, &env, Size { wide: 0, high: 16 }, &line)?;
     assert!(rt; patch.is_empty());
     let (next, patch) = full.change(alloc, &env, SQUARE, &LinesCmd::Clear)?;
-    let want = [(Deed::Clear, Rect::edges(0, 16, 0, 16))];
-    assert_eq!(rt; deeds_of(alloc, &patch)?.as_slice(), want.as_slice());
+    let want = [(Seen::Clear, Rect::edges(0, 16, 0, 16))];
+    assert_eq!(rt; seen_of(alloc, &patch)?.as_slice(), want.as_slice());
     assert!(rt; next.lines().is_empty() && next.value(alloc)?.bytes().is_empty());
     Ok(())
 }
@@ -107,11 +107,11 @@ fn the_last_lines_are_shown(rt: HostRuntime) -> Result<(), Fail> {
         Rect::edges(2, 30, 6, 30),
     )?;
     let want = [
-        (Deed::Clear, Rect::edges(2, 9, 6, 20)),
-        (Deed::Write(point(0, 0)), Rect::edges(2, 8, 6, 8)),
-        (Deed::Write(point(0, 8)), Rect::edges(2, 8, 8, 16)),
+        (Seen::Clear, Rect::edges(2, 9, 6, 20)),
+        (Seen::Write(point(0, 0)), Rect::edges(2, 8, 6, 8)),
+        (Seen::Write(point(0, 8)), Rect::edges(2, 8, 8, 16)),
     ];
-    assert_eq!(rt; deeds_of(alloc, &batch)?.as_slice(), want.as_slice());
+    assert_eq!(rt; seen_of(alloc, &batch)?.as_slice(), want.as_slice());
     let copy = typescript.copy(alloc)?;
     assert!(rt; copy.same(&typescript) && !copy.same(&typed(alloc, b"abd")?));
     assert!(rt; !copy.same(&typed(alloc, b"ab")?));

@@ -104,7 +104,7 @@ impl Lines {
         }
     }
 
-    /// Commands that paint a part of the picture: the background, and each line over it.
+    /// Commands that paint a part of the picture: the background, and each line that is shown over it.
     fn paints(&self, alloc: Global, size: Size, part: &Rect) -> Result<Batch, NoMemory>
         requires near { IsNearRect part.now }
         requires size { IsWindowSize size }

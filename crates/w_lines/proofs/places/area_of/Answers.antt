@@ -1,7 +1,7 @@
-use Rattle.std.proofs.Common.{◌≡◌, ℕ, ◌*◌, ◌≤◌, ℤ, pos, ◌&&◌, Bool, true, false, cond, refl, sym, arith}
+use Rattle.std.proofs.Common.{ℕ, ◌*◌, ◌≤◌, ℤ, pos, ◌&&◌, Bool, true, false, cond, refl, arith}
 use Rattle.std.specs.Prelude.{int_lt}
 use Rattle.std.proofs.lemmas.Int.{ints}
-use Rattle.tr_base.specs.Rects.{Edges, InReach, rect_of, empty_rect}
+use Rattle.tr_base.specs.Rects.{InReach, rect_of, empty_rect}
 use Rattle.tr_base.proofs.RectLemmas.{cast-rect}
 use Rattle.tr_paint.specs.Paints.{IsNear, IsNearRect}
 use Rattle.w_lines.proofs.places.area_of.Goals as goal
