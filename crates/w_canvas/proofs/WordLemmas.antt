@@ -5,9 +5,10 @@ use Rattle.std.proofs.lemmas.List.{append-nil, append_assoc}
 use Rattle.tr_base.specs.Rects.{InReach}
 use Rattle.tr_base.proofs.RectLemmas.{cast-in_reach}
 
--- the text of a coordinate that passed through 32 bits
-pub coordinate-text : (x y : ℤ) (text : List ℕ) → InReach x → x ≡ y → text ≡ signed_decimal (to_z w32 (of_z w32 x)) → text ≡ signed_decimal y
-coordinate-text x y text reach is written = written ∙ ap signed_decimal (cast-in_reach x reach ∙ is)
+-- the text of an edge that passed through 32 bits
+pub edge-text : (edge passed : ℤ) (digits text : List ℕ) → InReach passed → passed ≡ edge → digits ≡ signed_decimal (to_z w32 (of_z w32 passed)) →
+    text ≡ digits → text ≡ signed_decimal edge
+edge-text edge passed digits text reach is written same = same ∙ written ∙ ap signed_decimal (cast-in_reach passed reach ∙ is)
 
 -- a word and four texts, with one between any two of them
 pub edges-joined : (word between west east north south : List ℕ) →

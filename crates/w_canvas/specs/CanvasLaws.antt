@@ -30,7 +30,7 @@ use Rattle.tr_client.proofs.PlainLemmas.{meet-inside}
 use Rattle.w_canvas.specs.declared.canvases.Figure.{Figure}
 use Rattle.w_canvas.specs.declared.commands.CanvasCmd.{CanvasCmd}
 use Rattle.w_canvas.specs.declared.commands.CanvasCmd.TheVariants.{Rect, Exchange, Undo}
-use Rattle.w_canvas.specs.Canvases.{IsFigure, IsCanvas, IsCanvasCmd, most_figures, filled, exchanging, drawn_over, canvas_pic, with_figure, without_last, canvas_next, figure_paint, canvas_paints, with_patch, gone_patch, canvas_patch, canvas_keeps}
+use Rattle.w_canvas.specs.Canvases.{IsFigure, IsCanvas, IsCanvasCmd, most_figures, filled, exchanging, drawn_over, canvas_pic, with_figure, without_last, canvas_next, figure_paint, canvas_paints, with_patch, gone_patch, undo_patch, canvas_patch, canvas_keeps}
 use Rattle.w_canvas.specs.PartPatches.{part_patch}
 
 -- what a command with an operation makes of a pixel, by whether the point lies in its area
@@ -78,7 +78,7 @@ makes-gives kind size (Value x) old q new makes = makes
 makes-gives kind size (Change op) old q new makes = makes
 
 -- a new figure is painted over the others
-pub with_patches : (look : Look) (size : Size) (figures : List Figure) (f : Figure) →
+with_patches : (look : Look) (size : Size) (figures : List Figure) (f : Figure) →
     IsPatch look size (with_patch size figures f) (canvas_pic look size figures) (canvas_pic look size (with_figure figures f))
 with_patches look size figures f = by_room (nat_lt (length figures) most_figures)
   where
@@ -101,7 +101,7 @@ with_patches look size figures f = by_room (nat_lt (length figures) most_figures
     by_room false = no_patch look size old old (λ q here. refl)
 
 -- the figures under the last are painted anew where it lay
-pub under_patches : (look : Look) (size : Size) (left : List Figure) (f : Figure) →
+under_patches : (look : Look) (size : Size) (left : List Figure) (f : Figure) →
     IsPatch look size (gone_patch size left (Some f)) (canvas_pic look size (left ++ f ∷ [])) (canvas_pic look size left)
 under_patches look size left f =
     part_patch look size (meet_of (whole_of size) f.area) (canvas_paints (meet_of (whole_of size) f.area) left)
@@ -123,33 +123,29 @@ split-last figures f some is =
     ∙ take_more figures (length figures - 1) f some
     ∙ ap (λ (l : Figure). without_last figures ++ l ∷ []) is
 
-pub undo_patches : (look : Look) (size : Size) (figures : List Figure) →
-    IsPatch look size (gone_patch size (without_last figures) (slice_get figures (length figures - 1)))
-    (canvas_pic look size figures) (canvas_pic look size (without_last figures))
-undo_patches look size figures = elim (slice_get_cases figures (length figures - 1)).1 [
-  | inl some ↦ one some.0 some.1 some.2 some.3
-  | inr none ↦ empty none.0 none.1
-]
-  where
-    new : Point → ℕ
-    new = canvas_pic look size (without_last figures)
+-- the last figure goes, or there is none
+last_patches : (look : Look) (size : Size) (figures : List Figure) (f : Figure) → figures ≡ without_last figures ++ f ∷ [] →
+    IsPatch look size (gone_patch size (without_last figures) (Some f)) (canvas_pic look size figures) (canvas_pic look size (without_last figures))
+last_patches look size figures f split =
+    let left = without_last figures in
+    let P : List Figure → Type 0 = λ all. IsPatch look size (gone_patch size left (Some f)) (canvas_pic look size all) (canvas_pic look size left) in
+    subst P (sym split) (under_patches look size left f)
 
-    one : (f : Figure) → length figures - 1 < length figures → slice_get figures (length figures - 1) ≡ Some f →
-        get_or figures (length figures - 1) f ≡ f →
-        IsPatch look size (gone_patch size (without_last figures) (slice_get figures (length figures - 1))) (canvas_pic look size figures) (canvas_pic look size (without_last figures))
-    one f some is read =
-        subst (λ (o : Option Figure). IsPatch look size (gone_patch size (without_last figures) o) (canvas_pic look size figures) (canvas_pic look size (without_last figures)))
-        (sym is)
-        (subst (λ (fs : List Figure). IsPatch look size (gone_patch size (without_last figures) (Some f)) (canvas_pic look size fs) (canvas_pic look size (without_last figures)))
-        (sym (split-last figures f some read)) (under_patches look size (without_last figures) f))
+none_patches : (look : Look) (size : Size) (figures : List Figure) → length figures ≤ length figures - 1 →
+    IsPatch look size [] (canvas_pic look size figures) (canvas_pic look size (without_last figures))
+none_patches look size figures none =
+    no_patch look size (canvas_pic look size figures) (canvas_pic look size (without_last figures))
+    (λ q here. ap (λ (all : List Figure). canvas_pic look size all q) (sym (take_all (length figures - 1) figures none)))
 
-    empty : length figures ≤ length figures - 1 → slice_get figures (length figures - 1) ≡ None →
-        IsPatch look size (gone_patch size (without_last figures) (slice_get figures (length figures - 1))) (canvas_pic look size figures) (canvas_pic look size (without_last figures))
-    empty few is =
-        subst (λ (o : Option Figure). IsPatch look size (gone_patch size (without_last figures) o) (canvas_pic look size figures) (canvas_pic look size (without_last figures)))
-        (sym is)
-        (no_patch look size (canvas_pic look size figures) (canvas_pic look size (without_last figures))
-        (λ q here. ap (λ (fs : List Figure). canvas_pic look size fs q) (sym (take_all (length figures - 1) figures few))))
+undo_patches : (look : Look) (size : Size) (figures : List Figure) →
+    IsPatch look size (undo_patch size figures) (canvas_pic look size figures) (canvas_pic look size (without_last figures))
+undo_patches look size figures =
+    let left = without_last figures in
+    let P : Option Figure → Type 0 = λ gone. IsPatch look size (gone_patch size left gone) (canvas_pic look size figures) (canvas_pic look size left) in
+    elim (slice_get_cases figures (length figures - 1)).1 [
+      | inl some ↦ subst P (sym some.2) (last_patches look size figures some.0 (split-last figures some.0 some.1 some.3))
+      | inr none ↦ subst P (sym none.1) (none_patches look size figures none.0)
+    ]
 
 -- a figure more, where there is room, keeps all in range
 pub grown-valid : (x : List Figure) (f : Figure) → length x < most_figures → IsCanvas x → IsFigure f → IsCanvas (x ++ f ∷ [])
@@ -158,14 +154,14 @@ grown-valid x f room valid known = record {
   each = All-append IsFigure x (f ∷ []) valid.each (All-from_recursion IsFigure (f ∷ []) (known, tt));
 }
 
-pub with-valid : (x : List Figure) (f : Figure) → IsCanvas x → IsFigure f → IsCanvas (with_figure x f)
+with-valid : (x : List Figure) (f : Figure) → IsCanvas x → IsFigure f → IsCanvas (with_figure x f)
 with-valid x f valid known = by_room (nat_lt (length x) most_figures) refl
   where
     by_room : (b : Bool) → nat_lt (length x) most_figures ≡ b → IsCanvas (cond b (x ++ f ∷ []) x)
     by_room true room = grown-valid x f (ltb-true (length x) most_figures room) valid known
     by_room false full = valid
 
-pub without-valid : (x : List Figure) → IsCanvas x → IsCanvas (without_last x)
+without-valid : (x : List Figure) → IsCanvas x → IsCanvas (without_last x)
 without-valid x valid = record {
   most = omega (arith, length-take (length x - 1) x, valid.most);
   each = All-take IsFigure (length x - 1) x valid.each;

@@ -114,11 +114,15 @@ abbrev pub gone_patch : Size → List Figure → Option Figure → List Paint
 gone_patch size left None = []
 gone_patch size left (Some f) = canvas_paints (meet_of (whole_of size) f.area) left
 
+-- the last figure goes, if there is one
+abbrev pub undo_patch : Size → List Figure → List Paint
+undo_patch size figures = gone_patch size (without_last figures) (slice_get figures (length figures - 1))
+
 -- a command paints the figure that it draws, or what lies under the one that it takes away
 abbrev pub canvas_patch : Look → Size → List Figure → CanvasCmd → List Paint
 canvas_patch look size figures (Rect area tint) = with_patch size figures (filled area tint)
 canvas_patch look size figures (Exchange area a b) = with_patch size figures (exchanging area a b)
-canvas_patch look size figures Undo = gone_patch size (without_last figures) (slice_get figures (length figures - 1))
+canvas_patch look size figures Undo = undo_patch size figures
 
 -- a point that the greatest window has
 abbrev pub is_drawable : Point → Bool

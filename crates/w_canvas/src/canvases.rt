@@ -1,4 +1,4 @@
-ghost use Rattle.std.specs.Prelude.{◌≡◌, ◌-◌, ◌↔◌, [], true, pos, length, slice_get, IsTrue, IfOk, IfSome};
+ghost use Rattle.std.specs.Prelude.{◌≡◌, ◌↔◌, [], true, pos, IsTrue, IfOk, IfSome};
 ghost use Rattle.tr_base.specs.Layouts.{longest};
 ghost use Rattle.tr_base.specs.Rects.{between};
 ghost use Rattle.tr_paint.specs.Paints.{IsNearPaint, IsNearRect};
@@ -71,7 +71,8 @@ impl Figure {
     }
 }
 
-/// The commands that paint figures in a part of the window: the background, and each figure over it.
+/// The commands that paint figures in a part of the window: the background, and over it each figure
+/// that lies there.
 fn paints(alloc: Global, part: &Rect, figures: &[Figure]) -> Result<Batch, NoMemory>
     requires { IsNearRect part.now }
     ensures { IfOk result (λ batch. batch ≡ spec.canvas_paints part.now figures.now) }
@@ -159,7 +160,7 @@ impl Canvas {
     /// The patch for the last figure that goes away.
     fn undo_patch(&self, alloc: Global, size: Size) -> Result<Batch, NoMemory>
         requires { IsWindowSize size }
-        ensures { IfOk result (λ batch. batch ≡ spec.gone_patch size (spec.without_last self.now) (slice_get self.now (length self.now - 1))) }
+        ensures { IfOk result (λ batch. batch ≡ spec.undo_patch size self.now) }
     {
         let figures = self.figures();
         if figures.is_empty() {

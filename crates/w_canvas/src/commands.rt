@@ -19,7 +19,8 @@ pub enum CanvasCmd {
     Undo,
 }
 
-/// Puts a word, the edges of a rectangle and what comes behind them at the end of `out`, or nothing.
+/// Puts a word, the edges of a rectangle and the texts that come behind them at the end of `out`, or
+/// nothing.
 fn append_with_edges(
     out: &mut Vec<u8>,
     word: &[u8],

@@ -5,7 +5,7 @@ use points::{Draw, Grid, holds_to_its_picture};
 use std::alloc::Global;
 use std::test::Fail;
 use tr_base::{Click, Command, Env, Event, Font, Kind, Op, Point, Rect, Size};
-use tr_client::Client;
+use tr_client::{Client, Prepared};
 use tr_paint::{Batch, Paint};
 
 const SQUARE: Size = Size { wide: 4, high: 4 };
@@ -187,6 +187,23 @@ fn events_ask_for_commands(rt: HostRuntime) -> Result<(), Fail> {
         let event = Event::Key { time: 1, code };
         assert_eq!(rt; words_of_answer(alloc, &event)?.as_slice(), want);
     }
+    Ok(())
+}
+
+#[test]
+fn prepared_commands_are_fitted_anew(rt: HostRuntime) -> Result<(), Fail> {
+    let alloc = rt.alloc();
+    let font = Font::empty(alloc)?;
+    let area = Area::edges(1, 3, 0, 9);
+    let mut prepared = Prepared::fresh(alloc, Canvas::new(alloc)?, &font, SQUARE, Kind::Mono)?;
+    prepared.add(CanvasCmd::Rect { area, tint: 7 })?;
+    prepared.add(CanvasCmd::Exchange { area, a: 0, b: 1 })?;
+    prepared.add(CanvasCmd::Undo)?;
+    assert_eq!(rt; prepared.batch.len(), 4);
+    let narrow = Size { wide: 1, high: 4 };
+    prepared.refit(Canvas::new(alloc)?, &font, narrow, Kind::Map8)?;
+    assert!(rt; prepared.batch.is_empty());
+    assert_eq!(rt; prepared.to.figures().len(), 1);
     Ok(())
 }
 

@@ -1,4 +1,5 @@
-//! What a Canvas paints, held against its figures point by point, by a plain and slow reading of tints.
+//! What a Canvas paints, held against its figures point by point, by a plain and slow reading of
+//! tints.
 ghost use Rattle.std.specs.Prelude.{◌≤◌};
 ghost use Rattle.tr_client.specs.Laws.{IsWindowSize};
 ghost use Rattle.w_canvas.specs.Areas.{IsFigureEdge};

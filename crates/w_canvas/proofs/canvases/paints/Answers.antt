@@ -10,6 +10,7 @@ pub loop-figure-preserved : goal.loop-figure-preserved
 loop-figure-preserved c =
     let figures = c.args.figures.now in
     let figure = c.figure-item.result in
-    let more : take (c.loop-figure.figure-index + 1) figures ≡ take c.loop-figure.figure-index figures ++ figure ∷ [] =
-    take_more figures c.loop-figure.figure-index figure c.loop-figure-test.true ∙ ap (λ f. take c.loop-figure.figure-index figures ++ f ∷ []) (sym c.figure-item.is) in
-    rw (c.in_ok-push-2.ensures.ok, c.paint.ensures.value, more, paints-more c.args.part.now (take c.loop-figure.figure-index figures) figure, ← c.loop-figure.invariant) refl
+    let i = c.loop-figure.figure-index in
+    let more : take (i + 1) figures ≡ take i figures ++ figure ∷ [] =
+    take_more figures i figure c.loop-figure-test.true ∙ ap (λ f. take i figures ++ f ∷ []) (sym c.figure-item.is) in
+    rw (c.in_ok-push-2.ensures.ok, c.paint.ensures.value, more, paints-more c.args.part.now (take i figures) figure, ← c.loop-figure.invariant) refl

@@ -10,4 +10,5 @@ invariant_of-result c =
     c.in_ok-extend_from_slice.ensures.items ∙ ap (λ (l : List Figure). l ++ figures) c.in_ok-more.ensures.items in
     let grown : c.push.new.self.items ≡ figures ++ c.args.figure ∷ [] =
     c.in_ok-push.ensures.items ∙ ap (λ (l : List Figure). l ++ c.args.figure ∷ []) copied in
-    rw grown (grown-valid figures c.args.figure c.if-figures-lt-FIGURES.true (rw c.figures-figures.ensures.value c.figures-figures.ensures.invariant) c.requires)
+    let valid = rw (← c.figures-figures.ensures.value) at c.figures-figures.ensures.invariant in
+    rw grown (grown-valid figures c.args.figure c.if-figures-lt-FIGURES.true valid c.requires)

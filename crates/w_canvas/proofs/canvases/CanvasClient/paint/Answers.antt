@@ -9,5 +9,7 @@ pub returns-clause-painting : goal.returns-clause-painting
 returns-clause-painting c =
     let part = meet_of (whole_of c.args.size) c.args.clip in
     let is : c.in_ok-batch.batch ≡ canvas_paints part c.args.self.now =
-    c.in_ok-batch.ensures ∙ ap (λ (p : Edges). canvas_paints p c.figures.result.now) c.part_of_window.ensures.edges ∙ ap (canvas_paints part) c.figures.ensures.value in
+    c.in_ok-batch.ensures
+    ∙ ap (λ (p : Edges). canvas_paints p c.figures.result.now) c.part_of_window.ensures.edges
+    ∙ ap (canvas_paints part) c.figures.ensures.value in
     rw is (canvas_painting (look_of c.args._env.now.kind c.args._env.now.font.now) c.args.size part c.args.self.now)
