@@ -1,0 +1,39 @@
+-- Why a desk refuses something.
+use Rattle.std.specs.Prelude.{ℕ, Bool, true, false, not, ◌&&◌, ◌==◌, nat_le, nat_lt, if◌then◌else◌, Option, Some, None}
+use Rattle.tr_base.specs.declared.LeafId.{LeafId}
+use Rattle.tr_base.specs.declared.Selection.{Selection}
+use Rattle.tr_desk.specs.declared.desks.DeskFault.{DeskFault}
+use Rattle.tr_desk.specs.declared.desks.DeskFault.TheVariants.{Earlier, Held, NotHeld, NotCurrent, NotOwner}
+use Rattle.tr_desk.specs.Desks.{Devices, is_held, owner, state_of}
+
+-- an event may not be older than the one before it
+abbrev pub time_fault : Devices → ℕ → Option DeskFault
+time_fault d time = if nat_lt time d.time then Some (Earlier d.time) else None
+
+-- a button that goes down isn't held before, and one that goes up is
+abbrev pub button_fault : Bool → Bool → Option DeskFault
+button_fault down held = if down && held then Some Held else if not down && not held then Some NotHeld else None
+
+-- the first fault of two
+abbrev pub first_of : Option DeskFault → Option DeskFault → Option DeskFault
+first_of None second = second
+first_of (Some fault) second = Some fault
+
+-- why a button can't go down or up at a time
+abbrev pub mouse_fault : Devices → ℕ → ℕ → Bool → Option DeskFault
+mouse_fault d time button down = first_of (time_fault d time) (button_fault down (is_held d button))
+
+-- a leaf may own a selection by the event that it was sent last, if that was the last of all
+abbrev pub own_fault : Devices → LeafId → ℕ → Option DeskFault
+own_fault d leaf time =
+    if nat_le 1 time && (time == d.time) && (time == (state_of d leaf).last) then None
+    else Some (NotCurrent d.time (state_of d leaf).last)
+
+-- the leaf is this one
+abbrev pub is_leaf : LeafId → Option LeafId → Bool
+is_leaf leaf None = false
+is_leaf leaf (Some other) = other.0 == leaf.0
+
+-- only its owner gives a selection up
+abbrev pub disown_fault : Devices → LeafId → Selection → Option DeskFault
+disown_fault d leaf selection = if is_leaf leaf (owner d selection) then None else Some NotOwner
