@@ -85,8 +85,10 @@ abbrev pub zero_node : NodeId
 zero_node = record { 0 = 0 }
 
 -- a child, as the code goes over the children
-pub listed_below : (t : Nodes) → IsForest t → (n : NodeId) (cs : List NodeId) (i : ℕ) → cs ≡ (node t n).children → i < length cs → IsBelow t n (get_or cs i zero_node)
-listed_below t forest n cs i is lt = child_below t forest n (get_or cs i zero_node) (ap (λ (ks : List NodeId). is_among (get_or cs i zero_node) ks) (sym is) ∙ among_at cs i zero_node lt)
+pub listed_below : (t : Nodes) → IsForest t → (n : NodeId) (cs : List NodeId) (i : ℕ) → cs ≡ (node t n).children → i < length cs →
+    IsBelow t n (get_or cs i zero_node)
+listed_below t forest n cs i is lt = child_below t forest n (get_or cs i zero_node)
+    (ap (λ (ks : List NodeId). is_among (get_or cs i zero_node) ks) (sym is) ∙ among_at cs i zero_node lt)
 
 -- what is found is in the list, and passes the test
 pub find_among : (test : NodeId → Bool) (cs : List NodeId) (c : NodeId) → find test cs ≡ Some c → is_among c cs ≡ true

@@ -19,7 +19,8 @@ use tr_tree::Tree;
 /// node is its owner at the first child whose domain has it, and else the node. It does nothing.
 pub fn levels_suffice(tree: &Tree)
     ensures { (n : NodeId) (p : Point) → owner tree.now n p ≡
-        followed n (λ c. owner tree.now c p) (find (λ c. has_point (domain tree.now c) p) (node tree.now.nodes n).children) }
+        followed n (λ c. owner tree.now c p)
+        (find (λ c. has_point (domain tree.now c) p) (node tree.now.nodes n).children) }
 {
     let _ = tree.count();
 }

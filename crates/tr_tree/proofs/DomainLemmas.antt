@@ -1,14 +1,12 @@
 -- Sixteen levels are enough, so domains follow from their parents' with no count of levels; and where there are none.
-use Rattle.std.proofs.Common.{◌≡◌, ℕ, zero, suc, ◌+◌, ◌<◌, ◌≤◌, Bool, true, false, cond, not, ◌||◌, eqb, List, [], ◌∷◌, map, Option, Some, None, length, get_or, All, refl, sym, ap, subst, ◌∙◌, arith}
+use Rattle.std.proofs.Common.{◌≡◌, ℕ, zero, suc, ◌<◌, ◌≤◌, Bool, true, false, cond, not, ◌||◌, eqb, map, Option, Some, None, length, get_or, refl, sym, ap, subst, ◌∙◌, arith}
 use Rattle.std.proofs.lemmas.Bool.Decides.{nat_tests}
-use Rattle.std.proofs.lemmas.List.Elements.{All-map}
 use Rattle.tr_base.specs.declared.NodeId.{NodeId}
-use Rattle.tr_base.specs.declared.Point.{Point}
 use Rattle.tr_base.specs.declared.Size.{Size}
 use Rattle.tr_base.specs.declared.Kind.{Kind}
 use Rattle.tr_base.specs.Rects.{Edges, empty_rect, whole_of}
 use Rattle.tr_forest.specs.Nodes.{Nodes, node}
-use Rattle.tr_forest.specs.Families.{is_among, deeper, depth, depth_within, of_parent, is_under}
+use Rattle.tr_forest.specs.Families.{deeper, depth_within, of_parent, is_under}
 use Rattle.tr_forest.specs.Edits.{is_root}
 use Rattle.tr_forest.specs.Forests.{IsForest}
 use Rattle.tr_tree.specs.Trees.{Seen}

@@ -1,19 +1,19 @@
 -- The table of shapes that is filled upwards has the shapes.
-use Rattle.std.proofs.Common.{◌≡◌, ◌≢◌, ℕ, ◌+◌, ◌<◌, ◌≤◌, ◌⊎◌, inl, inr, Bool, true, false, ◌==◌, not, nat_lt, List, [], ◌∷◌, ◌++◌, Option, Some, None, map, take, drop, set, length, get_or, refl, sym, ap, subst, ◌∙◌, add-one, arith}
+use Rattle.std.proofs.Common.{◌≡◌, ◌≢◌, ℕ, ◌+◌, ◌<◌, ◌≤◌, ◌⊎◌, inl, inr, Bool, true, false, ◌==◌, not, nat_lt, List, [], ◌∷◌, Option, Some, None, map, drop, set, length, get_or, refl, sym, ap, subst, ◌∙◌, add-one, arith}
 use Rattle.std.specs.Prelude.{is_some}
 use Rattle.std.proofs.Math.Seq.{drop-cons}
 use Rattle.std.proofs.lemmas.Bool.Decides.{nat_tests}
-use Rattle.std.proofs.lemmas.List.{get_or-set_same, get_or-set_other, get_or_past, drop_all, map_more, take_all, take_more_set}
+use Rattle.std.proofs.lemmas.List.{get_or-set_same, get_or-set_other, get_or_past, drop_all}
 use Rattle.tr_base.specs.declared.NodeId.{NodeId}
 use Rattle.tr_base.specs.declared.Shapes.{Shapes}
-use Rattle.tr_forest.specs.Nodes.{Nodes, IsNode, node}
+use Rattle.tr_forest.specs.Nodes.{Nodes, node}
 use Rattle.tr_forest.specs.Families.{levels, is_among, is_under}
 use Rattle.tr_forest.specs.Forests.{IsForest}
 use Rattle.tr_tree.specs.Wishes.{shape, shape_of, no_shapes}
 use Rattle.tr_tree.specs.Tables.{shape_in}
 use Rattle.tr_tree.specs.Filling.{AreKeptOrRight, Fills, HasChildren}
-use Rattle.tr_forest.proofs.FamilyLemmas.{IsUnderChild, among_split, by_id, under_split}
-use Rattle.tr_tree.proofs.ChildLemmas.{IsTopOf, numbers_apart, top_of, under_own}
+use Rattle.tr_forest.proofs.FamilyLemmas.{among_split, by_id, under_split}
+use Rattle.tr_tree.proofs.TopLemmas.{IsTopOf, numbers_apart, top_of, under_own}
 use Rattle.tr_tree.proofs.ShapeLemmas.{map_among, shape_law, shape_outside}
 
 -- the shapes of a node whose children's shapes the table has
@@ -21,19 +21,6 @@ pub shape_above_is : (t : Nodes) → IsForest t → (n : NodeId) (table gathered
     gathered ≡ map (shape_in table) (node t n).children → shape_of (node t n).kind gathered ≡ shape t n
 shape_above_is t forest n table gathered has is =
     ap (shape_of (node t n).kind) (is ∙ map_among (node t n).children (shape_in table) (shape t) has.right) ∙ sym (shape_law t forest n)
-
--- the shapes of some nodes, one after another, and one more
-pub gathered_more : (table room : List Shapes) (nodes : List NodeId) (i : ℕ) (d : NodeId) (x : Shapes) → i < length nodes → length nodes ≤ length room →
-    x ≡ shape_in table (get_or nodes i d) → take i room ≡ map (shape_in table) (take i nodes) →
-    take (i + 1) (set room i x) ≡ map (shape_in table) (take (i + 1) nodes)
-gathered_more table room nodes i d x lt le is e =
-    take_more_set room i x (omega arith) ∙ ap (λ (xs : List Shapes). xs ++ x ∷ []) e ∙ ap (λ (y : Shapes). map (shape_in table) (take i nodes) ++ y ∷ []) is
-    ∙ sym (map_more (shape_in table) nodes i d lt)
-
-pub gathered_all : (table room : List Shapes) (nodes : List NodeId) (i : ℕ) → i ≡ length nodes → take i room ≡ map (shape_in table) (take i nodes) →
-    take (length nodes) room ≡ map (shape_in table) nodes
-gathered_all table room nodes i all e =
-    ap (λ k. take k room) (sym all) ∙ e ∙ ap (map (shape_in table)) (take_all i nodes (omega arith))
 
 -- on the way over the children of n: what lies below a child is right, or the child is still to come
 pub record Filling (t : Nodes) (n : NodeId) (rest : List NodeId) (old now : List Shapes) : Type 0 where

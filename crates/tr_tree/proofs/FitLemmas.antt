@@ -1,5 +1,5 @@
 -- Where a node has its children: near it, and nowhere where it is empty.
-use Rattle.std.proofs.Common.{◌≡◌, ℕ, ◌+◌, ◌*◌, ◌/◌, ◌%◌, ◌<◌, ◌≤◌, ℤ, pos, neg_ℤ, ◌+ℤ◌, ◌-ℤ◌, ◌≤ℤ◌, ◌<ℤ◌, Bool, true, false, ◌&&◌, ltb, cond, ◌⊎◌, inl, inr, List, [], ◌∷◌, map, length, get_or, All, int_lt, unsigned_abs, refl, sym, ap, subst, ◌∙◌, arith}
+use Rattle.std.proofs.Common.{◌≡◌, ℕ, ◌+◌, ◌*◌, ◌/◌, ◌%◌, ◌<◌, ◌≤◌, ℤ, pos, neg_ℤ, ◌+ℤ◌, ◌-ℤ◌, ◌≤ℤ◌, ◌<ℤ◌, Bool, true, false, ◌&&◌, ltb, cond, inl, inr, List, [], ◌∷◌, map, length, get_or, All, int_lt, unsigned_abs, refl, sym, ap, subst, arith}
 use Rattle.std.specs.Int.{int_min, int_max}
 use Rattle.std.proofs.lemmas.Int.{ints}
 use Rattle.std.proofs.lemmas.Bool.Decides.{nat_tests}
@@ -11,7 +11,7 @@ use Rattle.tr_base.specs.declared.Shapes.{Shapes}
 use Rattle.tr_base.specs.Rects.{Edges, IsRect, InReach, empty_rect, rect_of, sides_of, whole_of}
 use Rattle.tr_base.specs.declared.Size.{Size}
 use Rattle.tr_base.specs.Shapes.{Lengths}
-use Rattle.tr_base.specs.Layouts.{longest, farthest, turned, placed, places_by, preferred_place, has_points, along, IsDomain, IsOffset, IsPartOf, IsNear}
+use Rattle.tr_base.specs.Layouts.{longest, farthest, turned, placed, places_by, preferred_place, has_points, along, IsDomain, IsPartOf, IsNear}
 use Rattle.tr_base.proofs.LayoutLemmas.{by_rect_of, empty_is_rect, near_part, turned-rect_of, all_places, part_itself}
 use Rattle.tr_base.proofs.RectFacts.{rect_of-full}
 use Rattle.tr_hv.specs.Places as hv

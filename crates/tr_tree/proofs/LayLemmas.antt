@@ -1,22 +1,21 @@
 -- The table that is filled from the root downwards has the domains.
-use Rattle.std.proofs.Common.{◌≡◌, ◌≢◌, ℕ, ◌+◌, ◌-◌, ◌<◌, ◌≤◌, Bool, true, false, not, eqb, ltb, ◌⊎◌, inl, inr, List, [], ◌∷◌, map, Option, Some, None, length, get_or, set, take, drop, All, AllPairs, refl, sym, ap, subst, ◌∙◌, arith}
+use Rattle.std.proofs.Common.{◌≡◌, ◌≢◌, ℕ, ◌+◌, ◌-◌, ◌<◌, ◌≤◌, Bool, true, false, not, eqb, ◌⊎◌, inl, inr, List, [], ◌∷◌, Some, None, length, get_or, set, take, drop, All, AllPairs, refl, sym, ap, subst, ◌∙◌, arith}
 use Rattle.std.proofs.lemmas.Bool.Decides.{nat_tests}
 use Rattle.std.proofs.lemmas.List.{get_or-set_same, get_or-set_other, get_or-take, get_or_default, get_or_read, drop_more, drop_all}
 use Rattle.tr_base.specs.declared.NodeId.{NodeId}
-use Rattle.tr_base.specs.declared.Size.{Size}
 use Rattle.tr_base.specs.Rects.{Edges, empty_rect, whole_of}
-use Rattle.tr_forest.specs.Nodes.{Nodes, IsNode, node}
-use Rattle.tr_forest.specs.Families.{is_among, deeper, depth, is_under}
+use Rattle.tr_forest.specs.Nodes.{node}
+use Rattle.tr_forest.specs.Families.{is_among, depth, is_under}
 use Rattle.tr_forest.specs.Edits.{IsScreenSize}
 use Rattle.tr_forest.specs.Forests.{IsForest}
 use Rattle.tr_tree.specs.Trees.{Seen}
 use Rattle.tr_tree.specs.Places.{child_places, domain}
 use Rattle.tr_tree.specs.Tables.{domain_in}
 use Rattle.tr_tree.specs.Laying.{Spreads, Fits, ArePlaced, IsAt, Stands, IsLaid, Lays}
-use Rattle.tr_forest.proofs.FamilyLemmas.{by_id, same_id, test_same, test_apart, among_at, among_split, depth_child, depth_some, under_itself, IsUnderChild, under_split}
-use Rattle.tr_tree.proofs.KinLemmas.{StandsIn, place_among}
+use Rattle.tr_forest.proofs.FamilyLemmas.{by_id, same_id, test_apart, among_at, among_split, depth_child, depth_some, under_itself, under_split}
+use Rattle.tr_tree.proofs.KinLemmas.{place_among}
 use Rattle.tr_tree.proofs.FitLemmas.{fits_empty, all_or, at_empty, at_more, at_child, root_at}
-use Rattle.tr_tree.proofs.DomainLemmas.{child_domain, root_domain, IsLoose, loose_domain, no_root, off_root}
+use Rattle.tr_tree.proofs.DomainLemmas.{child_domain, root_domain, loose_domain, no_root, off_root}
 
 -- ---- spreading places over the table
 

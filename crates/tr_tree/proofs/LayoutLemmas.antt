@@ -1,29 +1,22 @@
 -- What the tables of a tree keep, and which edits leave them right.
-use Rattle.std.proofs.Common.{◌≡◌, ◌≢◌, ℕ, zero, suc, ◌+◌, ◌<◌, ◌≤◌, Bool, true, false, cond, List, [], ◌∷◌, ◌++◌, Option, Some, None, map, set, length, length-set, length-append, get_or, refl, sym, ap, subst, ◌∙◌, arith}
-use Rattle.std.proofs.lemmas.List.{get_or-set_same, get_or-set_other, get_or_read_under}
+use Rattle.std.proofs.Common.{◌≡◌, ℕ, zero, suc, ◌+◌, cond, [], ◌∷◌, ◌++◌, Option, Some, None, map, set, length, length-set, length-append, get_or, refl, sym, ap, subst, ◌∙◌}
+use Rattle.std.proofs.lemmas.List.{get_or-set_same, get_or-set_other}
 use Rattle.tr_base.specs.declared.NodeId.{NodeId}
 use Rattle.tr_base.specs.declared.Size.{Size}
-use Rattle.tr_base.specs.declared.Kind.{Kind}
-use Rattle.tr_base.specs.declared.Shapes.{Shapes}
-use Rattle.tr_base.specs.declared.Point.{Point}
-use Rattle.tr_base.specs.Layouts.{IsDomain}
 use Rattle.tr_base.specs.Rects.{Edges, empty_rect, whole_of}
 use Rattle.tr_forest.specs.declared.NodeKind.{NodeKind}
 use Rattle.tr_forest.specs.declared.NodeKind.TheVariants as kinds
 use Rattle.tr_forest.specs.declared.Edit.{Edit}
 use Rattle.tr_forest.specs.declared.Edit.TheVariants as edits
 use Rattle.tr_forest.specs.Nodes.{Nodes, Entry, IsNode, fresh, node}
-use Rattle.tr_forest.specs.Families.{deeper, depth_within}
-use Rattle.tr_forest.specs.Forests.{IsForest}
-use Rattle.tr_forest.specs.Edits.{IsEdit, IsScreenSize, edited, is_root}
-use Rattle.tr_forest.proofs.FamilyLemmas.{by_id, depth_suc, depth_zero}
+use Rattle.tr_forest.specs.Edits.{IsEdit, edited, is_root}
+use Rattle.tr_forest.proofs.FamilyLemmas.{by_id}
 use Rattle.tr_tree.specs.declared.layouts.Layout.{Layout}
-use Rattle.tr_tree.specs.Trees.{Seen, size_after, kind_after}
-use Rattle.tr_tree.specs.Wishes.{shape, no_shapes}
-use Rattle.tr_tree.specs.Places.{index_of, places_of, child_places, place_below, domain, domain_within}
-use Rattle.tr_tree.specs.Tables.{shape_in, domain_in}
-use Rattle.tr_tree.specs.Ready.{HavePlaces, HasShapes, HasDomains, IsLaidOut, HaveSamePlaces}
-use Rattle.tr_tree.proofs.ChildLemmas.{numbers_apart}
+use Rattle.tr_tree.specs.Trees.{Seen, size_after}
+use Rattle.tr_tree.specs.Wishes.{shape}
+use Rattle.tr_tree.specs.Places.{index_of, places_of, child_places, place_below, domain_within}
+use Rattle.tr_tree.specs.Ready.{HavePlaces, HasShapes, IsLaidOut, HaveSamePlaces}
+use Rattle.tr_tree.proofs.TopLemmas.{numbers_apart}
 use Rattle.tr_tree.proofs.ShapeLemmas.{map_among, shapes_same}
 
 -- nodes that differ at most in their tints

@@ -1,9 +1,9 @@
-pub mod ChildLemmas
+pub mod TopLemmas
 pub mod ShapeLemmas
 pub mod FillLemmas
+pub mod LayoutLemmas
 pub mod KinLemmas
 pub mod FitLemmas
 pub mod DomainLemmas
-pub mod PlaceLemmas
 pub mod LayLemmas
-pub mod LayoutLemmas
+pub mod PlaceLemmas

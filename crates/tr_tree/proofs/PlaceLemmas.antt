@@ -11,15 +11,13 @@ use Rattle.tr_base.proofs.LayoutLemmas.{taken_more}
 use Rattle.tr_stack.specs.Stacks.{z_places}
 use Rattle.tr_stack.proofs.StackLemmas.{length-z_places, z_place_read}
 use Rattle.tr_forest.specs.declared.NodeKind.{NodeKind}
-use Rattle.tr_forest.specs.declared.NodeKind.TheVariants as kinds
 use Rattle.tr_forest.specs.Nodes.{Nodes, IsNode, IsNodeKind, node, is_leaf}
 use Rattle.tr_forest.specs.Families.{is_among}
 use Rattle.tr_forest.specs.Forests.{IsForest}
 use Rattle.tr_forest.proofs.FamilyLemmas.{among_at, child_is_node}
 use Rattle.tr_tree.specs.Wishes.{shape}
-use Rattle.tr_tree.proofs.ShapeLemmas.{map_among}
 use Rattle.tr_tree.specs.Tables.{shape_in}
-use Rattle.tr_tree.specs.Places.{places_of, child_places}
+use Rattle.tr_tree.specs.Places.{places_of}
 use Rattle.tr_tree.specs.Laying.{offsets_of, Fits, IsParent, ArePlaced}
 
 -- what is placed by the node's kind and its children's shapes
@@ -65,11 +63,15 @@ pub child_read : (t : Nodes) → IsForest t → (n : NodeId) (cs : List NodeId) 
 child_read t forest n cs i d is lt =
     child_is_node t n (get_or cs i d) forest (subst (λ (l : List NodeId). is_among (get_or cs i d) l ≡ true) is (among_at cs i d lt))
 
+same_map : (t : Nodes) (table : List Shapes) (cs : List NodeId) → ((m : NodeId) → shape_in table m ≡ shape t m) → map (shape_in table) cs ≡ map (shape t) cs
+same_map t table [] are = refl
+same_map t table (c ∷ cs) are = rw (are c, same_map t table cs are) refl
+
 -- the shapes that were read from the table are the children's
 pub shapes_read : (t : Nodes) (n : NodeId) (table shapes : List Shapes) (cs : List NodeId) → ((m : NodeId) → shape_in table m ≡ shape t m) →
     cs ≡ (node t n).children →
     shapes ≡ map (shape_in table) cs → shapes ≡ map (shape t) (node t n).children
-shapes_read t n table shapes cs are is read = read ∙ map_among cs (shape_in table) (shape t) (λ m _. are m) ∙ ap (map (shape t)) is
+shapes_read t n table shapes cs are is read = read ∙ same_map t table cs are ∙ ap (map (shape t)) is
 
 -- ---- the children of a Z
 

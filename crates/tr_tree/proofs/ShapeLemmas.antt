@@ -1,7 +1,6 @@
 -- Sixteen levels are enough for the shapes, so they meet an equation that counts no levels.
 use Rattle.std.proofs.Common.{◌≡◌, ℕ, zero, suc, ◌+◌, ◌≤◌, true, List, [], ◌∷◌, map, length, refl, sym, ap, ◌∙◌, arith}
 use Rattle.tr_base.specs.declared.NodeId.{NodeId}
-use Rattle.tr_base.specs.declared.Shapes.{Shapes}
 use Rattle.tr_forest.specs.Nodes.{Nodes, Entry, node}
 use Rattle.tr_forest.specs.Families.{is_among, depth}
 use Rattle.tr_forest.specs.Forests.{IsForest}

@@ -6,12 +6,12 @@ ghost use Rattle.tr_base.specs.Layouts.{farthest, preferred_place, IsDomain, IsN
 ghost use Rattle.tr_stack.specs.Stacks.{z_places, t_places, page_places};
 ghost use Rattle.tr_forest.specs.Nodes.{node, IsNode};
 ghost use Rattle.tr_forest.specs.Forests.{IsForest};
-ghost use Rattle.tr_tree.specs.Places.{index_of, shown_index, domain};
-ghost use Rattle.tr_tree.specs.Tables.{domain_in};
+ghost use Rattle.tr_tree.specs.Wishes.{shape};
+ghost use Rattle.tr_tree.specs.Places.{index_of, shown_index, child_places, domain};
+ghost use Rattle.tr_tree.specs.Tables.{shape_in, domain_in};
 ghost use Rattle.tr_tree.specs.Laying.{on_screen, laid, offsets_of, IsPlan, HasRoom, Spreads, IsParent, ArePlaced, Stands, Lays};
 
 use crate::rooms::Room;
-use crate::wishes::gather;
 use tr_base::{NodeId, Point, Rect, Shapes, Size, empty_place, preferred_place, whole};
 use tr_filter::border_place;
 use tr_forest::{Forest, NodeKind};
@@ -69,7 +69,7 @@ fn lay(plan: &Plan<'_>, n: NodeId, room: &mut Room, domains: &mut Vec<Rect>)
     ensures count { length domains.new.items ≡ length plan.now.forest.now.entries }
 {
     let children = plan.forest.children(n);
-    gather(children, plan.shapes, &mut room.shapes);
+    gather(plan.shapes, children, &mut room.shapes);
     let parent = Parent {
         forest: plan.forest,
         n,
@@ -80,6 +80,18 @@ fn lay(plan: &Plan<'_>, n: NodeId, room: &mut Room, domains: &mut Vec<Rect>)
     spread(children, &room.places, domains);
     for child in children {
         lay(plan, *child, room, domains);
+    }
+}
+
+/// Copies the children's shapes out of the table.
+pub(crate) fn gather(shapes: &[Shapes], children: &[NodeId], gathered: &mut Vec<Shapes>)
+    requires within { All (λ child. child.0 < length shapes.now) children.now }
+    requires room { length children.now ≤ length gathered.old.items }
+    ensures shapes { take (length children.now) gathered.new.items ≡ map (shape_in shapes.now) children.now }
+    ensures count { length gathered.new.items ≡ length gathered.old.items }
+{
+    for (i, child) in children.iter().enumerate() {
+        gathered[i] = shapes[usize::from(child.0)];
     }
 }
 
@@ -110,7 +122,8 @@ fn place_first(parent: &Parent<'_>, count: usize, places: &mut Vec<Rect>)
     requires parent { let p = parent.now in IsParent p.forest.now p.n p.rect p.shapes.now }
     requires count { count ≡ length (node parent.now.forest.now parent.now.n).children }
     requires room { count ≤ length places.old.items }
-    ensures places { let p = parent.now in ArePlaced p.forest.now p.n p.rect (take count places.new.items) }
+    ensures places { let p = parent.now in
+        ArePlaced p.forest.now p.n p.rect (take count places.new.items) }
     ensures count { length places.new.items ≡ length places.old.items }
 {
     place_front(parent, count, places);

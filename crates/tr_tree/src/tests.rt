@@ -10,8 +10,7 @@ use std::test::Fail;
 use tr_base::{Kind, LeafId, NodeId, Point, Rect, Shape, Shapes, Size};
 
 const HERE: Point = Point { h: 0, v: 0 };
-
-const NOWHERE: (i32, i32, i32, i32) = (0, 0, 0, 0);
+const NOWHERE: Edges = (0, 0, 0, 0);
 
 /// No nodes, on a screen of this size.
 fn screen(rt: &impl Abort, alloc: Global, wide: u16, high: u16) -> Result<Tree, Fail> {
@@ -31,12 +30,7 @@ fn node(rt: &impl Abort, tree: &mut Tree, kind: NodeKind) -> Result<NodeId, Fail
 }
 
 /// Adds a leaf that wants these lengths across and down: the least, the preferred, the greatest.
-fn leaf(
-    rt: &impl Abort,
-    tree: &mut Tree,
-    across: [u16; 3],
-    down: [u16; 3],
-) -> Result<NodeId, Fail> {
+fn leaf(rt: &impl Abort, tree: &mut Tree, across: [u16; 3], down: [u16; 3]) -> Result<NodeId, Fail> {
     assert!(rt; tree.count() < 256);
     assert!(rt; tree.leaves() < 32);
     let kind = NodeKind::Leaf {
@@ -60,12 +54,7 @@ fn change(rt: &impl Abort, tree: &mut Tree, edit: Edit) -> Result<(), EditRefuse
     tree.edit(&edit)
 }
 
-fn hang(
-    rt: &impl Abort,
-    tree: &mut Tree,
-    child: NodeId,
-    parent: NodeId,
-) -> Result<(), EditRefused> {
+fn hang(rt: &impl Abort, tree: &mut Tree, child: NodeId, parent: NodeId) -> Result<(), EditRefused> {
     let at = HERE;
     change(rt, tree, Edit::Attach { child, parent, at })
 }
@@ -77,8 +66,10 @@ fn choose(rt: &impl Abort, tree: &mut Tree, root: NodeId) {
     tree.set_root(root);
 }
 
-/// The edges of a node's domain: west, east, north, south.
-fn edges(rt: &impl Abort, tree: &Tree, n: NodeId) -> (i32, i32, i32, i32) {
+/// The edges of a rectangle: west, east, north, south.
+type Edges = (i32, i32, i32, i32);
+
+fn edges(rt: &impl Abort, tree: &Tree, n: NodeId) -> Edges {
     assert!(rt; is_node(tree, n));
     let rect = tree.domain(n);
     (rect.west(), rect.east(), rect.north(), rect.south())
@@ -141,161 +132,140 @@ fn is_edit(tree: &Tree, edit: &Edit) -> bool
     }
 }
 
+/// A node without a parent, node 0, with leaves as its children, each by its lengths across and down.
+fn grown(
+    rt: &impl Abort,
+    tree: &mut Tree,
+    kind: NodeKind,
+    leaves: &[([u16; 3], [u16; 3])],
+) -> Result<NodeId, Fail>
+    requires kind { IsNodeKind kind }
+    requires shown { shown_by kind ≡ None }
+    requires leaf { is_leaf kind ≡ false }
+{
+    let top = node(rt, tree, kind)?;
+    for (across, down) in leaves {
+        let child = leaf(rt, tree, *across, *down)?;
+        hang(rt, tree, child, top)?;
+    }
+    Ok(top)
+}
+
+/// Tries the domains of all nodes, from node 0 on.
+fn lie_at(rt: &impl Abort, tree: &Tree, want: &[Edges]) {
+    for (n, edges_of) in want.iter().enumerate() {
+        assert!(rt; n < 256);
+        assert_eq!(rt; edges(rt, tree, NodeId(n as u16)), *edges_of, "node {n}");
+    }
+}
+
+/// Makes edits, and tries after each of them the domain of one node.
+fn play(rt: &impl Abort, tree: &mut Tree, steps: &[(Edit, NodeId, Edges)]) -> Result<(), Fail> {
+    for (edit, n, want) in steps {
+        change(rt, tree, *edit)?;
+        assert_eq!(rt; edges(rt, tree, *n), *want);
+    }
+    Ok(())
+}
+
+const FIXED: [([u16; 3], [u16; 3]); 3] = [
+    ([2, 2, 2], [1, 1, 1]),
+    ([3, 3, 3], [2, 2, 2]),
+    ([2, 2, 2], [1, 1, 1]),
+];
+
 #[test]
 fn an_h_divides_its_width(rt: HostRuntime) -> Result<(), Fail> {
     let mut tree = screen(&rt, rt.alloc(), 3, 2)?;
-    let h = node(&rt, &mut tree, NodeKind::H)?;
-    let first = leaf(&rt, &mut tree, [2, 4, 6], [1, 1, 1])?;
-    let second = leaf(&rt, &mut tree, [3, 3, 3], [0, 2, 5])?;
-    hang(&rt, &mut tree, first, h)?;
-    hang(&rt, &mut tree, second, h)?;
-    assert_eq!(rt; edges(&rt, &tree, first), NOWHERE);
+    let wishes = [([2, 4, 6], [1, 1, 1]), ([3, 3, 3], [0, 2, 5])];
+    let h = grown(&rt, &mut tree, NodeKind::H, &wishes)?;
+    lie_at(&rt, &tree, &[NOWHERE, NOWHERE, NOWHERE]);
     choose(&rt, &mut tree, h);
     assert_eq!(rt; wants(&rt, &tree, h), ([5, 7, 9], [1, 2, 5]));
-    assert_eq!(rt; edges(&rt, &tree, h), (0, 3, 0, 2));
-    assert_eq!(rt; edges(&rt, &tree, first), (0, 2, 0, 2));
-    assert_eq!(rt; edges(&rt, &tree, second), (2, 3, 0, 2));
+    lie_at(&rt, &tree, &[(0, 3, 0, 2), (0, 2, 0, 2), (2, 3, 0, 2)]);
     Ok(())
 }
 
 #[test]
 fn a_page_has_strips_of_one_height(rt: HostRuntime) -> Result<(), Fail> {
     let mut tree = screen(&rt, rt.alloc(), 3, 5)?;
-    let page = node(&rt, &mut tree, NodeKind::Page { per: 2, page: 0 })?;
-    let mut leaves = [page; 3];
-    for each in leaves.iter_mut() {
-        *each = leaf(&rt, &mut tree, [1, 1, 1], [1, 1, 1])?;
-        hang(&rt, &mut tree, *each, page)?;
-    }
+    let page = grown(&rt, &mut tree, NodeKind::Page { per: 2, page: 0 }, &FIXED)?;
     choose(&rt, &mut tree, page);
-    assert_eq!(rt; edges(&rt, &tree, leaves[0]), (0, 3, 0, 2));
-    assert_eq!(rt; edges(&rt, &tree, leaves[1]), (0, 3, 2, 4));
-    assert_eq!(rt; edges(&rt, &tree, leaves[2]), NOWHERE);
-    change(
-        &rt,
-        &mut tree,
-        Edit::Turn {
-            node: page,
-            page: 1,
-        },
-    )?;
-    assert_eq!(rt; edges(&rt, &tree, leaves[1]), NOWHERE);
-    assert_eq!(rt; edges(&rt, &tree, leaves[2]), (0, 3, 0, 2));
+    lie_at(&rt, &tree, &[(0, 3, 0, 5), (0, 3, 0, 2), (0, 3, 2, 4), NOWHERE]);
+    change(&rt, &mut tree, Edit::Turn { node: page, page: 1 })?;
+    lie_at(&rt, &tree, &[(0, 3, 0, 5), NOWHERE, NOWHERE, (0, 3, 0, 2)]);
     Ok(())
 }
 
-/// The domains of three leaves in a packing node, whose rows go across.
-fn packed(
+/// The domains of the leaves of a packing node, whose rows go across.
+fn packs(
     rt: &impl Abort,
-    alloc: Global,
+    mut tree: Tree,
     gap: u8,
-    (wide, high): (u16, u16),
-) -> Result<[(i32, i32, i32, i32); 3], Fail> {
+    want: &[Edges],
+) -> Result<(), Fail> {
     assert!(rt; gap <= 64);
-    let mut tree = screen(rt, alloc, wide, high)?;
-    let pack = node(rt, &mut tree, NodeKind::Pack { down: false, gap })?;
-    let a = leaf(rt, &mut tree, [2, 2, 2], [1, 1, 1])?;
-    let b = leaf(rt, &mut tree, [3, 3, 3], [2, 2, 2])?;
-    let c = leaf(rt, &mut tree, [2, 2, 2], [1, 1, 1])?;
-    hang(rt, &mut tree, a, pack)?;
-    hang(rt, &mut tree, b, pack)?;
-    hang(rt, &mut tree, c, pack)?;
+    let pack = grown(rt, &mut tree, NodeKind::Pack { down: false, gap }, &FIXED)?;
     choose(rt, &mut tree, pack);
-    Ok([
-        edges(rt, &tree, a),
-        edges(rt, &tree, b),
-        edges(rt, &tree, c),
-    ])
+    lie_at(rt, &tree, want);
+    Ok(())
 }
 
 #[test]
 fn a_pack_fills_its_rows(rt: HostRuntime) -> Result<(), Fail> {
-    assert_eq!(rt;
-        packed(&rt, rt.alloc(), 1, (6, 3))?,
-        [(0, 2, 0, 1), (3, 6, 0, 2), NOWHERE]
-    );
-    assert_eq!(rt;
-        packed(&rt, rt.alloc(), 0, (6, 3))?,
-        [(0, 2, 0, 1), (2, 5, 0, 2), (0, 2, 2, 3)]
-    );
-    assert_eq!(rt;
-        packed(&rt, rt.alloc(), 0, (1, 4))?,
-        [(0, 1, 0, 1), (0, 1, 1, 3), (0, 1, 3, 4)]
-    );
-    Ok(())
+    let wide = [(0, 6, 0, 3), (0, 2, 0, 1), (3, 6, 0, 2), NOWHERE];
+    packs(&rt, screen(&rt, rt.alloc(), 6, 3)?, 1, &wide)?;
+    let dense = [(0, 6, 0, 3), (0, 2, 0, 1), (2, 5, 0, 2), (0, 2, 2, 3)];
+    packs(&rt, screen(&rt, rt.alloc(), 6, 3)?, 0, &dense)?;
+    let narrow = [(0, 1, 0, 4), (0, 1, 0, 1), (0, 1, 1, 3), (0, 1, 3, 4)];
+    packs(&rt, screen(&rt, rt.alloc(), 1, 4)?, 0, &narrow)
 }
 
 #[test]
 fn what_hangs_nowhere_has_no_domain(rt: HostRuntime) -> Result<(), Fail> {
     let mut tree = screen(&rt, rt.alloc(), 6, 3)?;
+    let border = grown(&rt, &mut tree, NodeKind::Border { width: 1 }, &[([1, 2, 4096], [1, 1, 4096])])?;
     let root = node(&rt, &mut tree, NodeKind::V)?;
-    let border = node(&rt, &mut tree, NodeKind::Border { width: 1 })?;
-    let window = leaf(&rt, &mut tree, [1, 2, 4096], [1, 1, 4096])?;
-    hang(&rt, &mut tree, window, border)?;
     hang(&rt, &mut tree, border, root)?;
     choose(&rt, &mut tree, root);
-    assert_eq!(rt; edges(&rt, &tree, window), (1, 5, 1, 2));
+    lie_at(&rt, &tree, &[(0, 6, 0, 3), (1, 5, 1, 2), (0, 6, 0, 3)]);
     change(&rt, &mut tree, Edit::Detach { child: border })?;
-    assert_eq!(rt; edges(&rt, &tree, root), (0, 6, 0, 3));
-    assert_eq!(rt; edges(&rt, &tree, border), NOWHERE);
-    assert_eq!(rt; edges(&rt, &tree, window), NOWHERE);
+    lie_at(&rt, &tree, &[NOWHERE, NOWHERE, (0, 6, 0, 3)]);
     assert_eq!(rt; wants(&rt, &tree, border), ([3, 4, 4096], [3, 3, 4096]));
-    hang(&rt, &mut tree, border, root)?;
-    assert_eq!(rt; edges(&rt, &tree, window), (1, 5, 1, 2));
     Ok(())
-}
-
-/// A Z that is the root, a translate, a rigid node and a T below it, and a window below each of
-/// these three.
-fn nested(rt: &impl Abort, alloc: Global) -> Result<Tree, Fail> {
-    let mut tree = screen(rt, alloc, 9, 8)?;
-    let z = node(rt, &mut tree, NodeKind::Z)?;
-    let by = Point { h: 1, v: 0 };
-    let holders = [
-        node(rt, &mut tree, NodeKind::Translate { by })?,
-        node(
-            rt,
-            &mut tree,
-            NodeKind::Rigid {
-                size: Size { wide: 3, high: 2 },
-            },
-        )?,
-        node(rt, &mut tree, NodeKind::T { shown: None })?,
-    ];
-    for holder in holders {
-        let window = leaf(rt, &mut tree, [1, 2, 4], [1, 1, 3])?;
-        hang(rt, &mut tree, window, holder)?;
-        hang(rt, &mut tree, holder, z)?;
-    }
-    choose(rt, &mut tree, z);
-    Ok(tree)
 }
 
 #[test]
 fn each_edit_is_laid_out(rt: HostRuntime) -> Result<(), Fail> {
-    let mut tree = nested(&rt, rt.alloc())?;
-    let [translate, rigid, t] = [NodeId(1), NodeId(2), NodeId(3)];
-    let [moved, fixed, shown] = [NodeId(4), NodeId(5), NodeId(6)];
-    assert_eq!(rt; edges(&rt, &tree, moved), (1, 3, 0, 1));
-    assert_eq!(rt; edges(&rt, &tree, fixed), (0, 3, 0, 2));
-    assert_eq!(rt; edges(&rt, &tree, shown), (0, 2, 0, 1));
+    let mut tree = screen(&rt, rt.alloc(), 9, 8)?;
     let by = Point { h: -1, v: 2 };
-    change(
-        &rt,
-        &mut tree,
-        Edit::Offset {
-            node: translate,
-            by,
-        },
-    )?;
-    assert_eq!(rt; edges(&rt, &tree, moved), (-1, 1, 2, 3));
-    let size = Size { wide: 0, high: 5 };
-    change(&rt, &mut tree, Edit::Fix { node: rigid, size })?;
-    assert_eq!(rt; edges(&rt, &tree, fixed), NOWHERE);
-    change(&rt, &mut tree, Edit::Move { child: t, at: by })?;
-    assert_eq!(rt; edges(&rt, &tree, shown), (-1, 1, 2, 3));
-    change(&rt, &mut tree, Edit::Lift { child: translate })?;
-    assert_eq!(rt; first_child(&rt, &tree, NodeId(0)), Some(translate));
+    let translate = grown(&rt, &mut tree, NodeKind::Translate { by }, &[FIXED[0]])?;
+    choose(&rt, &mut tree, translate);
+    let shapes = Shapes {
+        across: lengths(&rt, [6, 6, 6]),
+        down: lengths(&rt, [1, 1, 1]),
+    };
+    let steps = [
+        (Edit::Offset { node: translate, by: HERE }, NodeId(1), (0, 2, 0, 1)),
+        (Edit::Shapes { node: NodeId(1), shapes }, NodeId(1), (0, 6, 0, 1)),
+        (Edit::Detach { child: NodeId(1) }, NodeId(1), NOWHERE),
+    ];
+    play(&rt, &mut tree, &steps)
+}
+
+#[test]
+fn children_of_a_z_are_moved(rt: HostRuntime) -> Result<(), Fail> {
+    let mut tree = screen(&rt, rt.alloc(), 9, 8)?;
+    let z = grown(&rt, &mut tree, NodeKind::Z, &FIXED)?;
+    choose(&rt, &mut tree, z);
+    let at = Point { h: -1, v: 2 };
+    let (first, last) = (NodeId(1), NodeId(3));
+    let steps = [
+        (Edit::Move { child: first, at }, first, (-1, 1, 2, 3)),
+        (Edit::Lift { child: first }, last, (0, 2, 0, 1)),
+    ];
+    play(&rt, &mut tree, &steps)?;
+    assert_eq!(rt; first_child(&rt, &tree, z), Some(first));
     Ok(())
 }
 
@@ -306,118 +276,68 @@ fn first_child(rt: &impl Abort, tree: &Tree, n: NodeId) -> Option<NodeId> {
 
 #[test]
 fn a_t_shows_one_child(rt: HostRuntime) -> Result<(), Fail> {
-    let mut tree = nested(&rt, rt.alloc())?;
-    let [t, first] = [NodeId(3), NodeId(6)];
-    let second = leaf(&rt, &mut tree, [5, 5, 5], [4, 4, 4])?;
-    hang(&rt, &mut tree, second, t)?;
-    assert_eq!(rt; edges(&rt, &tree, first), (0, 5, 0, 4));
-    assert_eq!(rt; edges(&rt, &tree, second), NOWHERE);
-    change(
-        &rt,
-        &mut tree,
-        Edit::Show {
-            node: t,
-            child: second,
-        },
-    )?;
-    assert_eq!(rt; edges(&rt, &tree, first), NOWHERE);
-    assert_eq!(rt; edges(&rt, &tree, second), (0, 5, 0, 4));
-    let shapes = Shapes {
-        across: lengths(&rt, [6, 6, 6]),
-        down: lengths(&rt, [1, 1, 1]),
-    };
-    change(
-        &rt,
-        &mut tree,
-        Edit::Shapes {
-            node: second,
-            shapes,
-        },
-    )?;
-    assert_eq!(rt; wants(&rt, &tree, t), ([6, 6, 6], [1, 1, 3]));
-    assert_eq!(rt; edges(&rt, &tree, second), (0, 6, 0, 1));
+    let mut tree = screen(&rt, rt.alloc(), 5, 4)?;
+    let t = grown(&rt, &mut tree, NodeKind::T { shown: None }, &FIXED)?;
+    choose(&rt, &mut tree, t);
+    lie_at(&rt, &tree, &[(0, 5, 0, 4), (0, 5, 0, 4), NOWHERE, NOWHERE]);
+    change(&rt, &mut tree, Edit::Show { node: t, child: NodeId(2) })?;
+    lie_at(&rt, &tree, &[(0, 5, 0, 4), NOWHERE, (0, 5, 0, 4), NOWHERE]);
     Ok(())
 }
 
 #[test]
 fn the_screen_changes(rt: HostRuntime) -> Result<(), Fail> {
     let mut tree = screen(&rt, rt.alloc(), 6, 3)?;
-    let border = node(&rt, &mut tree, NodeKind::Border { width: 1 })?;
-    let window = leaf(&rt, &mut tree, [0, 0, 0], [0, 0, 0])?;
-    hang(&rt, &mut tree, window, border)?;
+    let border = grown(&rt, &mut tree, NodeKind::Border { width: 1 }, &[FIXED[0]])?;
     choose(&rt, &mut tree, border);
-    change(
-        &rt,
-        &mut tree,
-        Edit::Tint {
-            node: border,
-            tint: 7,
-        },
-    )?;
-    assert_eq!(rt; edges(&rt, &tree, window), (1, 5, 1, 2));
-    let size = Size { wide: 4, high: 9 };
-    change(&rt, &mut tree, Edit::Resize { size })?;
-    assert_eq!(rt; edges(&rt, &tree, window), (1, 3, 1, 8));
-    change(
-        &rt,
-        &mut tree,
-        Edit::Border {
-            node: border,
-            width: 0,
-        },
-    )?;
-    assert_eq!(rt; edges(&rt, &tree, window), (0, 4, 0, 9));
-    let kind = Kind::Mono;
-    change(&rt, &mut tree, Edit::Rescreen { kind })?;
-    assert_eq!(rt; edges(&rt, &tree, window), (0, 4, 0, 9));
+    let (kind, size) = (Kind::Mono, Size { wide: 4, high: 9 });
+    let steps = [
+        (Edit::Tint { node: border, tint: 7 }, NodeId(1), (1, 5, 1, 2)),
+        (Edit::Resize { size }, NodeId(1), (1, 3, 1, 8)),
+        (Edit::Border { node: border, width: 0 }, NodeId(1), (0, 4, 0, 9)),
+        (Edit::Rescreen { kind }, NodeId(1), (0, 4, 0, 9)),
+    ];
+    play(&rt, &mut tree, &steps)?;
     assert_eq!(rt; (tree.size(), tree.kind()), (size, kind));
     Ok(())
 }
 
 #[test]
 fn a_refused_edit_changes_nothing(rt: HostRuntime) -> Result<(), Fail> {
-    let mut tree = nested(&rt, rt.alloc())?;
-    let fault = |fault| Err(EditRefused::Fault(fault));
-    let (root, moved) = (NodeId(0), NodeId(4));
-    let detach = Edit::Detach { child: root };
-    assert_eq!(rt; change(&rt, &mut tree, detach), fault(NodeFault::NotChild));
-    assert_eq!(rt;
-        hang(&rt, &mut tree, root, NodeId(1)),
-        fault(NodeFault::Cycle)
-    );
-    let tint = Edit::Tint {
-        node: moved,
-        tint: 1,
-    };
-    assert_eq!(rt; change(&rt, &mut tree, tint), fault(NodeFault::WrongKind));
-    assert_eq!(rt; edges(&rt, &tree, moved), (1, 3, 0, 1));
+    let mut tree = screen(&rt, rt.alloc(), 6, 3)?;
+    let size = Size { wide: 3, high: 2 };
+    let rigid = grown(&rt, &mut tree, NodeKind::Rigid { size }, &[FIXED[0]])?;
+    choose(&rt, &mut tree, rigid);
+    let refused = change(&rt, &mut tree, Edit::Border { node: rigid, width: 1 });
+    assert_eq!(rt; refused, Err(EditRefused::Fault(NodeFault::WrongKind)));
+    let below = hang(&rt, &mut tree, rigid, NodeId(1));
+    assert_eq!(rt; below, Err(EditRefused::Fault(NodeFault::WrongKind)));
+    lie_at(&rt, &tree, &[(0, 6, 0, 3), (0, 6, 0, 3)]);
     Ok(())
 }
 
 #[test]
-fn a_tree_is_read_and_copied(rt: HostRuntime) -> Result<(), Fail> {
-    let mut tree = nested(&rt, rt.alloc())?;
+fn a_tree_is_copied(rt: HostRuntime) -> Result<(), Fail> {
+    let mut tree = screen(&rt, rt.alloc(), 6, 3)?;
+    let v = grown(&rt, &mut tree, NodeKind::V, &FIXED)?;
+    choose(&rt, &mut tree, v);
     let copy = tree.copy()?;
-    change(
-        &rt,
-        &mut tree,
-        Edit::Resize {
-            size: Size { wide: 1, high: 1 },
-        },
-    )?;
-    assert_eq!(rt; (copy.count(), copy.leaves()), (7, 3));
-    assert_eq!(rt;
-        (copy.size(), copy.kind()),
-        (Size { wide: 9, high: 8 }, Kind::Map8)
-    );
-    assert_eq!(rt; copy.root(), Some(NodeId(0)));
-    assert_eq!(rt; edges(&rt, &copy, NodeId(0)), (0, 9, 0, 8));
-    let n = NodeId(5);
-    assert!(rt; is_node(&copy, n));
-    assert!(rt; copy.leaves() == 3);
-    assert_eq!(rt; copy.node_of(LeafId(1)), n);
-    assert_eq!(rt; copy.parent(n), Some(NodeId(2)));
-    assert_eq!(rt; (copy.tint_of(n), copy.at_of(n)), (0, HERE));
-    assert_eq!(rt; copy.kind_of(NodeId(0)), NodeKind::Z);
+    let size = Size { wide: 1, high: 1 };
+    change(&rt, &mut tree, Edit::Resize { size })?;
+    lie_at(&rt, &copy, &[(0, 6, 0, 3), (0, 6, 0, 1), (0, 6, 1, 3), NOWHERE]);
+    is_read(&rt, &copy);
     Ok(())
+}
+
+/// Reads the tree of a V and three leaves.
+fn is_read(rt: &impl Abort, tree: &Tree) {
+    assert_eq!(rt; (tree.count(), tree.root()), (4, Some(NodeId(0))));
+    assert_eq!(rt; (tree.size(), tree.kind()), (Size { wide: 6, high: 3 }, Kind::Map8));
+    let n = NodeId(2);
+    assert!(rt; is_node(tree, n));
+    assert_eq!(rt; tree.parent(n), Some(NodeId(0)));
+    assert_eq!(rt; (tree.tint_of(n), tree.at_of(n)), (0, HERE));
+    assert!(rt; matches!(tree.kind_of(n), NodeKind::Leaf { .. }));
+    assert!(rt; tree.leaves() == 3);
+    assert_eq!(rt; tree.node_of(LeafId(1)), n);
 }

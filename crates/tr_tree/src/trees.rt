@@ -230,7 +230,7 @@ impl Tree {
             shape t n ≡ shape_of (node t n).kind (map (shape t) (node t n).children) }
         ensures domains { (n : NodeId) → let t = self.now in
             domain t n ≡ (if is_root t.nodes n then whole_of t.size
-            else place_below t.nodes n (node t.nodes n).parent (domain t)) }
+                else place_below t.nodes n (node t.nodes n).parent (domain t)) }
     {
         let _count = self.forest.count();
     }

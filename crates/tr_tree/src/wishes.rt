@@ -1,4 +1,4 @@
-ghost use Rattle.std.specs.Prelude.{◌≡◌, ◌≤◌, ◌<◌, ◌+◌, ℕ, false, true, get_or, take, map, length};
+ghost use Rattle.std.specs.Prelude.{◌≡◌, ◌≤◌, false, true, length};
 ghost use Rattle.tr_base.specs.declared.NodeId.{NodeId};
 ghost use Rattle.tr_forest.specs.Nodes.{node, IsNode, IsNodeKind};
 ghost use Rattle.tr_forest.specs.Forests.{IsForest};
@@ -6,6 +6,7 @@ ghost use Rattle.tr_tree.specs.Wishes.{shape, shape_of, only_child, no_shapes};
 ghost use Rattle.tr_tree.specs.Tables.{shape_in};
 ghost use Rattle.tr_tree.specs.Filling.{Fills, HasChildren};
 
+use crate::domains::gather;
 use tr_base::{NodeId, Shapes, no_lengths};
 use tr_filter::{border_shape, rigid_shape, translate_shape};
 use tr_forest::{Forest, NodeKind};
@@ -57,20 +58,8 @@ fn shape_above(forest: &Forest, n: NodeId, room: &mut Vec<Shapes>, table: &[Shap
     ensures room { length room.new.items ≡ length room.old.items }
 {
     let children = forest.children(n);
-    gather(children, table, room);
+    gather(table, children, room);
     shape_of(forest.kind_of(n), &room[..children.len()])
-}
-
-/// Writes the shapes of these nodes, which the table has, one after another.
-pub(crate) fn gather(nodes: &[NodeId], table: &[Shapes], room: &mut Vec<Shapes>)
-    requires room { length nodes.now ≤ length room.old.items }
-    requires within { (k : ℕ) (d : NodeId) → k < length nodes.now → (get_or nodes.now k d).0 < length table.now }
-    ensures shapes { take (length nodes.now) room.new.items ≡ map (shape_in table.now) nodes.now }
-    ensures room { length room.new.items ≡ length room.old.items }
-{
-    for (i, n) in nodes.iter().enumerate() {
-        room[i] = table[usize::from(n.0)];
-    }
 }
 
 /// The shapes of a node of this kind, by its children's.

@@ -28,4 +28,5 @@ loop-child-preserved t c = record {
 pub returns-clause-gains : goal.returns-clause-gains
 returns-clause-gains t c = on_ok_weaker c.add.result
     (λ h. rest_last c.args.tree.now c.requires.forest c.args.n c.loop-child.child-index c.children-child-items.result.now c.args.regions.now.items c.loop-child.regions.items
-    c.add.new.regions.items c.args.part c.loop-child.left c.children-child-items.ensures c.loop-child.invariant.rest (omega arith) (c.loop-child.invariant.count ∙ sym c.requires.regions) h) c.add.ensures.gains
+    c.add.new.regions.items c.args.part c.loop-child.left c.children-child-items.ensures c.loop-child.invariant.rest (omega arith)
+    (c.loop-child.invariant.count ∙ sym c.requires.regions) h) c.add.ensures.gains

@@ -10,7 +10,8 @@ use Rattle.tr_spot.proofs.windows.passed_on.Goals as goal
 
 pub domain_of-requires-in-loop-sibling : goal.domain_of-requires-in-loop-sibling
 domain_of-requires-in-loop-sibling c =
-    (listed_below c.args.tree.now.nodes c.requires.forest c.args.parent c.children-sibling-items.result.now c.loop-sibling.sibling-index c.children-sibling-items.ensures (omega arith)).is_node
+    (listed_below c.args.tree.now.nodes c.requires.forest c.args.parent c.children-sibling-items.result.now c.loop-sibling.sibling-index
+    c.children-sibling-items.ensures (omega arith)).is_node
 
 pub loop-sibling-init : goal.loop-sibling-init
 loop-sibling-init c = record {

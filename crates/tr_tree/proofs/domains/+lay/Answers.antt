@@ -1,30 +1,29 @@
-use Rattle.std.proofs.Common.{◌≡◌, ◌+◌, ◌<◌, List, length, All, get_or, subst, sym, ap, ◌∙◌, true, arith}
+use Rattle.std.proofs.Common.{◌≡◌, ◌+◌, List, length, get_or, subst, sym, ap, ◌∙◌, true, arith}
 use Rattle.std.proofs.lemmas.List.{get_or_default}
 use Rattle.tr_base.specs.declared.NodeId.{NodeId}
 use Rattle.tr_base.specs.Layouts.{IsDomain}
-use Rattle.tr_base.specs.Rects.{Edges}
 use Rattle.tr_forest.specs.Nodes.{node}
 use Rattle.tr_forest.specs.Families.{depth, is_among}
 use Rattle.tr_forest.proofs.FamilyLemmas.{among_at, depth_child}
 use Rattle.tr_tree.specs.Places.{domain}
-use Rattle.tr_tree.specs.Laying.{laid, IsParent, IsOwn}
-use Rattle.tr_tree.proofs.ChildLemmas.{children_few, children_within}
+use Rattle.tr_tree.specs.Laying.{laid, IsOwn}
+use Rattle.tr_tree.proofs.KinLemmas.{few_children}
 use Rattle.tr_tree.proofs.FitLemmas.{at_is_domain}
 use Rattle.tr_tree.proofs.PlaceLemmas.{child_read, shapes_read}
 use Rattle.tr_tree.proofs.LayLemmas.{stands_laid, laying_from, laying_next, laying_end, domain_read}
 use Rattle.tr_tree.proofs.domains.+lay.Goals as goal
 
 pub gather-requires-clause-within : goal.gather-requires-clause-within
-gather-requires-clause-within t c =
-    children_within c.args.plan.now.forest.now c.requires.forest c.args.n c.children-children.result.now (length c.args.plan.now.shapes.now)
-    c.children-children.ensures c.requires.plan.count
+gather-requires-clause-within t c = λ k d lt.
+    let node_is = child_read c.args.plan.now.forest.now c.requires.forest c.args.n c.children-children.result.now k d c.children-children.ensures lt in
+    omega (arith, node_is.within, c.requires.plan.count)
 
 pub gather-requires-clause-room : goal.gather-requires-clause-room
 gather-requires-clause-room t c =
     omega (
       arith,
       ap length c.children-children.ensures,
-      children_few c.args.plan.now.forest.now c.requires.forest c.args.n c.requires.node,
+      few_children c.args.plan.now.forest.now c.requires.forest c.args.n c.requires.node,
       c.requires.room.shapes,
     )
 
@@ -48,14 +47,14 @@ place_first-requires-clause-room t c =
     omega (
       arith,
       ap length c.children-children.ensures,
-      children_few c.args.plan.now.forest.now c.requires.forest c.args.n c.requires.node,
+      few_children c.args.plan.now.forest.now c.requires.forest c.args.n c.requires.node,
       c.requires.room.places,
     )
 
 pub spread-requires-clause-within : goal.spread-requires-clause-within
-spread-requires-clause-within t c =
-    children_within c.args.plan.now.forest.now c.requires.forest c.args.n c.children-children.result.now (length c.args.domains.now.items)
-    c.children-children.ensures c.requires.count
+spread-requires-clause-within t c = λ k d lt.
+    let node_is = child_read c.args.plan.now.forest.now c.requires.forest c.args.n c.children-children.result.now k d c.children-children.ensures lt in
+    omega (arith, node_is.within, c.requires.count)
 
 pub loop-child-init : goal.loop-child-init
 loop-child-init t c =
@@ -63,7 +62,7 @@ loop-child-init t c =
     let here : c.index.result.now ≡ domain s c.args.n = domain_read s c.args.n c.args.domains.now.items c.from.result c.index.result.now
     (omega (arith, c.requires.node.within, c.requires.count)) c.from.ensures c.index.ensures c.requires.own.right in
     record {
-      room = record { shapes = c.gather.ensures.room ∙ c.requires.room.shapes; places = c.place_first.ensures.count ∙ c.requires.room.places };
+      room = record { shapes = c.gather.ensures.count ∙ c.requires.room.shapes; places = c.place_first.ensures.count ∙ c.requires.room.places };
       count = c.spread.ensures.count ∙ c.requires.count;
       laying = laying_from s c.requires.forest c.args.n c.children-children.result.now c.index.result.now c.place_first.new.places.items
           c.args.domains.now.items c.spread.new.domains.items c.children-children.ensures here c.requires.own c.place_first.ensures.places

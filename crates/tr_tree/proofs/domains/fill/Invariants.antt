@@ -1,4 +1,4 @@
-use Rattle.std.proofs.Common.{◌≡◌, ℕ, ◌<◌, length, take, All}
+use Rattle.std.proofs.Common.{◌≡◌, take, All}
 use Rattle.tr_base.specs.Rects.{Edges}
 use Rattle.tr_tree.proofs.domains.fill.Given as goal
 

@@ -1,5 +1,4 @@
-use Rattle.std.proofs.Common.{◌≡◌, ◌<◌, Some, length, subst, sym, ◌∙◌, arith}
-use Rattle.tr_base.specs.Rects.{Edges}
+use Rattle.std.proofs.Common.{subst, sym, ◌∙◌, arith}
 use Rattle.tr_base.specs.Layouts.{IsDomain}
 use Rattle.tr_forest.specs.Nodes.{IsNode}
 use Rattle.tr_tree.specs.Places.{domain}

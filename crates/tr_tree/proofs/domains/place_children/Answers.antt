@@ -1,16 +1,15 @@
-use Rattle.std.proofs.Common.{◌≡◌, ◌≤◌, true, false, List, [], map, length, All, refl, sym, ap, ◌∙◌, arith}
+use Rattle.std.proofs.Common.{◌≡◌, true, false, map, length, refl, sym, ap, ◌∙◌, arith}
 use Rattle.std.proofs.lemmas.List.Elements.{All-same}
 use Rattle.tr_base.specs.declared.Shapes.{Shapes}
 use Rattle.tr_base.specs.Rects.{Edges}
-use Rattle.tr_base.specs.Layouts.{farthest, preferred_place, IsNear}
-use Rattle.tr_filter.specs.Filters.{border_place}
+use Rattle.tr_base.specs.Layouts.{farthest, IsNear}
 use Rattle.tr_stack.specs.Stacks.{t_places, page_places}
 use Rattle.tr_forest.specs.declared.NodeKind.{NodeKind}
 use Rattle.tr_forest.specs.declared.NodeKind.TheVariants as kinds
 use Rattle.tr_forest.specs.Nodes.{IsPer, node}
 use Rattle.tr_tree.specs.Places.{shown_index}
 use Rattle.tr_tree.specs.Laying.{offsets_of}
-use Rattle.tr_tree.proofs.ChildLemmas.{children_few}
+use Rattle.tr_tree.proofs.KinLemmas.{few_children}
 use Rattle.tr_tree.proofs.PlaceLemmas.{placed_by, same_count, filled_map, kind_fits, no_children, none_placed}
 use Rattle.tr_tree.proofs.FitLemmas.{fits_side_by_side, fits_over, fits_shown, fits_pages, fits_border, fits_rigid, fits_moved, fits_packed, fits_none}
 use Rattle.tr_tree.proofs.domains.place_children.Goals as goal
@@ -20,7 +19,7 @@ place_into-requires-clause-count c =
     omega (
       arith,
       same_count c.args.parent.now.forest.now c.args.parent.now.n c.args.parent.now.rect c.args.parent.now.shapes.now c.requires.parent,
-      children_few c.args.parent.now.forest.now c.requires.parent.forest c.args.parent.now.n c.requires.parent.is_node,
+      few_children c.args.parent.now.forest.now c.requires.parent.forest c.args.parent.now.n c.requires.parent.is_node,
       c.requires.parent.forest.count,
     )
 
@@ -29,7 +28,7 @@ place_into-requires-in-V-clause-count c =
     omega (
       arith,
       same_count c.args.parent.now.forest.now c.args.parent.now.n c.args.parent.now.rect c.args.parent.now.shapes.now c.requires.parent,
-      children_few c.args.parent.now.forest.now c.requires.parent.forest c.args.parent.now.n c.requires.parent.is_node,
+      few_children c.args.parent.now.forest.now c.requires.parent.forest c.args.parent.now.n c.requires.parent.is_node,
       c.requires.parent.forest.count,
     )
 

@@ -1,8 +1,7 @@
-use Rattle.std.proofs.Common.{◌≡◌, ◌++◌, ◌∷◌, [], ap, sym, ◌∙◌, arith}
-use Rattle.std.proofs.lemmas.List.{take_more_set, map_more}
+use Rattle.std.proofs.Common.{◌∙◌, arith}
+use Rattle.std.proofs.lemmas.List.{take_more_set}
 use Rattle.std.proofs.lemmas.List.Elements.{All-push, All-same}
 use Rattle.std.proofs.Math.ListN.{length-set}
-use Rattle.tr_base.specs.declared.Shapes.{Shapes}
 use Rattle.tr_base.specs.Rects.{Edges}
 use Rattle.tr_base.specs.Layouts.{farthest, preferred_place, IsNear}
 use Rattle.tr_tree.proofs.PlaceLemmas.{moved_more}

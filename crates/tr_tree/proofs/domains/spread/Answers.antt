@@ -1,4 +1,4 @@
-use Rattle.std.proofs.Common.{◌≡◌, ◌<◌, length, All, get_or, subst, sym, ◌∙◌, arith}
+use Rattle.std.proofs.Common.{◌<◌, All, get_or, subst, sym, ◌∙◌, arith}
 use Rattle.std.proofs.lemmas.List.{get_or_default, get_or_read}
 use Rattle.std.proofs.Math.ListN.{length-set}
 use Rattle.tr_base.specs.declared.NodeId.{NodeId}

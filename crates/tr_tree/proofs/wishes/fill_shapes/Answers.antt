@@ -1,7 +1,5 @@
-use Rattle.std.proofs.Common.{◌≡◌, ◌+◌, ℕ, List, length, refl, subst, ap, sym, ◌∙◌, rules, arith}
+use Rattle.std.proofs.Common.{ℕ, subst, ◌∙◌, rules, arith}
 use Rattle.tr_base.specs.declared.NodeId.{NodeId}
-use Rattle.tr_base.specs.declared.Shapes.{Shapes}
-use Rattle.tr_forest.specs.Nodes.{Nodes}
 use Rattle.tr_tree.proofs.FillLemmas.{AreFilled, filled_init, filled_top, filled_below, all_filled, hangs_there}
 use Rattle.tr_tree.proofs.wishes.fill_shapes.Goals as goal
 use Rattle.tr_tree.proofs.wishes.fill_shapes.Goals.{then-is_none, else-is_none}

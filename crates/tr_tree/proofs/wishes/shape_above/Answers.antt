@@ -1,27 +1,25 @@
-use Rattle.std.proofs.Common.{◌≡◌, ◌+◌, ◌<◌, ◌≤◌, List, length, take, map, subst, sym, ap, ◌∙◌, arith}
+use Rattle.std.proofs.Common.{◌≡◌, length, take, map, ap, ◌∙◌, arith}
 use Rattle.std.proofs.lemmas.List.{length-map}
-use Rattle.tr_base.specs.declared.NodeId.{NodeId}
-use Rattle.tr_base.specs.declared.Shapes.{Shapes}
-use Rattle.tr_forest.specs.Nodes.{IsNode, node}
+use Rattle.tr_forest.specs.Nodes.{node}
 use Rattle.tr_forest.specs.declared.NodeKind.{NodeKind}
 use Rattle.tr_tree.specs.Wishes.{shape_of}
 use Rattle.tr_tree.specs.Tables.{shape_in}
-use Rattle.tr_tree.proofs.ChildLemmas.{children_few, children_within}
+use Rattle.tr_tree.proofs.KinLemmas.{few_children, children_within}
 use Rattle.tr_tree.proofs.FillLemmas.{shape_above_is}
 use Rattle.tr_tree.proofs.wishes.shape_above.Goals as goal
 
 pub gather-requires-clause-room : goal.gather-requires-clause-room
 gather-requires-clause-room c =
-    omega (arith, children_few c.args.forest.now c.requires.forest c.args.n c.requires.node, ap length c.children-children.ensures)
+    omega (arith, few_children c.args.forest.now c.requires.forest c.args.n c.requires.node, ap length c.children-children.ensures)
 
 pub gather-requires-clause-within : goal.gather-requires-clause-within
 gather-requires-clause-within c =
-    children_within c.args.forest.now c.requires.forest c.args.n c.children-children.result.now (length c.args.table.now) c.children-children.ensures c.requires.count
+    rw (c.children-children.ensures, c.requires.count) (children_within c.args.forest.now c.requires.forest c.args.n)
 
 pub shape_of-requires-clause-count : goal.shape_of-requires-clause-count
 shape_of-requires-clause-count c =
     rw (c.deref.ensures.value, c.gather.ensures.shapes, length-map)
-    (omega (arith, children_few c.args.forest.now c.requires.forest c.args.n c.requires.node, ap length c.children-children.ensures, c.requires.forest.count))
+    (omega (arith, few_children c.args.forest.now c.requires.forest c.args.n c.requires.node, ap length c.children-children.ensures, c.requires.forest.count))
 
 pub returns-clause-shapes : goal.returns-clause-shapes
 returns-clause-shapes c =

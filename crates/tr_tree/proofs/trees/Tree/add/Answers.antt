@@ -1,4 +1,3 @@
-use Rattle.std.proofs.Common.{ap, ◌∙◌}
 use Rattle.tr_tree.proofs.LayoutLemmas.{places_same, places_for_added}
 use Rattle.tr_tree.proofs.trees.Tree.add.Goals as goal
 
