@@ -10,6 +10,7 @@ use std::test::Fail;
 use tr_base::{Kind, LeafId, NodeId, Point, Rect, Shape, Shapes, Size};
 
 const HERE: Point = Point { h: 0, v: 0 };
+
 const NOWHERE: Edges = (0, 0, 0, 0);
 
 /// No nodes, on a screen of this size.
@@ -30,7 +31,12 @@ fn node(rt: &impl Abort, tree: &mut Tree, kind: NodeKind) -> Result<NodeId, Fail
 }
 
 /// Adds a leaf that wants these lengths across and down: the least, the preferred, the greatest.
-fn leaf(rt: &impl Abort, tree: &mut Tree, across: [u16; 3], down: [u16; 3]) -> Result<NodeId, Fail> {
+fn leaf(
+    rt: &impl Abort,
+    tree: &mut Tree,
+    across: [u16; 3],
+    down: [u16; 3],
+) -> Result<NodeId, Fail> {
     assert!(rt; tree.count() < 256);
     assert!(rt; tree.leaves() < 32);
     let kind = NodeKind::Leaf {
@@ -54,7 +60,12 @@ fn change(rt: &impl Abort, tree: &mut Tree, edit: Edit) -> Result<(), EditRefuse
     tree.edit(&edit)
 }
 
-fn hang(rt: &impl Abort, tree: &mut Tree, child: NodeId, parent: NodeId) -> Result<(), EditRefused> {
+fn hang(
+    rt: &impl Abort,
+    tree: &mut Tree,
+    child: NodeId,
+    parent: NodeId,
+) -> Result<(), EditRefused> {
     let at = HERE;
     change(rt, tree, Edit::Attach { child, parent, at })
 }
@@ -191,19 +202,25 @@ fn a_page_has_strips_of_one_height(rt: HostRuntime) -> Result<(), Fail> {
     let mut tree = screen(&rt, rt.alloc(), 3, 5)?;
     let page = grown(&rt, &mut tree, NodeKind::Page { per: 2, page: 0 }, &FIXED)?;
     choose(&rt, &mut tree, page);
-    lie_at(&rt, &tree, &[(0, 3, 0, 5), (0, 3, 0, 2), (0, 3, 2, 4), NOWHERE]);
-    change(&rt, &mut tree, Edit::Turn { node: page, page: 1 })?;
+    lie_at(
+        &rt,
+        &tree,
+        &[(0, 3, 0, 5), (0, 3, 0, 2), (0, 3, 2, 4), NOWHERE],
+    );
+    change(
+        &rt,
+        &mut tree,
+        Edit::Turn {
+            node: page,
+            page: 1,
+        },
+    )?;
     lie_at(&rt, &tree, &[(0, 3, 0, 5), NOWHERE, NOWHERE, (0, 3, 0, 2)]);
     Ok(())
 }
 
 /// The domains of the leaves of a packing node, whose rows go across.
-fn packs(
-    rt: &impl Abort,
-    mut tree: Tree,
-    gap: u8,
-    want: &[Edges],
-) -> Result<(), Fail> {
+fn packs(rt: &impl Abort, mut tree: Tree, gap: u8, want: &[Edges]) -> Result<(), Fail> {
     assert!(rt; gap <= 64);
     let pack = grown(rt, &mut tree, NodeKind::Pack { down: false, gap }, &FIXED)?;
     choose(rt, &mut tree, pack);
@@ -224,7 +241,12 @@ fn a_pack_fills_its_rows(rt: HostRuntime) -> Result<(), Fail> {
 #[test]
 fn what_hangs_nowhere_has_no_domain(rt: HostRuntime) -> Result<(), Fail> {
     let mut tree = screen(&rt, rt.alloc(), 6, 3)?;
-    let border = grown(&rt, &mut tree, NodeKind::Border { width: 1 }, &[([1, 2, 4096], [1, 1, 4096])])?;
+    let border = grown(
+        &rt,
+        &mut tree,
+        NodeKind::Border { width: 1 },
+        &[([1, 2, 4096], [1, 1, 4096])],
+    )?;
     let root = node(&rt, &mut tree, NodeKind::V)?;
     hang(&rt, &mut tree, border, root)?;
     choose(&rt, &mut tree, root);
@@ -246,8 +268,22 @@ fn each_edit_is_laid_out(rt: HostRuntime) -> Result<(), Fail> {
         down: lengths(&rt, [1, 1, 1]),
     };
     let steps = [
-        (Edit::Offset { node: translate, by: HERE }, NodeId(1), (0, 2, 0, 1)),
-        (Edit::Shapes { node: NodeId(1), shapes }, NodeId(1), (0, 6, 0, 1)),
+        (
+            Edit::Offset {
+                node: translate,
+                by: HERE,
+            },
+            NodeId(1),
+            (0, 2, 0, 1),
+        ),
+        (
+            Edit::Shapes {
+                node: NodeId(1),
+                shapes,
+            },
+            NodeId(1),
+            (0, 6, 0, 1),
+        ),
         (Edit::Detach { child: NodeId(1) }, NodeId(1), NOWHERE),
     ];
     play(&rt, &mut tree, &steps)
@@ -280,7 +316,14 @@ fn a_t_shows_one_child(rt: HostRuntime) -> Result<(), Fail> {
     let t = grown(&rt, &mut tree, NodeKind::T { shown: None }, &FIXED)?;
     choose(&rt, &mut tree, t);
     lie_at(&rt, &tree, &[(0, 5, 0, 4), (0, 5, 0, 4), NOWHERE, NOWHERE]);
-    change(&rt, &mut tree, Edit::Show { node: t, child: NodeId(2) })?;
+    change(
+        &rt,
+        &mut tree,
+        Edit::Show {
+            node: t,
+            child: NodeId(2),
+        },
+    )?;
     lie_at(&rt, &tree, &[(0, 5, 0, 4), NOWHERE, (0, 5, 0, 4), NOWHERE]);
     Ok(())
 }
@@ -292,9 +335,23 @@ fn the_screen_changes(rt: HostRuntime) -> Result<(), Fail> {
     choose(&rt, &mut tree, border);
     let (kind, size) = (Kind::Mono, Size { wide: 4, high: 9 });
     let steps = [
-        (Edit::Tint { node: border, tint: 7 }, NodeId(1), (1, 5, 1, 2)),
+        (
+            Edit::Tint {
+                node: border,
+                tint: 7,
+            },
+            NodeId(1),
+            (1, 5, 1, 2),
+        ),
         (Edit::Resize { size }, NodeId(1), (1, 3, 1, 8)),
-        (Edit::Border { node: border, width: 0 }, NodeId(1), (0, 4, 0, 9)),
+        (
+            Edit::Border {
+                node: border,
+                width: 0,
+            },
+            NodeId(1),
+            (0, 4, 0, 9),
+        ),
         (Edit::Rescreen { kind }, NodeId(1), (0, 4, 0, 9)),
     ];
     play(&rt, &mut tree, &steps)?;
@@ -308,7 +365,14 @@ fn a_refused_edit_changes_nothing(rt: HostRuntime) -> Result<(), Fail> {
     let size = Size { wide: 3, high: 2 };
     let rigid = grown(&rt, &mut tree, NodeKind::Rigid { size }, &[FIXED[0]])?;
     choose(&rt, &mut tree, rigid);
-    let refused = change(&rt, &mut tree, Edit::Border { node: rigid, width: 1 });
+    let refused = change(
+        &rt,
+        &mut tree,
+        Edit::Border {
+            node: rigid,
+            width: 1,
+        },
+    );
     assert_eq!(rt; refused, Err(EditRefused::Fault(NodeFault::WrongKind)));
     let below = hang(&rt, &mut tree, rigid, NodeId(1));
     assert_eq!(rt; below, Err(EditRefused::Fault(NodeFault::WrongKind)));
@@ -324,7 +388,11 @@ fn a_tree_is_copied(rt: HostRuntime) -> Result<(), Fail> {
     let copy = tree.copy()?;
     let size = Size { wide: 1, high: 1 };
     change(&rt, &mut tree, Edit::Resize { size })?;
-    lie_at(&rt, &copy, &[(0, 6, 0, 3), (0, 6, 0, 1), (0, 6, 1, 3), NOWHERE]);
+    lie_at(
+        &rt,
+        &copy,
+        &[(0, 6, 0, 3), (0, 6, 0, 1), (0, 6, 1, 3), NOWHERE],
+    );
     is_read(&rt, &copy);
     Ok(())
 }
@@ -332,7 +400,10 @@ fn a_tree_is_copied(rt: HostRuntime) -> Result<(), Fail> {
 /// Reads the tree of a V and three leaves.
 fn is_read(rt: &impl Abort, tree: &Tree) {
     assert_eq!(rt; (tree.count(), tree.root()), (4, Some(NodeId(0))));
-    assert_eq!(rt; (tree.size(), tree.kind()), (Size { wide: 6, high: 3 }, Kind::Map8));
+    assert_eq!(rt;
+        (tree.size(), tree.kind()),
+        (Size { wide: 6, high: 3 }, Kind::Map8)
+    );
     let n = NodeId(2);
     assert!(rt; is_node(tree, n));
     assert_eq!(rt; tree.parent(n), Some(NodeId(0)));

@@ -1,10 +1,10 @@
-ghost use Rattle.std.specs.Prelude.{◌≡◌, ◌<◌, ◌++◌, ◌∷◌, [], IfOk, IfErr, OnOk, OnErr, Some, None, map, length, if◌then◌else◌};
+ghost use Rattle.std.specs.Prelude.{◌≡◌, ◌<◌, ◌++◌, ◌∷◌, [], false, IsOk, IfOk, IfErr, OnOk, OnErr, Some, None, map, length, if◌then◌else◌};
 ghost use Rattle.tr_base.specs.declared.NodeId.{NodeId};
 ghost use Rattle.tr_base.specs.Rects.{whole_of};
 ghost use Rattle.tr_base.specs.Layouts.{IsDomain};
 ghost use Rattle.tr_forest.specs.Nodes.{node, fresh, IsNode, IsNodeKind, IsNextLeaf, shown_by, leaf_of, leaf_count};
 ghost use Rattle.tr_forest.specs.Forests.{IsForest};
-ghost use Rattle.tr_forest.specs.Edits.{IsEdit, IsCause, IsScreenSize, refusal, is_root};
+ghost use Rattle.tr_forest.specs.Edits.{IsEdit, IsCause, IsScreenSize, refusal, wants_memory, is_root};
 ghost use Rattle.tr_tree.specs.Trees.{size_after, kind_after, edited_tree};
 ghost use Rattle.tr_tree.specs.Wishes.{shape, shape_of};
 ghost use Rattle.tr_tree.specs.Places.{domain, place_below};
@@ -93,6 +93,7 @@ impl Tree {
         ensures ok { OnOk result (self.new ≡ edited_tree self.old edit.now) }
         ensures allowed { OnOk result (refusal self.old.nodes edit.now ≡ None) }
         ensures cause { IfErr result (λ e. IsCause (refusal self.old.nodes edit.now) e) }
+        ensures succeeds { wants_memory edit.now ≡ false → refusal self.old.nodes edit.now ≡ None → IsOk result }
         ensures err { OnErr result (self.new ≡ self.old) }
     {
         self.forest.edit(edit)?;
@@ -230,7 +231,7 @@ impl Tree {
             shape t n ≡ shape_of (node t n).kind (map (shape t) (node t n).children) }
         ensures domains { (n : NodeId) → let t = self.now in
             domain t n ≡ (if is_root t.nodes n then whole_of t.size
-                else place_below t.nodes n (node t.nodes n).parent (domain t)) }
+            else place_below t.nodes n (node t.nodes n).parent (domain t)) }
     {
         let _count = self.forest.count();
     }
