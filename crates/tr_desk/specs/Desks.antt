@@ -25,7 +25,7 @@ pub record Devices : Type 0 where
   pub target : Option LeafId
   pub leaves : List LeafState
 
--- a leaf that no event was sent to, and that needn't be told where the cursor is
+-- a leaf that no mouse or key event has reached, and that needn't be told where the cursor is
 abbrev pub untold : LeafState
 untold = record { cage = Everywhere; last = 0 }
 
@@ -46,7 +46,7 @@ idle count = record {
 abbrev pub is_held : Devices → ℕ → Bool
 is_held d button = get_or d.held (button - 1) false
 
--- some button is
+-- some button is held
 abbrev pub is_any_held : List Bool → Bool
 is_any_held held = list_any (λ h. h) held
 
@@ -54,7 +54,7 @@ is_any_held held = list_any (λ h. h) held
 abbrev pub held_after : List Bool → ℕ → Bool → List Bool
 held_after held button down = set held (button - 1) down
 
--- the first button goes down with none held, and the last one goes up with none held then
+-- what a button did, by whether it goes down, whether any was held before, and whether any is held after
 abbrev pub click_of : Bool → Bool → Bool → Click
 click_of true before after = if before then OtherDown else FirstDown
 click_of false before after = if after then OtherUp else LastUp
@@ -68,12 +68,12 @@ abbrev pub leaf_at : Spot → Option LeafId
 leaf_at (spots.Leaf leaf at size kind) = Some leaf
 leaf_at spot = None
 
--- who gets the event: at the first button the leaf under the cursor, and until the last one goes up the same
+-- who gets the event: at the first button the leaf at the spot, and until the last one goes up that same leaf
 abbrev pub receiver : Click → Spot → Option LeafId → Option LeafId
 receiver FirstDown spot focus = leaf_at spot
 receiver click spot focus = focus
 
--- who gets the next one
+-- the mouse focus after an event: set at the first button, nobody on a frame or off the screen, kept, and none after the last one
 abbrev pub focus_after : Click → Spot → Option LeafId → Option LeafId
 focus_after LastUp spot focus = None
 focus_after click spot focus = receiver click spot focus

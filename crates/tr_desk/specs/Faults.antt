@@ -23,17 +23,17 @@ first_of (Some fault) second = Some fault
 abbrev pub mouse_fault : Devices → ℕ → ℕ → Bool → Option DeskFault
 mouse_fault d time button down = first_of (time_fault d time) (button_fault down (is_held d button))
 
--- a leaf may own a selection by the event that it was sent last, if that was the last of all
+-- a leaf may own a selection at a time, from 1 on, that is both the desk's and that of the last mouse or key event that reached it
 abbrev pub own_fault : Devices → LeafId → ℕ → Option DeskFault
 own_fault d leaf time =
     if nat_le 1 time && (time == d.time) && (time == (state_of d leaf).last) then None
     else Some (NotCurrent d.time (state_of d leaf).last)
 
--- the leaf is this one
-abbrev pub is_leaf : LeafId → Option LeafId → Bool
-is_leaf leaf None = false
-is_leaf leaf (Some other) = other.0 == leaf.0
+-- the owner is this leaf
+abbrev pub is_owned_by : LeafId → Option LeafId → Bool
+is_owned_by leaf None = false
+is_owned_by leaf (Some other) = other.0 == leaf.0
 
 -- only its owner gives a selection up
 abbrev pub disown_fault : Devices → LeafId → Selection → Option DeskFault
-disown_fault d leaf selection = if is_leaf leaf (owner d selection) then None else Some NotOwner
+disown_fault d leaf selection = if is_owned_by leaf (owner d selection) then None else Some NotOwner

@@ -1,6 +1,6 @@
 ghost use Rattle.std.specs.Prelude.{◌≡◌, ◌≤◌, ◌<◌, length, Option, Some, None, IfOk, IfErr, OnOk, OnErr};
 ghost use Rattle.tr_desk.specs.Desks as spec;
-ghost use Rattle.tr_desk.specs.Faults.{time_fault, button_fault, mouse_fault, own_fault, disown_fault, is_leaf};
+ghost use Rattle.tr_desk.specs.Faults.{time_fault, button_fault, mouse_fault, own_fault, disown_fault, is_owned_by};
 ghost use Rattle.tr_base.specs.declared.LeafId.{LeafId};
 ghost use Rattle.tr_base.specs.declared.Spot.{Spot};
 
@@ -26,8 +26,8 @@ pub enum DeskFault {
     /// The button that goes up isn't held.
     #[error("the button is not held")]
     NotHeld,
-    /// The time isn't that of the last event of all, `now`, or not that of the last mouse or key
-    /// event that the window was sent, `last`; 0 says that there was none.
+    /// The time is 0, or isn't that of the last event of all, `now`, or not that of the last mouse
+    /// or key event that reached the window, `last`; 0 says that there was none.
     #[error("not the time of the last event, {now}, and of the window's last one, {last}")]
     NotCurrent { now: u32, last: u32 },
     /// The window doesn't own the selection.
@@ -175,8 +175,9 @@ impl Desk {
         state.cage = cage;
     }
 
-    /// A leaf takes a selection, by the time of the last event, which it was sent. The answer is the
-    /// owner before it, where that is another leaf.
+    /// A leaf takes a selection, at a time from 1 on that is both the desk's and that of the last
+    /// mouse or key event that reached the leaf. The answer is the owner before it, where that is
+    /// another leaf.
     pub fn own(
         &mut self,
         leaf: LeafId,
@@ -203,7 +204,7 @@ impl Desk {
         ensures fault { IfErr result (λ e. disown_fault self.old leaf selection ≡ Some e) }
         ensures err { OnErr result (self.new ≡ self.old) }
     {
-        if !is_leaf(leaf, self.owner(selection)) {
+        if !is_owned_by(leaf, self.owner(selection)) {
             return Err(DeskFault::NotOwner);
         }
         self.set_owner(selection, None);
@@ -374,8 +375,8 @@ fn focus_after(click: Click, receiver: Option<LeafId>) -> Option<LeafId>
     }
 }
 
-fn is_leaf(leaf: LeafId, other: Option<LeafId>) -> bool
-    ensures { result ≡ is_leaf leaf other }
+fn is_owned_by(leaf: LeafId, other: Option<LeafId>) -> bool
+    ensures { result ≡ is_owned_by leaf other }
 {
     match other {
         Some(other) => other.0 == leaf.0,
@@ -386,5 +387,5 @@ fn is_leaf(leaf: LeafId, other: Option<LeafId>) -> bool
 fn other_than(leaf: LeafId, old: Option<LeafId>) -> Option<LeafId>
     ensures { result ≡ spec.other_than leaf old }
 {
-    if is_leaf(leaf, old) { None } else { old }
+    if is_owned_by(leaf, old) { None } else { old }
 }
