@@ -1,5 +1,5 @@
 -- The input devices, and what windows own.
-use Rattle.std.specs.Prelude.{ℕ, pos, neg_ℤ, ◌-◌, ◌==◌, Bool, true, false, if◌then◌else◌, List, [], ◌∷◌, Option, Some, None, get_or, set, replicate}
+use Rattle.std.specs.Prelude.{ℕ, pos, neg_ℤ, ◌-◌, ◌==◌, Bool, true, false, if◌then◌else◌, List, [], ◌∷◌, Option, Some, None, IfSome, get_or, set, replicate, length, ◌≡◌, ◌<◌}
 use Rattle.std.specs.List.{list_any}
 use Rattle.tr_base.specs.declared.Point.{Point}
 use Rattle.tr_base.specs.declared.LeafId.{LeafId}
@@ -102,6 +102,18 @@ owned_by leaf Target d = record d { target = leaf }
 abbrev pub other_than : LeafId → Option LeafId → Option LeafId
 other_than leaf None = None
 other_than leaf (Some old) = if old.0 == leaf.0 then None else Some old
+
+-- somebody is a leaf of the desk, or nobody
+abbrev pub IsKnown : ℕ → Option LeafId → Type 0
+IsKnown count leaf = IfSome leaf (λ l. l.0 < count)
+
+-- there are five buttons, and whoever has the mouse or owns a selection is a leaf of the desk
+pub record IsDesk (d : Devices) : Type 0 where
+  pub buttons : length d.held ≡ 5
+  pub focus : IsKnown (length d.leaves) d.focus
+  pub key : IsKnown (length d.leaves) d.key
+  pub source : IsKnown (length d.leaves) d.source
+  pub target : IsKnown (length d.leaves) d.target
 
 -- what is kept of a leaf
 abbrev pub state_of : Devices → LeafId → LeafState

@@ -60,8 +60,7 @@ pub struct Desk {
 }
 
 impl Model for Desk {
-    ghost use Rattle.std.specs.Prelude.{◌≡◌, length};
-    ghost use Rattle.tr_desk.specs.Desks.{Devices};
+    ghost use Rattle.tr_desk.specs.Desks.{Devices, IsDesk};
 
     ghost Value = { Devices };
 
@@ -76,7 +75,16 @@ impl Model for Desk {
       leaves = d.leaves.items;
     } };
 
-    ghost invariant = { λ d. length d.held ≡ 5 };
+    ghost invariant = { λ d. IsDesk (record {
+      cursor = d.cursor;
+      time = d.time;
+      held = d.held;
+      focus = d.focus;
+      key = d.key;
+      source = d.source;
+      target = d.target;
+      leaves = d.leaves.items;
+    }) };
 }
 
 impl Desk {
@@ -113,6 +121,7 @@ impl Desk {
     ) -> Result<(Option<LeafId>, Click), DeskFault>
         requires first { 1 ≤ button }
         requires last { button ≤ BUTTONS }
+        requires spot { spec.IsKnown (length self.old.leaves) (spec.leaf_at spot.now) }
         ensures answer { let click = spec.click self.old button down in
             IfOk result (λ r. r ≡ (spec.receiver click spot.now self.old.focus, click)) }
         ensures ok { OnOk result (self.new ≡ spec.after_mouse self.old time button down spot.now) }
@@ -252,7 +261,8 @@ impl Desk {
 
     /// How many leaves it knows.
     pub fn leaves(&self) -> usize
-        ensures { result ≡ length self.now.leaves }
+        ensures count { result ≡ length self.now.leaves }
+        ensures invariant { spec.IsDesk self.now }
     {
         self.leaves.len()
     }
@@ -262,7 +272,6 @@ impl Desk {
         requires first { 1 ≤ button }
         requires last { button ≤ BUTTONS }
         ensures held { result ≡ spec.is_held self.now button }
-        ensures invariant { length self.now.held ≡ BUTTONS }
     {
         self.held[usize::from(button - 1)]
     }
@@ -279,6 +288,7 @@ impl Desk {
     }
 
     fn set_owner(&mut self, selection: Selection, leaf: Option<LeafId>)
+        requires { spec.IsKnown (length self.old.leaves) leaf }
         ensures { self.new ≡ spec.owned_by leaf selection self.old }
     {
         match selection {

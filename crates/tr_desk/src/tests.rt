@@ -17,6 +17,8 @@ fn on(leaf: LeafId) -> Spot {
     }
 }
 
+type Moused = Result<(Option<LeafId>, Click), DeskFault>;
+
 fn frame() -> Spot {
     Spot::Frame {
         node: NodeId(0),
@@ -25,10 +27,23 @@ fn frame() -> Spot {
     }
 }
 
+/// What the desk makes of a button, where it knows both the button and the leaf.
+fn button(desk: &mut Desk, time: u32, number: u8, down: bool, spot: &Spot) -> Option<Moused> {
+    if let Spot::Leaf { leaf, .. } = spot
+        && usize::from(leaf.0) >= desk.leaves()
+    {
+        return None;
+    }
+    if number < 1 || number > 5 {
+        return None;
+    }
+    Some(desk.mouse(time, number, down, spot))
+}
+
 #[test]
 fn all_buttons_go_where_the_first_went(rt: HostRuntime) -> Result<(), Fail> {
     let mut desk = Desk::new(rt.alloc(), 2)?;
-    for (time, button, down, spot, receiver, click) in [
+    for (time, number, down, spot, receiver, click) in [
         (2, 1, true, on(A), Some(A), Click::FirstDown),
         (4, 2, true, on(B), Some(A), Click::OtherDown),
         (5, 1, false, on(B), Some(A), Click::OtherUp),
@@ -37,9 +52,9 @@ fn all_buttons_go_where_the_first_went(rt: HostRuntime) -> Result<(), Fail> {
         (7, 5, false, on(A), None, Click::LastUp),
         (8, 5, true, on(A), Some(A), Click::FirstDown),
     ] {
-        assert!(rt; 1 <= button && button <= 5);
-        assert!(rt; desk.mouse(time, button, down, &spot) == Ok((receiver, click)));
-        assert!(rt; desk.time() == time && desk.is_held(button) == down);
+        let moused = button(&mut desk, time, number, down, &spot);
+        assert!(rt; moused == Some(Ok((receiver, click))) && desk.time() == time);
+        assert!(rt; 1 <= number && number <= 5 && desk.is_held(number) == down);
     }
     assert!(rt; desk.focus() == Some(A));
     Ok(())
@@ -54,10 +69,10 @@ fn events_have_their_order(rt: HostRuntime) -> Result<(), Fail> {
     assert!(rt; desk.cursor() == at);
     let earlier = DeskFault::Earlier { now: 5 };
     assert!(rt; desk.motion(4, at) == Err(earlier) && desk.key(4) == Err(earlier));
-    assert!(rt; desk.mouse(4, 1, false, &on(A)) == Err(earlier));
-    assert!(rt; desk.mouse(5, 1, false, &on(A)) == Err(DeskFault::NotHeld));
-    assert!(rt; desk.mouse(6, 1, true, &on(A)).is_ok());
-    assert!(rt; desk.mouse(7, 1, true, &on(A)) == Err(DeskFault::Held));
+    assert!(rt; button(&mut desk, 4, 1, false, &on(A)) == Some(Err(earlier)));
+    assert!(rt; button(&mut desk, 5, 1, false, &on(A)) == Some(Err(DeskFault::NotHeld)));
+    assert!(rt; button(&mut desk, 6, 1, true, &on(A)) == Some(Ok((Some(A), Click::FirstDown))));
+    assert!(rt; button(&mut desk, 7, 1, true, &on(A)) == Some(Err(DeskFault::Held)));
     assert!(rt; desk.time() == 6 && desk.key(9) == Ok(None) && desk.time() == 9);
     Ok(())
 }
