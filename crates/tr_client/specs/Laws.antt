@@ -1,7 +1,9 @@
 -- The words in which a client's laws are stated.
-use Rattle.std.specs.Prelude.{◌≡◌, ℕ, ◌≤◌, ◌==◌, ◌||◌, Bool, true}
+use Rattle.std.specs.Prelude.{◌≡◌, ℕ, ◌<◌, ◌≤◌, ◌^◌, ◌==◌, ◌||◌, Bool, true}
 use Rattle.tr_base.specs.declared.Point.{Point}
 use Rattle.tr_base.specs.declared.Size.{Size}
+use Rattle.tr_base.specs.declared.Event.{Event}
+use Rattle.tr_base.specs.declared.Event.TheVariants.{Mouse, Position, Key}
 use Rattle.tr_base.specs.Rects.{Edges, has_point, whole_of}
 use Rattle.tr_base.specs.Layouts.{longest}
 
@@ -13,6 +15,13 @@ pub record IsWindowSize (size : Size) : Type 0 where
 -- a window of the size has no point, since one of its sides is zero
 abbrev pub is_flat : Size → Bool
 is_flat size = size.wide == 0 || size.high == 0
+
+-- the numbers of an event are those of their types
+abbrev pub IsEvent : Event → Type 0
+IsEvent (Mouse time click button at) = (time < 2 ^ 32) × (button < 2 ^ 8)
+IsEvent (Position time at gone) = time < 2 ^ 32
+IsEvent (Key time code) = (time < 2 ^ 32) × (code < 2 ^ 8)
+IsEvent event = Unit {0}
 
 -- what is kept when a window changes its size: points of both windows, which have the same colours in both pictures
 pub record Survives (kept : Edges) (from to : Size) (before after : Point → ℕ) : Type 0 where

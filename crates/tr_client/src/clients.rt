@@ -7,7 +7,7 @@ ghost use Rattle.tr_paint.specs.declared.paints.Paint.{Paint};
 ghost use Rattle.tr_paint.specs.Traces.{Look, look_of};
 ghost use Rattle.tr_paint.specs.Patches.{IsPatch};
 ghost use Rattle.tr_paint.specs.Paintings.{IsPainting};
-ghost use Rattle.tr_client.specs.Laws.{IsWindowSize, is_flat, Survives};
+ghost use Rattle.tr_client.specs.Laws.{IsWindowSize, is_flat, IsEvent, Survives};
 
 use std::alloc::Global;
 use tr_base::{Command, Env, Event, Line, NoMemory, Rect, Size};
@@ -104,6 +104,14 @@ pub trait Client: Sized + Drop + Send + Sync {
         ensures { valid (next self.now cmd.now) }
     {}
 
+    /// Law of answers: an event asks for a command. Nothing runs.
+    fn obeys_answer(&self, event: &Event)
+        requires valid { valid self.now }
+        ensures { IfSome (answer self.now event.now) (λ cmd. Self.Cmd.valid cmd) }
+    {
+        known(event)
+    }
+
     /// Law of patches: over whatever is known of the old picture, each point of the window is unknown
     /// after the patch, or has its colour in the new picture. Nothing runs.
     fn obeys_patch(&self, env: &Env, size: Size, cmd: &Self::Cmd)
@@ -136,6 +144,9 @@ pub trait Client: Sized + Drop + Send + Sync {
     /// A command leaves a content.
     ghost contents: { (x : Self) (cmd : Self.Cmd) → valid x → Self.Cmd.valid cmd → valid (next x cmd) };
 
+    /// An event asks for a command.
+    ghost answers: { (x : Self) (event : Event) → valid x → IsEvent event → IfSome (answer x event) (λ cmd. Self.Cmd.valid cmd) };
+
     /// A patch leads from the old picture to the new one.
     ghost patches: { (look : Look) (size : Size) (x : Self) (cmd : Self.Cmd) → valid x → Self.Cmd.valid cmd → IsWindowSize size →
         IsPatch look size (patch look size x cmd) (pic look size x) (pic look size (next x cmd)) };
@@ -147,4 +158,22 @@ pub trait Client: Sized + Drop + Send + Sync {
     /// What is kept lies in both windows, and has the same colours in both.
     ghost keeping: { (look : Look) (from to : Size) (x : Self) → valid x → IsWindowSize from → IsWindowSize to →
         Survives (keeps x from to) from to (pic look from x) (pic look to x) };
+}
+
+/// Tells that the numbers of an event are those of their types. Nothing runs.
+fn known(event: &Event)
+    ensures { IsEvent event.now }
+{
+    match *event {
+        Event::Mouse { time, button, .. } => {
+            let (_time, _button) = (time, button);
+        }
+        Event::Position { time, .. } => {
+            let _time = time;
+        }
+        Event::Key { time, code } => {
+            let (_time, _code) = (time, code);
+        }
+        Event::Lost { .. } | Event::Reshape { .. } => {}
+    }
 }

@@ -113,6 +113,31 @@ fn picture(alloc: Global) -> Result<Batch, NoMemory> {
 }
 
 #[test]
+fn a_pixmap_is_painted(rt: HostRuntime) -> Result<(), Fail> {
+    let alloc = rt.alloc();
+    let size = Size { wide: 2, high: 1 };
+    let src = Pixmap::new(size, Vec::from_slice(alloc, &[3, 4])?);
+    let mut batch = Batch::new(alloc);
+    batch.push(Paint::Pixels {
+        clip: whole(size),
+        src: src.copy(alloc)?,
+        delta: CORNER,
+    })?;
+    let mut screen = Screen::blank(alloc, size, Kind::Map8)?;
+    let font = Font::empty(alloc)?;
+    let env = Env {
+        kind: Kind::Map8,
+        font: &font,
+    };
+    let visible = part(alloc, screen.size(), whole(screen.size()))?;
+    let mut bad = part(alloc, screen.size(), whole(screen.size()))?;
+    execute(alloc, &batch, &env, CORNER, &visible, &mut screen, &mut bad)?;
+    assert_eq!(rt; screen.row(0), [3, 4].as_slice());
+    assert!(rt; bad.is_empty());
+    Ok(())
+}
+
+#[test]
 fn a_row_is_painted(rt: HostRuntime) -> Result<(), Fail> {
     let none = Rect::edges(0, 0, 0, 0);
     let third = Rect::edges(2, 3, 0, 1);

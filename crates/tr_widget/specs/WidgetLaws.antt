@@ -1,21 +1,30 @@
 -- A Widget obeys the laws of clients, since each widget does. These are proofs, which stand here since an impl cites nothing else of its crate; no contract cites them.
-use Rattle.std.proofs.Common.{◌≡◌, [], true, refl}
+use Rattle.std.proofs.Common.{◌≡◌, [], true, Option, Some, None, refl}
+use Rattle.std.specs.Prelude.{IfSome}
+use Rattle.std.specs.Option.{option_map}
 use Rattle.tr_base.specs.declared.Size.{Size}
+use Rattle.tr_base.specs.declared.Event.{Event}
 use Rattle.tr_paint.specs.Traces.{Look}
 use Rattle.tr_paint.specs.Patches.{IsPatch}
 use Rattle.tr_paint.proofs.PatchLemmas.{no_patch}
-use Rattle.tr_client.specs.Laws.{IsWindowSize, is_flat, Survives}
-use Rattle.w_plain.specs.SolidLaws.{solid_contents, solid_patches, solid_empty_patches, solid_keeping}
-use Rattle.w_plain.specs.BoardLaws.{board_contents, board_patches, board_empty_patches, board_keeping}
-use Rattle.w_plain.specs.LabelLaws.{label_contents, label_patches, label_empty_patches, label_keeping}
-use Rattle.w_lines.specs.LinesLaws.{lines_contents, lines_patches, lines_empty_patches, lines_keeping}
-use Rattle.w_canvas.specs.CanvasLaws.{canvas_contents, canvas_patches, canvas_empty_patches, canvas_keeping}
-use Rattle.w_meter.specs.MeterLaws.{meter_contents, meter_patches, meter_empty_patches, meter_keeping}
+use Rattle.tr_client.specs.Laws.{IsWindowSize, is_flat, IsEvent, Survives}
+use Rattle.w_plain.specs.Solids.{IsSolidCmd, solid_answer}
+use Rattle.w_plain.specs.Boards.{IsBoardCmd, board_answer}
+use Rattle.w_plain.specs.Labels.{IsLabelCmd, label_answer}
+use Rattle.w_lines.specs.Lines.{IsLinesCmd, lines_answer}
+use Rattle.w_canvas.specs.Canvases.{IsCanvasCmd, canvas_answer}
+use Rattle.w_meter.specs.Meters.{IsMeterCmd, meter_answer}
+use Rattle.w_plain.specs.SolidLaws.{solid_contents, solid_answers, solid_patches, solid_empty_patches, solid_keeping}
+use Rattle.w_plain.specs.BoardLaws.{board_contents, board_answers, board_patches, board_empty_patches, board_keeping}
+use Rattle.w_plain.specs.LabelLaws.{label_contents, label_answers, label_patches, label_empty_patches, label_keeping}
+use Rattle.w_lines.specs.LinesLaws.{lines_contents, lines_answers, lines_patches, lines_empty_patches, lines_keeping}
+use Rattle.w_canvas.specs.CanvasLaws.{canvas_contents, canvas_answers, canvas_patches, canvas_empty_patches, canvas_keeping}
+use Rattle.w_meter.specs.MeterLaws.{meter_contents, meter_answers, meter_patches, meter_empty_patches, meter_keeping}
 use Rattle.tr_widget.specs.declared.widgets.Widget.{Widget}
 use Rattle.tr_widget.specs.declared.widgets.Widget.TheVariants.{Solid, Board, Label, Lines, Canvas, Meter}
 use Rattle.tr_widget.specs.declared.commands.WidgetCmd.{WidgetCmd}
 use Rattle.tr_widget.specs.declared.commands.WidgetCmd.TheVariants.{Solid as ToSolid, Board as ToBoard, Label as ToLabel, Lines as ToLines, Canvas as ToCanvas, Meter as ToMeter}
-use Rattle.tr_widget.specs.Widgets.{IsWidget, IsWidgetCmd, widget_pic, widget_next, widget_patch, widget_keeps}
+use Rattle.tr_widget.specs.Widgets.{IsWidget, IsWidgetCmd, widget_pic, widget_next, widget_patch, widget_answer, widget_keeps}
 
 pub widget_contents : (x : Widget) (cmd : WidgetCmd) → IsWidget x → IsWidgetCmd cmd → IsWidget (widget_next x cmd)
 widget_contents (Solid x) (ToSolid cmd) valid known = solid_contents x cmd valid known
@@ -25,6 +34,20 @@ widget_contents (Lines x) (ToLines cmd) valid known = lines_contents x cmd valid
 widget_contents (Canvas x) (ToCanvas cmd) valid known = canvas_contents x cmd valid known
 widget_contents (Meter x) (ToMeter cmd) valid known = meter_contents x cmd valid known
 widget_contents x cmd valid known = valid
+
+-- what is a command of its widget is one of the widgets
+handed_on : {M : Type 0} (to : M → WidgetCmd) (IsCmd : M → Type 0) (asked : Option M) → ((cmd : M) → IsCmd cmd → IsWidgetCmd (to cmd)) →
+    IfSome asked IsCmd → IfSome (option_map to asked) (λ cmd. IsWidgetCmd cmd)
+handed_on to IsCmd None on known = tt
+handed_on to IsCmd (Some cmd) on known = on cmd known
+
+pub widget_answers : (x : Widget) (event : Event) → IsWidget x → IsEvent event → IfSome (widget_answer x event) (λ cmd. IsWidgetCmd cmd)
+widget_answers (Solid x) event valid known = handed_on ToSolid IsSolidCmd (solid_answer x event) (λ cmd h. h) (solid_answers x event valid known)
+widget_answers (Board x) event valid known = handed_on ToBoard IsBoardCmd (board_answer x event) (λ cmd h. h) (board_answers x event valid known)
+widget_answers (Label x) event valid known = handed_on ToLabel IsLabelCmd (label_answer x event) (λ cmd h. h) (label_answers x event valid known)
+widget_answers (Lines x) event valid known = handed_on ToLines IsLinesCmd (lines_answer x event) (λ cmd h. h) (lines_answers x event valid known)
+widget_answers (Canvas x) event valid known = handed_on ToCanvas IsCanvasCmd (canvas_answer x event) (λ cmd h. h) (canvas_answers x event valid known)
+widget_answers (Meter x) event valid known = handed_on ToMeter IsMeterCmd (meter_answer x event) (λ cmd h. h) (meter_answers x event valid known)
 
 pub widget_patches : (look : Look) (size : Size) (x : Widget) (cmd : WidgetCmd) → IsWidget x → IsWidgetCmd cmd → IsWindowSize size →
     IsPatch look size (widget_patch look size x cmd) (widget_pic look size x) (widget_pic look size (widget_next x cmd))

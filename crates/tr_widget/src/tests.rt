@@ -87,9 +87,21 @@ fn obeys_its_laws<C: Client>(
         let area = paint.area();
         assert_eq!(rt; area, area.meet(&Rect::edges(0, 9, 2, 16)));
     }
+    has_its_words(rt, alloc, content, cmd, want)
+}
 
+/// A key asks for the command that is wanted, and commands are spelled as they are in a script.
+fn has_its_words<C: Client>(
+    rt: &impl Abort,
+    alloc: Global,
+    content: &C,
+    cmd: &C::Cmd,
+    want: &Want,
+) -> Result<(), Fail> {
     let (code, answer) = want.answer;
-    let asked = content.react(alloc, &Event::Key { time: 7, code })?;
+    let key = Event::Key { time: 7, code };
+    content.obeys_answer(&key);
+    let asked = content.react(alloc, &key)?;
     assert_eq!(rt; words_of(alloc, asked.as_ref())?.as_slice(), answer);
     assert_eq!(rt; words_of(alloc, Some(cmd))?.as_slice(), want.words);
     assert!(rt; cmd.same(&cmd.copy(alloc)?));

@@ -51,7 +51,7 @@ impl Widget {
 
 impl Client for Widget {
     ghost use Rattle.tr_widget.specs.Widgets.{IsWidget, widget_pic, widget_next, widget_patch, widget_answer, widget_value, widget_keeps};
-    ghost use Rattle.tr_widget.specs.WidgetLaws.{widget_contents, widget_patches, widget_empty_patches, widget_keeping};
+    ghost use Rattle.tr_widget.specs.WidgetLaws.{widget_contents, widget_answers, widget_patches, widget_empty_patches, widget_keeping};
 
     type Cmd = WidgetCmd;
 
@@ -180,6 +180,8 @@ impl Client for Widget {
     }
 
     ghost contents = { widget_contents };
+
+    ghost answers = { widget_answers };
 
     ghost patches = { widget_patches };
 

@@ -1,19 +1,25 @@
 -- A Canvas obeys the laws of clients. These are proofs, which stand here since an impl cites nothing else of its crate; no contract cites them.
-use Rattle.std.proofs.Common.{◌≡◌, ℕ, ◌+◌, ◌-◌, ◌<◌, ◌≤◌, ◌&&◌, Bool, true, false, cond, List, [], ◌∷◌, ◌++◌, length, map, get_or, Option, Some, None, inl, inr, refl, sym, ap, subst, ◌∙◌, arith, append_assoc}
-use Rattle.std.specs.Prelude.{nat_lt, slice_get}
+use Rattle.std.proofs.Common.{◌≡◌, ℕ, ◌+◌, ◌-◌, ◌<◌, ◌≤◌, ◌&&◌, ℤ, pos, ◌+ℤ◌, ◌==◌, Bool, true, false, cond, List, [], ◌∷◌, ◌++◌, length, map, get_or, Option, Some, None, inl, inr, refl, sym, ap, subst, ◌∙◌, arith, append_assoc}
+use Rattle.std.specs.Prelude.{nat_lt, slice_get, IfSome}
 use Rattle.std.specs.List.{fold}
 use Rattle.std.proofs.lemmas.List.{append-nil, length-append, length-take, take_all, take_more}
 use Rattle.std.proofs.lemmas.List.Elements.{All-append, All-take, All-from_recursion}
 use Rattle.std.proofs.lemmas.List.Sums.{fold-append}
+use Rattle.std.proofs.lemmas.Int.{ints}
 use Rattle.std.proofs.lemmas.Option.{slice_get_cases}
 use borrow.Author.Tests.{ltb-true}
 use Rattle.tr_base.specs.declared.Point.{Point}
 use Rattle.tr_base.specs.declared.Size.{Size}
+use Rattle.tr_base.specs.declared.Click.{Click}
+use Rattle.tr_base.specs.declared.Click.TheVariants.{FirstDown}
+use Rattle.tr_base.specs.declared.Event.{Event}
+use Rattle.tr_base.specs.declared.Event.TheVariants.{Mouse, Key}
 use Rattle.tr_base.specs.declared.Kind.{Kind}
 use Rattle.tr_base.specs.declared.Op.{Op}
 use Rattle.tr_base.specs.declared.Op.TheVariants.{Bg, Fg, Transparent, Set, Exchange as Exchanged}
 use Rattle.tr_base.specs.Ops.{eff, opaque}
-use Rattle.tr_base.specs.Rects.{Edges, empty_rect, has_point, meet_of, whole_of}
+use Rattle.tr_base.specs.Layouts.{longest}
+use Rattle.tr_base.specs.Rects.{Edges, between, empty_rect, has_point, meet_of, whole_of}
 use Rattle.tr_base.proofs.RectLemmas.{has_point-meet_of}
 use Rattle.tr_paint.specs.declared.Paint.{Paint}
 use Rattle.tr_paint.specs.declared.Paint.TheVariants.{Tint}
@@ -23,14 +29,16 @@ use Rattle.tr_paint.specs.Batches.{kept, batch_of}
 use Rattle.tr_paint.specs.Paintings.{IsPainting}
 use Rattle.tr_paint.proofs.PatchLemmas.{Gives, no_patch, kept_patch}
 use Rattle.tr_paint.proofs.PaintingLemmas.{Makes, painting_first, painting_more}
-use Rattle.tr_client.specs.Laws.{IsWindowSize, is_flat, Survives}
-use Rattle.tr_client.proofs.KeepingLemmas.{survives-meet}
+use Rattle.tr_client.specs.Laws.{IsWindowSize, is_flat, IsEvent, Survives}
+use Rattle.tr_client.proofs.KeepingLemmas.{both_hold, survives-meet}
 use Rattle.tr_client.proofs.FlatLemmas.{flat-whole, meet-nothing}
 use Rattle.tr_client.proofs.PlainLemmas.{meet-inside}
 use Rattle.w_canvas.specs.declared.canvases.Figure.{Figure}
 use Rattle.w_canvas.specs.declared.commands.CanvasCmd.{CanvasCmd}
 use Rattle.w_canvas.specs.declared.commands.CanvasCmd.TheVariants.{Rect, Exchange, Undo}
-use Rattle.w_canvas.specs.Canvases.{IsFigure, IsCanvas, IsCanvasCmd, most_figures, filled, exchanging, drawn_over, canvas_pic, with_figure, without_last, canvas_next, figure_paint, canvas_paints, with_patch, gone_patch, undo_patch, canvas_patch, canvas_keeps}
+use Rattle.w_canvas.specs.Canvases.{IsFigure, IsCanvas, IsCanvasCmd, most_figures, filled, exchanging, drawn_over, canvas_pic, with_figure, without_last, canvas_next, figure_paint, canvas_paints, with_patch, gone_patch, undo_patch, canvas_patch, is_drawable, square_at, backspace, click_answer, key_answer, canvas_answer, canvas_keeps}
+use Rattle.w_canvas.specs.Areas.{IsFigureEdge, IsArea}
+use Rattle.w_canvas.specs.AreaFacts.{area-rect_of}
 use Rattle.w_canvas.specs.PartPatches.{part_patch}
 
 -- what a command with an operation makes of a pixel, by whether the point lies in its area
@@ -171,6 +179,38 @@ pub canvas_contents : (x : List Figure) (cmd : CanvasCmd) → IsCanvas x → IsC
 canvas_contents x (Rect area tint) valid known = with-valid x (filled area tint) valid known
 canvas_contents x (Exchange area a b) valid known = with-valid x (exchanging area a b) valid known
 canvas_contents x Undo valid known = without-valid x valid
+
+-- the small square at a point of the greatest window is in range
+square-valid : (at : Point) → is_drawable at ≡ true → IsArea (square_at at)
+square-valid at drawable =
+    let both = both_hold (between (pos 0) (pos longest) at.h) (between (pos 0) (pos longest) at.v) drawable in
+    area-rect_of at.h (at.h +ℤ pos 2) at.v (at.v +ℤ pos 2) (here at.h both.0) (beyond at.h both.0) (here at.v both.1) (beyond at.v both.1)
+  where
+    here : (x : ℤ) → between (pos 0) (pos longest) x ≡ true → IsFigureEdge x
+    here x within = record { low = grind (arith, ints); high = grind (arith, ints) }
+
+    beyond : (x : ℤ) → between (pos 0) (pos longest) x ≡ true → IsFigureEdge (x +ℤ pos 2)
+    beyond x within = record { low = grind (arith, ints); high = grind (arith, ints) }
+
+click_answers : (click : Click) (at : Point) → IfSome (click_answer click at) (λ cmd. IsCanvasCmd cmd)
+click_answers FirstDown at = by_test (is_drawable at) refl
+  where
+    by_test : (b : Bool) → is_drawable at ≡ b → IfSome (cond b (Some (Rect (square_at at) 1)) None) (λ cmd. IsCanvasCmd cmd)
+    by_test true drawable = record { area = square-valid at drawable; op = omega arith }
+    by_test false beside = tt
+click_answers click at = tt
+
+key_answers : (code : ℕ) → IfSome (key_answer code) (λ cmd. IsCanvasCmd cmd)
+key_answers code = by_test (code == backspace)
+  where
+    by_test : (b : Bool) → IfSome (cond b (Some Undo) None) (λ cmd. IsCanvasCmd cmd)
+    by_test true = tt
+    by_test false = tt
+
+pub canvas_answers : (x : List Figure) (event : Event) → IsCanvas x → IsEvent event → IfSome (canvas_answer x event) (λ cmd. IsCanvasCmd cmd)
+canvas_answers x (Mouse time click button at) valid known = click_answers click at
+canvas_answers x (Key time code) valid known = key_answers code
+canvas_answers x event valid known = tt
 
 pub canvas_patches : (look : Look) (size : Size) (x : List Figure) (cmd : CanvasCmd) → IsCanvas x → IsCanvasCmd cmd → IsWindowSize size →
     IsPatch look size (canvas_patch look size x cmd) (canvas_pic look size x) (canvas_pic look size (canvas_next x cmd))

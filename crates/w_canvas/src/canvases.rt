@@ -275,7 +275,7 @@ fn undone_by(code: u8) -> Option<CanvasCmd>
 
 impl Client for Canvas {
     ghost use Rattle.w_canvas.specs.Canvases.{IsCanvas, canvas_pic, canvas_next, canvas_patch, canvas_answer, canvas_value, canvas_keeps};
-    ghost use Rattle.w_canvas.specs.CanvasLaws.{canvas_contents, canvas_patches, canvas_empty_patches, canvas_keeping};
+    ghost use Rattle.w_canvas.specs.CanvasLaws.{canvas_contents, canvas_answers, canvas_patches, canvas_empty_patches, canvas_keeping};
 
     type Cmd = CanvasCmd;
 
@@ -341,6 +341,8 @@ impl Client for Canvas {
     }
 
     ghost contents = { canvas_contents };
+
+    ghost answers = { canvas_answers };
 
     ghost patches = { canvas_patches };
 

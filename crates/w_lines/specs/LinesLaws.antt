@@ -1,6 +1,6 @@
 -- A Lines obeys the laws of clients. These are proofs, which stand here since an impl cites nothing else of its crate; no contract cites them.
-use Rattle.std.proofs.Common.{◌≡◌, ℕ, ◌+◌, ◌-◌, ◌*◌, ◌/◌, ◌<◌, ◌≤◌, ◌==◌, min, ℤ, pos, neg_ℤ, ◌+ℤ◌, ◌-ℤ◌, ◌≤ℤ◌, Bool, true, false, ◌&&◌, cond, List, [], ◌∷◌, ◌++◌, length, drop, get_or, refl, sym, ap, subst, ◌∙◌, arith, add-one, eqb-true}
-use Rattle.std.specs.Prelude.{nat_lt, nat_le, slice_index, unsigned_abs}
+use Rattle.std.proofs.Common.{◌≡◌, ℕ, ◌+◌, ◌-◌, ◌*◌, ◌/◌, ◌<◌, ◌≤◌, ◌==◌, min, ℤ, pos, neg_ℤ, ◌+ℤ◌, ◌-ℤ◌, ◌≤ℤ◌, Bool, true, false, ◌&&◌, cond, List, [], ◌∷◌, ◌++◌, length, drop, get_or, Some, None, refl, sym, ap, subst, ◌∙◌, arith, add-one, eqb-true}
+use Rattle.std.specs.Prelude.{nat_lt, nat_le, slice_index, unsigned_abs, IfSome}
 use Rattle.std.proofs.lemmas.Int.{ints}
 use Rattle.std.proofs.lemmas.Bool.Decides.{nat_tests}
 use Rattle.std.proofs.lemmas.Bool.{eqb-false}
@@ -9,11 +9,13 @@ use Rattle.std.proofs.lemmas.List.Elements.{All-nil, All-push, All-drop}
 use borrow.Author.Tests.{ltb-true}
 use Rattle.tr_base.specs.declared.Point.{Point}
 use Rattle.tr_base.specs.declared.Size.{Size}
+use Rattle.tr_base.specs.declared.Event.{Event}
+use Rattle.tr_base.specs.declared.Event.TheVariants.{Key}
 use Rattle.tr_base.specs.declared.Kind.{Kind}
 use Rattle.tr_base.specs.declared.Op.TheVariants.{Bg}
 use Rattle.tr_base.specs.Rects.{Edges, between, before_shift, has_point, rect_of, whole_of, empty_rect, meet_of}
 use Rattle.tr_base.specs.Fonts.{glyph_bit}
-use Rattle.tr_base.specs.Lines.{IsLine}
+use Rattle.tr_base.specs.Lines.{IsLine, is_printable}
 use Rattle.tr_base.proofs.RectLemmas.{has_point-rect_of, between-empty}
 use Rattle.tr_paint.specs.declared.Paint.{Paint}
 use Rattle.tr_paint.specs.declared.Paint.TheVariants.{Tint, Text, Scroll}
@@ -24,14 +26,14 @@ use Rattle.tr_paint.specs.Batches.{kept}
 use Rattle.tr_paint.proofs.PatchLemmas.{Gives, no_patch, kept_patch, two_patches}
 use Rattle.tr_paint.specs.Paintings.{IsPainting}
 use Rattle.tr_paint.proofs.PaintingLemmas.{Makes, painting_alone, painting_more, painting_along, painting_is_patch}
-use Rattle.tr_client.specs.Laws.{IsWindowSize, is_flat, Survives}
+use Rattle.tr_client.specs.Laws.{IsWindowSize, is_flat, IsEvent, Survives}
 use Rattle.tr_client.specs.Plain.{plain, colour_of}
 use Rattle.tr_client.proofs.KeepingLemmas.{both_hold, survives-meet, survives-nothing}
 use Rattle.tr_client.proofs.FlatLemmas.{flat-whole, meet-nothing}
 use Rattle.tr_client.proofs.PlainLemmas.{text-makes, meet-inside}
 use Rattle.w_lines.specs.declared.commands.LinesCmd.{LinesCmd}
 use Rattle.w_lines.specs.declared.commands.LinesCmd.TheVariants.{Line, Clear}
-use Rattle.w_lines.specs.Lines.{IsLines, IsLinesCmd, most_lines, last_of, room, most_shown, begin_of, in_cells, line_colour, colour_in, lines_pic, lines_next, area_of, upwards, cleared, written_below, moved_up, line_patch, lines_patch, lines_keeps}
+use Rattle.w_lines.specs.Lines.{IsLines, IsLinesCmd, most_lines, last_of, room, most_shown, begin_of, in_cells, line_colour, colour_in, lines_pic, lines_next, area_of, upwards, cleared, written_below, moved_up, line_patch, lines_patch, lines_answer, lines_keeps}
 
 -- the cells of a line hold only points that have as many lines above them
 cells-above : (above : ℕ) (line : List ℕ) (q : Point) → in_cells above line q ≡ true → unsigned_abs q.v / 8 ≡ above
@@ -271,6 +273,17 @@ shown_full n lines line some full few =
     ∙ ap (λ i. drop i all) at
     ∙ drop-append-le (length lines - n + 1) lines (line ∷ []) (omega arith)
     ∙ ap (λ (front : List (List ℕ)). front ++ line ∷ []) (sym (drop-drop 1 (length lines - n) lines))
+
+pub lines_answers : (x : List (List ℕ)) (event : Event) → IsLines x → IsEvent event → IfSome (lines_answer x event) (λ cmd. IsLinesCmd cmd)
+lines_answers x (Key time code) valid known = by_test (is_printable code) refl
+  where
+    by_test : (b : Bool) → is_printable code ≡ b → IfSome (cond b (Some (Line (code ∷ []))) None) (λ cmd. IsLinesCmd cmd)
+    by_test true printable = record {
+      short = omega arith;
+      printable = All-push (λ c. is_printable c ≡ true) [] code (All-nil (λ c. is_printable c ≡ true)) printable;
+    }
+    by_test false other = tt
+lines_answers x event valid known = tt
 
 pub lines_contents : (x : List (List ℕ)) (cmd : LinesCmd) → IsLines x → IsLinesCmd cmd → IsLines (lines_next x cmd)
 lines_contents x (Line line) valid known = record {

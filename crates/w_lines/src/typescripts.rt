@@ -189,7 +189,7 @@ fn moved_up(alloc: Global, size: Size, count: usize, line: &Line) -> Result<Batc
 
 impl Client for Lines {
     ghost use Rattle.w_lines.specs.Lines.{IsLines, lines_pic, lines_next, lines_patch, lines_answer, lines_value, lines_keeps};
-    ghost use Rattle.w_lines.specs.LinesLaws.{lines_contents, lines_patches, lines_empty_patches, lines_keeping};
+    ghost use Rattle.w_lines.specs.LinesLaws.{lines_contents, lines_answers, lines_patches, lines_empty_patches, lines_keeping};
 
     type Cmd = LinesCmd;
 
@@ -265,6 +265,8 @@ impl Client for Lines {
     }
 
     ghost contents = { lines_contents };
+
+    ghost answers = { lines_answers };
 
     ghost patches = { lines_patches };
 

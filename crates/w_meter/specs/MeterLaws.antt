@@ -1,6 +1,6 @@
 -- A Meter obeys the laws of clients. These are proofs, which stand here since an impl cites nothing else of its crate; no contract cites them.
 use Rattle.std.proofs.Common.{◌≡◌, ℕ, ◌+◌, ◌*◌, ◌/◌, ◌<◌, ◌≤◌, ◌==◌, ◌&&◌, ℤ, pos, ◌-ℤ◌, ◌≤ℤ◌, ◌<ℤ◌, Bool, true, false, not, cond, List, [], ◌∷◌, ◌++◌, length, take, refl, sym, ap, subst, ◌∙◌, arith, eqb-true}
-use Rattle.std.specs.Prelude.{nat_lt, int_le, slice_index, slice_set, unsigned_abs}
+use Rattle.std.specs.Prelude.{nat_lt, int_le, slice_index, slice_set, unsigned_abs, IfSome}
 use Rattle.std.specs.Int.{int_max}
 use Rattle.std.proofs.lemmas.Int.{ints, clamps}
 use Rattle.std.proofs.lemmas.Bool.Decides.{nat_tests}
@@ -9,6 +9,8 @@ use Rattle.std.proofs.lemmas.List.{get_or-set_same, get_or-set_other, length-set
 use borrow.Author.Tests.{ltb-true}
 use Rattle.tr_base.specs.declared.Point.{Point}
 use Rattle.tr_base.specs.declared.Size.{Size}
+use Rattle.tr_base.specs.declared.Event.{Event}
+use Rattle.tr_base.specs.declared.Event.TheVariants.{Key}
 use Rattle.tr_base.specs.declared.Op.{Op}
 use Rattle.tr_base.specs.declared.Op.TheVariants.{Bg, Fg}
 use Rattle.tr_base.specs.Rects.{Edges, between, has_point, rect_of, whole_of, empty_rect}
@@ -22,13 +24,13 @@ use Rattle.tr_paint.proofs.PatchLemmas.{Gives, no_patch, kept_patch, two_patches
 use Rattle.tr_paint.specs.Paintings.{IsPainting}
 use Rattle.tr_paint.proofs.PaintingLemmas.{Makes, painting_first, painting_more}
 use Rattle.tr_client.proofs.PlainLemmas.{meet-inside}
-use Rattle.tr_client.specs.Laws.{IsWindowSize, is_flat, Survives}
+use Rattle.tr_client.specs.Laws.{IsWindowSize, is_flat, IsEvent, Survives}
 use Rattle.tr_client.specs.Plain.{colour_of}
 use Rattle.tr_client.proofs.KeepingLemmas.{both_hold, survives-nothing}
 use Rattle.tr_client.proofs.FlatLemmas.{flat-whole, meet-nothing}
 use Rattle.w_meter.specs.declared.meters.MeterCmd.{MeterCmd}
 use Rattle.w_meter.specs.declared.meters.MeterCmd.TheVariants.{Bar}
-use Rattle.w_meter.specs.Meters.{IsMeter, IsMeterCmd, in_bar, meter_pic, meter_next, meter_patch, meter_keeps, rows_of, top_of}
+use Rattle.w_meter.specs.Meters.{IsMeter, IsMeterCmd, in_bar, meter_pic, meter_next, meter_patch, meter_answer, meter_keeps, rows_of, top_of}
 
 -- the columns of a bar are those whose number, divided by 8, is the bar's
 pub columns-are : (bar : ℕ) (h : ℤ) → pos 0 ≤ℤ h → between (pos (8 * bar)) (pos (8 * bar + 8)) h ≡ (unsigned_abs h / 8 == bar)
@@ -169,6 +171,10 @@ meter_contents x (Bar bar height) valid known = by_test (nat_lt bar (length x))
     by_test : (b : Bool) → IsMeter (cond b (slice_set x bar height) x)
     by_test true = record { some = rw (length-set x bar height) valid.some; most = rw (length-set x bar height) valid.most }
     by_test false = valid
+
+pub meter_answers : (x : List ℕ) (event : Event) → IsMeter x → IsEvent event → IfSome (meter_answer x event) (λ cmd. IsMeterCmd cmd)
+meter_answers x (Key time code) valid known = record { number = omega arith; byte = known.1 }
+meter_answers x event valid known = tt
 
 pub meter_patches : (look : Look) (size : Size) (x : List ℕ) (cmd : MeterCmd) → IsMeter x → IsMeterCmd cmd → IsWindowSize size →
     IsPatch look size (meter_patch look size x cmd) (meter_pic look size x) (meter_pic look size (meter_next x cmd))

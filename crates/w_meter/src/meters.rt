@@ -163,7 +163,7 @@ impl Command for MeterCmd {
 
 impl Client for Meter {
     ghost use Rattle.w_meter.specs.Meters.{IsMeter, meter_pic, meter_next, meter_patch, meter_answer, meter_value, meter_keeps};
-    ghost use Rattle.w_meter.specs.MeterLaws.{meter_contents, meter_patches, meter_empty_patches, meter_keeping};
+    ghost use Rattle.w_meter.specs.MeterLaws.{meter_contents, meter_answers, meter_patches, meter_empty_patches, meter_keeping};
 
     type Cmd = MeterCmd;
 
@@ -235,6 +235,8 @@ impl Client for Meter {
     }
 
     ghost contents = { meter_contents };
+
+    ghost answers = { meter_answers };
 
     ghost patches = { meter_patches };
 

@@ -1,13 +1,15 @@
 -- A Board obeys the laws of clients. These are proofs, which stand here since an impl cites nothing else of its crate; no contract cites them.
 use Rattle.std.proofs.Common.{◌≡◌, [], true, refl, ap}
+use Rattle.std.specs.Prelude.{IfSome}
 use Rattle.tr_base.specs.declared.Size.{Size}
+use Rattle.tr_base.specs.declared.Event.{Event}
 use Rattle.tr_base.specs.Rects.{Edges, whole_of}
 use Rattle.tr_paint.specs.declared.Paint.TheVariants.{Texture}
 use Rattle.tr_paint.specs.Traces.{Look}
 use Rattle.tr_paint.specs.Patches.{IsPatch}
 use Rattle.tr_paint.specs.Paintings.{IsPainting}
 use Rattle.tr_paint.proofs.PaintingLemmas.{painting_alone, painting_is_patch}
-use Rattle.tr_client.specs.Laws.{IsWindowSize, is_flat, Survives}
+use Rattle.tr_client.specs.Laws.{IsWindowSize, is_flat, IsEvent, Survives}
 use Rattle.tr_client.specs.Plain.{plain}
 use Rattle.tr_client.proofs.KeepingLemmas.{survives-meet}
 use Rattle.tr_client.proofs.FlatLemmas.{flat-whole}
@@ -15,7 +17,7 @@ use Rattle.tr_client.proofs.PlainLemmas.{tile-gives}
 use Rattle.w_plain.specs.declared.boards.Board.{Board}
 use Rattle.w_plain.specs.declared.boards.BoardCmd.{BoardCmd}
 use Rattle.w_plain.specs.declared.boards.BoardCmd.TheVariants.{Tile, Shift}
-use Rattle.w_plain.specs.Boards.{IsBoard, IsBoardCmd, board_pic, board_next, board_paints, board_patch, board_keeps}
+use Rattle.w_plain.specs.Boards.{IsBoard, IsBoardCmd, board_pic, board_next, board_paints, board_patch, board_answer, board_keeps}
 
 pub board_painting : (look : Look) (size : Size) (part : Edges) (x : Board) → IsPainting look part (board_paints part x) (board_pic look size x)
 board_painting look size part x =
@@ -24,6 +26,9 @@ board_painting look size part x =
 pub board_contents : (x : Board) (cmd : BoardCmd) → IsBoard x → IsBoardCmd cmd → IsBoard (board_next x cmd)
 board_contents x (Tile tile) valid known = record { shift = valid.shift }
 board_contents x (Shift shift) valid known = record { shift = known }
+
+pub board_answers : (x : Board) (event : Event) → IsBoard x → IsEvent event → IfSome (board_answer x event) (λ cmd. IsBoardCmd cmd)
+board_answers x event valid known = tt
 
 pub board_patches : (look : Look) (size : Size) (x : Board) (cmd : BoardCmd) → IsBoard x → IsBoardCmd cmd → IsWindowSize size →
     IsPatch look size (board_patch look size x cmd) (board_pic look size x) (board_pic look size (board_next x cmd))

@@ -1,23 +1,30 @@
 -- A Label obeys the laws of clients. These are proofs, which stand here since an impl cites nothing else of its crate; no contract cites them.
-use Rattle.std.proofs.Common.{◌≡◌, [], ◌∷◌, true, length, refl, ap, ◌∙◌}
+use Rattle.std.proofs.Common.{◌≡◌, ◌<◌, ◌&&◌, Bool, true, false, cond, [], ◌∷◌, ◌++◌, length, Some, None, refl, ap, ◌∙◌, arith}
+use Rattle.std.specs.Prelude.{nat_lt, IfSome}
+use Rattle.std.proofs.lemmas.List.{length-append}
+use Rattle.std.proofs.lemmas.List.Elements.{All-push}
+use borrow.Author.Tests.{ltb-true}
 use Rattle.tr_base.specs.declared.Size.{Size}
+use Rattle.tr_base.specs.declared.Event.{Event}
+use Rattle.tr_base.specs.declared.Event.TheVariants.{Key}
 use Rattle.tr_base.specs.declared.Op.TheVariants.{Bg}
 use Rattle.tr_base.specs.Rects.{Edges, whole_of, empty_rect}
+use Rattle.tr_base.specs.Lines.{is_printable}
 use Rattle.tr_paint.specs.declared.Paint.TheVariants.{Tint, Text as Written}
 use Rattle.tr_paint.specs.Paints.{cells_of}
 use Rattle.tr_paint.specs.Traces.{Look}
 use Rattle.tr_paint.specs.Patches.{IsPatch}
 use Rattle.tr_paint.specs.Paintings.{IsPainting}
 use Rattle.tr_paint.proofs.PaintingLemmas.{painting_alone, painting_pushed, painting_is_patch}
-use Rattle.tr_client.specs.Laws.{IsWindowSize, is_flat, Survives}
+use Rattle.tr_client.specs.Laws.{IsWindowSize, is_flat, IsEvent, Survives}
 use Rattle.tr_client.specs.Plain.{plain, origin}
-use Rattle.tr_client.proofs.KeepingLemmas.{survives-meet}
+use Rattle.tr_client.proofs.KeepingLemmas.{both_hold, survives-meet}
 use Rattle.tr_client.proofs.FlatLemmas.{flat-whole, meet-nothing}
 use Rattle.tr_client.proofs.PlainLemmas.{text-makes, meet-inside}
 use Rattle.w_plain.specs.declared.labels.Label.{Label}
 use Rattle.w_plain.specs.declared.labels.LabelCmd.{LabelCmd}
 use Rattle.w_plain.specs.declared.labels.LabelCmd.TheVariants.{Text}
-use Rattle.w_plain.specs.Labels.{IsLabel, IsLabelCmd, label_pic, label_next, label_paints, label_patch, label_keeps}
+use Rattle.w_plain.specs.Labels.{IsLabel, IsLabelCmd, label_pic, label_next, label_paints, label_patch, label_answer, label_keeps}
 
 pub label_painting : (look : Look) (size : Size) (part : Edges) (x : Label) → IsPainting look part (label_paints part x) (label_pic look size x)
 label_painting look size part x =
@@ -28,6 +35,21 @@ label_painting look size part x =
 
 pub label_contents : (x : Label) (cmd : LabelCmd) → IsLabel x → IsLabelCmd cmd → IsLabel (label_next x cmd)
 label_contents x (Text text) valid known = record { text = known }
+
+pub label_answers : (x : Label) (event : Event) → IsLabel x → IsEvent event → IfSome (label_answer x event) (λ cmd. IsLabelCmd cmd)
+label_answers x (Key time code) valid known = by_test (is_printable code && nat_lt (length x.text) 80) refl
+  where
+    by_test : (b : Bool) → (is_printable code && nat_lt (length x.text) 80) ≡ b →
+        IfSome (cond b (Some (Text (x.text ++ code ∷ []))) None) (λ cmd. IsLabelCmd cmd)
+    by_test true fits =
+        let both = both_hold (is_printable code) (nat_lt (length x.text) 80) fits in
+        let room : length x.text < 80 = ltb-true (length x.text) 80 both.1 in
+        record {
+          short = omega (arith, room, length-append x.text (code ∷ []));
+          printable = All-push (λ c. is_printable c ≡ true) x.text code valid.text.printable both.0;
+        }
+    by_test false full = tt
+label_answers x event valid known = tt
 
 pub label_patches : (look : Look) (size : Size) (x : Label) (cmd : LabelCmd) → IsLabel x → IsLabelCmd cmd → IsWindowSize size →
     IsPatch look size (label_patch look size x cmd) (label_pic look size x) (label_pic look size (label_next x cmd))

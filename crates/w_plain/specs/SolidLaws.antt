@@ -1,6 +1,9 @@
 -- A Solid obeys the laws of clients. These are proofs, which stand here since an impl cites nothing else of its crate; no contract cites them.
 use Rattle.std.proofs.Common.{◌≡◌, [], true, refl, ap}
+use Rattle.std.specs.Prelude.{IfSome}
 use Rattle.tr_base.specs.declared.Size.{Size}
+use Rattle.tr_base.specs.declared.Event.{Event}
+use Rattle.tr_base.specs.declared.Event.TheVariants.{Key}
 use Rattle.tr_base.specs.declared.Op.TheVariants.{Set}
 use Rattle.tr_base.specs.Rects.{Edges, whole_of}
 use Rattle.tr_paint.specs.declared.Paint.TheVariants.{Tint as Tinted}
@@ -8,13 +11,13 @@ use Rattle.tr_paint.specs.Traces.{Look}
 use Rattle.tr_paint.specs.Patches.{IsPatch}
 use Rattle.tr_paint.specs.Paintings.{IsPainting}
 use Rattle.tr_paint.proofs.PaintingLemmas.{painting_alone, painting_is_patch}
-use Rattle.tr_client.specs.Laws.{IsWindowSize, is_flat, Survives}
+use Rattle.tr_client.specs.Laws.{IsWindowSize, is_flat, IsEvent, Survives}
 use Rattle.tr_client.proofs.KeepingLemmas.{survives-meet}
 use Rattle.tr_client.proofs.FlatLemmas.{flat-whole}
 use Rattle.w_plain.specs.declared.solids.Solid.{Solid}
 use Rattle.w_plain.specs.declared.solids.SolidCmd.{SolidCmd}
 use Rattle.w_plain.specs.declared.solids.SolidCmd.TheVariants.{Tint}
-use Rattle.w_plain.specs.Solids.{IsSolid, IsSolidCmd, solid_pic, solid_next, solid_paints, solid_patch, solid_keeps}
+use Rattle.w_plain.specs.Solids.{IsSolid, IsSolidCmd, solid_pic, solid_next, solid_paints, solid_patch, solid_answer, solid_keeps}
 
 pub solid_painting : (look : Look) (size : Size) (part : Edges) (x : Solid) → IsPainting look part (solid_paints part x) (solid_pic look size x)
 solid_painting look size part x =
@@ -22,6 +25,10 @@ solid_painting look size part x =
 
 pub solid_contents : (x : Solid) (cmd : SolidCmd) → IsSolid x → IsSolidCmd cmd → IsSolid (solid_next x cmd)
 solid_contents x (Tint n) valid known = record { tint = known }
+
+pub solid_answers : (x : Solid) (event : Event) → IsSolid x → IsEvent event → IfSome (solid_answer x event) (λ cmd. IsSolidCmd cmd)
+solid_answers x (Key time code) valid known = known.1
+solid_answers x event valid known = tt
 
 pub solid_patches : (look : Look) (size : Size) (x : Solid) (cmd : SolidCmd) → IsSolid x → IsSolidCmd cmd → IsWindowSize size →
     IsPatch look size (solid_patch look size x cmd) (solid_pic look size x) (solid_pic look size (solid_next x cmd))

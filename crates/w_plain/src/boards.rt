@@ -146,7 +146,7 @@ impl Command for BoardCmd {
 
 impl Client for Board {
     ghost use Rattle.w_plain.specs.Boards.{IsBoard, board_pic, board_next, board_patch, board_answer, board_value, board_keeps};
-    ghost use Rattle.w_plain.specs.BoardLaws.{board_contents, board_patches, board_empty_patches, board_keeping};
+    ghost use Rattle.w_plain.specs.BoardLaws.{board_contents, board_answers, board_patches, board_empty_patches, board_keeping};
 
     type Cmd = BoardCmd;
 
@@ -213,6 +213,8 @@ impl Client for Board {
     }
 
     ghost contents = { board_contents };
+
+    ghost answers = { board_answers };
 
     ghost patches = { board_patches };
 

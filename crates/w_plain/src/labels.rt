@@ -118,7 +118,7 @@ impl Command for LabelCmd {
 
 impl Client for Label {
     ghost use Rattle.w_plain.specs.Labels.{IsLabel, label_pic, label_next, label_patch, label_answer, label_value, label_keeps};
-    ghost use Rattle.w_plain.specs.LabelLaws.{label_contents, label_patches, label_empty_patches, label_keeping};
+    ghost use Rattle.w_plain.specs.LabelLaws.{label_contents, label_answers, label_patches, label_empty_patches, label_keeping};
 
     type Cmd = LabelCmd;
 
@@ -190,6 +190,8 @@ impl Client for Label {
     }
 
     ghost contents = { label_contents };
+
+    ghost answers = { label_answers };
 
     ghost patches = { label_patches };
 

@@ -89,7 +89,7 @@ impl Command for SolidCmd {
 
 impl Client for Solid {
     ghost use Rattle.w_plain.specs.Solids.{IsSolid, solid_pic, solid_next, solid_patch, solid_answer, solid_value, solid_keeps};
-    ghost use Rattle.w_plain.specs.SolidLaws.{solid_contents, solid_patches, solid_empty_patches, solid_keeping};
+    ghost use Rattle.w_plain.specs.SolidLaws.{solid_contents, solid_answers, solid_patches, solid_empty_patches, solid_keeping};
 
     type Cmd = SolidCmd;
 
@@ -158,6 +158,8 @@ impl Client for Solid {
     }
 
     ghost contents = { solid_contents };
+
+    ghost answers = { solid_answers };
 
     ghost patches = { solid_patches };
 

@@ -231,6 +231,24 @@ fn after(alloc: Global, env: &Env, batch: &Batch, base: Grid) -> Result<Grid, No
     Ok(now)
 }
 
+/// What is known of a window of one row after the commands of a batch.
+pub fn row_after(
+    alloc: Global,
+    env: &Env,
+    batch: &Batch,
+    row: &[Option<u8>],
+) -> Result<Vec<Option<u8>>, NoMemory> {
+    let base = Grid {
+        size: Size {
+            wide: row.len() as u16,
+            high: 1,
+        },
+        cells: Vec::from_slice(alloc, row)?,
+    };
+    let grid = after(alloc, env, batch, base)?;
+    Ok(grid.cells)
+}
+
 /// The picture, of which some points are unknown.
 fn partly_known<C: Pictured>(
     alloc: Global,

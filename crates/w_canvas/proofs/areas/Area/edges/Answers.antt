@@ -1,6 +1,7 @@
 use Rattle.std.proofs.Common.{refl}
 use Rattle.tr_base.proofs.RectLemmas.{cast-rect}
-use Rattle.w_canvas.proofs.AreaLemmas.{reach-edge, area-rect_of}
+use Rattle.w_canvas.specs.AreaFacts.{area-rect_of}
+use Rattle.w_canvas.proofs.AreaLemmas.{reach-edge}
 use Rattle.w_canvas.proofs.areas.Area.edges.Goals as goal
 
 pub invariant_of-result : goal.invariant_of-result

@@ -4,7 +4,7 @@ use Rattle.tr_client.proofs.PlainLemmas.{meet-inside}
 use Rattle.w_meter.proofs.meters.MeterClient.paint.Goals as goal
 
 pub paints-requires-clause-part : goal.paints-requires-clause-part
-paints-requires-clause-part c = rw c.part_of_window.ensures.edges (meet-inside (whole_of c.args.size) c.args.clip)
+paints-requires-clause-part c = rw c.part_of_window.ensures.edges (meet-inside (whole_of c.args.size) _)
 
 pub returns-clause-painting : goal.returns-clause-painting
 returns-clause-painting c =
