@@ -116,11 +116,11 @@ fn picture(alloc: Global) -> Result<Batch, NoMemory> {
 fn a_pixmap_is_painted(rt: HostRuntime) -> Result<(), Fail> {
     let alloc = rt.alloc();
     let size = Size { wide: 2, high: 1 };
-    let src = Pixmap::new(size, Vec::from_slice(alloc, &[3, 4])?);
+    let pixels = Vec::from_slice(alloc, &[3, 4])?;
     let mut batch = Batch::new(alloc);
     batch.push(Paint::Pixels {
         clip: whole(size),
-        src: src.copy(alloc)?,
+        src: Pixmap::new(size, pixels),
         delta: CORNER,
     })?;
     let mut screen = Screen::blank(alloc, size, Kind::Map8)?;
