@@ -1,7 +1,7 @@
 mod points;
 
 use super::*;
-use points::{Draw, holds_to_its_picture, row_after};
+use points::{Draw, holds_to_its_picture, painted_anew};
 use std::alloc::Global;
 use std::test::Fail;
 use tr_base::{Command, Env, Event, Font, Kind, Line, Op, Point, Rect, Size, Tile};
@@ -72,15 +72,14 @@ fn a_board_has_its_tile_at_the_shift(rt: HostRuntime) -> Result<(), Fail> {
     let board = Board::new(TILE, Point { h: 1, v: 0 });
     let size = Size { wide: 2, high: 1 };
     let painted = board.paint(alloc, &env, size, window(size))?;
-    let unknown = [None; 2];
     assert_eq!(rt;
-        row_after(alloc, &env, &painted, &unknown)?.as_slice(),
+        painted_anew(alloc, &env, size, &painted)?.as_slice(),
         [Some(0), Some(1)].as_slice()
     );
     let cmd = BoardCmd::Shift(Shift::by(Point { h: 0, v: 0 }));
     let (_, patch) = board.change(alloc, &env, size, &cmd)?;
     assert_eq!(rt;
-        row_after(alloc, &env, &patch, &unknown)?.as_slice(),
+        painted_anew(alloc, &env, size, &patch)?.as_slice(),
         [Some(1), Some(0)].as_slice()
     );
     assert_eq!(rt; patch.len(), 1);

@@ -231,21 +231,14 @@ fn after(alloc: Global, env: &Env, batch: &Batch, base: Grid) -> Result<Grid, No
     Ok(now)
 }
 
-/// What is known of a window of one row after the commands of a batch.
-pub fn row_after(
+/// What is known of a window's points, row after row, after a batch that is executed over nothing known.
+pub fn painted_anew(
     alloc: Global,
     env: &Env,
+    size: Size,
     batch: &Batch,
-    row: &[Option<u8>],
 ) -> Result<Vec<Option<u8>>, NoMemory> {
-    let base = Grid {
-        size: Size {
-            wide: row.len() as u16,
-            high: 1,
-        },
-        cells: Vec::from_slice(alloc, row)?,
-    };
-    let grid = after(alloc, env, batch, base)?;
+    let grid = after(alloc, env, batch, Grid::unknown(alloc, size)?)?;
     Ok(grid.cells)
 }
 
