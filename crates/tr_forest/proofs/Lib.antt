@@ -6,4 +6,5 @@ pub mod Hanging
 pub mod Parting
 pub mod Editing
 pub mod Adding
+pub mod LeafLemmas
 mod Examples

@@ -1,4 +1,4 @@
--- Who lies below whom. What counts steps counts up to 16, since no node lies deeper.
+-- Who lies below whom. Each walk up or down has a bound on its steps; 16 are enough, since no node lies deeper.
 use Rattle.std.specs.Prelude.{ℕ, zero, suc, ◌+◌, Bool, false, ◌==◌, ◌||◌, List, Option, Some, None}
 use Rattle.std.specs.List.{list_any}
 use Rattle.tr_base.specs.declared.NodeId.{NodeId}
@@ -13,7 +13,7 @@ levels = 16
 abbrev pub is_among : NodeId → List NodeId → Bool
 is_among n ns = list_any (λ m. m.0 == n.0) ns
 
--- one more than the parent's, and 1 for a node without a parent
+-- a node's depth: one more than its parent's, which `up` gives, and 1 where it has no parent
 abbrev pub deeper : Option NodeId → (NodeId → ℕ) → ℕ
 deeper None up = 1
 deeper (Some parent) up = up parent + 1

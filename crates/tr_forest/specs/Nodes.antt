@@ -1,6 +1,6 @@
 -- The nodes of a tree of windows: what each of them is, and whose child.
-use Rattle.std.specs.Prelude.{◌≡◌, ℕ, pos, ◌≤◌, ◌<◌, ⊤, Bool, true, false, List, [], Option, Some, None, get_or, length}
-use Rattle.std.specs.List.{filter}
+use Rattle.std.specs.Prelude.{◌≡◌, ℕ, pos, ◌≤◌, ◌<◌, ⊤, Bool, true, false, List, [], Option, Some, None, get_or, length, ◌==◌}
+use Rattle.std.specs.List.{filter, position_or_len}
 use Rattle.tr_base.specs.declared.Point.{Point}
 use Rattle.tr_base.specs.declared.Size.{Size}
 use Rattle.tr_base.specs.declared.NodeId.{NodeId}
@@ -26,7 +26,7 @@ pub record Nodes : Type 0 where
 abbrev pub fresh : NodeKind → ℕ → Entry
 fresh kind tint = record { kind = kind; tint = tint; at = record { h = pos 0; v = pos 0 }; parent = None; children = [] }
 
--- the node of this number
+-- the node of this number; a number that is no node's stands for an H that hangs nowhere
 abbrev pub node : Nodes → NodeId → Entry
 node t n = get_or t.entries n.0 (fresh kinds.H 0)
 
@@ -34,7 +34,7 @@ node t n = get_or t.entries n.0 (fresh kinds.H 0)
 pub record IsNode (t : Nodes) (n : NodeId) : Type 0 where
   pub within : n.0 < length t.entries
 
--- windows have content of their own, and no children
+-- the node is a leaf: a window, with content of its own and no children
 abbrev pub is_leaf : NodeKind → Bool
 is_leaf (kinds.Leaf leaf shapes) = true
 is_leaf kind = false
@@ -85,6 +85,15 @@ shown_by kind = None
 abbrev pub leaf_of : NodeKind → Option LeafId
 leaf_of (kinds.Leaf leaf shapes) = Some leaf
 leaf_of kind = None
+
+-- the kind is that of this leaf
+abbrev pub is_that_leaf : LeafId → NodeKind → Bool
+is_that_leaf leaf (kinds.Leaf own shapes) = leaf.0 == own.0
+is_that_leaf leaf kind = false
+
+-- the node that is this leaf: the first of that kind
+abbrev pub node_of : Nodes → LeafId → NodeId
+node_of t leaf = record { 0 = position_or_len (λ e. is_that_leaf leaf e.kind) t.entries }
 
 -- how many leaves there are
 abbrev pub leaf_count : Nodes → ℕ

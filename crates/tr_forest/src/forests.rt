@@ -1,17 +1,18 @@
 ghost use Rattle.std.specs.Prelude.{◌≡◌, ◌<◌, ◌+◌, ℕ, ◌∷◌, ◌++◌, [], length, Some, None, ◌==◌, ◌||◌, false, IsOk, IfOk, IfErr, OnOk, OnErr};
 ghost use Rattle.tr_base.specs.declared.NodeId.{NodeId};
 ghost use Rattle.tr_base.specs.Layouts.{greatest_by};
-ghost use Rattle.tr_forest.specs.Nodes.{node, fresh, IsNode, IsNodeKind, IsNextLeaf, shown_by, leaf_of, leaf_count};
+ghost use Rattle.tr_forest.specs.Nodes.{node, fresh, IsNode, IsNodeKind, IsNextLeaf, shown_by, leaf_of, leaf_count, node_of};
 ghost use Rattle.tr_forest.specs.Families.{depth, deeper, height, is_under, of_parent};
 ghost use Rattle.tr_forest.specs.Forests.{IsForest};
 ghost use Rattle.tr_forest.specs.Edits.{IsEdit, IsCause, edited, refusal, wants_memory};
 ghost use Rattle.tr_forest.specs.Tables.{IsKept};
 
 use crate::changes::apply;
-use crate::edits::{Edit, EditRefused};
+use crate::edits::{Edit, EditRefused, NodeFault};
 use crate::families::Family;
 use crate::kinds::NodeKind;
 use crate::refusals::refusal;
+use crate::walks::{LEVELS, lies_under};
 use std::alloc::Global;
 use std::marker::Model;
 use tr_base::{LeafId, NoMemory, NodeId, Point};
@@ -81,6 +82,14 @@ impl Forest {
         edit_in(&mut self.family, &self.leaves, edit)
     }
 
+    /// Why an edit is refused, if it is.
+    pub fn refusal(&self, edit: &Edit) -> Option<NodeFault>
+        requires { IsEdit self.now edit.now }
+        ensures { result ≡ refusal self.now edit.now }
+    {
+        refusal(&self.family, edit)
+    }
+
     /// How many nodes there are.
     pub fn count(&self) -> usize
         ensures count { result ≡ length self.now.entries }
@@ -143,9 +152,18 @@ impl Forest {
         self.leaves.len() as u8
     }
 
+    /// Whether n is `top`, or lies below it.
+    pub fn is_under(&self, top: NodeId, n: NodeId) -> bool
+        requires { IsNode self.now n }
+        ensures { result ≡ is_under self.now top n }
+    {
+        lies_under(&self.family, LEVELS, top, n)
+    }
+
     /// Which node a leaf is.
     pub fn node_of(&self, leaf: LeafId) -> NodeId
         requires { leaf.0 < leaf_count self.now }
+        ensures is { result ≡ node_of self.now leaf }
         ensures leaf { leaf_of (node self.now result).kind ≡ Some leaf }
         ensures node { IsNode self.now result }
     {

@@ -14,7 +14,6 @@ mod walks;
 pub use edits::{Edit, EditRefused, NodeFault};
 pub use forests::Forest;
 pub use kinds::NodeKind;
-pub use walks::LEVELS;
 
 #[cfg(test)]
 mod tests;

@@ -7,7 +7,7 @@ use crate::families::Family;
 use tr_base::NodeId;
 
 /// How many nodes may lie one below another.
-pub const LEVELS: u8 = 16;
+pub(crate) const LEVELS: u8 = 16;
 
 /// A node's parent, which is a node too.
 pub(crate) fn parent_of(family: &Family, n: NodeId) -> Option<NodeId>

@@ -2,8 +2,6 @@
 use Rattle.std.proofs.Common.{◌≡◌, ℕ, zero, suc, ◌<◌, ◌≤◌, Bool, true, false, cond, not, ◌||◌, eqb, map, Option, Some, None, length, get_or, refl, sym, ap, subst, ◌∙◌, arith}
 use Rattle.std.proofs.lemmas.Bool.Decides.{nat_tests}
 use Rattle.tr_base.specs.declared.NodeId.{NodeId}
-use Rattle.tr_base.specs.declared.Size.{Size}
-use Rattle.tr_base.specs.declared.Kind.{Kind}
 use Rattle.tr_base.specs.Rects.{Edges, empty_rect, whole_of}
 use Rattle.tr_forest.specs.Nodes.{Nodes, node}
 use Rattle.tr_forest.specs.Families.{deeper, depth_within, of_parent, is_under}
@@ -12,18 +10,12 @@ use Rattle.tr_forest.specs.Forests.{IsForest}
 use Rattle.tr_tree.specs.Trees.{Seen}
 use Rattle.tr_tree.specs.Wishes.{shape}
 use Rattle.tr_tree.specs.Places.{index_of, child_places, place_below, domain, domain_within}
-use Rattle.tr_tree.specs.Laying.{on_screen, laid}
 use Rattle.tr_forest.proofs.FamilyLemmas.{tested_same, test_same, among_at, depth_zero, under_law}
+use Rattle.tr_tree.proofs.LayoutLemmas.{alike_itself, below_alike}
 use Rattle.tr_tree.proofs.KinLemmas.{index_at}
 use Rattle.tr_tree.proofs.FitLemmas.{all_empty, all_or}
 
 -- ---- the law of domains
-
-below_same : (t : Nodes) (child : NodeId) (o : Option NodeId) (u v : NodeId → Edges) → ((p : NodeId) → o ≡ Some p → u p ≡ v p) →
-    place_below t child o u ≡ place_below t child o v
-below_same t child None u v h = refl
-below_same t child (Some p) u v h =
-    ap (λ (e : Edges). get_or (child_places t p e) (index_of child (node t p).children) empty_rect) (h p refl)
 
 shallow : (o : Option NodeId) (dep : NodeId → ℕ) (m : ℕ) (p : NodeId) → o ≡ Some p → deeper o dep ≤ suc m → dep p ≤ m
 shallow None dep m p e h = absurd cc
@@ -37,7 +29,7 @@ unfolding domain_within depth_within
 domain_enough zero t n h = absurd (no_depth t.nodes n h)
 domain_enough (suc f) t n h =
     ap (cond (is_root t.nodes n) (whole_of t.size))
-    (below_same t.nodes n (node t.nodes n).parent (domain_within (suc f) t) (domain_within f t)
+    (below_alike t.nodes t.nodes (alike_itself t.nodes) n (node t.nodes n).parent
     (λ p up. domain_enough f t p (shallow (node t.nodes n).parent (depth_within f t.nodes) f p up h)))
 
 -- the root has the whole screen, and any other node its place below its parent
@@ -45,17 +37,6 @@ pub domain_law : (t : Seen) → IsForest t.nodes → (n : NodeId) →
     domain t n ≡ cond (is_root t.nodes n) (whole_of t.size) (place_below t.nodes n (node t.nodes n).parent (domain t))
 unfolding domain_within
 domain_law t forest n = sym (domain_enough 16 t n (forest.depths n))
-
--- the kind of the pixels doesn't matter
-within_any_kind : (f : ℕ) (t : Nodes) (size : Size) (a b : Kind) (n : NodeId) → domain_within f (on_screen t size a) n ≡ domain_within f (on_screen t size b) n
-unfolding domain_within
-within_any_kind zero t size a b n = refl
-within_any_kind (suc f) t size a b n =
-    ap (cond (is_root t n) (whole_of size))
-    (below_same t n (node t n).parent (domain_within f (on_screen t size a)) (domain_within f (on_screen t size b)) (λ p up. within_any_kind f t size a b p))
-
-pub any_kind : (t : Nodes) (size : Size) (kind : Kind) (n : NodeId) → domain (laid t size) n ≡ domain (on_screen t size kind) n
-any_kind t size kind n = within_any_kind 16 t size _ kind n
 
 -- ---- the root, and its children's domains
 

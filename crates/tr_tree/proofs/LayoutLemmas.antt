@@ -3,6 +3,7 @@ use Rattle.std.proofs.Common.{◌≡◌, ℕ, zero, suc, ◌+◌, cond, [], ◌�
 use Rattle.std.proofs.lemmas.List.{get_or-set_same, get_or-set_other}
 use Rattle.tr_base.specs.declared.NodeId.{NodeId}
 use Rattle.tr_base.specs.declared.Size.{Size}
+use Rattle.tr_base.specs.declared.Kind.{Kind}
 use Rattle.tr_base.specs.Rects.{Edges, empty_rect, whole_of}
 use Rattle.tr_forest.specs.declared.NodeKind.{NodeKind}
 use Rattle.tr_forest.specs.declared.NodeKind.TheVariants as kinds
@@ -14,7 +15,8 @@ use Rattle.tr_forest.proofs.FamilyLemmas.{by_id}
 use Rattle.tr_tree.specs.declared.layouts.Layout.{Layout}
 use Rattle.tr_tree.specs.Trees.{Seen, size_after}
 use Rattle.tr_tree.specs.Wishes.{shape}
-use Rattle.tr_tree.specs.Places.{index_of, places_of, child_places, place_below, domain_within}
+use Rattle.tr_tree.specs.Places.{index_of, places_of, child_places, place_below, domain, domain_within}
+use Rattle.tr_tree.specs.Laying.{on_screen, laid}
 use Rattle.tr_tree.specs.Ready.{HavePlaces, HasShapes, IsLaidOut, HaveSamePlaces}
 use Rattle.tr_tree.proofs.TopLemmas.{numbers_apart}
 use Rattle.tr_tree.proofs.ShapeLemmas.{map_among, shapes_same}
@@ -27,6 +29,9 @@ pub record AreAlike (t u : Nodes) : Type 0 where
   pub ats : (n : NodeId) → (node u n).at ≡ (node t n).at
   pub parents : (n : NodeId) → (node u n).parent ≡ (node t n).parent
   pub children : (n : NodeId) → (node u n).children ≡ (node t n).children
+
+pub alike_itself : (t : Nodes) → AreAlike t t
+alike_itself t = record { count = refl; root = refl; kinds = λ n. refl; ats = λ n. refl; parents = λ n. refl; children = λ n. refl }
 
 -- a part of the entries that a change of one of them leaves as it is
 part_same : {X : Type 0} (f : Entry → X) (t : Nodes) (n : NodeId) (e : Entry) (m : NodeId) → IsNode t n → f e ≡ f (node t n) →
@@ -60,24 +65,29 @@ child_places_alike t u alike n e =
     ∙ ap (λ shapes. places_of (node t n).kind (node t n).children (map (λ c. (node t c).at) (node t n).children) shapes e)
     (map_among (node t n).children (shape u) (shape t) (λ c _. shapes_alike t u alike c))
 
-below_alike : (t u : Nodes) → AreAlike t u → (n : NodeId) (o : Option NodeId) (up down : NodeId → Edges) → ((p : NodeId) → down p ≡ up p) →
+-- a child lies at the same place below its parent, where that has the same domain
+pub below_alike : (t u : Nodes) → AreAlike t u → (n : NodeId) (o : Option NodeId) {up down : NodeId → Edges} → ((p : NodeId) → o ≡ Some p → down p ≡ up p) →
     place_below u n o down ≡ place_below t n o up
-below_alike t u alike n None up down h = refl
-below_alike t u alike n (Some p) up down h =
-    ap (λ e. get_or (child_places u p e) (index_of n (node u p).children) empty_rect) (h p)
+below_alike t u alike n None h = refl
+below_alike t u alike n (Some p) {up = up} h =
+    ap (λ e. get_or (child_places u p e) (index_of n (node u p).children) empty_rect) (h p refl)
     ∙ ap (λ es. get_or es (index_of n (node u p).children) empty_rect) (child_places_alike t u alike p (up p))
     ∙ ap (λ cs. get_or (child_places t p (up p)) (index_of n cs) empty_rect) (alike.children p)
 
 -- trees that differ at most in tints and in the kind of the screen have the same domains
-domains_within_alike : (f : ℕ) (t u : Seen) → AreAlike t.nodes u.nodes → u.size ≡ t.size → (n : NodeId) → domain_within f u n ≡ domain_within f t n
+pub domains_within_alike : (f : ℕ) (t u : Seen) → AreAlike t.nodes u.nodes → u.size ≡ t.size → (n : NodeId) → domain_within f u n ≡ domain_within f t n
 unfolding domain_within
 domains_within_alike zero t u alike size n = refl
 domains_within_alike (suc f) t u alike size n =
     ap (λ (s : Size). cond (is_root u.nodes n) (whole_of s) (place_below u.nodes n (node u.nodes n).parent (domain_within f u))) size
     ∙ ap (λ e. cond (is_root u.nodes n) (whole_of t.size) e)
     (ap (λ o. place_below u.nodes n o (domain_within f u)) (alike.parents n)
-    ∙ below_alike t.nodes u.nodes alike n (node t.nodes n).parent (domain_within f t) (domain_within f u) (λ p. domains_within_alike f t u alike size p))
+    ∙ below_alike t.nodes u.nodes alike n (node t.nodes n).parent (λ p up. domains_within_alike f t u alike size p))
     ∙ ap (λ r. cond (is_root (record t.nodes { root = r }) n) (whole_of t.size) (place_below t.nodes n (node t.nodes n).parent (domain_within f t))) alike.root
+
+-- the kind of the pixels doesn't matter
+pub any_kind : (t : Nodes) (size : Size) (kind : Kind) (n : NodeId) → domain (laid t size) n ≡ domain (on_screen t size kind) n
+any_kind t size kind n = domains_within_alike 16 (on_screen t size kind) (laid t size) (alike_itself t) refl n
 
 pub laid_out_alike : (t u : Nodes) (size : Size) (l : Layout) → AreAlike t u → IsLaidOut t size l → IsLaidOut u size l
 laid_out_alike t u size l alike laid = record {

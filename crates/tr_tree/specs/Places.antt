@@ -52,7 +52,7 @@ place_below t child None up = empty_rect
 place_below t child (Some parent) up =
     get_or (child_places t parent (up parent)) (index_of child (node t parent).children) empty_rect
 
--- the domain of a node, for so many levels: the root has the whole screen
+-- the domain of a node, if the root is at most so many nodes up, itself counted: the root has the whole screen
 unfoldable pub domain_within : ℕ → Seen → NodeId → Edges
 domain_within zero t n = empty_rect
 domain_within (suc f) t n =

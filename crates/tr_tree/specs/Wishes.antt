@@ -34,7 +34,7 @@ shape_of (kinds.Translate by) cs = translate_shape (only_child cs)
 shape_of (kinds.Pack down gap) cs = pack_shape down gap cs
 shape_of (kinds.Leaf leaf shapes) cs = shapes
 
--- the shapes of a node, for so many levels
+-- the shapes of a node by so many levels of nodes, its own counted: what lies deeper wants nothing
 unfoldable pub shape_within : ℕ → Nodes → NodeId → Shapes
 shape_within zero t n = no_shapes
 shape_within (suc f) t n = shape_of (node t n).kind (map (shape_within f t) (node t n).children)

@@ -301,13 +301,15 @@ fn children_of_a_z_are_moved(rt: HostRuntime) -> Result<(), Fail> {
         (Edit::Lift { child: first }, last, (0, 2, 0, 1)),
     ];
     play(&rt, &mut tree, &steps)?;
-    assert_eq!(rt; first_child(&rt, &tree, z), Some(first));
+    assert_eq!(rt; family(&rt, &tree, z), (3, Some(first)));
     Ok(())
 }
 
-fn first_child(rt: &impl Abort, tree: &Tree, n: NodeId) -> Option<NodeId> {
+/// How many children a node has, and the first of them.
+fn family(rt: &impl Abort, tree: &Tree, n: NodeId) -> (usize, Option<NodeId>) {
     assert!(rt; is_node(tree, n));
-    tree.children(n).first().copied()
+    let children = tree.children(n);
+    (children.len(), children.first().copied())
 }
 
 #[test]
@@ -359,24 +361,50 @@ fn the_screen_changes(rt: HostRuntime) -> Result<(), Fail> {
     Ok(())
 }
 
+/// Makes edits that are refused, on a Z of 4 by 4 with one leaf of 2 by 2 at its corner, and tries
+/// after each of them that all is as before.
+fn refuses(rt: &impl Abort, tree: &mut Tree, cases: &[(Edit, NodeFault)]) {
+    let (z, a) = (NodeId(0), NodeId(1));
+    let two = ([2, 2, 2], [2, 2, 2]);
+    for (edit, fault) in cases {
+        let want = Err(EditRefused::Fault(*fault));
+        assert_eq!(rt; change(rt, tree, *edit), want);
+        lie_at(rt, tree, &[(0, 4, 0, 4), (0, 2, 0, 2)]);
+        assert_eq!(rt; (wants(rt, tree, z), wants(rt, tree, a)), (two, two));
+        let children = (family(rt, tree, z), family(rt, tree, a));
+        assert_eq!(rt; children, ((1, Some(a)), (0, None)));
+    }
+}
+
 #[test]
 fn a_refused_edit_changes_nothing(rt: HostRuntime) -> Result<(), Fail> {
-    let mut tree = screen(&rt, rt.alloc(), 6, 3)?;
-    let size = Size { wide: 3, high: 2 };
-    let rigid = grown(&rt, &mut tree, NodeKind::Rigid { size }, &[FIXED[0]])?;
-    choose(&rt, &mut tree, rigid);
-    let refused = change(
-        &rt,
-        &mut tree,
-        Edit::Border {
-            node: rigid,
-            width: 1,
-        },
-    );
-    assert_eq!(rt; refused, Err(EditRefused::Fault(NodeFault::WrongKind)));
-    let below = hang(&rt, &mut tree, rigid, NodeId(1));
-    assert_eq!(rt; below, Err(EditRefused::Fault(NodeFault::WrongKind)));
-    lie_at(&rt, &tree, &[(0, 6, 0, 3), (0, 6, 0, 3)]);
+    let mut tree = screen(&rt, rt.alloc(), 4, 4)?;
+    let z = grown(&rt, &mut tree, NodeKind::Z, &[([2, 2, 2], [2, 2, 2])])?;
+    choose(&rt, &mut tree, z);
+    let (a, at) = (NodeId(1), HERE);
+    let cases = [
+        (
+            Edit::Attach {
+                child: a,
+                parent: z,
+                at,
+            },
+            NodeFault::Attached,
+        ),
+        (
+            Edit::Attach {
+                child: z,
+                parent: a,
+                at,
+            },
+            NodeFault::WrongKind,
+        ),
+        (Edit::Detach { child: z }, NodeFault::NotChild),
+        (Edit::Tint { node: a, tint: 3 }, NodeFault::WrongKind),
+        (Edit::Show { node: z, child: a }, NodeFault::WrongKind),
+        (Edit::Border { node: z, width: 1 }, NodeFault::WrongKind),
+    ];
+    refuses(&rt, &mut tree, &cases);
     Ok(())
 }
 

@@ -2,7 +2,8 @@ ghost use Rattle.std.specs.Prelude.{◌≡◌, ◌<◌, ◌++◌, ◌∷◌, [],
 ghost use Rattle.tr_base.specs.declared.NodeId.{NodeId};
 ghost use Rattle.tr_base.specs.Rects.{whole_of};
 ghost use Rattle.tr_base.specs.Layouts.{IsDomain};
-ghost use Rattle.tr_forest.specs.Nodes.{node, fresh, IsNode, IsNodeKind, IsNextLeaf, shown_by, leaf_of, leaf_count};
+ghost use Rattle.tr_forest.specs.Nodes.{node, fresh, IsNode, IsNodeKind, IsNextLeaf, shown_by, leaf_of, leaf_count, node_of};
+ghost use Rattle.tr_forest.specs.Families.{is_under};
 ghost use Rattle.tr_forest.specs.Forests.{IsForest};
 ghost use Rattle.tr_forest.specs.Edits.{IsEdit, IsCause, IsScreenSize, refusal, wants_memory, is_root};
 ghost use Rattle.tr_tree.specs.Trees.{size_after, kind_after, edited_tree};
@@ -13,7 +14,7 @@ use crate::layouts::Layout;
 use std::alloc::Global;
 use std::marker::Model;
 use tr_base::{Kind, LeafId, NoMemory, NodeId, Point, Rect, Shapes, Size};
-use tr_forest::{Edit, EditRefused, Forest, NodeKind};
+use tr_forest::{Edit, EditRefused, Forest, NodeFault, NodeKind};
 
 /// A tree of windows of at most 256 nodes, and the screen that it has.
 #[derive(Drop)]
@@ -108,6 +109,14 @@ impl Tree {
         Ok(())
     }
 
+    /// Why an edit is refused, if it is.
+    pub fn refusal(&self, edit: &Edit) -> Option<NodeFault>
+        requires { IsEdit self.now.nodes edit.now }
+        ensures { result ≡ refusal self.now.nodes edit.now }
+    {
+        self.forest.refusal(edit)
+    }
+
     /// How many nodes there are.
     pub fn count(&self) -> usize
         ensures count { result ≡ length self.now.nodes.entries }
@@ -182,9 +191,18 @@ impl Tree {
         self.forest.leaves()
     }
 
+    /// Whether n is `top`, or lies below it.
+    pub fn is_under(&self, top: NodeId, n: NodeId) -> bool
+        requires { IsNode self.now.nodes n }
+        ensures { result ≡ is_under self.now.nodes top n }
+    {
+        self.forest.is_under(top, n)
+    }
+
     /// Which node a leaf is.
     pub fn node_of(&self, leaf: LeafId) -> NodeId
         requires { leaf.0 < leaf_count self.now.nodes }
+        ensures is { result ≡ node_of self.now.nodes leaf }
         ensures leaf { leaf_of (node self.now.nodes result).kind ≡ Some leaf }
         ensures node { IsNode self.now.nodes result }
     {

@@ -3,7 +3,7 @@ use Rattle.tr_base.specs.Layouts.{IsDomain}
 use Rattle.tr_forest.specs.Nodes.{IsNode}
 use Rattle.tr_tree.specs.Places.{domain}
 use Rattle.tr_tree.specs.Laying.{laid}
-use Rattle.tr_tree.proofs.DomainLemmas.{any_kind}
+use Rattle.tr_tree.proofs.LayoutLemmas.{any_kind}
 use Rattle.tr_tree.proofs.FitLemmas.{at_is_domain}
 use Rattle.tr_tree.proofs.LayLemmas.{laid_none, laid_all, root_stands}
 use Rattle.tr_tree.proofs.domains.lay_out.Goals as goal
