@@ -11,7 +11,8 @@ use Rattle.tr_base.specs.declared.ops.Kind.TheVariants.{Map8}
 use Rattle.tr_base.specs.Shapes.{Lengths, IsShape}
 use Rattle.tr_player.specs.Texts.{line_text, lines_text, dump_text}
 use Rattle.tr_player.specs.Scripts.{Script, IsScript, IsInRange, IsInForm, IsName, shape_words, command_lines, script_lines}
-use Rattle.tr_player.specs.Outputs.{pic, picture_by, out}
+use Rattle.tr_screen.specs.Pictures.{picture_by}
+use Rattle.tr_player.specs.Outputs.{pic, out}
 use Rattle.tr_player.specs.Windows.{Shows}
 use Rattle.tr_io.specs.Streams.{Grew}
 use Rattle.tr_player.specs.Answers.{texts_of, longest_script, most_read, OfBytesRead, IsReadThrough, Prints, Seen, Delivery, Due, usage, read_fault, refused, output, IsDue, IsDelivered, Yields}

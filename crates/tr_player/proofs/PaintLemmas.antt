@@ -7,10 +7,9 @@ use Rattle.std.proofs.lemmas.Simd.{splat_is_map}
 use mathlib.Core.List.{append_assoc}
 use Rattle.tr_base.specs.declared.sizes.Size.{Size}
 use Rattle.tr_base.specs.declared.ops.Kind.{Kind}
-use Rattle.tr_screen.specs.Pictures.{Picture, filled_of, blank_of}
+use Rattle.tr_screen.specs.Pictures.{Picture, filled_of, blank_of, picture_by}
 use Rattle.hex.specs.Hex.{encode_with, encode_lower}
 use Rattle.tr_player.specs.Texts.{digit_of, pixel_text, row_text}
-use Rattle.tr_player.specs.Outputs.{picture_by}
 
 -- a picture of one colour
 picture_by-same : (size : Size) (kind : Kind) (pixel : ℕ) →

@@ -2,9 +2,9 @@ ghost use Rattle.std.specs.Prelude.{◌≡◌, ◌≢◌, ◌≤◌, ◌↔◌, 
 ghost use Rattle.tr_player.specs.Answers.{IsDue, accepted_arguments, texts_of, status_of, text_of};
 ghost use Rattle.tr_player.specs.Replies.{due_of};
 ghost use Rattle.tr_base.specs.declared.ops.Kind.TheVariants.{Map8};
-ghost use Rattle.tr_screen.specs.Pictures.{IsScreenSize};
+ghost use Rattle.tr_screen.specs.Pictures.{IsScreenSize, picture_by};
 ghost use Rattle.tr_player.specs.Texts.{dump_text};
-ghost use Rattle.tr_player.specs.Outputs.{pic, picture_by};
+ghost use Rattle.tr_player.specs.Outputs.{pic};
 
 use crate::dumps::dump_of;
 use crate::errors::ReadError;

@@ -1,7 +1,7 @@
 ghost use Rattle.std.specs.Prelude.{◌≡◌, IfOk};
 ghost use Rattle.tr_base.specs.declared.ops.Kind.TheVariants.{Map8};
-ghost use Rattle.tr_screen.specs.Pictures.{IsScreenSize};
-ghost use Rattle.tr_player.specs.Outputs.{pic, picture_by};
+ghost use Rattle.tr_screen.specs.Pictures.{IsScreenSize, picture_by};
+ghost use Rattle.tr_player.specs.Outputs.{pic};
 
 use crate::scripts::OneWindow;
 use std::alloc::Global;

@@ -1,2 +1,4 @@
 pub mod WalkLemmas
 pub mod MoveLemmas
+pub mod GoodLemmas
+pub mod NearLemmas

@@ -1,2 +1,4 @@
 pub mod Walks
 pub mod Moves
+pub mod Good
+pub mod Near

@@ -1,8 +1,12 @@
-//! What stays of a screen when windows change: pixels that move.
+//! What stays of a screen when windows change: points that are still good, and pixels that move.
 #![tactic(auto)]
 
+mod good;
 mod moving;
+mod shifting;
 #[cfg(test)]
 mod tests;
 
+pub use good::still_good;
 pub use moving::move_pixels;
+pub use shifting::shifted;

@@ -1,6 +1,8 @@
-ghost use Rattle.std.specs.Prelude.{◌≡◌, ◌≤◌, ◌≤ℤ◌, neg_ℤ, pos, IfOk};
+ghost use Rattle.std.specs.Prelude.{◌≡◌, ◌≤◌, ◌≤ℤ◌, neg_ℤ, pos, true, IfOk};
+ghost use Rattle.tr_base.specs.declared.Point.{Point};
 ghost use Rattle.tr_region.specs.Points.{holds};
 ghost use Rattle.tr_repair.specs.Moves.{MovesOn};
+ghost use Rattle.tr_repair.specs.Near.{IsAround};
 
 use super::*;
 use std::alloc::Global;
@@ -68,5 +70,44 @@ fn points_outside_the_region_stay(rt: HostRuntime) -> Result<(), Fail> {
     assert_eq!(rt; screen.row(0), [1, 1, 3, 3].as_slice());
     assert_eq!(rt; screen.row(1), [5, 5, 7, 7].as_slice());
     assert_eq!(rt; screen.row(2), [9, 9, 10, 11].as_slice());
+    Ok(())
+}
+
+#[test]
+fn points_that_stay_in_one_region_are_still_good(rt: HostRuntime) -> Result<(), Fail> {
+    let alloc = rt.alloc();
+    let good = Region::of_rect(alloc, Rect::edges(0, 4, 0, 2))?;
+    let west = Region::of_rect(alloc, Rect::edges(0, 2, 0, 3))?;
+    let east = Region::of_rect(alloc, Rect::edges(2, 4, 0, 3))?;
+    let more = Region::of_rect(alloc, Rect::edges(0, 3, 0, 3))?;
+    let less = Region::of_rect(alloc, Rect::edges(3, 4, 0, 3))?;
+    let still = still_good(alloc, &good, &[west, east], &[more, less])?;
+    assert_eq!(rt;
+        still.rects(),
+        [Rect::edges(0, 2, 0, 2), Rect::edges(3, 4, 0, 2)].as_slice()
+    );
+    let none = still_good(alloc, &good, &[], &[])?;
+    assert!(rt; none.is_empty());
+    Ok(())
+}
+
+/// The points of the screen of 4 by 3 pixels in its first row and its first column.
+fn corner(alloc: Global) -> Result<Region, NoMemory>
+    ensures { IfOk result (λ r. (p : Point) → holds r p ≡ true → IsAround p) }
+{
+    let all = Region::of_rect(alloc, Rect::edges(0, 4, 0, 3))?;
+    let rest = Region::of_rect(alloc, Rect::edges(1, 4, 1, 3))?;
+    let corner = all.minus(&rest)?;
+    Ok(corner)
+}
+
+#[test]
+fn a_region_is_moved_both_ways(rt: HostRuntime) -> Result<(), Fail> {
+    let corner = corner(rt.alloc())?;
+    let moved = shifted(&corner, Point { h: 10, v: -2 })?;
+    assert_eq!(rt;
+        moved.rects(),
+        [Rect::edges(10, 14, -2, -1), Rect::edges(10, 11, -1, 1)].as_slice()
+    );
     Ok(())
 }

@@ -2,3 +2,4 @@ pub mod PictureLemmas
 pub mod CopyLemmas
 pub mod RunLemmas
 pub mod Repainting
+pub mod ResizingLemmas

@@ -17,6 +17,14 @@ repaints_none test f old none = record { size = refl; kind = refl; points = λ p
 pub repaints_same : (test other : Point → Bool) (f : Point → ℕ) (old new : Picture) → Repaints test f old new → ((p : Point) → IsOn old.size p → other p ≡ test p) → Repaints other f old new
 repaints_same test other f old new h same = record { size = h.size; kind = h.kind; points = λ p on. rw (same p on) (h.points p on) }
 
+-- other words for the same pixels
+pub repaints_by : (test : Point → Bool) (f g : Point → ℕ) (old new : Picture) → Repaints test f old new → ((p : Point) → test p ≡ true → f p ≡ g p) → Repaints test g old new
+repaints_by test f g old new h same = record { size = h.size; kind = h.kind; points = λ p on. h.points p on ∙ by_test p (test p) refl }
+  where
+    by_test : (p : Point) (t : Bool) → test p ≡ t → cond t (f p) (pixel_of old p) ≡ cond t (g p) (pixel_of old p)
+    by_test p true e = same p e
+    by_test p false e = refl
+
 -- more points get their pixels of f
 pub repaints_more : (test more both : Point → Bool) (f g : Point → ℕ) (old mid new : Picture) → Repaints test f old mid → Repaints more g mid new →
     ((p : Point) → IsOn old.size p → more p ≡ true → g p ≡ f p) → ((p : Point) → IsOn old.size p → both p ≡ more p || test p) → Repaints both f old new

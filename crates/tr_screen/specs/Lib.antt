@@ -3,3 +3,4 @@ pub mod Lending
 pub mod Runs
 pub mod RunLending
 pub mod Copies
+pub mod Resizing

@@ -19,6 +19,10 @@ in_rows north south p = between (pos north) (pos south) p.v
 abbrev pub run_before : Run → Point → Run
 run_before r delta = record { v = r.v -ℤ delta.v; west = r.west -ℤ delta.h; east = r.east -ℤ delta.h }
 
+-- the first points of row v
+abbrev pub row_start : ℕ → ℕ → Run
+row_start v wide = record { v = pos v; west = pos 0; east = pos wide }
+
 -- how many points the run holds
 abbrev pub width_of : Run → ℕ
 width_of r = unsigned_abs (r.east -ℤ r.west)

@@ -32,6 +32,17 @@ pub fn width_of(size: Size, run: Run) -> usize
     (run.east - run.west).unsigned_abs() as usize
 }
 
+/// The first points of row `v`.
+pub fn row_start(v: u16, wide: u16) -> Run
+    ensures { result ≡ spec.row_start v wide }
+{
+    Run {
+        v: i32::from(v),
+        west: 0,
+        east: i32::from(wide),
+    }
+}
+
 /// The run that comes to lie here by a move of `delta`.
 pub fn source_of(size: Size, run: Run, delta: Point) -> Run
     requires size { IsScreenSize size }

@@ -5,13 +5,15 @@ ghost use Rattle.tr_base.specs.Rects.{before_shift, has_point, whole_of};
 ghost use Rattle.tr_screen.specs.Pictures.{IsScreenSize, IsPicture, blank_of, filled_of, row_of, pixel_of, with_row, overwritten};
 ghost use Rattle.tr_screen.specs.Lending.{LendsRow};
 ghost use Rattle.tr_screen.specs.RunLending.{LendsRun, run_overwritten};
-ghost use Rattle.tr_screen.specs.Runs.{in_run, in_rows, run_before, width_of, column_in, IsRun, Repaints};
+ghost use Rattle.tr_screen.specs.Runs.{in_run, in_rows, run_before, width_of, column_in, IsOn, IsRun, Repaints};
+ghost use Rattle.tr_screen.specs.Resizing.{kept_pixel};
 
 use crate::copies::{copy_pixels, copy_through};
-use crate::runs::{Run, row_before, source_of, start_of, width_of};
+use crate::runs::{Run, row_before, row_start, source_of, start_of, width_of};
 use std::alloc::Global;
 use std::marker::Model;
 use tr_base::{Kind, NoMemory, Point, Size};
+use tr_kernel::copy_row;
 
 /// The pixels of a screen, 1 to 1024 from west to east and 1 to 1024 from north to south.
 #[derive(Debug, Drop)]
@@ -168,5 +170,44 @@ impl Screen {
         let to = usize::from(north) * wide;
         let count = usize::from(south - north) * wide;
         copy_pixels(&mut self.pixels, from, to, count);
+    }
+
+    /// A screen of this size and kind. With the same kind, each point that is on both screens keeps
+    /// its pixel, and all others are 0. With another kind all are 0.
+    pub fn resized(&self, size: Size, kind: Kind) -> Result<Screen, NoMemory>
+        requires { IsScreenSize size }
+        ensures size { IfOk result (λ s. s.size ≡ size) }
+        ensures kind { IfOk result (λ s. s.kind ≡ kind) }
+        ensures points { IfOk result (λ s. (p : Point) → IsOn size p →
+            pixel_of s p ≡ kept_pixel self.now kind p) }
+    {
+        let mut resized = Screen::blank(*self.pixels.allocator(), size, kind)?;
+        if kind == self.kind {
+            resized.copy_common(self);
+        }
+        Ok(resized)
+    }
+
+    /// Gives each point that is on both screens its pixel of the other one.
+    fn copy_common(&mut self, other: &Screen)
+        ensures { Repaints (has_point (whole_of other.now.size)) (pixel_of other.now) self.old self.new }
+    {
+        let own = self.size();
+        let size = other.size();
+        let wide = own.wide.min(size.wide);
+        for v in 0..own.high.min(size.high) {
+            self.copy_run(other, row_start(v, wide));
+        }
+    }
+
+    /// Gives each point of the run its pixel of the other screen.
+    fn copy_run(&mut self, other: &Screen, run: Run)
+        requires to { IsRun self.old.size run }
+        requires from { IsRun other.now.size run }
+        ensures { Repaints (in_run run) (pixel_of other.now) self.old self.new }
+    {
+        let start = start_of(other.size, run);
+        let count = width_of(other.size, run);
+        copy_row(self.run_mut(run), &other.pixels[start..start + count]);
     }
 }
