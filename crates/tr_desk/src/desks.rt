@@ -1,4 +1,4 @@
-ghost use Rattle.std.specs.Prelude.{◌≡◌, ◌≤◌, ◌<◌, length, Option, Some, None, IfOk, IfErr, OnOk, OnErr};
+ghost use Rattle.std.specs.Prelude.{◌≡◌, ◌≤◌, ◌<◌, ℕ, length, Option, Some, None, IfOk, IfErr, OnOk, OnErr};
 ghost use Rattle.tr_desk.specs.Desks as spec;
 ghost use Rattle.tr_desk.specs.Faults.{time_fault, button_fault, mouse_fault, own_fault, disown_fault, is_owned_by};
 ghost use Rattle.tr_base.specs.declared.LeafId.{LeafId};
@@ -124,6 +124,7 @@ impl Desk {
         requires spot { spec.IsKnown (length self.old.leaves) (spec.leaf_at spot.now) }
         ensures answer { let click = spec.click self.old button down in
             IfOk result (λ r. r ≡ (spec.receiver click spot.now self.old.focus, click)) }
+        ensures known { IfOk result (λ r. spec.IsKnown (length self.old.leaves) r.0) }
         ensures ok { OnOk result (self.new ≡ spec.after_mouse self.old time button down spot.now) }
         ensures allowed { OnOk result (mouse_fault self.old time button down ≡ None) }
         ensures fault { IfErr result (λ e. mouse_fault self.old time button down ≡ Some e) }
@@ -156,6 +157,7 @@ impl Desk {
     /// A key is struck: who gets the event, which is the owner of the selection Key.
     pub fn key(&mut self, time: u32) -> Result<Option<LeafId>, DeskFault>
         ensures answer { IfOk result (λ leaf. leaf ≡ self.old.key) }
+        ensures known { IfOk result (λ leaf. spec.IsKnown (length self.old.leaves) leaf) }
         ensures ok { OnOk result (self.new ≡ record self.old { time = time }) }
         ensures allowed { OnOk result (time_fault self.old time ≡ None) }
         ensures fault { IfErr result (λ e. time_fault self.old time ≡ Some e) }
@@ -195,6 +197,7 @@ impl Desk {
     ) -> Result<Option<LeafId>, DeskFault>
         requires { leaf.0 < length self.old.leaves }
         ensures answer { IfOk result (λ old. old ≡ spec.other_than leaf (spec.owner self.old selection)) }
+        ensures known { IfOk result (λ old. spec.IsKnown (length self.old.leaves) old) }
         ensures ok { OnOk result (self.new ≡ spec.owned_by (Some leaf) selection self.old) }
         ensures allowed { OnOk result (own_fault self.old leaf time ≡ None) }
         ensures fault { IfErr result (λ e. own_fault self.old leaf time ≡ Some e) }
@@ -278,7 +281,8 @@ impl Desk {
 
     /// The owner of a selection.
     pub fn owner(&self, selection: Selection) -> Option<LeafId>
-        ensures { result ≡ spec.owner self.now selection }
+        ensures owner { result ≡ spec.owner self.now selection }
+        ensures known { spec.IsKnown (length self.now.leaves) result }
     {
         match selection {
             Selection::Key => self.key,
@@ -395,7 +399,8 @@ fn is_owned_by(leaf: LeafId, other: Option<LeafId>) -> bool
 }
 
 fn other_than(leaf: LeafId, old: Option<LeafId>) -> Option<LeafId>
-    ensures { result ≡ spec.other_than leaf old }
+    ensures other { result ≡ spec.other_than leaf old }
+    ensures known { (count : ℕ) → spec.IsKnown count old → spec.IsKnown count result }
 {
     if is_owned_by(leaf, old) { None } else { old }
 }

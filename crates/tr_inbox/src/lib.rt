@@ -1,8 +1,10 @@
-//! Inboxes: the events that wait for a window until its client takes them.
+//! Inboxes: the events that wait for a window until its client takes them, and what a step sent.
 #![tactic(auto)]
 
+mod deliveries;
 mod inboxes;
 
+pub use deliveries::Delivery;
 pub use inboxes::{CAPACITY, Dropped, Empty, Inbox};
 
 #[cfg(test)]

@@ -4,3 +4,4 @@ pub mod WayLemmas
 pub mod ChildLemmas
 pub mod SpotLemmas
 pub mod GainLemmas
+pub mod LeafLemmas

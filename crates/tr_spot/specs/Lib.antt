@@ -1,3 +1,4 @@
 pub mod Spots
+pub mod Leaves
 pub mod Ways
 pub mod Gains

@@ -1,5 +1,5 @@
 -- Who owns a point of the screen.
-use Rattle.std.specs.Prelude.{◌≡◌, ◌<◌, ℕ, zero, suc, ◌-ℤ◌, Bool, true, false, ◌==◌, if◌then◌else◌, List, [], Option, Some, None, IsSome, get_or, length}
+use Rattle.std.specs.Prelude.{◌≡◌, ◌<◌, ⊤, ℕ, zero, suc, ◌-ℤ◌, Bool, true, false, ◌==◌, if◌then◌else◌, List, [], Option, Some, None, IsSome, get_or, length}
 use Rattle.std.specs.List.{find}
 use Rattle.tr_base.specs.declared.Point.{Point}
 use Rattle.tr_base.specs.declared.Size.{Size}
@@ -25,7 +25,7 @@ abbrev pub followed : NodeId → (NodeId → NodeId) → Option NodeId → NodeI
 followed n down None = n
 followed n down (Some child) = down child
 
--- the owner of a point of a node's domain, for so many levels: at each node the walk goes on to the first child whose domain has the point
+-- the owner of a point of a node's domain, at most so many levels down: the walk goes on to the first child whose domain has the point
 unfoldable pub owner_within : ℕ → Seen → NodeId → Point → NodeId
 owner_within zero t n p = n
 owner_within (suc f) t n p =
@@ -48,7 +48,7 @@ abbrev pub spot_on : Seen → Point → NodeId → NodeKind → Spot
 spot_on t p n (kinds.Leaf leaf shapes) = spots.Leaf leaf (from_corner (domain t n) p) (size_of (domain t n)) t.kind
 spot_on t p n kind = spots.Frame n (node t.nodes n).tint t.kind
 
--- what a point of the screen belongs to, below the root
+-- what a point of the screen belongs to: to nothing where no root was chosen
 abbrev pub spot_below : Seen → Point → Option NodeId → Spot
 spot_below t p None = spots.Off
 spot_below t p (Some root) = spot_on t p (owner t root p) (node t.nodes (owner t root p)).kind
@@ -56,6 +56,11 @@ spot_below t p (Some root) = spot_on t p (owner t root p) (node t.nodes (owner t
 -- what a point belongs to: off the screen to nothing
 abbrev pub spot : Seen → Point → Spot
 spot t p = if has_point (whole_of t.size) p then spot_below t p t.nodes.root else spots.Off
+
+-- a leaf that the spot is part of is one of the first so many
+abbrev pub IsBelow : ℕ → Spot → Type 0
+IsBelow count (spots.Leaf leaf at size kind) = leaf.0 < count
+IsBelow count spot = ⊤
 
 -- the spot is part of this leaf
 abbrev pub is_in_leaf : LeafId → Spot → Bool

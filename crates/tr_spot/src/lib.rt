@@ -6,13 +6,15 @@
 #![tactic(auto)]
 
 mod fills;
+mod leaves;
 mod owners;
 mod spots;
 mod windows;
 
 pub use fills::regions;
+pub use leaves::{in_leaf, leaf_corner, leaf_size};
 pub use owners::levels_suffice;
-pub use spots::spot_at;
+pub use spots::{from_corner, size_of, spot_at};
 pub use tr_base::Spot;
 pub use windows::{frame, visible};
 

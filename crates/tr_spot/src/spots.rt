@@ -1,9 +1,10 @@
 ghost use Rattle.std.specs.Prelude.{◌≡◌, ◌-ℤ◌, true};
 ghost use Rattle.tr_base.specs.Rects.{InReach, has_point, whole_of};
 ghost use Rattle.tr_base.specs.Layouts.{IsDomain};
-ghost use Rattle.tr_forest.specs.Nodes.{node, IsNode};
+ghost use Rattle.tr_forest.specs.Nodes.{node, leaf_count, IsNode};
+ghost use Rattle.tr_forest.specs.Forests.{IsForest};
 ghost use Rattle.tr_forest.specs.Edits.{IsScreenSize};
-ghost use Rattle.tr_spot.specs.Spots.{HasRoot, from_corner, size_of, spot_on, spot};
+ghost use Rattle.tr_spot.specs.Spots.{HasRoot, IsBelow, from_corner, size_of, spot_on, spot};
 
 use crate::owners::owner_of;
 use tr_base::{NodeId, Point, Rect, Size, Spot, sides, whole};
@@ -13,7 +14,8 @@ use tr_tree::{NodeKind, Tree};
 /// and at their siblings in front.
 pub fn spot_at(tree: &Tree, p: Point) -> Spot
     requires { HasRoot tree.now }
-    ensures { result ≡ spot tree.now p }
+    ensures spot { result ≡ spot tree.now p }
+    ensures leaf { IsBelow (leaf_count tree.now.nodes) result }
 {
     // Called for what it tells the prover: that the nodes are a forest, and the screen has a size.
     let _ = tree.count();
@@ -28,8 +30,10 @@ pub fn spot_at(tree: &Tree, p: Point) -> Spot
 fn spot_on(tree: &Tree, p: Point, n: NodeId) -> Spot
     requires size { IsScreenSize tree.now.size }
     requires screen { has_point (whole_of tree.now.size) p ≡ true }
+    requires forest { IsForest tree.now.nodes }
     requires node { IsNode tree.now.nodes n }
-    ensures { result ≡ spot_on tree.now p n (node tree.now.nodes n).kind }
+    ensures spot { result ≡ spot_on tree.now p n (node tree.now.nodes n).kind }
+    ensures leaf { IsBelow (leaf_count tree.now.nodes) result }
 {
     let kind = tree.kind();
     match tree.kind_of(n) {
@@ -51,7 +55,7 @@ fn spot_on(tree: &Tree, p: Point, n: NodeId) -> Spot
 }
 
 /// A point by its distance from a rectangle's corner.
-fn from_corner(rect: &Rect, p: Point) -> Point
+pub fn from_corner(rect: &Rect, p: Point) -> Point
     requires across { InReach p.h }
     requires down { InReach p.v }
     ensures { result ≡ from_corner rect.now p }
@@ -72,7 +76,7 @@ fn distance(x: i32, from: i32) -> i32
 }
 
 /// The size of a node's rectangle.
-fn size_of(rect: &Rect) -> Size
+pub fn size_of(rect: &Rect) -> Size
     requires { IsDomain rect.now }
     ensures { result ≡ size_of rect.now }
 {
