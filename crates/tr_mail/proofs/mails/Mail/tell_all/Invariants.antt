@@ -1,0 +1,15 @@
+use Rattle.std.proofs.Common.{◌≡◌, ◌≤◌, ◌+◌, length}
+use Rattle.tr_mail.specs.Mails.{Sending}
+use Rattle.tr_mail.specs.Deliveries.{tell_below}
+use Rattle.tr_mail.proofs.mails.Mail.tell_all.Given as goal
+
+-- the leaves below n were told
+abbrev pub invariant-loop-n : goal.invariant-loop-n
+invariant-loop-n l =
+    let now : Sending = record { mail = l.self; sent = l.out } in
+    record {
+      sent : now ≡ tell_below l.n l.tree (record { mail = l.fn.self; sent = l.fn.out });
+      few : length l.out ≤ length l.fn.out + l.n;
+      cursor : l.self.desk.cursor ≡ l.fn.self.desk.cursor;
+      inboxes : length l.self.inboxes ≡ length l.fn.self.inboxes;
+    }

@@ -1,0 +1,15 @@
+//! What waits for each window, and whom each event goes to: the input devices together with all
+//! inboxes.
+#![tactic(auto)]
+
+mod deliveries;
+mod mails;
+mod outboxes;
+mod positions;
+
+pub use mails::Mail;
+pub use outboxes::Outbox;
+pub use positions::is_reshaped;
+
+#[cfg(test)]
+mod tests;
