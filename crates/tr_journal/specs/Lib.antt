@@ -1,0 +1,4 @@
+pub mod Steps
+pub mod Journals
+pub mod Openings
+pub mod Kept

@@ -1,0 +1,63 @@
+ghost use Rattle.std.specs.Prelude.{◌≡◌, ◌↔◌, IsTrue, IfOk};
+
+use crate::sameness::is_same_event;
+use tr_base::{Event, Line, NoMemory};
+use tr_desk::DeskFault;
+use tr_forest::NodeFault;
+
+/// What a step answers.
+#[derive(Clone, Copy, Debug)]
+pub enum Answer {
+    /// It is done.
+    Done,
+    /// The event that was taken.
+    Taken(Event),
+    /// The value of the owner's content.
+    Value(Line),
+    /// No event waited.
+    Empty,
+    /// The tree refuses the edit.
+    Tree(NodeFault),
+    /// The desk refuses it.
+    Desk(DeskFault),
+}
+
+impl Answer {
+    /// The same answer.
+    pub fn copy(&self) -> Result<Answer, NoMemory>
+        ensures { IfOk result (λ answer. answer ≡ self.now) }
+    {
+        Ok(*self)
+    }
+
+    /// Whether both are the same answer.
+    pub fn same(&self, other: &Answer) -> bool
+        ensures { IsTrue result ↔ (self.now ≡ other.now) }
+    {
+        match (self, other) {
+            (Answer::Done, Answer::Done) => true,
+            (Answer::Taken(a), Answer::Taken(b)) => is_same_event(a, b),
+            (Answer::Value(a), Answer::Value(b)) => a.same(b),
+            (Answer::Empty, Answer::Empty) => true,
+            (Answer::Tree(a), Answer::Tree(b)) => a == b,
+            (Answer::Desk(a), Answer::Desk(b)) => a == b,
+            _ => false,
+        }
+    }
+}
+
+/// What a step answers, and how many deliveries it makes.
+#[derive(Clone, Copy, Debug)]
+pub struct Reply {
+    pub answer: Answer,
+    pub sent: u16,
+}
+
+impl Reply {
+    /// Whether both are the same reply.
+    pub fn same(&self, other: &Reply) -> bool
+        ensures { IsTrue result ↔ (self.now ≡ other.now) }
+    {
+        self.answer.same(&other.answer) && self.sent == other.sent
+    }
+}

@@ -1,0 +1,40 @@
+ghost use Rattle.std.specs.Prelude.{◌≡◌, ◌↔◌, IsTrue, IfOk};
+
+use crate::answers::Reply;
+use crate::steps::{Actor, Step};
+use std::alloc::Global;
+use tr_base::{Command, NoMemory};
+use tr_levels::Held;
+
+/// A step that was made: by whom, with which levels held, and what it answered.
+#[derive(Debug, Drop)]
+pub struct Entry<M> {
+    pub actor: Actor,
+    pub level: Held,
+    pub step: Step<M>,
+    pub reply: Reply,
+}
+
+impl<M: Command> Entry<M> {
+    /// The same entry.
+    pub fn copy(&self, alloc: Global) -> Result<Entry<M>, NoMemory>
+        ensures { IfOk result (λ entry. entry ≡ self.now) }
+    {
+        Ok(Entry {
+            actor: self.actor,
+            level: self.level,
+            step: self.step.copy(alloc)?,
+            reply: self.reply,
+        })
+    }
+
+    /// Whether both are the same entry.
+    pub fn same(&self, other: &Entry<M>) -> bool
+        ensures { IsTrue result ↔ (self.now ≡ other.now) }
+    {
+        self.actor == other.actor
+            && self.level.same(&other.level)
+            && self.step.same(&other.step)
+            && self.reply.same(&other.reply)
+    }
+}

@@ -1,0 +1,164 @@
+ghost use Rattle.std.specs.Prelude.{◌≡◌, ◌+◌, ◌*◌, ◌<◌, ◌≤◌, ◌↔◌, [], ◌∷◌, ◌++◌, IsTrue, map, length, get_or, slice_get, slice_range, Some, All, IsOk, IfOk, OnOk, OnErr};
+ghost use Rattle.tr_journal.specs.Journals.{IsCounted};
+
+use crate::entries::Entry;
+use std::alloc::Global;
+use std::marker::Model;
+use tr_base::{Command, NoMemory};
+use tr_inbox::Delivery;
+
+/// How many deliveries an entry may have for which room was reserved.
+pub const DELIVERIES: usize = 32;
+
+/// The entries of a run, in their order, each with what its step sent.
+#[derive(Debug, Drop)]
+pub struct Journal<M: Drop> {
+    entries: Vec<Entry<M>>,
+    /// Where each entry's deliveries end.
+    ends: Vec<usize>,
+    /// The deliveries of all entries, in a row.
+    sent: Vec<Delivery>,
+}
+
+impl<M: Drop> Model for Journal<M> {
+    ghost use Rattle.std.specs.Prelude.{◌-◌, vec_len, vec_capacity};
+    ghost use Rattle.tr_journal.specs.Journals.{JournalView, AreKept, lines_of, spare_of};
+
+    ghost Value = { JournalView M };
+
+    ghost view = { λ j. record {
+      lines = lines_of j.entries.items j.sent.items;
+      spare = spare_of
+          (vec_capacity j.entries - vec_len j.entries)
+          (vec_capacity j.ends - vec_len j.ends)
+          (vec_capacity j.sent - vec_len j.sent);
+    } };
+
+    ghost invariant = { λ j. AreKept j.entries.items j.ends.items j.sent.items };
+}
+
+impl<M: Drop> Journal<M> {
+    /// A journal with no entry.
+    pub fn new(alloc: Global) -> Journal<M>
+        ensures { result.lines ≡ [] }
+    {
+        Journal {
+            entries: Vec::new(alloc),
+            ends: Vec::new(alloc),
+            sent: Vec::new(alloc),
+        }
+    }
+
+    /// Adds an entry, with what its step sent.
+    pub fn push(&mut self, entry: Entry<M>, sent: &[Delivery]) -> Result<(), NoMemory>
+        requires counted { entry.reply.sent ≡ length sent.now }
+        ensures ok { OnOk result (self.new.lines ≡ self.old.lines ++ record { entry = entry; sent = sent.now } ∷ []) }
+        ensures err { OnErr result (self.new.lines ≡ self.old.lines) }
+        ensures room { 0 < self.old.spare → length sent.now ≤ DELIVERIES * self.old.spare → IsOk result }
+        ensures spare { length sent.now ≤ DELIVERIES → self.old.spare ≤ self.new.spare + 1 }
+    {
+        self.entries.reserve(1)?;
+        self.ends.reserve(1)?;
+        self.sent.extend_from_slice(sent)?;
+        self.ends.push(self.sent.len())?;
+        Ok(self.entries.push(entry)?)
+    }
+
+    /// Makes room for `n` entries more, with at most 32 deliveries each.
+    pub fn reserve(&mut self, n: u32) -> Result<(), NoMemory>
+        ensures ok { OnOk result (n ≤ self.new.spare) }
+        ensures lines { self.new.lines ≡ self.old.lines }
+        ensures spare { self.old.spare ≤ self.new.spare }
+    {
+        let n = n as usize;
+        self.entries.reserve(n)?;
+        self.ends.reserve(n)?;
+        Ok(self.sent.reserve(n * DELIVERIES)?)
+    }
+
+    /// Adds an entry for which room was reserved, with what its step sent: at most 32 deliveries for
+    /// each entry that there is room for.
+    pub fn push_reserved(&mut self, entry: Entry<M>, sent: &[Delivery])
+        requires spare { 0 < self.old.spare }
+        requires counted { entry.reply.sent ≡ length sent.now }
+        requires sent { length sent.now ≤ DELIVERIES * self.old.spare }
+        ensures lines { self.new.lines ≡ self.old.lines ++ record { entry = entry; sent = sent.now } ∷ [] }
+        ensures spare { length sent.now ≤ DELIVERIES → self.old.spare ≤ self.new.spare + 1 }
+    {
+        self.push(entry, sent).unwrap()
+    }
+
+    /// How many entries there are.
+    pub fn len(&self) -> usize
+        ensures count { result ≡ length self.now.lines }
+        ensures invariant { All IsCounted self.now.lines }
+    {
+        self.entries.len()
+    }
+
+    /// Whether there is none.
+    pub fn is_empty(&self) -> bool
+        ensures { IsTrue result ↔ (self.now.lines ≡ []) }
+    {
+        self.entries.is_empty()
+    }
+
+    /// The entry behind `k` others.
+    pub fn get(&self, k: usize) -> &Entry<M>
+        requires { k < length self.now.lines }
+        ensures { slice_get (map (λ line. line.entry) self.now.lines) k ≡ Some result.now }
+    {
+        &self.entries[k]
+    }
+
+    /// What the step of the entry behind `k` others sent, in order.
+    pub fn sent(&self, k: usize) -> &[Delivery]
+        requires { k < length self.now.lines }
+        ensures { slice_get (map (λ line. line.sent) self.now.lines) k ≡ Some result.now }
+    {
+        part(&self.ends, &self.sent, k)
+    }
+}
+
+impl<M: Command> Journal<M> {
+    /// A journal with the same lines.
+    pub fn copy(&self) -> Result<Journal<M>, NoMemory>
+        ensures { IfOk result (λ copied. copied.lines ≡ self.now.lines) }
+    {
+        let alloc = *self.sent.allocator();
+        Ok(Journal {
+            entries: copies_of(alloc, &self.entries)?,
+            ends: Vec::from_slice(alloc, &self.ends)?,
+            sent: Vec::from_slice(alloc, &self.sent)?,
+        })
+    }
+}
+
+/// The same entries.
+fn copies_of<M: Command>(alloc: Global, entries: &[Entry<M>]) -> Result<Vec<Entry<M>>, NoMemory>
+    ensures { IfOk result (λ copies. copies.items ≡ entries.now) }
+{
+    let mut copies = Vec::with_capacity(alloc, entries.len())?;
+    for entry in entries {
+        copies.push(entry.copy(alloc)?)?;
+    }
+    Ok(copies)
+}
+
+/// What the entry behind `k` others sent, out of what all of them sent.
+fn part<'a>(ends: &[usize], sent: &'a [Delivery], k: usize) -> &'a [Delivery]
+    requires entry { k < length ends.now }
+    requires order { get_or (0 ∷ ends.now) k 0 ≤ get_or ends.now k 0 }
+    requires end { get_or ends.now k 0 ≤ length sent.now }
+    ensures { result.now ≡ slice_range sent.now (get_or (0 ∷ ends.now) k 0) (get_or ends.now k 0) }
+{
+    &sent[start(ends, k)..ends[k]]
+}
+
+/// Where the deliveries of the entry behind `k` others begin.
+fn start(ends: &[usize], k: usize) -> usize
+    requires { k < length ends.now }
+    ensures { result ≡ get_or (0 ∷ ends.now) k 0 }
+{
+    if k == 0 { 0 } else { ends[k - 1] }
+}

@@ -1,0 +1,28 @@
+//! Openings and journals: what a run begins with, and its steps in their order, each with who made it,
+//! the levels that it held, the reply, and what it sent. Whoever has both has the run.
+#![tactic(auto)]
+
+mod answers;
+mod entries;
+mod items;
+mod journals;
+mod names;
+mod openings;
+mod rights;
+mod sameness;
+mod steps;
+
+pub use answers::{Answer, Reply};
+pub use entries::Entry;
+pub use items::Item;
+pub use journals::{DELIVERIES, Journal};
+pub use names::NameOf;
+pub use openings::Opening;
+pub use rights::{covers, may};
+pub use steps::{Actor, Query, Step};
+pub use tr_inbox::Delivery;
+
+#[cfg(test)]
+mod opening_tests;
+#[cfg(test)]
+mod tests;
