@@ -1,0 +1,10 @@
+pub mod ShareLemmas
+pub mod StepLemmas
+pub mod KnownLemmas
+pub mod NearLemmas
+pub mod ShownLemmas
+pub mod FrameLemmas
+pub mod BadLemmas
+pub mod PixelLemmas
+pub mod EditLemmas
+pub mod TintLemmas

@@ -1,0 +1,5 @@
+pub mod Surfaces
+pub mod Frames
+pub mod TreeSteps
+pub mod Shares
+pub mod Counts

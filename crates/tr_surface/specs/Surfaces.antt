@@ -1,0 +1,70 @@
+-- The screen that a tree of windows is shown on, and which of its points are bad.
+use Rattle.std.specs.Prelude.{◌≡◌, ℕ, neg_ℤ, Bool, true, false, if◌then◌else◌, List, Some, None, length}
+use Rattle.tr_base.specs.declared.Point.{Point}
+use Rattle.tr_base.specs.declared.LeafId.{LeafId}
+use Rattle.tr_base.specs.declared.NodeId.{NodeId}
+use Rattle.tr_base.specs.declared.Spot.{Spot}
+use Rattle.tr_base.specs.declared.Spot.TheVariants as spots
+use Rattle.tr_base.specs.declared.Op.TheVariants.{Set}
+use Rattle.tr_base.specs.Ops.{eff}
+use Rattle.tr_base.specs.Rects.{Edges, has_point, whole_of}
+use Rattle.tr_region.specs.Points.{holds}
+use Rattle.tr_screen.specs.Pictures.{Picture, pixel_of}
+use Rattle.tr_paint.specs.Traces.{Base}
+use Rattle.tr_exec.specs.Executions.{placed}
+use Rattle.tr_forest.specs.Nodes.{IsNode}
+use Rattle.tr_forest.specs.Forests.{IsForest}
+use Rattle.tr_tree.specs.Trees.{Seen}
+use Rattle.tr_spot.specs.Spots.{HasRoot, spot, is_in_leaf, is_spot_of, region_of}
+use Rattle.tr_spot.specs.Leaves.{leaf_corner}
+
+-- what a contract sees of a surface: the tree of windows, the pixels of the screen, and the bad points, which need to be painted again
+pub record Shown : Type 0 where
+  pub tree : Seen
+  pub screen : Picture
+  pub bad : List Edges
+
+-- the way back from the screen's coordinates to those of a window with this corner
+abbrev pub back_from : Point → Point
+back_from corner = record { h = neg_ℤ corner.h; v = neg_ℤ corner.v }
+
+-- the point is on the screen
+abbrev pub is_on : Seen → Point → Bool
+is_on t p = has_point (whole_of t.size) p
+
+-- the spot is on the frame of some node
+abbrev pub is_frame : Spot → Bool
+is_frame (spots.Frame n tint kind) = true
+is_frame spot = false
+
+-- the colour of a frame; what is no frame has none
+abbrev pub frame_colour : Spot → ℕ
+frame_colour (spots.Frame n tint kind) = eff kind (Set tint) 0
+frame_colour spot = 0
+
+-- the points of a leaf's window that are visible, in its own coordinates, and the pixels of those that aren't bad
+abbrev pub leaf_base : Shown → LeafId → Base
+leaf_base s leaf = record {
+  visible = λ q. is_in_leaf leaf (spot s.tree (placed (leaf_corner s.tree leaf) q));
+  known = λ q.
+      if holds s.bad (placed (leaf_corner s.tree leaf) q) then None
+      else Some (pixel_of s.screen (placed (leaf_corner s.tree leaf) q));
+}
+
+-- the regions are those of the tree's nodes: of a leaf its visible points, of another node its frame
+pub record AreRegions (t : Seen) (regions : List (List Edges)) : Type 0 where
+  pub count : length regions ≡ length t.nodes.entries
+  pub points : (n : NodeId) (p : Point) → IsNode t.nodes n → holds (region_of regions n) p ≡ is_spot_of t n (spot t p)
+
+-- the screen is the tree's, and bad points lie on it
+pub record IsShown (s : Shown) : Type 0 where
+  pub forest : IsForest s.tree.nodes
+  pub root : HasRoot s.tree
+  pub size : s.screen.size ≡ s.tree.size
+  pub kind : s.screen.kind ≡ s.tree.kind
+  pub bad : (p : Point) → holds s.bad p ≡ true → is_on s.tree p ≡ true
+
+-- what the parts of a surface keep
+pub record IsSurface (tree : Seen) (regions : List (List Edges)) (screen : Picture) (bad : List Edges) : Type 0 where
+  pub shown : IsShown (record { tree = tree; screen = screen; bad = bad })
+  pub owned : AreRegions tree regions

@@ -1,0 +1,195 @@
+ghost use Rattle.std.specs.Prelude.{◌≡◌, ◌==◌, true, false, length, None, IfOk, IfErr, IfSome, IsTrue, OnOk, OnErr};
+ghost use Rattle.tr_base.specs.declared.Point.{Point};
+ghost use Rattle.tr_region.specs.Points.{holds};
+ghost use Rattle.tr_screen.specs.Pictures.{pixel_of};
+ghost use Rattle.tr_forest.specs.Nodes.{IsNode, leaf_count, node};
+ghost use Rattle.tr_forest.specs.Edits.{IsCause, IsEdit, refusal};
+ghost use Rattle.tr_tree.specs.Trees.{edited_tree};
+ghost use Rattle.tr_spot.specs.Spots.{is_spot_of, spot};
+ghost use Rattle.tr_spot.specs.Leaves.{same_kind};
+ghost use Rattle.tr_surface.specs.Surfaces.{AreRegions, is_on};
+ghost use Rattle.tr_surface.specs.TreeSteps.{bad_after, child_of as spec_child, first_node, good_after, moved_child as spec_moved, source};
+ghost use Rattle.tr_surface.specs.Shares as spec;
+
+use crate::keepers::Keeper;
+use crate::steps::{Known, Step, way_of};
+use crate::surfaces::Surface;
+use std::mem;
+use tr_base::{Kind, NoMemory, NodeId, Point, whole};
+use tr_region::Region;
+use tr_repair::move_pixels;
+use tr_screen::Screen;
+use tr_spot::regions;
+use tr_tree::{Edit, EditRefused, Tree};
+
+impl Surface {
+    /// Changes the tree as the edit says, and answers the old one. A point of the screen stays good
+    /// where it shows what it showed, in its place or moved along with a child, or where a window keeps
+    /// it; it gets the pixel of the point that it comes from. All others are bad.
+    pub fn alter<K: Keeper>(&mut self, edit: &Edit, keeper: &K) -> Result<Tree, EditRefused>
+        requires edit { IsEdit self.old.tree.nodes edit.now }
+        requires leaves { K.leaves keeper.now ≡ leaf_count self.old.tree.nodes }
+        ensures was { IfOk result (λ tree. tree ≡ self.old.tree) }
+        ensures tree { OnOk result (self.new.tree ≡ edited_tree self.old.tree edit.now) }
+        ensures bad { OnOk result ((p : Point) → holds self.new.bad p ≡
+            bad_after (K.keeping keeper.now) self.old.tree self.new.tree edit.now (holds self.old.bad) p) }
+        ensures pixels { OnOk result ((p : Point) →
+            good_after (K.keeping keeper.now) self.old.tree self.new.tree edit.now (holds self.old.bad) p ≡ true →
+            pixel_of self.new.screen p ≡ pixel_of self.old.screen (source self.old.tree self.new.tree edit.now p)) }
+        ensures allowed { OnOk result (refusal self.old.tree.nodes edit.now ≡ None) }
+        ensures cause { IfErr result (λ e. IsCause (refusal self.old.tree.nodes edit.now) e) }
+        ensures err { OnErr result (self.new ≡ self.old) }
+    {
+        // Called for what it tells the prover: that the nodes are a forest.
+        let _ = self.tree.count();
+        if let Some(fault) = self.tree.refusal(edit) {
+            return Err(EditRefused::Fault(fault));
+        }
+        let mut is = self.tree.copy()?;
+        is.edit(edit)?;
+        if let Edit::Tint { node, .. } = edit {
+            // No node moves: the regions stay.
+            let bad = self.bad_tinted(&is, *node)?;
+            self.bad = bad;
+            return Ok(mem::replace(&mut self.tree, is));
+        }
+        let moved = moved_child(&self.tree, edit);
+        let after = regions(self.alloc, &is)?;
+        let known = self.known(&is, &after, moved, keeper)?;
+        let way = way_of_moved(&self.tree, &is, moved);
+        fit_screen(&mut self.screen, &is)?;
+        move_pixels(&mut self.screen, &known.follows, way);
+        self.regions = after;
+        self.bad = known.bad;
+        Ok(mem::replace(&mut self.tree, is))
+    }
+
+    /// The bad points once the frame of a node has the tint of another tree.
+    fn bad_tinted(&self, is: &Tree, n: NodeId) -> Result<Region, NoMemory>
+        requires was { IsNode self.now.tree.nodes n }
+        requires is { IsNode is.now.nodes n }
+        ensures { let t = self.now.tree in
+            let same = (node t.nodes n).tint == (node is.now.nodes n).tint in
+            IfOk result (λ r. (p : Point) → holds r p ≡ spec.tint_bad same (holds self.now.bad p) (is_spot_of t n (spot t p))) }
+    {
+        if self.tree.tint_of(n) == is.tint_of(n) {
+            let bad = self.bad.copy()?;
+            return Ok(bad);
+        }
+        let bad = self.bad.union(self.region(n))?;
+        Ok(bad)
+    }
+
+    /// What is known once the tree is another one, with these regions.
+    fn known<K: Keeper>(
+        &self,
+        is: &Tree,
+        after: &[Region],
+        moved: Option<NodeId>,
+        keeper: &K,
+    ) -> Result<Known, NoMemory>
+        requires like { spec.IsLike self.now.tree is.now }
+        requires regions { AreRegions is.now after.now }
+        requires cover { (p : Point) → spec.in_first (length is.now.nodes.entries) after.now p ≡ is_on is.now p }
+        requires moved { IfSome moved (IsNode self.now.tree.nodes) }
+        requires leaves { K.leaves keeper.now ≡ leaf_count self.now.tree.nodes }
+        ensures bad { IfOk result (λ r. (p : Point) → holds r.bad p ≡
+            spec.bad_by (K.keeping keeper.now) self.now.tree is.now moved (holds self.now.bad) p) }
+        ensures follows { IfOk result (λ r. (p : Point) → holds r.follows p ≡
+            spec.follows_by (K.keeping keeper.now) self.now.tree is.now moved (holds self.now.bad) p) }
+    {
+        let (alloc, was) = (self.alloc, &self.tree);
+        if is_other(was.kind(), is.kind()) {
+            let bad = Region::of_rect(alloc, whole(is.size()))?;
+            let follows = Region::empty(alloc);
+            return Ok(Known { bad, follows });
+        }
+        let step = Step {
+            alloc,
+            was,
+            is,
+            before: &self.regions,
+            after,
+            bad: &self.bad,
+            moved,
+        };
+        step.known(keeper)
+    }
+}
+
+/// Whether the two kinds differ.
+fn is_other(was: Kind, is: Kind) -> bool
+    ensures other { IsTrue result → same_kind was is ≡ false }
+    ensures same { result ≡ false → is ≡ was }
+{
+    was != is
+}
+
+/// How far the moved child comes, if one is moved.
+fn way_of_moved(was: &Tree, is: &Tree, moved: Option<NodeId>) -> Point
+    requires was { IfSome moved (IsNode was.now.nodes) }
+    requires is { IfSome moved (IsNode is.now.nodes) }
+    ensures { result ≡ spec.way_of_moved was.now is.now moved }
+{
+    match moved {
+        None => Point { h: 0, v: 0 },
+        Some(child) => way_of(was, is, child),
+    }
+}
+
+/// The screen gets the tree's size and kind.
+fn fit_screen(screen: &mut Screen, tree: &Tree) -> Result<(), NoMemory>
+    ensures ok { OnOk result (spec.IsFitted tree.now screen.old screen.new) }
+    ensures err { OnErr result (screen.new ≡ screen.old) }
+{
+    // Called for what it tells the prover: that the size is a screen's.
+    let _ = tree.count();
+    let (size, kind) = (tree.size(), tree.kind());
+    if screen.size() == size && screen.kind() == kind {
+        return Ok(());
+    }
+    let resized = screen.resized(size, kind)?;
+    *screen = resized;
+    Ok(())
+}
+
+/// The child that an edit moves, if it has points.
+fn moved_child(was: &Tree, edit: &Edit) -> Option<NodeId>
+    requires { IsEdit was.now.nodes edit.now }
+    ensures child { result ≡ spec_moved was.now edit.now }
+    ensures node { IfSome result (IsNode was.now.nodes) }
+{
+    let child = child_of(was, edit)?;
+    if was.domain(child).is_empty() {
+        None
+    } else {
+        Some(child)
+    }
+}
+
+/// The child that an edit moves, wherever that lies.
+fn child_of(was: &Tree, edit: &Edit) -> Option<NodeId>
+    requires { IsEdit was.now.nodes edit.now }
+    ensures child { result ≡ spec_child was.now.nodes edit.now }
+    ensures node { IfSome result (IsNode was.now.nodes) }
+{
+    match edit {
+        Edit::Move { child, .. } => Some(*child),
+        Edit::Offset { node, .. } => first_child(was, *node),
+        _ => None,
+    }
+}
+
+/// The first child of a node.
+fn first_child(tree: &Tree, n: NodeId) -> Option<NodeId>
+    requires { IsNode tree.now.nodes n }
+    ensures value { result ≡ first_node (node tree.now.nodes n).children }
+    ensures node { IfSome result (IsNode tree.now.nodes) }
+{
+    // Called for what it tells the prover: that the nodes are a forest.
+    let _ = tree.count();
+    match tree.children(n) {
+        [child, ..] => Some(*child),
+        [] => None,
+    }
+}

@@ -1,0 +1,101 @@
+ghost use Rattle.std.specs.Prelude.{◌≡◌, ◌<◌, ◌&&◌, not, true, false, IsTrue, IfOk};
+ghost use Rattle.tr_base.specs.declared.Point.{Point};
+ghost use Rattle.tr_base.specs.Rects.{before_shift, has_point};
+ghost use Rattle.tr_region.specs.Points.{holds, count_in_square};
+ghost use Rattle.tr_forest.specs.Nodes.{leaf_count};
+ghost use Rattle.tr_spot.specs.Spots.{spot, is_in_leaf};
+ghost use Rattle.tr_repair.specs.Near.{IsStep};
+ghost use Rattle.tr_exec.specs.Executions.{IsOrigin};
+ghost use Rattle.tr_spot.specs.Leaves.{leaf_corner};
+ghost use Rattle.tr_surface.specs.Surfaces.{is_frame, back_from};
+
+use crate::executes::origin_of;
+use crate::surfaces::Surface;
+use tr_base::{LeafId, NoMemory, NodeId, Point, Rect};
+use tr_region::Region;
+use tr_repair::shifted;
+
+impl Surface {
+    /// How many points of the screen are bad.
+    pub fn bad_count(&self) -> u32
+        ensures { result ≡ count_in_square 1024 self.now.bad }
+    {
+        // Called for what they tell the prover: that the screen has a size, and that the list of a
+        // region is canonical.
+        let _ = self.tree.count();
+        let _ = self.bad.rects();
+        self.bad.count() as u32
+    }
+
+    /// Whether a visible point of the leaf is bad.
+    pub fn is_bad(&self, leaf: LeafId) -> Result<bool, NoMemory>
+        requires { leaf.0 < leaf_count self.now.tree.nodes }
+        ensures some { IfOk result (λ b. IsTrue b → (p : Point) ×
+            ((is_in_leaf leaf (spot self.now.tree p) ≡ true) × (holds self.now.bad p ≡ true))) }
+        ensures none { IfOk result (λ b. IsTrue (not b) → (p : Point) →
+            is_in_leaf leaf (spot self.now.tree p) ≡ true → holds self.now.bad p ≡ false) }
+    {
+        Ok(holds_some(&self.bad_of(leaf)?))
+    }
+
+    /// Whether a point of a frame is bad.
+    pub fn is_frame_bad(&self) -> Result<bool, NoMemory>
+        ensures some { IfOk result (λ b. IsTrue b → (p : Point) ×
+            ((is_frame (spot self.now.tree p) ≡ true) × (holds self.now.bad p ≡ true))) }
+        ensures none { IfOk result (λ b. IsTrue (not b) → (p : Point) →
+            is_frame (spot self.now.tree p) ≡ true → holds self.now.bad p ≡ false) }
+    {
+        let count = self.tree().count();
+        for n in 0..count {
+            if holds_some(&self.bad_frame(NodeId(n as u16))?) {
+                return Ok(true);
+            }
+        }
+        Ok(false)
+    }
+
+    /// A rectangle of a leaf's window, in its coordinates, that has each bad point of the leaf.
+    pub fn bad_extents(&self, leaf: LeafId) -> Result<Rect, NoMemory>
+        requires { leaf.0 < leaf_count self.now.tree.nodes }
+        ensures { let t = self.now.tree in
+            IfOk result (λ r. (p : Point) → is_in_leaf leaf (spot t p) ≡ true → holds self.now.bad p ≡ true →
+            has_point r (before_shift p (leaf_corner t leaf)) ≡ true) }
+    {
+        // Called for what they tell the prover: that bad points lie on the screen, and that it has a size.
+        let _ = self.tree().count();
+        let origin = origin_of(&self.tree, leaf);
+        let bad = shifted(&self.bad_of(leaf)?, opposite(origin))?;
+        Ok(bad.extents())
+    }
+
+    /// The bad points of a leaf.
+    fn bad_of(&self, leaf: LeafId) -> Result<Region, NoMemory>
+        requires { leaf.0 < leaf_count self.now.tree.nodes }
+        ensures { IfOk result (λ r. (p : Point) →
+            holds r p ≡ holds self.now.bad p && is_in_leaf leaf (spot self.now.tree p)) }
+    {
+        self.bad().meet(self.visible(leaf))
+    }
+}
+
+/// Whether a region holds a point.
+fn holds_some(region: &Region) -> bool
+    ensures some { IsTrue result → (p : Point) × (holds region.now p ≡ true) }
+    ensures none { IsTrue (not result) → (p : Point) → holds region.now p ≡ false }
+{
+    // Called for what it tells the prover: that the list is canonical.
+    let _ = region.rects();
+    !region.is_empty()
+}
+
+/// The way back from the screen's coordinates to a window's.
+fn opposite(origin: Point) -> Point
+    requires { IsOrigin origin }
+    ensures value { result ≡ back_from origin }
+    ensures near { IsStep result }
+{
+    Point {
+        h: -origin.h,
+        v: -origin.v,
+    }
+}

@@ -1,0 +1,82 @@
+ghost use Rattle.std.specs.Prelude.{◌≡◌, ◌<◌, ℕ, true, false, is_none, Some, OnOk, OnErr};
+ghost use Rattle.tr_base.specs.declared.Point.{Point};
+ghost use Rattle.tr_base.specs.Rects.{before_shift};
+ghost use Rattle.tr_region.specs.Points.{holds};
+ghost use Rattle.tr_screen.specs.Pictures.{pixel_of};
+ghost use Rattle.tr_paint.specs.Batches.{touches};
+ghost use Rattle.tr_paint.specs.Traces.{look_of};
+ghost use Rattle.tr_exec.specs.Executions.{IsOrigin, colour_after};
+ghost use Rattle.tr_forest.specs.Nodes.{leaf_count};
+ghost use Rattle.tr_spot.specs.Spots.{spot, is_in_leaf};
+ghost use Rattle.tr_spot.specs.Leaves.{leaf_corner};
+ghost use Rattle.tr_surface.specs.Surfaces.{is_on, leaf_base};
+
+use crate::surfaces::{Surface, visible};
+use tr_base::{Env, Font, LeafId, NoMemory, Point};
+use tr_exec::execute;
+use tr_paint::Batch;
+use tr_tree::Tree;
+
+impl Surface {
+    /// Executes a batch within the visible points of a leaf; the batch is in the leaf's coordinates.
+    /// What is known at first are the pixels of the visible points that aren't bad.
+    pub fn execute(&mut self, font: &Font, leaf: LeafId, batch: &Batch) -> Result<(), NoMemory>
+        requires { leaf.0 < leaf_count self.old.tree.nodes }
+
+        // Each visible point whose colour is known has it.
+        ensures known { let t = self.old.tree in
+            let look = look_of t.kind font.now in
+            OnOk result ((p : Point) (x : ℕ) → is_in_leaf leaf (spot t p) ≡ true →
+            colour_after look (leaf_base self.old leaf) batch.now (leaf_corner t leaf) p ≡ Some x →
+            pixel_of self.new.screen p ≡ x) }
+
+        // Of the visible points those are bad whose colour isn't known.
+        ensures unknown { let t = self.old.tree in
+            let look = look_of t.kind font.now in
+            OnOk result ((p : Point) → is_in_leaf leaf (spot t p) ≡ true → holds self.new.bad p ≡
+            is_none (colour_after look (leaf_base self.old leaf) batch.now (leaf_corner t leaf) p)) }
+
+        // A visible point that no command touches keeps its pixel, known or not.
+        ensures untouched { let t = self.old.tree in
+            OnOk result ((p : Point) → is_in_leaf leaf (spot t p) ≡ true →
+            touches batch.now (before_shift p (leaf_corner t leaf)) ≡ false →
+            pixel_of self.new.screen p ≡ pixel_of self.old.screen p) }
+
+        // Outside the visible points nothing changes.
+        ensures pixels { let t = self.old.tree in
+            OnOk result ((p : Point) → is_on t p ≡ true → is_in_leaf leaf (spot t p) ≡ false →
+            pixel_of self.new.screen p ≡ pixel_of self.old.screen p) }
+        ensures others { let t = self.old.tree in
+            OnOk result ((p : Point) → is_in_leaf leaf (spot t p) ≡ false →
+            holds self.new.bad p ≡ holds self.old.bad p) }
+        ensures tree { self.new.tree ≡ self.old.tree }
+        ensures err { OnErr result (self.new ≡ self.old) }
+    {
+        let kind = self.tree.kind();
+        let env = Env { kind, font };
+        let origin = origin_of(&self.tree, leaf);
+        let visible = visible(&self.tree, &self.regions, leaf);
+        execute(
+            self.alloc,
+            batch,
+            &env,
+            origin,
+            visible,
+            &mut self.screen,
+            &mut self.bad,
+        )?;
+        Ok(())
+    }
+}
+
+/// Where the north-west corner of a leaf's window lies on the screen.
+pub(crate) fn origin_of(tree: &Tree, leaf: LeafId) -> Point
+    requires { leaf.0 < leaf_count tree.now.nodes }
+    ensures value { result ≡ leaf_corner tree.now leaf }
+    ensures origin { IsOrigin result }
+{
+    let domain = tree.domain(tree.node_of(leaf));
+    // Called for what it tells the prover: that the edges are those of a rectangle.
+    let _ = domain.is_empty();
+    domain.corner()
+}

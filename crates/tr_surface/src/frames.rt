@@ -1,0 +1,114 @@
+ghost use Rattle.std.specs.Prelude.{◌≡◌, ◌&&◌, ◌<◌, not, true, false, length, IsTrue, IfOk, OnOk, OnErr};
+ghost use Rattle.tr_base.specs.declared.Point.{Point};
+ghost use Rattle.tr_region.specs.Points.{holds};
+ghost use Rattle.tr_screen.specs.Pictures.{pixel_of};
+ghost use Rattle.tr_screen.specs.Runs.{Repaints};
+ghost use Rattle.tr_forest.specs.Nodes.{IsNode};
+ghost use Rattle.tr_spot.specs.Spots.{spot, is_on_frame};
+ghost use Rattle.tr_surface.specs.Surfaces.{is_on, is_frame, frame_colour};
+ghost use Rattle.tr_surface.specs.Frames.{any_holds, AreOnFrames, AreBadFrames};
+
+use crate::fills::Fill;
+use crate::surfaces::Surface;
+use tr_base::{NoMemory, NodeId, Op, eff};
+use tr_exec::paint_within;
+use tr_region::Region;
+use tr_screen::Screen;
+use tr_tree::{NodeKind, Tree};
+
+impl Surface {
+    /// Gives each bad point of a frame its colour, and makes it good. All memory is taken before the
+    /// first pixel is written.
+    pub fn paint_frame(&mut self) -> Result<(), NoMemory>
+        // No point of a frame is bad any more.
+        ensures bad { OnOk result ((p : Point) →
+            holds self.new.bad p ≡ holds self.old.bad p && not (is_frame (spot self.old.tree p))) }
+        ensures painted { let t = self.old.tree in
+            OnOk result ((p : Point) → holds self.old.bad p ≡ true → is_frame (spot t p) ≡ true →
+            pixel_of self.new.screen p ≡ frame_colour (spot t p)) }
+
+        // All other points of the screen keep their pixels.
+        ensures others { let t = self.old.tree in
+            OnOk result ((p : Point) → is_on t p ≡ true →
+            holds self.old.bad p && is_frame (spot t p) ≡ false →
+            pixel_of self.new.screen p ≡ pixel_of self.old.screen p) }
+        ensures tree { self.new.tree ≡ self.old.tree }
+        ensures err { OnErr result (self.new ≡ self.old) }
+    {
+        let frames = self.bad_frames()?;
+        let rest = without(&self.bad, &frames)?;
+        paint_frames(&mut self.screen, &self.tree, &frames);
+        self.bad = rest;
+        Ok(())
+    }
+
+    /// Of each node the bad points of its frame, by the nodes' numbers.
+    fn bad_frames(&self) -> Result<Vec<Region>, NoMemory>
+        ensures { IfOk result (λ frames. AreBadFrames self.now frames.items) }
+    {
+        let count = self.tree.count();
+        let mut frames = Vec::with_capacity(self.alloc, count)?;
+        for n in 0..count {
+            frames.push(self.bad_frame(NodeId(n as u16))?)?;
+        }
+        Ok(frames)
+    }
+
+    /// The bad points of a node's frame. A leaf has none.
+    pub(crate) fn bad_frame(&self, n: NodeId) -> Result<Region, NoMemory>
+        requires { IsNode self.now.tree.nodes n }
+        ensures { IfOk result (λ r. (p : Point) →
+            holds r p ≡ holds self.now.bad p && is_on_frame n (spot self.now.tree p)) }
+    {
+        if let NodeKind::Leaf { .. } = self.tree().kind_of(n) {
+            return Ok(Region::empty(self.alloc));
+        }
+        self.bad().meet(self.region(n))
+    }
+}
+
+/// The points of a region that none of the others holds.
+fn without(region: &Region, others: &[Region]) -> Result<Region, NoMemory>
+    ensures { IfOk result (λ r. (p : Point) →
+        holds r p ≡ holds region.now p && not (any_holds others.now p)) }
+{
+    let mut rest = region.copy()?;
+    for other in others {
+        rest = less(rest, other)?;
+    }
+    Ok(rest)
+}
+
+/// The points of a region that another one doesn't hold. An empty one costs no more than the test.
+fn less(region: Region, other: &Region) -> Result<Region, NoMemory>
+    ensures { IfOk result (λ r. (p : Point) → holds r p ≡ holds region p && not (holds other.now p)) }
+{
+    if other.is_empty() {
+        return Ok(region);
+    }
+    region.minus(other)
+}
+
+/// Gives the points of each region, which are on the frame of its node, the frame's colour.
+fn paint_frames(screen: &mut Screen, tree: &Tree, frames: &[Region])
+    requires size { screen.old.size ≡ tree.now.size }
+    requires frames { AreOnFrames tree.now frames.now }
+    ensures { Repaints (any_holds frames.now) (λ p. frame_colour (spot tree.now p)) screen.old screen.new }
+{
+    let count = tree.count();
+    for n in 0..count {
+        paint_one(screen, tree, NodeId(n as u16), &frames[n]);
+    }
+}
+
+/// Gives the points of a region, which are on the frame of a node, the frame's colour.
+fn paint_one(screen: &mut Screen, tree: &Tree, n: NodeId, frame: &Region)
+    requires size { screen.old.size ≡ tree.now.size }
+    requires node { IsNode tree.now.nodes n }
+    requires points { (p : Point) → holds frame.now p ≡ true → is_on_frame n (spot tree.now p) ≡ true }
+    ensures { Repaints (holds frame.now) (λ p. frame_colour (spot tree.now p)) screen.old screen.new }
+{
+    let pixel = eff(tree.kind(), Op::Set(tree.tint_of(n)), 0);
+    let area = frame.extents();
+    paint_within(screen, frame, &Fill { area, pixel });
+}

@@ -1,0 +1,32 @@
+ghost use Rattle.std.specs.Prelude.{◌≡◌, ◌<◌, ℕ, true};
+ghost use Rattle.tr_base.specs.declared.Point.{Point};
+ghost use Rattle.tr_base.specs.Rects.{has_point, whole_of};
+ghost use Rattle.tr_client.specs.Laws.{IsWindowSize};
+ghost use Rattle.tr_surface.specs.TreeSteps.{Keeping};
+
+use tr_base::{LeafId, Rect, Size};
+use tr_paint::Batch;
+
+/// What an edit of the tree asks of the windows.
+pub trait Keeper {
+    /// What the windows keep when their sizes change, and the commands that wait for them.
+    ghost keeping: { Self → Keeping };
+
+    /// How many windows there are.
+    ghost leaves: { Self → ℕ };
+
+    /// The points that a window need not paint again when its size changes. They lie in the window
+    /// before and after.
+    fn keeps(&self, leaf: LeafId, from: Size, to: Size) -> Rect
+        requires leaf { leaf.0 < leaves self.now }
+        requires from { IsWindowSize from }
+        requires to { IsWindowSize to }
+        ensures value { result ≡ (keeping self.now).keeps leaf from to }
+        ensures first { (q : Point) → has_point result q ≡ true → has_point (whole_of from) q ≡ true }
+        ensures second { (q : Point) → has_point result q ≡ true → has_point (whole_of to) q ≡ true };
+
+    /// The commands that wait for a window.
+    fn batch(&self, leaf: LeafId) -> &Batch
+        requires leaf { leaf.0 < leaves self.now }
+        ensures value { result.now ≡ (keeping self.now).batch leaf };
+}

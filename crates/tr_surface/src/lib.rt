@@ -1,0 +1,21 @@
+//! The screen that a tree of windows is shown on: the tree, the pixels, which points each node owns,
+//! and which points are bad and need to be painted again.
+#![tactic(auto)]
+
+mod alters;
+mod bads;
+mod executes;
+mod fills;
+mod frames;
+mod keepers;
+mod shares;
+mod steps;
+mod surfaces;
+
+pub use keepers::Keeper;
+pub use surfaces::Surface;
+
+#[cfg(test)]
+mod alter_tests;
+#[cfg(test)]
+mod tests;
