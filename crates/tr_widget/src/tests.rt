@@ -100,8 +100,8 @@ fn has_its_words<C: Client>(
 ) -> Result<(), Fail> {
     let (code, answer) = want.answer;
     let key = Event::Key { time: 7, code };
-    content.obeys_answer(&key);
     let asked = content.react(alloc, &key)?;
+    content.obeys_answer(&key);
     assert_eq!(rt; words_of(alloc, asked.as_ref())?.as_slice(), answer);
     assert_eq!(rt; words_of(alloc, Some(cmd))?.as_slice(), want.words);
     assert!(rt; cmd.same(&cmd.copy(alloc)?));
