@@ -23,6 +23,4 @@ pub use steps::{Actor, Query, Step};
 pub use tr_inbox::Delivery;
 
 #[cfg(test)]
-mod opening_tests;
-#[cfg(test)]
 mod tests;

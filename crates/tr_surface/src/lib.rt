@@ -16,6 +16,4 @@ pub use keepers::Keeper;
 pub use surfaces::Surface;
 
 #[cfg(test)]
-mod alter_tests;
-#[cfg(test)]
 mod tests;
