@@ -1,0 +1,17 @@
+pub mod AlterLemmas
+pub mod BaseLemmas
+pub mod CountLemmas
+pub mod FlushLemmas
+pub mod FrameLemmas
+pub mod JournalLemmas
+pub mod KeptLemmas
+pub mod LagLemmas
+pub mod LeadLemmas
+pub mod ListLemmas
+pub mod PointLemmas
+pub mod RenderLemmas
+pub mod RepaintLemmas
+pub mod SettleLemmas
+pub mod ShownLemmas
+pub mod SoundLemmas
+pub mod StillLemmas

@@ -1,0 +1,46 @@
+-- The step that edits the tree of windows.
+use Rattle.std.specs.Prelude.{ℕ, suc, if◌then◌else◌, List, [], ◌∷◌, Option, Some, None}
+use Rattle.tr_base.specs.declared.Size.{Size}
+use Rattle.tr_base.specs.declared.LeafId.{LeafId}
+use Rattle.tr_base.specs.Rects.{Edges, empty_rect}
+use Rattle.tr_client.specs.declared.clients.Client.{Ghosts}
+use Rattle.tr_forest.specs.declared.Edit.{Edit}
+use Rattle.tr_tree.specs.Trees.{Seen, edited_tree}
+use Rattle.tr_surface.specs.TreeSteps.{Keeping, bad_after}
+use Rattle.tr_mail.specs.Deliveries.{edited, is_reshaped}
+use Rattle.tr_machine.specs.Windows.{Window, content, updated}
+use Rattle.tr_machine.specs.States.{State, batch_of, window_of}
+
+module _ {C M : Type 0} (client : Ghosts C M) where
+  -- what a window keeps of its points when its size changes
+  abbrev pub keeps_in : Option (Window C M) → Size → Size → Edges
+  keeps_in None from to = empty_rect
+  keeps_in (Some w) from to = client.keeps (content client w) from to
+
+  -- what the windows keep, and the commands that wait for them
+  abbrev pub keeping : State C M → Keeping
+  keeping m = record {
+    keeps = λ leaf from to. keeps_in (window_of m leaf) from to;
+    batch = λ leaf. batch_of client m leaf;
+  }
+
+  -- a window whose size or kind of pixels changes is to show its content from then on, and nothing waits for it
+  abbrev pub refitted : Seen → Seen → LeafId → Window C M → Window C M
+  refitted was is leaf w = if is_reshaped was is leaf then updated client w else w
+
+  -- the windows of the leaves from this number on
+  abbrev pub refitted_from : ℕ → Seen → Seen → List (Window C M) → List (Window C M)
+  refitted_from n was is [] = []
+  refitted_from n was is (w ∷ ws) = refitted was is (record { 0 = n }) w ∷ refitted_from (suc n) was is ws
+
+  -- an edit that isn't refused: the tree is the edited one, a point is good where it was good and shows what it showed, and the windows
+  -- are told
+  abbrev pub altered : Edit → State C M → State C M
+  altered edit m =
+      let is = edited_tree m.tree edit in
+      record m {
+        tree = is;
+        bad = bad_after (keeping m) m.tree is edit m.bad;
+        mail = (edited m.tree is m.mail).mail;
+        windows = refitted_from 0 m.tree is m.windows;
+      }

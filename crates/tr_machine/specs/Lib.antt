@@ -1,0 +1,9 @@
+pub mod Windows
+pub mod States
+pub mod Paintings
+pub mod Edits
+pub mod Machines
+pub mod Replays
+pub mod Pictures
+pub mod Settling
+pub mod Promises

@@ -1,0 +1,58 @@
+-- Journals as runs of the machine.
+use Rattle.std.specs.Prelude.{◌≡◌, ⊤, true, List, [], ◌∷◌, length}
+use Rattle.tr_client.specs.declared.clients.Client.{Ghosts}
+use Rattle.tr_forest.specs.Nodes.{Nodes}
+use Rattle.tr_levels.specs.declared.Level.{Level}
+use Rattle.tr_journal.specs.declared.items.Item.{Item}
+use Rattle.tr_journal.specs.declared.steps.Actor.{Actor}
+use Rattle.tr_journal.specs.declared.steps.Step.{Step}
+use Rattle.tr_journal.specs.Journals.{JournalLine}
+use Rattle.tr_journal.specs.Openings.{tree_of}
+use Rattle.tr_journal.specs.Steps.{IsStep, may, covers}
+use Rattle.tr_machine.specs.States.{State, start}
+use Rattle.tr_machine.specs.Machines as machine
+
+module _ {C M : Type 0} (client : Ghosts C M) where
+  -- the state after a step
+  abbrev pub next : State C M → Step M → State C M
+  next m step = (machine.step client m step).state
+
+  -- the line of a journal that a step makes: by whom, with which levels held, what it answers, and what it sends
+  abbrev pub line_of : State C M → Actor → List Level → Step M → JournalLine M
+  line_of m actor level step =
+      let out = machine.step client m step in
+      record {
+        entry = record {
+          actor = actor;
+          level = level;
+          step = step;
+          reply = record { answer = out.answer; sent = length out.sent };
+        };
+        sent = out.sent;
+      }
+
+  -- the state after the steps of some lines
+  abbrev pub replay_from : State C M → List (JournalLine M) → State C M
+  replay_from m [] = m
+  replay_from m (line ∷ lines) = replay_from (next m line.entry.step) lines
+
+  -- the state after a journal, by its opening
+  abbrev pub replay : List (Item C) → List (JournalLine M) → State C M
+  replay items lines = replay_from (start items) lines
+
+  -- a line that the machine makes: its step is for its actor to make, the step's levels are among those that were held, its numbers are
+  -- those of nodes and leaves and within their ranges, and its answer and what it sent are the machine's
+  pub record IsLegalLine (t : Nodes) (m : State C M) (line : JournalLine M) : Type 0 where
+    pub may : may line.entry.actor line.entry.step ≡ true
+    pub covers : covers line.entry.level line.entry.step ≡ true
+    pub values : IsStep t line.entry.step
+    pub made : line ≡ line_of m line.entry.actor line.entry.level line.entry.step
+
+  -- each line is one that the machine makes, from a state on
+  abbrev pub IsLegalFrom : Nodes → State C M → List (JournalLine M) → Type 0
+  IsLegalFrom t m [] = ⊤
+  IsLegalFrom t m (line ∷ lines) = IsLegalLine t m line × IsLegalFrom t (next m line.entry.step) lines
+
+  -- a journal of the machine, from an opening on
+  abbrev pub IsLegal : List (Item C) → List (JournalLine M) → Type 0
+  IsLegal items lines = IsLegalFrom (tree_of items).nodes (start items) lines
