@@ -1,0 +1,5 @@
+pub mod ChangeLemmas
+pub mod AreaLemmas
+pub mod HeldLemmas
+pub mod ShapeLemmas
+pub mod PresentLemmas

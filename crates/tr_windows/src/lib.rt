@@ -1,0 +1,13 @@
+//! What the program holds of the windows: the present content of each, and the paint commands that wait
+//! for it.
+#![tactic(auto)]
+
+mod areas;
+mod keepers;
+mod present;
+mod windows;
+
+pub use windows::Windows;
+
+#[cfg(test)]
+mod tests;

@@ -1,0 +1,108 @@
+ghost use Rattle.std.specs.Prelude.{◌≡◌, IfOk, OnOk, OnErr};
+ghost use Rattle.tr_paint.specs.Traces.{look_of};
+ghost use Rattle.tr_client.specs.Laws.{IsWindowSize};
+ghost use Rattle.tr_windows.specs.Presents as spec;
+ghost use Rattle.tr_windows.specs.Promises.{Repaints};
+
+use crate::areas::{part_in_window, spanned};
+use std::alloc::Global;
+use std::marker::Model;
+use tr_base::{Env, NoMemory, Rect, Size};
+use tr_client::Client;
+use tr_paint::{Batch, Paint};
+
+/// A window: its present content, and the paint commands that wait for it.
+#[derive(Drop)]
+pub(crate) struct Window<C: Client> {
+    pub content: C,
+    pub batch: Batch,
+}
+
+impl<C: Client> Model for Window<C> {
+    ghost use Rattle.tr_windows.specs.Presents.{Present};
+
+    ghost Value = { Present C };
+
+    ghost view = { λ w. record { content = w.content; batch = w.batch } };
+}
+
+impl<C: Client> Window<C> {
+    /// Nothing waits for it.
+    pub fn new(alloc: Global, content: C) -> Window<C>
+        ensures { result ≡ spec.idle content }
+    {
+        Window {
+            content,
+            batch: Batch::new(alloc),
+        }
+    }
+
+    pub fn content(&self) -> &C
+        ensures { result.now ≡ self.now.content }
+    {
+        &self.content
+    }
+
+    pub fn batch(&self) -> &Batch
+        ensures { result.now ≡ self.now.batch }
+    {
+        &self.batch
+    }
+
+    /// A command changes the content, and what that paints waits.
+    pub fn act(
+        &mut self,
+        alloc: Global,
+        env: &Env,
+        size: Size,
+        cmd: &C::Cmd,
+    ) -> Result<(), NoMemory>
+        requires { IsWindowSize size }
+        ensures ok { let look = look_of env.now.kind env.now.font.now in
+            OnOk result (self.new ≡ spec.act_on C.Client look size cmd.now self.old) }
+        ensures err { OnErr result (self.new ≡ self.old) }
+    {
+        let (next, patch) = self.content.change(alloc, env, size, cmd)?;
+        self.batch.extend(patch)?;
+        self.content = next;
+        Ok(())
+    }
+
+    /// A part of the window is to be painted again.
+    pub fn mark(&mut self, size: Size, clip: &Rect) -> Result<(), NoMemory>
+        requires { IsWindowSize size }
+        ensures ok { OnOk result (self.new ≡ spec.mark_on size clip.now self.old) }
+        ensures err { OnErr result (self.new ≡ self.old) }
+    {
+        let clip = part_in_window(clip, size);
+        self.batch.push(Paint::Spoil { clip })?;
+        Ok(())
+    }
+
+    /// What waits is let go.
+    pub fn clear(&mut self)
+        ensures { self.new ≡ spec.cleared self.old }
+    {
+        self.batch.clear();
+    }
+
+    /// The commands that wait, and behind them some that paint all points that are bad or that those
+    /// touch. It takes a copy of what waits.
+    pub fn repainting(
+        &self,
+        alloc: Global,
+        env: &Env,
+        size: Size,
+        bad: Rect,
+    ) -> Result<Batch, NoMemory>
+        requires { IsWindowSize size }
+        ensures { let look = look_of env.now.kind env.now.font.now in
+            IfOk result (λ batch. Repaints C.Client look size bad self.now batch) }
+    {
+        let clip = spanned(bad, &self.batch);
+        let mut batch = self.batch.copy()?;
+        let painting = self.content.paint(alloc, env, size, clip)?;
+        batch.extend(painting)?;
+        Ok(batch)
+    }
+}

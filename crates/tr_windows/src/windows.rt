@@ -1,0 +1,239 @@
+ghost use Rattle.std.specs.Prelude.{◌≡◌, ◌<◌, length, map, slice_get, Some, IfOk, OnOk, OnErr};
+ghost use Rattle.tr_base.specs.declared.LeafId.{LeafId};
+ghost use Rattle.tr_paint.specs.Traces.{Look, look_of};
+ghost use Rattle.tr_paint.specs.Patches.{IsPatch};
+ghost use Rattle.tr_client.specs.Laws.{IsWindowSize};
+ghost use Rattle.tr_forest.specs.Nodes.{leaf_count};
+ghost use Rattle.tr_journal.specs.Openings.{contents_of};
+ghost use Rattle.tr_machine.specs.States.{changed_at};
+ghost use Rattle.tr_windows.specs.Presents as spec;
+ghost use Rattle.tr_windows.specs.Promises.{AreWindows, Keeps, Repaints, waiting_in};
+
+use crate::present::Window;
+use std::alloc::Global;
+use std::marker::Model;
+use tr_base::{Command, Env, LeafId, NoMemory, Rect, Size};
+use tr_client::Client;
+use tr_journal::Opening;
+use tr_mail::is_reshaped;
+use tr_paint::Batch;
+use tr_tree::Tree;
+
+/// The windows of all leaves, by their numbers: the present content of each, and the paint commands
+/// that wait for it.
+#[derive(Drop)]
+pub struct Windows<C: Client> {
+    pub(crate) windows: Vec<Window<C>>,
+}
+
+impl<C: Client> Model for Windows<C> {
+    ghost use Rattle.std.specs.Prelude.{List};
+    ghost use Rattle.tr_windows.specs.Presents.{Present};
+    ghost use Rattle.tr_windows.specs.Promises.{AreWindows};
+
+    ghost Value = { List (Present C) };
+
+    ghost view = { λ w. w.windows.items };
+
+    ghost invariant = { λ w. AreWindows C.Client w.windows.items };
+}
+
+impl<C: Client> Windows<C> {
+    /// The windows of an opening, with copies of its contents. Nothing waits for them.
+    pub fn new(alloc: Global, opening: &Opening<C>) -> Result<Windows<C>, NoMemory>
+        ensures { IfOk result (λ ws. ws ≡ map spec.idle (contents_of opening.now)) }
+    {
+        let windows = idle_windows(alloc, opening)?;
+        Ok(Windows { windows })
+    }
+
+    /// How many windows there are: at most 32.
+    pub fn count(&self) -> u8
+        ensures count { result ≡ length self.now }
+        ensures invariant { AreWindows C.Client self.now }
+    {
+        self.windows.len() as u8
+    }
+
+    /// The present content of a leaf's window.
+    pub fn content(&self, leaf: LeafId) -> &C
+        requires { leaf.0 < length self.now }
+        ensures content { spec.content_at self.now leaf ≡ Some result.now }
+        ensures valid { C.valid result.now }
+    {
+        self.windows[usize::from(leaf.0)].content()
+    }
+
+    /// The paint commands that wait for a leaf's window.
+    pub fn batch(&self, leaf: LeafId) -> &Batch
+        requires { leaf.0 < length self.now }
+        ensures { result.now ≡ spec.batch_at self.now leaf }
+    {
+        self.windows[usize::from(leaf.0)].batch()
+    }
+
+    /// A command changes the content of a leaf's window, which has this size, and what that paints
+    /// waits. It takes the command's patch and the next content, and a copy of neither the old content
+    /// nor what waits already.
+    pub fn act(&mut self, leaf: LeafId, env: &Env, size: Size, cmd: &C::Cmd) -> Result<(), NoMemory>
+        requires leaf { leaf.0 < length self.old }
+        requires size { IsWindowSize size }
+        ensures ok { let look = look_of env.now.kind env.now.font.now in
+            OnOk result (self.new ≡ changed_at leaf.0 (spec.act_on C.Client look size cmd.now) self.old) }
+        ensures err { OnErr result (self.new ≡ self.old) }
+
+        // What the command paints leads from the old picture to the new one.
+        ensures patch { (look : Look) (w : spec.Present C) → slice_get self.old leaf.0 ≡ Some w →
+            IsPatch look size (C.patch look size w.content cmd.now)
+            (C.pic look size w.content) (C.pic look size (C.next w.content cmd.now)) }
+    {
+        cmd.known();
+        act_at(&mut self.windows, leaf, env, size, cmd)?;
+        Ok(())
+    }
+
+    /// A part of a leaf's window, which has this size, is to be painted again.
+    pub fn mark(&mut self, leaf: LeafId, size: Size, clip: &Rect) -> Result<(), NoMemory>
+        requires leaf { leaf.0 < length self.old }
+        requires size { IsWindowSize size }
+        ensures ok { OnOk result (self.new ≡ changed_at leaf.0 (spec.mark_on size clip.now) self.old) }
+        ensures err { OnErr result (self.new ≡ self.old) }
+    {
+        mark_at(&mut self.windows, leaf, size, clip)?;
+        Ok(())
+    }
+
+    /// What waits for a leaf's window is let go.
+    pub fn clear(&mut self, leaf: LeafId)
+        requires { leaf.0 < length self.old }
+        ensures { self.new ≡ changed_at leaf.0 spec.cleared self.old }
+    {
+        clear_at(&mut self.windows, leaf);
+    }
+
+    /// The tree was edited: what waits for windows whose size or kind of pixels changed is let go.
+    pub fn refit(&mut self, was: &Tree, is: &Tree)
+        requires before { leaf_count was.now.nodes ≡ length self.old }
+        requires leaves { leaf_count is.now.nodes ≡ length self.old }
+        ensures { self.new ≡ spec.cleared_from 0 was.now is.now self.old }
+    {
+        for n in 0..self.count() {
+            self.refit_leaf(was, is, LeafId(n));
+        }
+    }
+
+    /// What waits for a leaf's window is let go if its size or kind of pixels changed.
+    fn refit_leaf(&mut self, was: &Tree, is: &Tree, leaf: LeafId)
+        requires leaf { leaf.0 < length self.old }
+        requires before { leaf_count was.now.nodes ≡ length self.old }
+        requires leaves { leaf_count is.now.nodes ≡ length self.old }
+        ensures { self.new ≡ changed_at leaf.0 (spec.refitted was.now is.now leaf) self.old }
+    {
+        if is_reshaped(was, is, leaf) {
+            self.clear(leaf);
+        }
+    }
+
+    /// A batch that repaints a leaf's window, which has this size: the commands that wait, and behind
+    /// them some that paint all points that are bad or that those touch. Nothing is let go.
+    pub fn repainting(
+        &self,
+        leaf: LeafId,
+        env: &Env,
+        size: Size,
+        bad: Rect,
+    ) -> Result<Batch, NoMemory>
+        requires leaf { leaf.0 < length self.now }
+        requires size { IsWindowSize size }
+        ensures { let look = look_of env.now.kind env.now.font.now in IfOk result (λ batch.
+            (w : spec.Present C) → slice_get self.now leaf.0 ≡ Some w →
+            Repaints C.Client look size bad w batch) }
+    {
+        let alloc = *self.windows.allocator();
+        self.windows[usize::from(leaf.0)].repainting(alloc, env, size, bad)
+    }
+
+    /// How many paint commands wait for all windows; the count stops at 2^64 - 1.
+    pub fn waiting(&self) -> u64
+        ensures { result ≡ waiting_in self.now }
+    {
+        let mut waiting: u64 = 0;
+        for window in &self.windows {
+            waiting = waiting.saturating_add(window.batch().len() as u64);
+        }
+        waiting
+    }
+
+    /// Law of keeping, for each window and each look: what is kept when its size changes lies in both
+    /// windows, and has the same colours in both. Nothing runs.
+    pub fn obeys_keeping(&self)
+        ensures { (look : Look) (leaf : LeafId) (w : spec.Present C) →
+            slice_get self.now leaf.0 ≡ Some w → Keeps C.Client look w }
+    {
+        let _windows = &self.windows;
+    }
+}
+
+/// The windows of an opening, with copies of its contents.
+fn idle_windows<C: Client>(alloc: Global, opening: &Opening<C>) -> Result<Vec<Window<C>>, NoMemory>
+    ensures idle { IfOk result (λ ws. ws.items ≡ map spec.idle (contents_of opening.now)) }
+    ensures invariant { IfOk result (λ ws. AreWindows C.Client ws.items) }
+{
+    let tree = opening.tree();
+    // Called for what it tells the prover: that there are at most 32 leaves.
+    let _ = tree.count();
+    let mut windows = Vec::with_capacity(alloc, usize::from(tree.leaves()))?;
+    for n in 0..tree.leaves() {
+        let content = opening.content(LeafId(n)).copy(alloc)?;
+        windows.push(Window::new(alloc, content))?;
+    }
+    Ok(windows)
+}
+
+/// A command changes the window at a place.
+fn act_at<C: Client>(
+    windows: &mut Vec<Window<C>>,
+    leaf: LeafId,
+    env: &Env,
+    size: Size,
+    cmd: &C::Cmd,
+) -> Result<(), NoMemory>
+    requires leaf { leaf.0 < length windows.old.items }
+    requires size { IsWindowSize size }
+    ensures ok { let look = look_of env.now.kind env.now.font.now in
+        OnOk result (windows.new.items ≡
+        changed_at leaf.0 (spec.act_on C.Client look size cmd.now) windows.old.items) }
+    ensures err { OnErr result (windows.new.items ≡ windows.old.items) }
+{
+    let alloc = *windows.allocator();
+    let window = &mut windows[usize::from(leaf.0)];
+    window.act(alloc, env, size, cmd)?;
+    Ok(())
+}
+
+/// A part of the window at a place is to be painted again.
+fn mark_at<C: Client>(
+    windows: &mut Vec<Window<C>>,
+    leaf: LeafId,
+    size: Size,
+    clip: &Rect,
+) -> Result<(), NoMemory>
+    requires leaf { leaf.0 < length windows.old.items }
+    requires size { IsWindowSize size }
+    ensures ok { OnOk result (windows.new.items ≡
+        changed_at leaf.0 (spec.mark_on size clip.now) windows.old.items) }
+    ensures err { OnErr result (windows.new.items ≡ windows.old.items) }
+{
+    let window = &mut windows[usize::from(leaf.0)];
+    window.mark(size, clip)?;
+    Ok(())
+}
+
+/// What waits for the window at a place is let go.
+fn clear_at<C: Client>(windows: &mut Vec<Window<C>>, leaf: LeafId)
+    requires { leaf.0 < length windows.old.items }
+    ensures { windows.new.items ≡ changed_at leaf.0 spec.cleared windows.old.items }
+{
+    let window = &mut windows[usize::from(leaf.0)];
+    window.clear();
+}
