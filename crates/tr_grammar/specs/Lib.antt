@@ -1,0 +1,9 @@
+pub mod Codes
+pub mod Texts
+pub mod Words
+pub mod Names
+pub mod Forms
+pub mod Meanings
+pub mod States
+pub mod Faults
+pub mod Scripts

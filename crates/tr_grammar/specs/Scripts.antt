@@ -1,0 +1,141 @@
+-- Scripts: the first fault of a text, and what a text without a fault says.
+use Rattle.std.specs.Prelude.{◌≡◌, ℕ, ◌+◌, nat_lt, ⊤, true, List, All, [], ◌∷◌, ◌++◌, length, Option, Some, None, is_some, if◌then◌else◌}
+use Rattle.tr_forest.specs.Nodes.{Nodes, leaf_count}
+use Rattle.tr_journal.specs.declared.Actor.{Actor}
+use Rattle.tr_journal.specs.declared.Step.{Step}
+use Rattle.tr_journal.specs.declared.Item.{Item}
+use Rattle.tr_journal.specs.declared.Item.TheVariants as items
+use Rattle.tr_journal.specs.Openings.{tree_of}
+use Rattle.tr_journal.specs.Steps.{may, IsStep, IsQuery}
+use Rattle.tr_widget.specs.declared.Widget.{Widget}
+use Rattle.tr_widget.specs.declared.WidgetCmd.{WidgetCmd}
+use Rattle.tr_grammar.specs.declared.codes.Code.{Code}
+use Rattle.tr_grammar.specs.declared.codes.Code.TheVariants.{B7, B8}
+use Rattle.tr_grammar.specs.declared.codes.ReadRefused.{ReadRefused}
+use Rattle.tr_grammar.specs.declared.codes.ReadRefused.TheVariants as refused
+use Rattle.tr_grammar.specs.Codes.{number_of_code}
+use Rattle.tr_grammar.specs.declared.places.Place.TheVariants as places
+use Rattle.tr_grammar.specs.declared.meanings.Meaning.{Meaning}
+use Rattle.tr_grammar.specs.declared.meanings.Meaning.TheVariants as meanings
+use Rattle.tr_grammar.specs.Texts.{is_silent, lines_of}
+use Rattle.tr_grammar.specs.Words.{words_of, word_at}
+use Rattle.tr_grammar.specs.Names.{Named}
+use Rattle.tr_grammar.specs.Forms.{Form, form_of}
+use Rattle.tr_grammar.specs.Meanings.{meaning_of}
+use Rattle.tr_grammar.specs.States.{Stretch, SoFar, empty_part, nothing_yet}
+use Rattle.tr_grammar.specs.Faults.{has_ended, fault_of}
+
+-- ---- what a line adds
+
+-- the names with that of a node, which w is
+abbrev pub with_name : List ℕ → Item Widget → Named → Named
+with_name w (items.Node kind tint) names = record names { nodes = names.nodes ++ w ∷ [] }
+with_name w (items.Leaf shapes content) names =
+    record { nodes = names.nodes ++ w ∷ []; leaves = names.leaves ++ w ∷ [] }
+with_name w item names = names
+
+-- the glyphs with that of an item
+abbrev pub with_glyph : Item Widget → List ℕ → List ℕ
+with_glyph (items.Glyph byte rows) glyphs = glyphs ++ byte ∷ []
+with_glyph item glyphs = glyphs
+
+-- the script behind a line that says this, and whose second word is w
+abbrev pub after : SoFar → List ℕ → Meaning → SoFar
+after c w (meanings.Version n) = record c { version = n; place = places.Head }
+after c w (meanings.Item item) = record c {
+  place = places.Opening;
+  names = with_name w item c.names;
+  items = c.items ++ item ∷ [];
+  glyphs = with_glyph item c.glyphs;
+}
+after c w meanings.Begin = record c { place = places.Gap }
+after c w (meanings.Step actor step) = record c {
+  place = places.Steps;
+  part = record c.part { steps = c.part.steps ++ (actor, step) ∷ [] };
+}
+after c w meanings.Sync = record c { place = places.Gap; ended = c.ended ++ c.part ∷ []; part = empty_part }
+after c w (meanings.Report query) = record c {
+  place = places.Gap;
+  part = record c.part { reports = c.part.reports ++ query ∷ [] };
+}
+after c w meanings.End = record c { place = places.Ended }
+
+-- the script behind a line of this form and these words
+abbrev pub after_as : SoFar → Option Form → List (List ℕ) → SoFar
+after_as c None ws = c
+after_as c (Some f) ws = after c (word_at ws 1) (meaning_of c.names ws f)
+
+-- the script behind a line
+unfoldable pub next : SoFar → List ℕ → SoFar
+next c bytes = if is_silent bytes then c else after_as c (form_of c.version (words_of bytes)) (words_of bytes)
+
+-- ---- the whole text
+
+-- why a text isn't read: a line, counted from 1, and its first fault; line 0 stands for the whole text
+pub record Refusal : Type 0 where
+  pub line : ℕ
+  pub code : ℕ
+
+-- the refusal of line n for this code
+abbrev pub refused_at : ℕ → Code → Refusal
+refused_at n code = record { line = n; code = number_of_code code }
+
+-- the fault of line n, if it has one, and else what comes later
+abbrev pub or_later : Option Code → ℕ → Option Refusal → Option Refusal
+or_later None n later = later
+or_later (Some code) n later = Some (refused_at n code)
+
+-- the first line that has a fault, and its first fault, where line n is the first of these; a missing end counts as a line behind them
+abbrev pub first_fault : SoFar → ℕ → List (List ℕ) → Option Refusal
+first_fault c n [] = if has_ended c.place then None else Some (refused_at n B8)
+first_fault c n (t ∷ ts) = or_later (fault_of c n t) n (first_fault (next c t) (n + 1) ts)
+
+-- the script behind these lines
+abbrev pub after_all : SoFar → List (List ℕ) → SoFar
+after_all c [] = c
+after_all c (t ∷ ts) = after_all (next c t) ts
+
+-- no text is longer: 4 MiB
+abbrev pub most_bytes : ℕ
+most_bytes = 4194304
+
+-- why a text isn't a script, where it isn't
+unfoldable pub refusal_of : List ℕ → Option Refusal
+refusal_of bytes =
+    if nat_lt most_bytes (length bytes) then Some (refused_at 0 B7) else first_fault nothing_yet 1 (lines_of bytes)
+
+-- what a contract sees of a script: what its opening has, the names, and its parts
+pub record Script : Type 0 where
+  pub opening : List (Item Widget)
+  pub names : Named
+  pub parts : List Stretch
+
+-- the script so far as a whole one: its last part ends
+abbrev pub whole : SoFar → Script
+whole c = record { opening = c.items; names = c.names; parts = c.ended ++ c.part ∷ [] }
+
+-- what a text says that is a script
+unfoldable pub script_of : List ℕ → Script
+script_of bytes = whole (after_all nothing_yet (lines_of bytes))
+
+-- a step can be played: whoever makes it may, and its numbers are those of nodes and leaves
+pub record IsPlayable (t : Nodes) (made : Actor × Step WidgetCmd) : Type 0 where
+  pub may : may made.0 made.1 ≡ true
+  pub values : IsStep t made.1
+
+-- all of a part can be reported and played
+pub record IsPlayablePart (t : Nodes) (part : Stretch) : Type 0 where
+  pub reports : All (IsQuery t) part.reports
+  pub steps : All (IsPlayable t) part.steps
+
+-- a script can be played: there is a root, each node and each leaf has a name, and all parts can be played
+pub record IsPlayableScript (s : Script) : Type 0 where
+  pub root : is_some (tree_of s.opening).nodes.root ≡ true
+  pub nodes : length s.names.nodes ≡ length (tree_of s.opening).nodes.entries
+  pub leaves : length s.names.leaves ≡ leaf_count (tree_of s.opening).nodes
+  pub parts : All (IsPlayablePart (tree_of s.opening).nodes) s.parts
+
+-- why a text is refused, where memory isn't wanting
+abbrev pub IsCause : Option Refusal → ReadRefused → Type 0
+IsCause refusal refused.NoMemory = ⊤
+IsCause refusal (refused.Refused line code) = refusal ≡ Some (record { line = line; code = code })

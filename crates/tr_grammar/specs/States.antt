@@ -1,0 +1,43 @@
+-- What the lines so far say: the script as far as it goes.
+use Rattle.std.specs.Prelude.{ℕ, List, []}
+use Rattle.tr_journal.specs.declared.Item.{Item}
+use Rattle.tr_journal.specs.declared.Actor.{Actor}
+use Rattle.tr_journal.specs.declared.Step.{Step}
+use Rattle.tr_journal.specs.declared.Query.{Query}
+use Rattle.tr_widget.specs.declared.Widget.{Widget}
+use Rattle.tr_widget.specs.declared.WidgetCmd.{WidgetCmd}
+use Rattle.tr_grammar.specs.declared.places.Place.{Place}
+use Rattle.tr_grammar.specs.declared.places.Place.TheVariants.{Start}
+use Rattle.tr_grammar.specs.Names.{Named, no_names}
+
+-- what a contract sees of a part of a script: its reports, and then its steps, each with who makes it
+pub record Stretch : Type 0 where
+  pub reports : List Query
+  pub steps : List (Actor × Step WidgetCmd)
+
+-- the script so far: its version, which is 0 before it is known; where its next line stands; the names; what
+-- the opening has; which glyphs were set; the parts that a sync has ended, and the one that goes on
+pub record SoFar : Type 0 where
+  pub version : ℕ
+  pub place : Place
+  pub names : Named
+  pub items : List (Item Widget)
+  pub glyphs : List ℕ
+  pub ended : List Stretch
+  pub part : Stretch
+
+-- a part without a line
+abbrev pub empty_part : Stretch
+empty_part = record { reports = []; steps = [] }
+
+-- before the first line
+abbrev pub nothing_yet : SoFar
+nothing_yet = record {
+  version = 0;
+  place = Start;
+  names = no_names;
+  items = [];
+  glyphs = [];
+  ended = [];
+  part = empty_part;
+}
