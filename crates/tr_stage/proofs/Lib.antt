@@ -1,0 +1,12 @@
+pub mod StageLemmas
+pub mod PartLemmas
+pub mod StartLemmas
+pub mod ActLemmas
+pub mod MailLemmas
+pub mod DeviceLemmas
+pub mod PaintLemmas
+pub mod SizeLemmas
+pub mod AlterLemmas
+pub mod SettleLemmas
+pub mod CountLemmas
+pub mod StaleLemmas

@@ -1,0 +1,70 @@
+use Rattle.std.proofs.Common.{ap, refl}
+use Rattle.tr_journal.specs.declared.steps.Step.TheVariants.{Repaint}
+use Rattle.tr_stage.specs.Stages.{Parts}
+use Rattle.tr_stage.proofs.DeviceLemmas.{Before, IsMaking}
+use Rattle.tr_stage.proofs.PaintLemmas.{leaf_within, repaint_made}
+use Rattle.tr_stage.proofs.stages.Stage.repaint.Goals as goal
+
+pub repainting-requires-clause-leaf : goal.repainting-requires-clause-leaf
+repainting-requires-clause-leaf g c κs within =
+    let s = c.self.inside in
+    let b : Before g.row.C.Denot g.row.C-Cmd.Denot = record {
+      opening = s.opening;
+      lines = s.journal.lines;
+      parts = record { surface = s.surface; windows = s.windows; mail = s.mail };
+      actor = c.args.by.now.actor;
+      held = c.args.by.now.level;
+    } in
+    leaf_within g.C.Client c.args.self.now b c.args.leaf (ap (λ v. v.opening) c.self.view_is) c.self.invariant c.requires.values
+
+pub clear-requires-after_bounds : goal.clear-requires-after_bounds
+clear-requires-after_bounds g c κs within =
+    let s = c.self.inside in
+    let b : Before g.row.C.Denot g.row.C-Cmd.Denot = record {
+      opening = s.opening;
+      lines = s.journal.lines;
+      parts = record { surface = s.surface; windows = s.windows; mail = s.mail };
+      actor = c.args.by.now.actor;
+      held = c.args.by.now.level;
+    } in
+    leaf_within g.C.Client c.args.self.now b c.args.leaf (ap (λ v. v.opening) c.self.view_is) c.self.invariant c.requires.values
+
+pub invariant_of-self-2 : goal.invariant_of-self-2
+invariant_of-self-2 g c =
+    let s = c.self.inside in
+    let b : Before g.row.C.Denot g.row.C-Cmd.Denot = record {
+      opening = s.opening;
+      lines = s.journal.lines;
+      parts = record { surface = s.surface; windows = s.windows; mail = s.mail };
+      actor = c.args.by.now.actor;
+      held = c.args.by.now.level;
+    } in
+    let m : IsMaking g.C.Client b (Repaint c.args.leaf) = record {
+      is = c.self.invariant;
+      shown = c.tree-tree.ensures.invariant;
+      view = c.args.self.now;
+      same = ap (λ v. v.opening) c.self.view_is;
+      may = c.requires.may;
+      covers = c.requires.covers;
+      values = c.requires.values;
+    } in
+    let new : Parts g.row.C.Denot = record { surface = c.execute.new.self; windows = c.clear.new.self; mail = s.mail } in
+    let done = c.in_ok-execute.ensures in
+    rw (c.write.ensures.lines, c.entry-entry.ensures, c.reserve.ensures.lines)
+    (repaint_made g.C.Client b c.args.leaf new m (record {
+      shown = c.tree.ensures.invariant;
+      tree = c.execute.ensures.tree;
+      font = c.font.result.now;
+      font_is = c.font.ensures;
+      batch = c.in_ok-batch.batch;
+      executed = record { known = done.known; unknown = done.unknown; untouched = done.untouched; pixels = done.pixels; others = done.others };
+      windows = c.clear.ensures;
+      mail = refl;
+    })
+    (record {
+      tree = c.tree-tree.result.now;
+      same = c.tree-tree.ensures.value;
+      bad = c.in_ok-bad.bad;
+      has_bad = c.in_ok-bad.ensures;
+      repaints = rw (c.kind.ensures, c.leaf_size-size.ensures.value) at c.in_ok-batch.ensures;
+    }))

@@ -1,0 +1,98 @@
+-- What a contract sees of a stage, and what its parts keep.
+use Rattle.std.specs.Prelude.{◌≡◌, ℕ, Bool, true, false, not, ◌&&◌, ◌==◌, List, [], ◌∷◌, length}
+use Rattle.tr_base.specs.declared.Point.{Point}
+use Rattle.tr_base.specs.declared.LeafId.{LeafId}
+use Rattle.tr_region.specs.Points.{holds}
+use Rattle.tr_screen.specs.Pictures.{Picture, pixel_of}
+use Rattle.tr_client.specs.declared.clients.Client.{Ghosts}
+use Rattle.tr_forest.specs.Nodes.{Nodes, leaf_count}
+use Rattle.tr_surface.specs.Surfaces.{Shown}
+use Rattle.tr_mail.specs.Mails.{Mails}
+use Rattle.tr_levels.specs.declared.Level.{Level}
+use Rattle.tr_levels.specs.declared.Level.TheVariants.{Mu}
+use Rattle.tr_journal.specs.declared.items.Item.{Item}
+use Rattle.tr_journal.specs.declared.steps.Actor.{Actor}
+use Rattle.tr_journal.specs.declared.steps.Actor.TheVariants.{Painter}
+use Rattle.tr_journal.specs.declared.steps.Step.{Step}
+use Rattle.tr_journal.specs.declared.steps.Step.TheVariants as steps
+use Rattle.tr_journal.specs.Journals.{JournalLine}
+use Rattle.tr_journal.specs.Openings.{tree_of, font_of}
+use Rattle.tr_journal.specs.Steps.{IsStep, may, covers}
+use Rattle.tr_machine.specs.States.{State}
+use Rattle.tr_machine.specs.Paintings.{is_visible}
+use Rattle.tr_machine.specs.Replays.{IsLegal, line_of, replay}
+use Rattle.tr_machine.specs.Promises.{Agrees, IsSound}
+use Rattle.tr_windows.specs.Presents.{Present, presents}
+
+-- what a contract sees of a stage: what it began with, the lines of its journal, the pixels of its screen, and for how many
+-- entries more room is reserved
+pub record StageView (C M : Type 0) : Type 0 where
+  pub opening : List (Item C)
+  pub journal : List (JournalLine M)
+  pub screen : Picture
+  pub spare : ℕ
+
+-- the parts of a stage: the screen of its tree of windows, the windows, and the input devices with what waits for each leaf
+pub record Parts (C : Type 0) : Type 0 where
+  pub surface : Shown
+  pub windows : List (Present C)
+  pub mail : Mails
+
+-- a state has the font of an opening, and as many nodes, leaves and inboxes as the opening's tree has nodes and leaves
+pub record IsOf {C M : Type 0} (opening : List (Item C)) (m : State C M) : Type 0 where
+  pub font : m.font ≡ font_of opening
+  pub nodes : length m.tree.nodes.entries ≡ length (tree_of opening).nodes.entries
+  pub leaves : leaf_count m.tree.nodes ≡ leaf_count (tree_of opening).nodes
+  pub inboxes : length m.mail.inboxes ≡ leaf_count (tree_of opening).nodes
+
+-- a step for which room may be reserved: one of the input devices, or a change of a cage, which wants no other memory
+abbrev pub is_reservable : {M : Type 0} → Step M → Bool
+is_reservable (steps.SetCage leaf cage) = true
+is_reservable (steps.Mouse time button down) = true
+is_reservable (steps.Motion time at) = true
+is_reservable (steps.Key time code) = true
+is_reservable step = false
+
+-- a step that changes nothing but the journal
+abbrev pub is_note : {M : Type 0} → Step M → Bool
+is_note steps.Sync = true
+is_note (steps.Report query) = true
+is_note step = false
+
+-- a step that the painter may make under the tree's lock
+pub record IsPainters {M : Type 0} (t : Nodes) (step : Step M) : Type 0 where
+  pub may : may Painter step ≡ true
+  pub covers : covers (Mu ∷ []) step ≡ true
+  pub values : IsStep t step
+
+-- the point is a visible point of the leaf, and good
+abbrev pub is_good_in : {C M : Type 0} → State C M → LeafId → Point → Bool
+is_good_in m leaf p = is_visible m leaf p && not (m.bad p)
+
+-- two pictures have different pixels at a point
+abbrev pub is_different : Picture → Picture → Point → Bool
+is_different a b p = not (pixel_of a p == pixel_of b p)
+
+module _ {C M : Type 0} (client : Ghosts C M) where
+  -- the parts are those of a state of the machine, and the screen agrees with it
+  pub record IsAt (m : State C M) (parts : Parts C) : Type 0 where
+    pub tree : parts.surface.tree ≡ m.tree
+    pub bad : (p : Point) → holds parts.surface.bad p ≡ m.bad p
+    pub windows : parts.windows ≡ presents client m
+    pub mail : parts.mail ≡ m.mail
+    pub sound : IsSound client m
+    pub agrees : Agrees client m parts.surface.screen
+
+  -- the parts are those of the state that the journal leads to from the opening, by lines that the machine makes
+  pub record IsStage (opening : List (Item C)) (lines : List (JournalLine M)) (parts : Parts C) : Type 0 where
+    pub kept : IsAt (replay client opening lines) parts
+    pub like : IsOf opening (replay client opening lines)
+    pub legal : IsLegal client opening lines
+
+  -- the state of a stage: what its journal leads to from its opening
+  abbrev pub state : StageView C M → State C M
+  state s = replay client s.opening s.journal
+
+  -- the line that a step adds to a stage's journal
+  abbrev pub line : StageView C M → Actor → List Level → Step M → JournalLine M
+  line s actor level step = line_of client (state s) actor level step

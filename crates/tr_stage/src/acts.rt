@@ -1,0 +1,189 @@
+ghost use Rattle.std.specs.Prelude.{◌≡◌, ◌<◌, ◌++◌, ◌∷◌, [], true, length, slice_get, Some, None, IfOk, IfSome, OnOk, OnErr};
+ghost use Rattle.tr_journal.specs.Openings.{tree_of};
+ghost use Rattle.tr_journal.specs.Steps.{IsStep, may, covers};
+ghost use Rattle.tr_paint.specs.Traces.{Look, look_of};
+ghost use Rattle.tr_paint.specs.Patches.{IsPatch};
+ghost use Rattle.tr_client.specs.Laws.{IsWindowSize};
+ghost use Rattle.tr_desk.specs.Desks.{owner};
+ghost use Rattle.tr_machine.specs.States.{changed_at};
+ghost use Rattle.tr_machine.specs.Machines as machine;
+ghost use Rattle.tr_windows.specs.Presents.{Present, act_on};
+ghost use Rattle.tr_stage.specs.Stages.{is_note, line, state};
+
+use crate::lines::{By, write};
+use crate::stages::Stage;
+use tr_base::{Command, Env, LeafId, NoMemory, Rect, Selection, Size};
+use tr_client::Client;
+use tr_desk::DeskFault;
+use tr_journal::{Answer, Reply, Step};
+use tr_spot::leaf_size;
+use tr_windows::Windows;
+
+impl<C: Client> Stage<C> {
+    /// A command changes the content of a leaf, and what that paints waits.
+    pub(crate) fn act(&mut self, by: &By, leaf: LeafId, cmd: C::Cmd) -> Result<Reply, NoMemory>
+        requires may { may by.now.actor (Step.Act leaf cmd) ≡ true }
+        requires covers { covers by.now.level (Step.Act leaf cmd) ≡ true }
+        requires values { IsStep (tree_of self.old.opening).nodes (Step.Act leaf cmd) }
+        ensures opening { self.new.opening ≡ self.old.opening }
+        ensures ok { let made = Step.Act leaf cmd in
+            OnOk result (self.new.journal ≡
+            self.old.journal ++ line C.Client self.old by.now.actor by.now.level made ∷ []) }
+        ensures reply { let made = Step.Act leaf cmd in
+            IfOk result (λ r. r ≡ (line C.Client self.old by.now.actor by.now.level made).entry.reply) }
+        ensures err_journal { OnErr result (self.new.journal ≡ self.old.journal) }
+        ensures err_screen { OnErr result (self.new.screen ≡ self.old.screen) }
+    {
+        self.journal.reserve(1)?;
+        let tree = self.surface.tree();
+        let env = Env {
+            kind: tree.kind(),
+            font: self.opening.font(),
+        };
+        let size = leaf_size(tree, leaf);
+        self.windows.act(leaf, &env, size, &cmd)?;
+        let entry = by.entry(Step::Act { leaf, cmd }, Answer::Done, 0);
+        Ok(write(&mut self.journal, entry, &[]))
+    }
+
+    /// A part of a leaf's window is to be painted again.
+    pub(crate) fn mark(&mut self, by: &By, leaf: LeafId, clip: Rect) -> Result<Reply, NoMemory>
+        requires may { may {M = C.Cmd} by.now.actor (Step.Mark leaf clip) ≡ true }
+        requires covers { covers {M = C.Cmd} by.now.level (Step.Mark leaf clip) ≡ true }
+        requires values { IsStep {M = C.Cmd} (tree_of self.old.opening).nodes (Step.Mark leaf clip) }
+        ensures opening { self.new.opening ≡ self.old.opening }
+        ensures ok { let made = Step.Mark leaf clip in
+            OnOk result (self.new.journal ≡
+            self.old.journal ++ line C.Client self.old by.now.actor by.now.level made ∷ []) }
+        ensures reply { let made = Step.Mark leaf clip in
+            IfOk result (λ r. r ≡ (line C.Client self.old by.now.actor by.now.level made).entry.reply) }
+        ensures err_journal { OnErr result (self.new.journal ≡ self.old.journal) }
+        ensures err_screen { OnErr result (self.new.screen ≡ self.old.screen) }
+    {
+        self.journal.reserve(1)?;
+        let size = leaf_size(self.surface.tree(), leaf);
+        self.windows.mark(leaf, size, &clip)?;
+        let entry = by.entry(Step::Mark { leaf, clip }, Answer::Done, 0);
+        Ok(write(&mut self.journal, entry, &[]))
+    }
+
+    /// The event that has waited longest for a leaf is taken out, and the leaf obeys the command that its
+    /// content asks for then, if it asks for one.
+    pub(crate) fn take(&mut self, by: &By, leaf: LeafId) -> Result<Reply, NoMemory>
+        requires may { may {M = C.Cmd} by.now.actor (Step.Take leaf) ≡ true }
+        requires covers { covers {M = C.Cmd} by.now.level (Step.Take leaf) ≡ true }
+        requires values { IsStep {M = C.Cmd} (tree_of self.old.opening).nodes (Step.Take leaf) }
+        ensures opening { self.new.opening ≡ self.old.opening }
+        ensures ok { let made = Step.Take leaf in
+            OnOk result (self.new.journal ≡
+            self.old.journal ++ line C.Client self.old by.now.actor by.now.level made ∷ []) }
+        ensures reply { let made = Step.Take leaf in
+            IfOk result (λ r. r ≡ (line C.Client self.old by.now.actor by.now.level made).entry.reply) }
+        ensures err_journal { OnErr result (self.new.journal ≡ self.old.journal) }
+        ensures err_screen { OnErr result (self.new.screen ≡ self.old.screen) }
+    {
+        self.journal.reserve(1)?;
+        let tree = self.surface.tree();
+        let Some(event) = self.mail.front(leaf) else {
+            let entry = by.entry(Step::Take { leaf }, Answer::Empty, 0);
+            return Ok(write(&mut self.journal, entry, &[]));
+        };
+        let asked = self.windows.content(leaf).react(self.alloc, &event)?;
+        let env = Env {
+            kind: tree.kind(),
+            font: self.opening.font(),
+        };
+        let size = leaf_size(tree, leaf);
+        obey(&mut self.windows, leaf, &env, size, &asked)?;
+        let _taken = self.mail.take(leaf);
+        let entry = by.entry(Step::Take { leaf }, Answer::Taken(event), 0);
+        Ok(write(&mut self.journal, entry, &[]))
+    }
+
+    /// A leaf reads the value of a selection's owner.
+    pub(crate) fn read(
+        &mut self,
+        by: &By,
+        leaf: LeafId,
+        selection: Selection,
+    ) -> Result<Reply, NoMemory>
+        requires may { may {M = C.Cmd} by.now.actor (Step.Read leaf selection) ≡ true }
+        requires covers { covers {M = C.Cmd} by.now.level (Step.Read leaf selection) ≡ true }
+        requires values { let t = (tree_of self.old.opening).nodes in
+            IsStep {M = C.Cmd} t (Step.Read leaf selection) }
+        ensures opening { self.new.opening ≡ self.old.opening }
+        ensures ok { let made = Step.Read leaf selection in
+            OnOk result (self.new.journal ≡
+            self.old.journal ++ line C.Client self.old by.now.actor by.now.level made ∷ []) }
+        ensures reply { let made = Step.Read leaf selection in
+            IfOk result (λ r. r ≡ (line C.Client self.old by.now.actor by.now.level made).entry.reply) }
+        ensures err_journal { OnErr result (self.new.journal ≡ self.old.journal) }
+        ensures err_screen { OnErr result (self.new.screen ≡ self.old.screen) }
+    {
+        self.journal.reserve(1)?;
+        // Called for what it tells the prover: that the nodes are a forest.
+        let _ = self.surface.tree();
+        let answer = self.value_of(selection)?;
+        let entry = by.entry(Step::Read { leaf, selection }, answer, 0);
+        Ok(write(&mut self.journal, entry, &[]))
+    }
+
+    /// What is answered to one who reads the value of a selection's owner.
+    fn value_of(&self, selection: Selection) -> Result<Answer, NoMemory>
+        ensures { let m = state C.Client self.now in
+            IfOk result (λ answer. answer ≡ machine.read C.Client (owner m.mail.desk selection) m) }
+    {
+        // Called for what it tells the prover: that who owns a selection is a leaf.
+        let _ = self.mail.leaves();
+        match self.mail.desk().owner(selection) {
+            None => Ok(Answer::Desk(DeskFault::Unowned)),
+            Some(owner) => Ok(Answer::Value(self.windows.content(owner).value(self.alloc)?)),
+        }
+    }
+
+    /// Something that is written down, and changes nothing.
+    pub(crate) fn note(&mut self, by: &By, step: Step<C::Cmd>) -> Result<Reply, NoMemory>
+        requires note { is_note step ≡ true }
+        requires may { may by.now.actor step ≡ true }
+        requires covers { covers by.now.level step ≡ true }
+        requires values { IsStep (tree_of self.old.opening).nodes step }
+        ensures opening { self.new.opening ≡ self.old.opening }
+        ensures ok { OnOk result (self.new.journal ≡
+            self.old.journal ++ line C.Client self.old by.now.actor by.now.level step ∷ []) }
+        ensures reply { IfOk result (λ r.
+            r ≡ (line C.Client self.old by.now.actor by.now.level step).entry.reply) }
+        ensures err_journal { OnErr result (self.new.journal ≡ self.old.journal) }
+        ensures err_screen { OnErr result (self.new.screen ≡ self.old.screen) }
+    {
+        self.journal.reserve(1)?;
+        // Called for what it tells the prover: that the nodes are a forest.
+        let _ = self.surface.tree();
+        let entry = by.entry(step, Answer::Done, 0);
+        Ok(write(&mut self.journal, entry, &[]))
+    }
+}
+
+/// A leaf's window, which has this size, obeys a command, if there is one.
+fn obey<C: Client>(
+    windows: &mut Windows<C>,
+    leaf: LeafId,
+    env: &Env,
+    size: Size,
+    asked: &Option<C::Cmd>,
+) -> Result<(), NoMemory>
+    requires leaf { leaf.0 < length windows.old }
+    requires size { IsWindowSize size }
+    ensures none { asked.now ≡ None → windows.new ≡ windows.old }
+    ensures ok { let look = look_of env.now.kind env.now.font.now in
+        OnOk result (IfSome asked.now (λ cmd.
+        windows.new ≡ changed_at leaf.0 (act_on C.Client look size cmd) windows.old)) }
+    ensures patch { (look : Look) (w : Present C) → slice_get windows.old leaf.0 ≡ Some w →
+        IfSome asked.now (λ cmd. IsPatch look size (C.patch look size w.content cmd)
+        (C.pic look size w.content) (C.pic look size (C.next w.content cmd))) }
+    ensures err { OnErr result (windows.new ≡ windows.old) }
+{
+    if let Some(cmd) = asked {
+        windows.act(leaf, env, size, cmd)?;
+    }
+    Ok(())
+}

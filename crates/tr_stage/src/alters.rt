@@ -1,0 +1,70 @@
+ghost use Rattle.std.specs.Prelude.{◌≡◌, ◌++◌, ◌∷◌, [], true, IfOk, OnOk, OnErr};
+ghost use Rattle.tr_base.specs.declared.LeafId.{LeafId};
+ghost use Rattle.tr_client.specs.Laws.{IsWindowSize};
+ghost use Rattle.tr_spot.specs.Leaves.{leaf_size};
+ghost use Rattle.tr_journal.specs.Openings.{tree_of};
+ghost use Rattle.tr_journal.specs.Steps.{IsStep, may, covers};
+ghost use Rattle.tr_stage.specs.Stages.{line};
+
+use crate::lines::{By, write};
+use crate::stages::Stage;
+use tr_base::{LeafId, NoMemory};
+use tr_client::Client;
+use tr_forest::{Edit, EditRefused};
+use tr_journal::{Answer, Reply, Step};
+use tr_spot::leaf_size;
+use tr_tree::Tree;
+
+impl<C: Client> Stage<C> {
+    /// The tree of windows is edited, if that is not refused: what shows what it is to show stays
+    /// good, and the windows are told.
+    pub(crate) fn alter(&mut self, by: &By, edit: Edit) -> Result<Reply, NoMemory>
+        requires may { may {M = C.Cmd} by.now.actor (Step.Alter edit) ≡ true }
+        requires covers { covers {M = C.Cmd} by.now.level (Step.Alter edit) ≡ true }
+        requires values { IsStep {M = C.Cmd} (tree_of self.old.opening).nodes (Step.Alter edit) }
+        ensures opening { self.new.opening ≡ self.old.opening }
+        ensures ok { let made = Step.Alter edit in
+            OnOk result (self.new.journal ≡
+            self.old.journal ++ line C.Client self.old by.now.actor by.now.level made ∷ []) }
+        ensures reply { let made = Step.Alter edit in
+            IfOk result (λ r. r ≡ (line C.Client self.old by.now.actor by.now.level made).entry.reply) }
+        ensures err_journal { OnErr result (self.new.journal ≡ self.old.journal) }
+        ensures err_screen { OnErr result (self.new.screen ≡ self.old.screen) }
+    {
+        // Called for what they tell the prover: that the screen is the tree's, that there are at most
+        // 32 leaves, and that the windows' contents keep the law of keeping.
+        let _ = self.surface.tree();
+        let _ = self.mail.leaves();
+        self.windows.obeys_keeping();
+        // An edit may send two deliveries to each leaf, in place of one.
+        self.journal.reserve(2)?;
+        match self.surface.alter(&edit, &self.windows) {
+            Ok(was) => {
+                let is = self.surface.tree();
+                sizes_are_small(&was);
+                sizes_are_small(is);
+                self.windows.refit(&was, is);
+                let sent = self.mail.edited(&was, is);
+                let entry = by.entry(Step::Alter { edit }, Answer::Done, sent.len());
+                Ok(write(&mut self.journal, entry, sent.as_slice()))
+            }
+            Err(EditRefused::Fault(fault)) => {
+                let entry = by.entry(Step::Alter { edit }, Answer::Tree(fault), 0);
+                Ok(write(&mut self.journal, entry, &[]))
+            }
+            Err(EditRefused::NoMemory) => Err(NoMemory),
+        }
+    }
+}
+
+/// Looks at the size of each leaf's window, for what that tells the prover: that none is larger
+/// than a window may be. It does nothing else.
+fn sizes_are_small(tree: &Tree)
+    ensures { (leaf : LeafId) → IsWindowSize (leaf_size tree.now leaf) }
+{
+    // Called for what it tells the prover: that the nodes are a forest.
+    let _ = tree.count();
+    for n in 0..tree.leaves() {
+        let _size = leaf_size(tree, LeafId(n));
+    }
+}

@@ -1,0 +1,21 @@
+//! The stage: a tree of windows with their contents, the screen that shows them, and the input devices.
+//! Its state is the replay of its journal over its opening, by the machine; its screen agrees with that
+//! state.
+#![tactic(auto)]
+
+mod acts;
+mod alters;
+mod counts;
+mod devices;
+mod lines;
+mod paints;
+mod peeks;
+mod reads;
+mod settles;
+mod stages;
+
+pub use peeks::Peek;
+pub use stages::{Stage, is_reservable};
+
+#[cfg(test)]
+mod tests;

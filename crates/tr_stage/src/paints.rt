@@ -1,0 +1,95 @@
+ghost use Rattle.std.specs.Prelude.{◌≡◌, ◌++◌, ◌∷◌, [], true, IfOk, OnOk, OnErr};
+ghost use Rattle.tr_journal.specs.Openings.{tree_of};
+ghost use Rattle.tr_journal.specs.Steps.{IsStep, may, covers};
+ghost use Rattle.tr_stage.specs.Stages.{line};
+
+use crate::lines::{By, write};
+use crate::stages::Stage;
+use tr_base::{Env, LeafId, NoMemory};
+use tr_client::Client;
+use tr_journal::{Answer, Reply, Step};
+use tr_spot::leaf_size;
+
+impl<C: Client> Stage<C> {
+    /// What waits for a leaf is painted.
+    pub(crate) fn flush(&mut self, by: &By, leaf: LeafId) -> Result<Reply, NoMemory>
+        requires may { may {M = C.Cmd} by.now.actor (Step.Flush leaf) ≡ true }
+        requires covers { covers {M = C.Cmd} by.now.level (Step.Flush leaf) ≡ true }
+        requires values { IsStep {M = C.Cmd} (tree_of self.old.opening).nodes (Step.Flush leaf) }
+        ensures opening { self.new.opening ≡ self.old.opening }
+        ensures ok { let made = Step.Flush leaf in
+            OnOk result (self.new.journal ≡
+            self.old.journal ++ line C.Client self.old by.now.actor by.now.level made ∷ []) }
+        ensures reply { let made = Step.Flush leaf in
+            IfOk result (λ r.
+            r ≡ (line C.Client self.old by.now.actor by.now.level made).entry.reply) }
+        ensures err_journal { OnErr result (self.new.journal ≡ self.old.journal) }
+        ensures err_screen { OnErr result (self.new.screen ≡ self.old.screen) }
+    {
+        self.journal.reserve(1)?;
+        // Called, here and below, for what it tells the prover: that the surface is one.
+        let _ = self.surface.tree();
+        let font = self.opening.font();
+        self.surface.execute(font, leaf, self.windows.batch(leaf))?;
+        let _ = self.surface.tree();
+        self.windows.clear(leaf);
+        let entry = by.entry(Step::Flush { leaf }, Answer::Done, 0);
+        Ok(write(&mut self.journal, entry, &[]))
+    }
+
+    /// What waits for a leaf is painted, and then each of its points that is bad.
+    pub(crate) fn repaint(&mut self, by: &By, leaf: LeafId) -> Result<Reply, NoMemory>
+        requires may { may {M = C.Cmd} by.now.actor (Step.Repaint leaf) ≡ true }
+        requires covers { covers {M = C.Cmd} by.now.level (Step.Repaint leaf) ≡ true }
+        requires values { IsStep {M = C.Cmd} (tree_of self.old.opening).nodes (Step.Repaint leaf) }
+        ensures opening { self.new.opening ≡ self.old.opening }
+        ensures ok { let made = Step.Repaint leaf in
+            OnOk result (self.new.journal ≡
+            self.old.journal ++ line C.Client self.old by.now.actor by.now.level made ∷ []) }
+        ensures reply { let made = Step.Repaint leaf in
+            IfOk result (λ r.
+            r ≡ (line C.Client self.old by.now.actor by.now.level made).entry.reply) }
+        ensures err_journal { OnErr result (self.new.journal ≡ self.old.journal) }
+        ensures err_screen { OnErr result (self.new.screen ≡ self.old.screen) }
+    {
+        self.journal.reserve(1)?;
+        let bad = self.surface.bad_extents(leaf)?;
+        let tree = self.surface.tree();
+        let env = Env {
+            kind: tree.kind(),
+            font: self.opening.font(),
+        };
+        let size = leaf_size(tree, leaf);
+        let batch = self.windows.repainting(leaf, &env, size, bad)?;
+        self.surface.execute(env.font, leaf, &batch)?;
+        // Called for what it tells the prover: that the surface is still one.
+        let _ = self.surface.tree();
+        self.windows.clear(leaf);
+        let entry = by.entry(Step::Repaint { leaf }, Answer::Done, 0);
+        Ok(write(&mut self.journal, entry, &[]))
+    }
+
+    /// Each bad point of a frame is painted.
+    pub(crate) fn paint_frame(&mut self, by: &By) -> Result<Reply, NoMemory>
+        requires may { may {M = C.Cmd} by.now.actor Step.PaintFrame ≡ true }
+        requires covers { covers {M = C.Cmd} by.now.level Step.PaintFrame ≡ true }
+        requires values { IsStep {M = C.Cmd} (tree_of self.old.opening).nodes Step.PaintFrame }
+        ensures opening { self.new.opening ≡ self.old.opening }
+        ensures ok { let made = Step.PaintFrame in
+            OnOk result (self.new.journal ≡
+            self.old.journal ++ line C.Client self.old by.now.actor by.now.level made ∷ []) }
+        ensures reply { let made = Step.PaintFrame in
+            IfOk result (λ r.
+            r ≡ (line C.Client self.old by.now.actor by.now.level made).entry.reply) }
+        ensures err_journal { OnErr result (self.new.journal ≡ self.old.journal) }
+        ensures err_screen { OnErr result (self.new.screen ≡ self.old.screen) }
+    {
+        self.journal.reserve(1)?;
+        // Called, before and after, for what it tells the prover: that the surface is one.
+        let _ = self.surface.tree();
+        self.surface.paint_frame()?;
+        let _ = self.surface.tree();
+        let entry = by.entry(Step::PaintFrame, Answer::Done, 0);
+        Ok(write(&mut self.journal, entry, &[]))
+    }
+}

@@ -1,0 +1,201 @@
+ghost use Rattle.std.specs.Prelude.{◌≡◌, ◌<◌, ◌≤◌, ◌+◌, ◌++◌, ◌∷◌, [], true, false, IsSome, IfOk, IfErr, OnOk, OnErr};
+ghost use Rattle.tr_base.specs.declared.Point.{Point};
+ghost use Rattle.tr_region.specs.Points.{holds};
+ghost use Rattle.tr_screen.specs.Pictures.{blank_of};
+ghost use Rattle.tr_surface.specs.Surfaces.{is_on};
+ghost use Rattle.tr_journal.specs.Openings.{tree_of};
+ghost use Rattle.tr_journal.specs.Steps.{IsStep, may, covers};
+ghost use Rattle.tr_stage.specs.Stages as spec;
+ghost use Rattle.tr_stage.specs.Stages.{line};
+
+use crate::lines::By;
+use std::alloc::Global;
+use std::marker::Model;
+use tr_base::NoMemory;
+use tr_client::Client;
+use tr_journal::{Actor, Journal, Opening, Reply, Step};
+use tr_levels::Held;
+use tr_mail::Mail;
+use tr_surface::Surface;
+use tr_windows::Windows;
+
+/// A tree of windows with their contents, the screen that shows them, and the input devices, together
+/// with the opening that they began with and the journal of all steps since.
+///
+/// Contracts see the opening, the journal and the screen. All else is the replay of the journal over the
+/// opening, and the screen agrees with it: each point of the screen that isn't bad has the colour of its
+/// window's content, as that was when the window was last brought onto the screen, or of its frame.
+#[derive(Drop)]
+pub struct Stage<C: Client> {
+    pub(crate) alloc: Global,
+    pub(crate) opening: Opening<C>,
+    pub(crate) surface: Surface,
+    pub(crate) windows: Windows<C>,
+    pub(crate) mail: Mail,
+    pub(crate) journal: Journal<C::Cmd>,
+}
+
+impl<C: Client> Model for Stage<C> {
+    ghost use Rattle.tr_stage.specs.Stages.{StageView, IsStage};
+
+    ghost Value = { StageView C C.Cmd };
+
+    ghost view = { λ s. record {
+      opening = s.opening;
+      journal = s.journal.lines;
+      screen = s.surface.screen;
+      spare = s.journal.spare;
+    } };
+
+    ghost invariant = { λ s. IsStage C.Client s.opening s.journal.lines (record {
+      surface = s.surface;
+      windows = s.windows;
+      mail = s.mail;
+    }) };
+}
+
+impl<C: Client> Stage<C> {
+    /// The stage of an opening whose root was set, before any step: the screen is blank, and all of it is
+    /// bad. For want of memory the opening is handed back.
+    pub fn start(alloc: Global, opening: Opening<C>) -> Result<Stage<C>, Opening<C>>
+        requires ready { IsSome (tree_of opening).nodes.root }
+        ensures opening { IfOk result (λ s. s.opening ≡ opening) }
+        ensures journal { IfOk result (λ s. s.journal ≡ []) }
+        ensures screen { let t = tree_of opening in
+            IfOk result (λ s. s.screen ≡ blank_of t.size t.kind) }
+        ensures err { IfErr result (λ o. o ≡ opening) }
+    {
+        let Ok(surface) = blank_surface(alloc, &opening) else {
+            return Err(opening);
+        };
+        let Ok(windows) = Windows::new(alloc, &opening) else {
+            return Err(opening);
+        };
+        let Ok(mail) = Mail::new(alloc, opening.tree().leaves()) else {
+            return Err(opening);
+        };
+        let journal = Journal::new(alloc);
+        Ok(Stage {
+            alloc,
+            opening,
+            surface,
+            windows,
+            mail,
+            journal,
+        })
+    }
+
+    /// Makes a step. The journal gets the step's line, which says what it answers and sends. For want of
+    /// memory nothing is made.
+    pub fn step(&mut self, actor: Actor, level: Held, step: Step<C::Cmd>) -> Result<Reply, NoMemory>
+        requires may { may actor step ≡ true }
+        requires covers { covers level step ≡ true }
+        requires values { IsStep (tree_of self.old.opening).nodes step }
+        ensures opening { self.new.opening ≡ self.old.opening }
+        ensures ok { OnOk result (self.new.journal ≡
+            self.old.journal ++ line C.Client self.old actor level step ∷ []) }
+        ensures reply { IfOk result (λ r. r ≡ (line C.Client self.old actor level step).entry.reply) }
+        ensures err_journal { OnErr result (self.new.journal ≡ self.old.journal) }
+        ensures err_screen { OnErr result (self.new.screen ≡ self.old.screen) }
+    {
+        if is_reservable(&step) {
+            self.reserve(1)?;
+            return Ok(self.step_reserved(actor, level, step));
+        }
+        self.step_other(&By { actor, level }, step)
+    }
+
+    /// Makes room in the journal for `n` steps that `step_reserved` makes.
+    pub fn reserve(&mut self, n: u32) -> Result<(), NoMemory>
+        ensures ok { OnOk result (n ≤ self.new.spare) }
+        ensures spare { self.old.spare ≤ self.new.spare }
+        ensures opening { self.new.opening ≡ self.old.opening }
+        ensures journal { self.new.journal ≡ self.old.journal }
+        ensures screen { self.new.screen ≡ self.old.screen }
+    {
+        self.journal.reserve(n)?;
+        Ok(())
+    }
+
+    /// Makes a step of the input devices, or a change of a cage, for which room was reserved: it wants no
+    /// memory.
+    pub fn step_reserved(&mut self, actor: Actor, level: Held, step: Step<C::Cmd>) -> Reply
+        requires spare { 0 < self.old.spare }
+        requires reservable { spec.is_reservable step ≡ true }
+        requires may { may actor step ≡ true }
+        requires covers { covers level step ≡ true }
+        requires values { IsStep (tree_of self.old.opening).nodes step }
+        ensures opening { self.new.opening ≡ self.old.opening }
+        ensures journal { self.new.journal ≡
+            self.old.journal ++ line C.Client self.old actor level step ∷ [] }
+        ensures reply { result ≡ (line C.Client self.old actor level step).entry.reply }
+        ensures spare { self.old.spare ≤ self.new.spare + 1 }
+    {
+        let by = By { actor, level };
+        match step {
+            Step::SetCage { leaf, cage } => self.set_cage(&by, leaf, cage),
+            Step::Mouse { time, button, down } => self.mouse(&by, time, button, down),
+            Step::Motion { time, at } => self.motion(&by, time, at),
+            Step::Key { time, code } => self.key(&by, time, code),
+            _ => unreachable!(),
+        }
+    }
+
+    /// Makes a step of another sort.
+    fn step_other(&mut self, by: &By, step: Step<C::Cmd>) -> Result<Reply, NoMemory>
+        requires other { spec.is_reservable step ≡ false }
+        requires may { may by.now.actor step ≡ true }
+        requires covers { covers by.now.level step ≡ true }
+        requires values { IsStep (tree_of self.old.opening).nodes step }
+        ensures opening { self.new.opening ≡ self.old.opening }
+        ensures ok { OnOk result (self.new.journal ≡
+            self.old.journal ++ line C.Client self.old by.now.actor by.now.level step ∷ []) }
+        ensures reply { IfOk result (λ r.
+            r ≡ (line C.Client self.old by.now.actor by.now.level step).entry.reply) }
+        ensures err_journal { OnErr result (self.new.journal ≡ self.old.journal) }
+        ensures err_screen { OnErr result (self.new.screen ≡ self.old.screen) }
+    {
+        match step {
+            Step::Act { leaf, cmd } => self.act(by, leaf, cmd),
+            Step::Mark { leaf, clip } => self.mark(by, leaf, clip),
+            Step::Take { leaf } => self.take(by, leaf),
+            Step::Own {
+                leaf,
+                selection,
+                time,
+            } => self.own(by, leaf, selection, time),
+            Step::Disown { leaf, selection } => self.disown(by, leaf, selection),
+            Step::Read { leaf, selection } => self.read(by, leaf, selection),
+            Step::Alter { edit } => self.alter(by, edit),
+            Step::Flush { leaf } => self.flush(by, leaf),
+            Step::Repaint { leaf } => self.repaint(by, leaf),
+            Step::PaintFrame => self.paint_frame(by),
+            Step::Sync => self.note(by, Step::Sync),
+            Step::Report { query } => self.note(by, Step::Report { query }),
+            _ => unreachable!(),
+        }
+    }
+}
+
+/// Whether room may be reserved for a step: it is one of the input devices, or a change of a cage, and
+/// wants no other memory.
+pub fn is_reservable<M>(step: &Step<M>) -> bool
+    ensures { result ≡ spec.is_reservable step.now }
+{
+    matches!(
+        step,
+        Step::SetCage { .. } | Step::Mouse { .. } | Step::Motion { .. } | Step::Key { .. }
+    )
+}
+
+/// The blank screen of an opening's tree, of which every point is bad.
+fn blank_surface<C: Client>(alloc: Global, opening: &Opening<C>) -> Result<Surface, NoMemory>
+    requires { IsSome (tree_of opening.now).nodes.root }
+    ensures tree { IfOk result (λ s. s.tree ≡ tree_of opening.now) }
+    ensures screen { let t = tree_of opening.now in
+        IfOk result (λ s. s.screen ≡ blank_of t.size t.kind) }
+    ensures bad { IfOk result (λ s. (p : Point) → holds s.bad p ≡ is_on (tree_of opening.now) p) }
+{
+    let tree = opening.tree().copy()?;
+    Surface::new(alloc, tree)
+}
