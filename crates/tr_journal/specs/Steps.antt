@@ -1,5 +1,5 @@
 -- Who makes which step, with which levels held, and what its values are.
-use Rattle.std.specs.Prelude.{ℕ, ℤ, pos, neg_ℤ, ◌<◌, ◌≤◌, ◌≤ℤ◌, ⊤, Bool, true, false, ◌||◌, ◌==◌, List, [], ◌∷◌}
+use Rattle.std.specs.Prelude.{◌≡◌, ℕ, ℤ, pos, neg_ℤ, ◌<◌, ◌≤◌, ◌≤ℤ◌, ⊤, Bool, true, false, ◌||◌, ◌==◌, List, [], ◌∷◌}
 use Rattle.std.specs.List.{list_all, list_any}
 use Rattle.tr_base.specs.declared.LeafId.{LeafId}
 use Rattle.tr_base.specs.declared.Point.{Point}
@@ -118,10 +118,10 @@ pub record IsClip (e : Edges) : Type 0 where
   pub north : IsEdge e.north
   pub south : IsEdge e.south
 
--- the rectangle of a cage is such a one
+-- the rectangle of a cage is such a one, and it holds cursors that are here, or gone, or both
 abbrev pub IsCage : Cage → Type 0
 IsCage Everywhere = ⊤
-IsCage (Only rect here gone) = IsClip rect
+IsCage (Only rect here gone) = IsClip rect × ((here || gone) ≡ true)
 
 -- a report's point is a place of the cursor, and its leaf is a leaf of the tree
 abbrev pub IsQuery : Nodes → Query → Type 0
@@ -129,7 +129,7 @@ IsQuery t (queries.Where at) = IsPosition at
 IsQuery t (queries.Inbox leaf) = IsLeaf t leaf
 IsQuery t query = ⊤
 
--- the numbers of a step are those of leaves and nodes, and its values are within their ranges
+-- the numbers of a step are those of leaves and nodes, and its values are within ranges that their types don't keep
 abbrev pub IsStep : {M : Type 0} → Nodes → Step M → Type 0
 IsStep t (steps.Act leaf cmd) = IsLeaf t leaf
 IsStep t (steps.Mark leaf clip) = IsLeaf t leaf × IsClip clip

@@ -28,7 +28,7 @@ pub enum Query {
     Peek,
     /// The journal so far.
     Journal,
-    /// What a point of the screen belongs to.
+    /// What a point belongs to, on the screen or off it.
     Where(Point),
     /// The events that wait for a leaf.
     Inbox(LeafId),
@@ -78,7 +78,7 @@ pub enum Step<M> {
         button: u8,
         down: bool,
     },
-    /// The cursor is now at a point of the screen.
+    /// The cursor is now at this point, on the screen or off it.
     Motion {
         time: u32,
         at: Point,
@@ -102,7 +102,7 @@ pub enum Step<M> {
     },
     /// The bad points of all frames are painted.
     PaintFrame,
-    /// A part of the script ends.
+    /// Stands between two parts of a script.
     Sync,
     /// Something is reported, and nothing changes.
     Report {

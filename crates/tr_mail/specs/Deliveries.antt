@@ -1,4 +1,4 @@
--- Whom each event goes to, by the tree of windows, the cages and the owners.
+-- Whom each event goes to, by the tree of windows, the cages, the focus of the mouse and the owners of selections.
 use Rattle.std.specs.Prelude.{ℕ, zero, suc, Bool, not, ◌&&◌, if◌then◌else◌, List, [], ◌∷◌, length, Option, Some, None}
 use Rattle.tr_base.specs.declared.Point.{Point}
 use Rattle.tr_base.specs.declared.LeafId.{LeafId}

@@ -52,8 +52,9 @@ impl<C: Client> Stage<C> {
         let _size = self.surface.screen().size();
     }
 
-    /// The steps that settle it.
-    fn steps_to_settle(&self) -> Result<Vec<Step<C::Cmd>>, NoMemory>
+    /// The steps that settle it, for whoever makes them one by one. They are the painter's, under the tree's
+    /// lock.
+    pub fn steps_to_settle(&self) -> Result<Vec<Step<C::Cmd>>, NoMemory>
         ensures steps { IfOk result (λ steps. steps.items ≡ settling C.Client (state C.Client self.now)) }
         ensures painters { IfOk result (λ steps.
             All (IsPainters (tree_of self.now.opening).nodes) steps.items) }

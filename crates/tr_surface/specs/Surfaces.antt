@@ -37,7 +37,7 @@ abbrev pub is_frame : Spot → Bool
 is_frame (spots.Frame n tint kind) = true
 is_frame spot = false
 
--- the colour of a frame; what is no frame has none
+-- the colour of a point of a frame; 0 for a point of no frame
 abbrev pub frame_colour : Spot → ℕ
 frame_colour (spots.Frame n tint kind) = eff kind (Set tint) 0
 frame_colour spot = 0

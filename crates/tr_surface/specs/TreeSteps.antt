@@ -39,7 +39,7 @@ child_of t (edits.Move child at) = Some child
 child_of t (edits.Offset n by) = first_node (node t n).children
 child_of t edit = None
 
--- a node whose domain has points
+-- the node, where its domain has points
 abbrev pub if_placed : Seen → Option NodeId → Option NodeId
 if_placed t None = None
 if_placed t (Some n) = if has_points (domain t n) then Some n else None
