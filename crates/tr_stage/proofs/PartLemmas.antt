@@ -1,6 +1,7 @@
 -- What the parts of a stage tell of its state.
 use Rattle.std.proofs.Common.{◌≡◌, ℕ, ◌<◌, true, List, length, sym, ap, subst, ◌∙◌}
 use Rattle.tr_base.specs.declared.LeafId.{LeafId}
+use Rattle.tr_screen.specs.Pictures.{Picture}
 use Rattle.tr_client.specs.declared.clients.Client.{Ghosts}
 use Rattle.tr_forest.specs.Nodes.{leaf_count}
 use Rattle.tr_forest.specs.Forests.{IsForest}
@@ -22,7 +23,7 @@ use Rattle.tr_machine.proofs.LagLemmas.{lags}
 use Rattle.tr_machine.proofs.SoundLemmas.{fits}
 use Rattle.tr_windows.specs.Presents.{Present, batch_at, content_at}
 use Rattle.tr_windows.proofs.PresentLemmas.{presents-batch, presents-content, presents-length}
-use Rattle.tr_stage.specs.Stages.{IsAt, IsStage, Parts, StageView}
+use Rattle.tr_stage.specs.Stages.{IsAt, IsStage, KeepsOthers, Parts, StageView, state}
 
 -- a step that is for its actor to make, by what the stage shows of its opening
 pub seen_for : {C M : Type 0} {v w : StageView C M} (actor : Actor) (held : List Level) (step : Step M) → v ≡ w → may actor step ≡ true →
@@ -84,3 +85,10 @@ module _ {C M : Type 0} (client : Ghosts C M) where
     where
       many : length devices.leaves ≡ length parts.windows
       many = ap (λ (d : Devices). length d.leaves) same ∙ sym mail.leaves ∙ inboxes_count is ∙ sym (windows_count is)
+
+  -- what a step leaves of the screen, by the tree that the stage shows
+  pub kept_others : {v w : StageView C M} {parts : Parts C} (step : Step M) (new : Picture) → v ≡ w → IsStage client v.opening v.journal parts →
+      KeepsOthers parts.surface.tree step v.screen new → KeepsOthers (state client w).tree step w.screen new
+  kept_others {v = v} step new same is keeps =
+      subst (λ (u : StageView C M). KeepsOthers (state client u).tree step u.screen new) same
+      (subst (λ (t : Seen). KeepsOthers t step v.screen new) is.kept.tree keeps)

@@ -2,15 +2,20 @@
 use Rattle.std.specs.Prelude.{◌≡◌, ℕ, Bool, true, false, not, ◌&&◌, ◌==◌, List, [], ◌∷◌, length}
 use Rattle.tr_base.specs.declared.Point.{Point}
 use Rattle.tr_base.specs.declared.LeafId.{LeafId}
+use Rattle.tr_base.specs.declared.Spot.{Spot}
 use Rattle.tr_region.specs.Points.{holds}
 use Rattle.tr_screen.specs.Pictures.{Picture, pixel_of}
 use Rattle.tr_client.specs.declared.clients.Client.{Ghosts}
 use Rattle.tr_forest.specs.Nodes.{Nodes, leaf_count}
-use Rattle.tr_surface.specs.Surfaces.{Shown}
+use Rattle.tr_tree.specs.Trees.{Seen}
+use Rattle.tr_spot.specs.Spots.{spot, is_in_leaf}
+use Rattle.tr_surface.specs.Surfaces.{Shown, is_on, is_frame}
 use Rattle.tr_mail.specs.Mails.{Mails}
 use Rattle.tr_levels.specs.declared.Level.{Level}
 use Rattle.tr_levels.specs.declared.Level.TheVariants.{Mu}
 use Rattle.tr_journal.specs.declared.items.Item.{Item}
+use Rattle.tr_journal.specs.declared.answers.Answer.{Answer}
+use Rattle.tr_journal.specs.declared.answers.Answer.TheVariants as answers
 use Rattle.tr_journal.specs.declared.steps.Actor.{Actor}
 use Rattle.tr_journal.specs.declared.steps.Actor.TheVariants.{Painter}
 use Rattle.tr_journal.specs.declared.steps.Step.{Step}
@@ -58,6 +63,27 @@ abbrev pub is_note : {M : Type 0} → Step M → Bool
 is_note steps.Sync = true
 is_note (steps.Report query) = true
 is_note step = false
+
+-- a step that may change the screen: a flush, a repaint, the frames, and an edit of the tree that was done
+abbrev pub paints : {M : Type 0} → Step M → Answer → Bool
+paints (steps.Flush leaf) answer = true
+paints (steps.Repaint leaf) answer = true
+paints steps.PaintFrame answer = true
+paints (steps.Alter edit) answers.Done = true
+paints step answer = false
+
+-- where a step may paint: a flush and a repaint in their leaf, PaintFrame on frames, and an edit of the tree everywhere
+abbrev pub may_paint : {M : Type 0} → Step M → Spot → Bool
+may_paint (steps.Flush leaf) spot = is_in_leaf leaf spot
+may_paint (steps.Repaint leaf) spot = is_in_leaf leaf spot
+may_paint steps.PaintFrame spot = is_frame spot
+may_paint (steps.Alter edit) spot = true
+may_paint step spot = false
+
+-- from one screen of a tree to the next each point keeps its pixel, but where the step may paint
+abbrev pub KeepsOthers : {M : Type 0} → Seen → Step M → Picture → Picture → Type 0
+KeepsOthers t step old new =
+    (p : Point) → is_on t p ≡ true → may_paint step (spot t p) ≡ false → pixel_of new p ≡ pixel_of old p
 
 -- a step that the painter may make under the tree's lock
 pub record IsPainters {M : Type 0} (t : Nodes) (step : Step M) : Type 0 where

@@ -32,7 +32,7 @@ impl<C: Client> Stage<C> {
         ensures reply { let made = Step.Act leaf cmd in
             IfOk result (λ r. r ≡ (line C.Client self.old by.now.actor by.now.level made).entry.reply) }
         ensures err_journal { OnErr result (self.new.journal ≡ self.old.journal) }
-        ensures err_screen { OnErr result (self.new.screen ≡ self.old.screen) }
+        ensures screen { self.new.screen ≡ self.old.screen }
     {
         self.journal.reserve(1)?;
         let tree = self.surface.tree();
@@ -58,7 +58,7 @@ impl<C: Client> Stage<C> {
         ensures reply { let made = Step.Mark leaf clip in
             IfOk result (λ r. r ≡ (line C.Client self.old by.now.actor by.now.level made).entry.reply) }
         ensures err_journal { OnErr result (self.new.journal ≡ self.old.journal) }
-        ensures err_screen { OnErr result (self.new.screen ≡ self.old.screen) }
+        ensures screen { self.new.screen ≡ self.old.screen }
     {
         self.journal.reserve(1)?;
         let size = leaf_size(self.surface.tree(), leaf);
@@ -80,7 +80,7 @@ impl<C: Client> Stage<C> {
         ensures reply { let made = Step.Take leaf in
             IfOk result (λ r. r ≡ (line C.Client self.old by.now.actor by.now.level made).entry.reply) }
         ensures err_journal { OnErr result (self.new.journal ≡ self.old.journal) }
-        ensures err_screen { OnErr result (self.new.screen ≡ self.old.screen) }
+        ensures screen { self.new.screen ≡ self.old.screen }
     {
         self.journal.reserve(1)?;
         let tree = self.surface.tree();
@@ -118,7 +118,7 @@ impl<C: Client> Stage<C> {
         ensures reply { let made = Step.Read leaf selection in
             IfOk result (λ r. r ≡ (line C.Client self.old by.now.actor by.now.level made).entry.reply) }
         ensures err_journal { OnErr result (self.new.journal ≡ self.old.journal) }
-        ensures err_screen { OnErr result (self.new.screen ≡ self.old.screen) }
+        ensures screen { self.new.screen ≡ self.old.screen }
     {
         self.journal.reserve(1)?;
         // Called for what it tells the prover: that the nodes are a forest.
@@ -153,7 +153,7 @@ impl<C: Client> Stage<C> {
         ensures reply { IfOk result (λ r.
             r ≡ (line C.Client self.old by.now.actor by.now.level step).entry.reply) }
         ensures err_journal { OnErr result (self.new.journal ≡ self.old.journal) }
-        ensures err_screen { OnErr result (self.new.screen ≡ self.old.screen) }
+        ensures screen { self.new.screen ≡ self.old.screen }
     {
         self.journal.reserve(1)?;
         // Called for what it tells the prover: that the nodes are a forest.

@@ -1,10 +1,10 @@
-ghost use Rattle.std.specs.Prelude.{◌≡◌, ◌++◌, ◌∷◌, [], true, IfOk, OnOk, OnErr};
+ghost use Rattle.std.specs.Prelude.{◌≡◌, ◌++◌, ◌∷◌, [], true, false, IfOk, OnOk, OnErr};
 ghost use Rattle.tr_base.specs.declared.LeafId.{LeafId};
 ghost use Rattle.tr_client.specs.Laws.{IsWindowSize};
 ghost use Rattle.tr_spot.specs.Leaves.{leaf_size};
 ghost use Rattle.tr_journal.specs.Openings.{tree_of};
 ghost use Rattle.tr_journal.specs.Steps.{IsStep, may, covers};
-ghost use Rattle.tr_stage.specs.Stages.{line};
+ghost use Rattle.tr_stage.specs.Stages.{line, paints};
 
 use crate::lines::{By, write};
 use crate::stages::Stage;
@@ -30,6 +30,8 @@ impl<C: Client> Stage<C> {
             IfOk result (λ r. r ≡ (line C.Client self.old by.now.actor by.now.level made).entry.reply) }
         ensures err_journal { OnErr result (self.new.journal ≡ self.old.journal) }
         ensures err_screen { OnErr result (self.new.screen ≡ self.old.screen) }
+        ensures screen { let made = Step.Alter edit in
+            IfOk result (λ r. paints {M = C.Cmd} made r.answer ≡ false → self.new.screen ≡ self.old.screen) }
     {
         // Called for what they tell the prover: that the screen is the tree's, that there are at most
         // 32 leaves, and that the windows' contents keep the law of keeping.

@@ -23,6 +23,7 @@ impl<C: Client> Stage<C> {
             self.old.journal ++ line C.Client self.old by.now.actor by.now.level made ∷ [] }
         ensures reply { let made = Step.Mouse time button down in
             result ≡ (line C.Client self.old by.now.actor by.now.level made).entry.reply }
+        ensures screen { self.new.screen ≡ self.old.screen }
         ensures spare { self.old.spare ≤ self.new.spare + 1 }
     {
         let made = self.mail.mouse(self.surface.tree(), time, button, down);
@@ -50,6 +51,7 @@ impl<C: Client> Stage<C> {
             self.old.journal ++ line C.Client self.old by.now.actor by.now.level made ∷ [] }
         ensures reply { let made = Step.Motion time at in
             result ≡ (line C.Client self.old by.now.actor by.now.level made).entry.reply }
+        ensures screen { self.new.screen ≡ self.old.screen }
         ensures spare { self.old.spare ≤ self.new.spare + 1 }
     {
         let made = self.mail.motion(self.surface.tree(), time, at);
@@ -77,6 +79,7 @@ impl<C: Client> Stage<C> {
             self.old.journal ++ line C.Client self.old by.now.actor by.now.level made ∷ [] }
         ensures reply { let made = Step.Key time code in
             result ≡ (line C.Client self.old by.now.actor by.now.level made).entry.reply }
+        ensures screen { self.new.screen ≡ self.old.screen }
         ensures spare { self.old.spare ≤ self.new.spare + 1 }
     {
         // Called for what it tells the prover: that the nodes of the tree are a forest.
@@ -106,6 +109,7 @@ impl<C: Client> Stage<C> {
             self.old.journal ++ line C.Client self.old by.now.actor by.now.level made ∷ [] }
         ensures reply { let made = Step.SetCage leaf cage in
             result ≡ (line C.Client self.old by.now.actor by.now.level made).entry.reply }
+        ensures screen { self.new.screen ≡ self.old.screen }
         ensures spare { self.old.spare ≤ self.new.spare + 1 }
     {
         let sent = self
@@ -134,7 +138,7 @@ impl<C: Client> Stage<C> {
             IfOk result (λ r.
             r ≡ (line C.Client self.old by.now.actor by.now.level made).entry.reply) }
         ensures err_journal { OnErr result (self.new.journal ≡ self.old.journal) }
-        ensures err_screen { OnErr result (self.new.screen ≡ self.old.screen) }
+        ensures screen { self.new.screen ≡ self.old.screen }
     {
         // Called for what it tells the prover: that the nodes of the tree are a forest.
         let _ = self.surface.tree();
@@ -185,7 +189,7 @@ impl<C: Client> Stage<C> {
             IfOk result (λ r.
             r ≡ (line C.Client self.old by.now.actor by.now.level made).entry.reply) }
         ensures err_journal { OnErr result (self.new.journal ≡ self.old.journal) }
-        ensures err_screen { OnErr result (self.new.screen ≡ self.old.screen) }
+        ensures screen { self.new.screen ≡ self.old.screen }
     {
         // Called for what it tells the prover: that the nodes of the tree are a forest.
         let _ = self.surface.tree();

@@ -1,7 +1,7 @@
 ghost use Rattle.std.specs.Prelude.{◌≡◌, ◌++◌, ◌∷◌, [], true, IfOk, OnOk, OnErr};
 ghost use Rattle.tr_journal.specs.Openings.{tree_of};
 ghost use Rattle.tr_journal.specs.Steps.{IsStep, may, covers};
-ghost use Rattle.tr_stage.specs.Stages.{line};
+ghost use Rattle.tr_stage.specs.Stages.{KeepsOthers, line, state};
 
 use crate::lines::{By, write};
 use crate::stages::Stage;
@@ -25,6 +25,8 @@ impl<C: Client> Stage<C> {
             r ≡ (line C.Client self.old by.now.actor by.now.level made).entry.reply) }
         ensures err_journal { OnErr result (self.new.journal ≡ self.old.journal) }
         ensures err_screen { OnErr result (self.new.screen ≡ self.old.screen) }
+        ensures others { let t = (state C.Client self.old).tree in
+            OnOk result (KeepsOthers {M = C.Cmd} t (Step.Flush leaf) self.old.screen self.new.screen) }
     {
         self.journal.reserve(1)?;
         // Called, here and below, for what it tells the prover: that the surface is one.
@@ -51,6 +53,8 @@ impl<C: Client> Stage<C> {
             r ≡ (line C.Client self.old by.now.actor by.now.level made).entry.reply) }
         ensures err_journal { OnErr result (self.new.journal ≡ self.old.journal) }
         ensures err_screen { OnErr result (self.new.screen ≡ self.old.screen) }
+        ensures others { let t = (state C.Client self.old).tree in
+            OnOk result (KeepsOthers {M = C.Cmd} t (Step.Repaint leaf) self.old.screen self.new.screen) }
     {
         self.journal.reserve(1)?;
         let bad = self.surface.bad_extents(leaf)?;
@@ -83,6 +87,8 @@ impl<C: Client> Stage<C> {
             r ≡ (line C.Client self.old by.now.actor by.now.level made).entry.reply) }
         ensures err_journal { OnErr result (self.new.journal ≡ self.old.journal) }
         ensures err_screen { OnErr result (self.new.screen ≡ self.old.screen) }
+        ensures others { let t = (state C.Client self.old).tree in
+            OnOk result (KeepsOthers {M = C.Cmd} t Step.PaintFrame self.old.screen self.new.screen) }
     {
         self.journal.reserve(1)?;
         // Called, before and after, for what it tells the prover: that the surface is one.

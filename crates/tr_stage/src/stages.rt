@@ -6,7 +6,7 @@ ghost use Rattle.tr_surface.specs.Surfaces.{is_on};
 ghost use Rattle.tr_journal.specs.Openings.{tree_of};
 ghost use Rattle.tr_journal.specs.Steps.{IsStep, may, covers};
 ghost use Rattle.tr_stage.specs.Stages as spec;
-ghost use Rattle.tr_stage.specs.Stages.{line};
+ghost use Rattle.tr_stage.specs.Stages.{KeepsOthers, line, paints, state};
 
 use crate::lines::By;
 use std::alloc::Global;
@@ -97,6 +97,11 @@ impl<C: Client> Stage<C> {
         ensures reply { IfOk result (λ r. r ≡ (line C.Client self.old actor level step).entry.reply) }
         ensures err_journal { OnErr result (self.new.journal ≡ self.old.journal) }
         ensures err_screen { OnErr result (self.new.screen ≡ self.old.screen) }
+
+        // The screen stays as it is, unless the step paints; and where it may not paint, each pixel stays.
+        ensures screen { IfOk result (λ r. paints step r.answer ≡ false → self.new.screen ≡ self.old.screen) }
+        ensures others { let t = (state C.Client self.old).tree in
+            OnOk result (KeepsOthers t step self.old.screen self.new.screen) }
     {
         if is_reservable(&step) {
             self.reserve(1)?;
@@ -129,6 +134,7 @@ impl<C: Client> Stage<C> {
         ensures journal { self.new.journal ≡
             self.old.journal ++ line C.Client self.old actor level step ∷ [] }
         ensures reply { result ≡ (line C.Client self.old actor level step).entry.reply }
+        ensures screen { self.new.screen ≡ self.old.screen }
         ensures spare { self.old.spare ≤ self.new.spare + 1 }
     {
         let by = By { actor, level };
@@ -154,6 +160,9 @@ impl<C: Client> Stage<C> {
             r ≡ (line C.Client self.old by.now.actor by.now.level step).entry.reply) }
         ensures err_journal { OnErr result (self.new.journal ≡ self.old.journal) }
         ensures err_screen { OnErr result (self.new.screen ≡ self.old.screen) }
+        ensures screen { IfOk result (λ r. paints step r.answer ≡ false → self.new.screen ≡ self.old.screen) }
+        ensures others { let t = (state C.Client self.old).tree in
+            OnOk result (KeepsOthers t step self.old.screen self.new.screen) }
     {
         match step {
             Step::Act { leaf, cmd } => self.act(by, leaf, cmd),

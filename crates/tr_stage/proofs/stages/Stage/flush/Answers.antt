@@ -1,6 +1,7 @@
 use Rattle.std.proofs.Common.{ap, refl}
 use Rattle.tr_journal.specs.declared.steps.Step.TheVariants.{Flush}
 use Rattle.tr_stage.specs.Stages.{Parts}
+use Rattle.tr_stage.proofs.PartLemmas.{kept_others}
 use Rattle.tr_stage.proofs.DeviceLemmas.{Before, IsMaking}
 use Rattle.tr_stage.proofs.PaintLemmas.{flush_made, leaf_within}
 use Rattle.tr_stage.proofs.stages.Stage.flush.Goals as goal
@@ -62,3 +63,8 @@ invariant_of-self-2 g c =
       mail = refl;
     })
     c.batch.ensures)
+
+pub returns-clause-others : goal.returns-clause-others
+returns-clause-others g c =
+    kept_others g.C.Client (Flush c.args.leaf) c.execute.new.self.screen c.self.view_is c.self.invariant
+    c.in_ok-execute.ensures.pixels

@@ -1,6 +1,11 @@
 use Rattle.std.proofs.Common.{ap, refl}
+use Rattle.std.proofs.lemmas.Bool.{and_right}
+use Rattle.tr_region.specs.Points.{holds}
+use Rattle.tr_spot.specs.Spots.{spot}
+use Rattle.tr_surface.specs.Surfaces.{is_frame}
 use Rattle.tr_journal.specs.declared.steps.Step.TheVariants.{PaintFrame}
 use Rattle.tr_stage.specs.Stages.{Parts}
+use Rattle.tr_stage.proofs.PartLemmas.{kept_others}
 use Rattle.tr_stage.proofs.DeviceLemmas.{Before, IsMaking}
 use Rattle.tr_stage.proofs.PaintLemmas.{frame_made}
 use Rattle.tr_stage.proofs.stages.Stage.paint_frame.Goals as goal
@@ -34,3 +39,9 @@ invariant_of-self-2 g c =
       windows = refl;
       mail = refl;
     }))
+
+pub returns-clause-others : goal.returns-clause-others
+returns-clause-others g c =
+    let was = c.self.inside.surface in
+    kept_others g.C.Client PaintFrame c.paint_frame.new.self.screen c.self.view_is c.self.invariant
+    (λ p on still. c.in_ok-paint_frame.ensures.others p on (and_right (holds was.bad p) (is_frame (spot was.tree p)) still))

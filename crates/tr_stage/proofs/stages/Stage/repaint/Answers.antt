@@ -1,6 +1,7 @@
 use Rattle.std.proofs.Common.{ap, refl}
 use Rattle.tr_journal.specs.declared.steps.Step.TheVariants.{Repaint}
 use Rattle.tr_stage.specs.Stages.{Parts}
+use Rattle.tr_stage.proofs.PartLemmas.{kept_others}
 use Rattle.tr_stage.proofs.DeviceLemmas.{Before, IsMaking}
 use Rattle.tr_stage.proofs.PaintLemmas.{leaf_within, repaint_made}
 use Rattle.tr_stage.proofs.stages.Stage.repaint.Goals as goal
@@ -68,3 +69,8 @@ invariant_of-self-2 g c =
       has_bad = c.in_ok-bad.ensures;
       repaints = rw (c.kind.ensures, c.leaf_size-size.ensures.value) at c.in_ok-batch.ensures;
     }))
+
+pub returns-clause-others : goal.returns-clause-others
+returns-clause-others g c =
+    kept_others g.C.Client (Repaint c.args.leaf) c.execute.new.self.screen c.self.view_is c.self.invariant
+    c.in_ok-execute.ensures.pixels

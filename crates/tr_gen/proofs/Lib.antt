@@ -1,0 +1,3 @@
+mod Rows
+pub mod RoundLemmas
+pub mod LineFeeds

@@ -1,0 +1,38 @@
+-- Numbers that look drawn at random: each comes from a state, which each draw replaces.
+use Rattle.std.specs.Prelude.{ℕ, ◌+◌, ◌*◌, ◌/◌, ◌%◌, ◌^◌, List, length, slice_index}
+
+-- what was made with draws, and the state after them
+pub record Made (A : Type 0) : Type 0 where
+  pub value : A
+  pub state : ℕ
+
+-- what is made with draws follows from the state before them
+abbrev pub Drawing : Type 0 → Type 0
+Drawing A = ℕ → Made A
+
+-- this value, without a draw
+abbrev pub give : {A : Type 0} → A → Drawing A
+give value state = record { value = value; state = state }
+
+-- first the one, and then, with the draws after it, what its value asks for
+infixl 10 ◌>>=◌
+abbrev pub ◌>>=◌ : {A B : Type 0} → Drawing A → (A → Drawing B) → Drawing B
+(first >>= next) state = let made = first state in next made.value made.state
+
+-- the state after a draw, by a linear congruential generator
+unfoldable pub next_state : ℕ → ℕ
+next_state state = (state * 1664525 + 1013904223) % 2 ^ 32
+
+-- a number below k, from the upper half of a state
+unfoldable pub number_below : ℕ → ℕ → ℕ
+number_below k state = (state / 65536) % k
+
+-- a draw replaces the state, and then gives a number below k
+abbrev pub draw : ℕ → Drawing ℕ
+draw k state = record { value = number_below k (next_state state); state = next_state state }
+
+-- one of these bytes
+abbrev pub pick : List ℕ → Drawing ℕ
+pick bytes = do
+  index ← draw (length bytes)
+  give (slice_index bytes index)

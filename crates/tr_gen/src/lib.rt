@@ -1,0 +1,13 @@
+//! The text of a script from a number: a screen with four windows, and 2,000 rounds that look drawn at
+//! random.
+#![tactic(auto)]
+
+mod draws;
+mod lines;
+mod scripts;
+mod writers;
+
+pub use scripts::script_of;
+
+#[cfg(test)]
+mod tests;

@@ -1,0 +1,17 @@
+//! The words of scripts: how a text is cut into lines and a line into words, and the readers of single
+//! values, each of which answers the value or the code of its fault.
+#![tactic(auto)]
+
+mod texts;
+mod values;
+mod words;
+
+pub use texts::{is_silent, lines_of, plain_text, rest_after, words_of};
+pub use values::{
+    byte, edge, extent, glyph_byte, name, number, offset, place, rows, shape, shift, short, side,
+    signed, small, text, time,
+};
+pub use words::{LeafWords, ShapeWords};
+
+#[cfg(test)]
+mod tests;

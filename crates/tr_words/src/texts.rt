@@ -1,0 +1,116 @@
+//! How a text is cut into lines, and a line into words.
+ghost use Rattle.std.specs.Prelude.{◌≡◌, ◌==◌, true, false, IfOk, MatchOption, IfSome, drop, List, ℕ};
+ghost use Rattle.std.specs.List.{list_all, slice_split, AllPass};
+ghost use Rattle.tr_base.specs.Lines.{is_printable};
+ghost use Rattle.tr_grammar.specs.Words.{words_of, rest_after};
+ghost use Rattle.tr_grammar.specs.Texts.{is_plain, is_silent, ends_empty, without_empty_end, lines_of};
+ghost use Rattle.tr_words.specs.Answers.{Follows, texts};
+
+use std::alloc::{AllocError, Global};
+use tr_base::is_printable;
+
+/// How many bytes a line may have.
+const MOST_BYTES: usize = 1024;
+
+fn are_printable(line: &[u8]) -> bool
+    ensures { result ≡ list_all is_printable line.now }
+{
+    line.iter().all(|byte| is_printable(*byte))
+}
+
+#[tactic(auto, unfolding(tr_grammar::specs::Texts::is_plain))]
+fn is_plain(line: &[u8]) -> bool
+    ensures { result ≡ is_plain line.now }
+{
+    line.len() <= MOST_BYTES && are_printable(line)
+}
+
+/// The text of a line, of at most 1,024 bytes from hex 20 to 7e.
+#[tactic(auto, using(crate::proofs::WordLemmas::plain_is_utf8, crate::proofs::WordLemmas::plain_is_printable))]
+pub fn plain_text(line: &[u8]) -> Option<&str>
+    ensures value { MatchOption result (is_plain line.now ≡ false)
+        (λ s. (is_plain line.now ≡ true) × (s.now ≡ line.now)) }
+    ensures printable { IfSome result (λ s. AllPass is_printable s.now) }
+{
+    if !is_plain(line) {
+        return None;
+    }
+    match str::from_utf8(line) {
+        Ok(text) => Some(text),
+        Err(_) => None,
+    }
+}
+
+/// Whether a line means nothing: it has no byte, or is a comment.
+pub fn is_silent(line: &str) -> bool
+    ensures { result ≡ is_silent line.now }
+{
+    match line.as_bytes() {
+        [] => true,
+        [first, ..] => *first == b'#',
+    }
+}
+
+/// What stands between single spaces.
+pub fn words_of<'a>(alloc: Global, line: &'a str) -> Result<Vec<&'a str>, AllocError>
+    ensures { IfOk result (λ ws. texts ws.items ≡ words_of line.now) }
+{
+    line.split(' ').collect(alloc)
+}
+
+/// What stands behind the first space.
+fn after_word(line: &str) -> &str
+    ensures follows { (ws : List (List ℕ)) → Follows ws line.now → Follows (drop 1 ws) result.now }
+    ensures printable { AllPass is_printable line.now → AllPass is_printable result.now }
+{
+    match line.split_once(' ') {
+        Some((_, rest)) => rest,
+        None => "",
+    }
+}
+
+/// The rest of a line behind so many words.
+pub fn rest_after(line: &str, words: usize) -> &str
+    requires { AllPass is_printable line.now }
+    ensures rest { result.now ≡ rest_after (words_of line.now) words }
+    ensures printable { AllPass is_printable result.now }
+{
+    let mut rest = line;
+    for done in 0..words {
+        rest = after_word(rest);
+    }
+    rest
+}
+
+fn pieces_of<'a>(alloc: Global, bytes: &'a [u8]) -> Result<Vec<&'a [u8]>, AllocError>
+    ensures { IfOk result (λ ts. texts ts.items ≡ slice_split (λ b. b == 10) bytes.now) }
+{
+    bytes.split(|byte| *byte == b'\n').collect(alloc)
+}
+
+fn ends_empty(pieces: &[&[u8]]) -> bool
+    ensures { result ≡ ends_empty (texts pieces.now) }
+{
+    match pieces.last() {
+        Some(piece) => piece.is_empty(),
+        None => false,
+    }
+}
+
+fn without_empty_end<'a>(mut pieces: Vec<&'a [u8]>) -> Vec<&'a [u8]>
+    ensures { texts result.items ≡ without_empty_end (texts pieces.entry.items) }
+{
+    if ends_empty(&pieces) {
+        pieces.pop();
+    }
+    pieces
+}
+
+/// What stands between line feeds, without an empty piece at the end.
+#[tactic(auto, unfolding(tr_grammar::specs::Texts::lines_of))]
+pub fn lines_of<'a>(alloc: Global, bytes: &'a [u8]) -> Result<Vec<&'a [u8]>, AllocError>
+    ensures { IfOk result (λ ts. texts ts.items ≡ lines_of bytes.now) }
+{
+    let pieces = pieces_of(alloc, bytes)?;
+    Ok(without_empty_end(pieces))
+}

@@ -1,0 +1,17 @@
+//! Words of a line that travel together.
+
+/// The words of a shape.
+#[derive(Clone, Copy)]
+pub struct ShapeWords<'a> {
+    pub lo: &'a str,
+    pub pref: &'a str,
+    pub hi: &'a str,
+}
+
+/// The words of a leaf's line that stand before its widget's.
+#[derive(Clone, Copy)]
+pub struct LeafWords<'a> {
+    pub name: &'a str,
+    pub across: ShapeWords<'a>,
+    pub down: ShapeWords<'a>,
+}
