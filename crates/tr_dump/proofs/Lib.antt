@@ -1,0 +1,3 @@
+pub mod BeginsLemmas
+pub mod NameLemmas
+pub mod JournalLemmas

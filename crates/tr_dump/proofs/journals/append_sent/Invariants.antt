@@ -1,0 +1,10 @@
+use Rattle.std.proofs.Common.{◌≡◌, ◌++◌, take}
+use Rattle.std.specs.List.{flat_map}
+use Rattle.tr_dump.specs.Names.{names_of}
+use Rattle.tr_dump.specs.Reports.{delivery_text}
+use Rattle.tr_dump.proofs.journals.append_sent.Given as goal
+
+-- the deliveries so far stand behind what was there
+abbrev pub invariant-loop-delivery : goal.invariant-loop-delivery
+invariant-loop-delivery g l =
+    l.out.items ≡ l.fn.out.items ++ flat_map (delivery_text (names_of g.N.NameOf l.names)) (take l.delivery-index l.sent)

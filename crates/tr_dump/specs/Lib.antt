@@ -1,0 +1,6 @@
+pub mod Values
+pub mod Names
+pub mod Steps
+pub mod Reports
+pub mod Begins
+pub mod Words

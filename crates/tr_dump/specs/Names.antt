@@ -1,0 +1,100 @@
+-- The names of nodes and leaves, and which of them a text needs.
+use Rattle.std.specs.Prelude.{ℕ, ◌<◌, ⊤, List, [], length, slice_get, unwrap_or, All}
+use Rattle.tr_base.specs.declared.ids.NodeId.{NodeId}
+use Rattle.tr_base.specs.declared.ids.LeafId.{LeafId}
+use Rattle.tr_base.specs.declared.spots.Spot.{Spot}
+use Rattle.tr_base.specs.declared.spots.Spot.TheVariants as spots
+use Rattle.tr_forest.specs.declared.edits.Edit.{Edit}
+use Rattle.tr_forest.specs.declared.edits.Edit.TheVariants as edits
+use Rattle.tr_levels.specs.declared.levels.Level.{Level}
+use Rattle.tr_levels.specs.declared.levels.Level.TheVariants as levels
+use Rattle.tr_journal.specs.declared.names.NameOf.{Ghosts}
+use Rattle.tr_journal.specs.declared.steps.Actor.{Actor}
+use Rattle.tr_journal.specs.declared.steps.Actor.TheVariants as actors
+use Rattle.tr_journal.specs.declared.steps.Query.{Query}
+use Rattle.tr_journal.specs.declared.steps.Query.TheVariants as queries
+use Rattle.tr_journal.specs.declared.steps.Step.{Step}
+use Rattle.tr_journal.specs.declared.steps.Step.TheVariants as steps
+use Rattle.tr_journal.specs.declared.entries.Entry.{Entry}
+use Rattle.tr_journal.specs.Journals.{JournalLine}
+
+-- the names of the nodes and of the leaves, by their numbers
+pub record Names : Type 0 where
+  pub nodes : List (List ℕ)
+  pub leaves : List (List ℕ)
+
+-- the names that someone has
+abbrev pub names_of : {N : Type 0} → Ghosts N → N → Names
+names_of has names = record { nodes = has.node_names names; leaves = has.leaf_names names }
+
+-- the name of a node
+abbrev pub node_name : Names → NodeId → List ℕ
+node_name names node = unwrap_or (slice_get names.nodes node.0) []
+
+-- the name of a leaf
+abbrev pub leaf_name : Names → LeafId → List ℕ
+leaf_name names leaf = unwrap_or (slice_get names.leaves leaf.0) []
+
+-- the node has a name
+pub record HasNode (names : Names) (node : NodeId) : Type 0 where
+  pub within : node.0 < length names.nodes
+
+-- the leaf has a name
+pub record HasLeaf (names : Names) (leaf : LeafId) : Type 0 where
+  pub within : leaf.0 < length names.leaves
+
+-- what a point belongs to has a name
+abbrev pub IsNamedSpot : Names → Spot → Type 0
+IsNamedSpot names (spots.Leaf leaf at size kind) = HasLeaf names leaf
+IsNamedSpot names (spots.Frame node tint kind) = HasNode names node
+IsNamedSpot names spots.Off = ⊤
+
+-- the actor has a name, if it is a leaf's
+abbrev pub IsNamedActor : Names → Actor → Type 0
+IsNamedActor names (actors.Leaf leaf) = HasLeaf names leaf
+IsNamedActor names actor = ⊤
+
+-- the level has a name, if it is a leaf's
+abbrev pub IsNamedLevel : Names → Level → Type 0
+IsNamedLevel names levels.Mu = ⊤
+IsNamedLevel names (levels.Share leaf) = HasLeaf names leaf
+IsNamedLevel names (levels.Win leaf) = HasLeaf names leaf
+
+-- the nodes of an edit have names
+abbrev pub IsNamedEdit : Names → Edit → Type 0
+IsNamedEdit names (edits.Attach child parent at) = HasNode names child × HasNode names parent
+IsNamedEdit names (edits.Detach child) = HasNode names child
+IsNamedEdit names (edits.Tint node tint) = HasNode names node
+IsNamedEdit names (edits.Border node width) = HasNode names node
+IsNamedEdit names (edits.Offset node by) = HasNode names node
+IsNamedEdit names (edits.Fix node size) = HasNode names node
+IsNamedEdit names (edits.Move child at) = HasNode names child
+IsNamedEdit names (edits.Lift child) = HasNode names child
+IsNamedEdit names (edits.Show node child) = HasNode names node × HasNode names child
+IsNamedEdit names (edits.Turn node page) = HasNode names node
+IsNamedEdit names (edits.Shapes node shapes) = HasNode names node
+IsNamedEdit names edit = ⊤
+
+-- the leaf of a report has a name
+abbrev pub IsNamedQuery : Names → Query → Type 0
+IsNamedQuery names (queries.Inbox leaf) = HasLeaf names leaf
+IsNamedQuery names query = ⊤
+
+-- what a step names has a name; a leaf that is flushed or repainted is named by the step, or is the actor's
+abbrev pub IsNamedStep : {M : Type 0} → Names → Step M → Type 0
+IsNamedStep names (steps.Alter edit) = IsNamedEdit names edit
+IsNamedStep names (steps.Flush leaf) = HasLeaf names leaf
+IsNamedStep names (steps.Repaint leaf) = HasLeaf names leaf
+IsNamedStep names (steps.Report query) = IsNamedQuery names query
+IsNamedStep names step = ⊤
+
+-- what the text of an entry names has a name
+pub record IsNamedEntry {M : Type 0} (names : Names) (entry : Entry M) : Type 0 where
+  pub actor : IsNamedActor names entry.actor
+  pub levels : All (IsNamedLevel names) entry.level
+  pub step : IsNamedStep names entry.step
+
+-- so does what the text of its deliveries names
+pub record IsNamedLine {M : Type 0} (names : Names) (line : JournalLine M) : Type 0 where
+  pub entry : IsNamedEntry names line.entry
+  pub sent : All (λ delivery. HasLeaf names delivery.leaf) line.sent

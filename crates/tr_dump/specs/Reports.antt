@@ -1,0 +1,76 @@
+-- The texts of reports.
+use Rattle.std.specs.Prelude.{ℕ, Bool, true, false, List, [], ◌∷◌, ◌++◌, length, codes, decimal}
+use Rattle.std.specs.List.{enumerate_from, flat_map}
+use Rattle.hex.specs.Hex.{encode_lower}
+use Rattle.tr_base.specs.declared.ids.LeafId.{LeafId}
+use Rattle.tr_base.specs.declared.points.Point.{Point}
+use Rattle.tr_base.specs.declared.events.Event.{Event}
+use Rattle.tr_base.specs.declared.spots.Spot.{Spot}
+use Rattle.tr_base.specs.declared.spots.Spot.TheVariants as spots
+use Rattle.tr_screen.specs.Pictures.{Picture}
+use Rattle.tr_inbox.specs.declared.deliveries.Delivery.{Delivery}
+use Rattle.tr_inbox.specs.Inboxes.{Contents}
+use Rattle.tr_journal.specs.Journals.{JournalLine}
+use Rattle.tr_dump.specs.declared.peeks.Peek3.{Peek3}
+use Rattle.tr_dump.specs.Values.{spaced, line_text, kind_word, point_words, size_words, event_text}
+use Rattle.tr_dump.specs.Names.{Names, node_name, leaf_name}
+use Rattle.tr_dump.specs.Steps.{entry_text}
+
+-- a row of pixels: two hex digits for each
+abbrev pub row_text : List ℕ → List ℕ
+row_text row = encode_lower row ++ codes "\n"
+
+-- a screen: its size and kind, and its rows from north to south
+abbrev pub dump_text : Picture → List ℕ
+dump_text p = line_text (codes "dump" ∷ size_words p.size ++ kind_word p.kind ∷ []) ++ flat_map row_text p.rows
+
+-- how many points are bad, how many commands wait, and how many good points show an older content
+abbrev pub peek_text : Peek3 → List ℕ
+peek_text peek =
+    line_text (codes "peek"
+    ∷ codes "bad" ∷ decimal peek.bad
+    ∷ codes "waiting" ∷ decimal peek.waiting
+    ∷ codes "stale" ∷ decimal peek.stale
+    ∷ [])
+
+-- what a point belongs to: a leaf, with the point as that has it, or a node's frame, or nothing
+abbrev pub place_text : Names → Point → Spot → List ℕ
+place_text names p (spots.Leaf leaf at size kind) =
+    line_text (codes "where" ∷ point_words p ++ codes "leaf" ∷ leaf_name names leaf ∷ point_words at)
+place_text names p (spots.Frame node tint kind) =
+    line_text (codes "where" ∷ point_words p ++ codes "frame" ∷ node_name names node ∷ [])
+place_text names p spots.Off = line_text (codes "where" ∷ point_words p ++ codes "off" ∷ [])
+
+-- an event, on a line
+abbrev pub event_line : Event → List ℕ
+event_line event = line_text (event_text event ∷ [])
+
+-- what waits for a leaf, the oldest event first, and how many were dropped
+abbrev pub inbox_text : Names → LeafId → Contents → List ℕ
+inbox_text names leaf inbox =
+    line_text (codes "inbox" ∷ leaf_name names leaf
+    ∷ codes "waiting" ∷ decimal (length inbox.events)
+    ∷ codes "dropped" ∷ decimal inbox.dropped
+    ∷ [])
+    ++ flat_map event_line inbox.events
+
+-- what stands between the name of a leaf and an event that was sent to it
+abbrev pub fate_text : Bool → List ℕ
+fate_text true = codes " dropped "
+fate_text false = codes " "
+
+-- what a step sent, behind its answer
+abbrev pub delivery_text : Names → Delivery → List ℕ
+delivery_text names delivery =
+    codes "; " ++ leaf_name names delivery.leaf ++ fate_text delivery.dropped ++ event_text delivery.event
+
+-- an entry behind its number, and what its step sent
+abbrev pub journal_line : {M : Type 0} → (M → List ℕ) → Names → ℕ × JournalLine M → List ℕ
+journal_line words names (number, line) =
+    spaced (decimal number ∷ entry_text words names line.entry ∷ []) ++ flat_map (delivery_text names) line.sent ++ codes "\n"
+
+-- the entries so far, numbered from 1
+abbrev pub journal_text : {M : Type 0} → (M → List ℕ) → Names → List (JournalLine M) → List ℕ
+journal_text words names lines =
+    line_text (codes "journal" ∷ decimal (length lines) ∷ [])
+    ++ flat_map (journal_line words names) (enumerate_from 1 lines)

@@ -1,0 +1,126 @@
+ghost use Rattle.std.specs.Prelude.{◌≡◌, ◌+◌, ◌<◌, ◌^◌, [], ◌∷◌, ◌++◌, All, codes, decimal, length, OnOk, OnErr};
+ghost use Rattle.std.specs.List.{enumerate_from, flat_map};
+ghost use Rattle.tr_dump.specs.Begins.{Begins};
+ghost use Rattle.tr_dump.specs.Names.{HasLeaf, IsNamedEntry, IsNamedLine, names_of};
+ghost use Rattle.tr_dump.specs.Values.{spaced};
+ghost use Rattle.tr_dump.specs.Steps.{entry_text};
+ghost use Rattle.tr_dump.specs.Reports as spec;
+
+use crate::entries::append_entry;
+use crate::names::leaf_name;
+use crate::values::append_event;
+use crate::words::Word::Number;
+use crate::words::{append_line, or_nothing};
+use itoa::Buffer;
+use tr_base::{Command, NoMemory};
+use tr_client::append_all;
+use tr_journal::{Delivery, Entry, Journal, NameOf};
+
+/// Appends how many entries there are, on a line, and then a line for each entry, numbered from 1, with
+/// all that its step sent.
+pub fn journal<M: Command, N: NameOf>(
+    journal: &Journal<M>,
+    names: &N,
+    out: &mut Vec<u8>,
+) -> Result<(), NoMemory>
+    requires { All (IsNamedLine (names_of N.NameOf names.now)) journal.now.lines }
+    ensures ok { OnOk result (out.new.items ≡
+        out.old.items ++ spec.journal_text M.words (names_of N.NameOf names.now) journal.now.lines) }
+    ensures err { OnErr result (out.new.items ≡ out.old.items) }
+{
+    let len = out.len();
+    let appended = append_journal(journal, names, out);
+    or_nothing(appended, len, out)
+}
+
+/// Appends the text of a journal.
+#[tactic(auto, using(crate::proofs::BeginsLemmas::begins_itself, crate::proofs::BeginsLemmas::begins_before))]
+fn append_journal<M: Command, N: NameOf>(
+    journal: &Journal<M>,
+    names: &N,
+    out: &mut Vec<u8>,
+) -> Result<(), NoMemory>
+    requires { All (IsNamedLine (names_of N.NameOf names.now)) journal.now.lines }
+    ensures ok { OnOk result (out.new.items ≡
+        out.old.items ++ spec.journal_text M.words (names_of N.NameOf names.now) journal.now.lines) }
+    ensures err { OnErr result (Begins out.new.items out.old.items) }
+{
+    append_line(out, b"journal", &[Number(journal.len() as u64)])?;
+    append_entries(journal, names, out)
+}
+
+/// Appends a line for each entry.
+#[tactic(auto, using(crate::proofs::BeginsLemmas::begins_itself, crate::proofs::BeginsLemmas::begins_before))]
+fn append_entries<M: Command, N: NameOf>(
+    journal: &Journal<M>,
+    names: &N,
+    out: &mut Vec<u8>,
+) -> Result<(), NoMemory>
+    requires { All (IsNamedLine (names_of N.NameOf names.now)) journal.now.lines }
+    ensures ok { OnOk result (out.new.items ≡ out.old.items ++
+        flat_map (spec.journal_line M.words (names_of N.NameOf names.now)) (enumerate_from 1 journal.now.lines)) }
+    ensures err { OnErr result (Begins out.new.items out.old.items) }
+{
+    for k in 0..journal.len() {
+        append_numbered(k, journal.get(k), names, out)?;
+        append_sent(journal.sent(k), names, out)?;
+    }
+    Ok(())
+}
+
+/// Appends the entry behind `k` others, behind its number.
+#[tactic(auto, using(crate::proofs::BeginsLemmas::begins_itself, crate::proofs::BeginsLemmas::begins_before))]
+fn append_numbered<M: Command, N: NameOf>(
+    k: usize,
+    entry: &Entry<M>,
+    names: &N,
+    out: &mut Vec<u8>,
+) -> Result<(), NoMemory>
+    requires counted { k + 1 < 2 ^ 64 }
+    requires named { IsNamedEntry (names_of N.NameOf names.now) entry.now }
+    ensures ok { OnOk result (out.new.items ≡ out.old.items ++
+        spaced (decimal (k + 1) ∷ entry_text M.words (names_of N.NameOf names.now) entry.now ∷ [])) }
+    ensures err { OnErr result (Begins out.new.items out.old.items) }
+{
+    let mut buffer = Buffer::new();
+    append_all(out, &[buffer.format(k + 1).as_bytes(), b" "])?;
+    append_entry(entry, names, out)
+}
+
+/// Appends what a step sent, and ends the line.
+#[tactic(auto, using(crate::proofs::BeginsLemmas::begins_itself, crate::proofs::BeginsLemmas::begins_before))]
+fn append_sent<N: NameOf>(sent: &[Delivery], names: &N, out: &mut Vec<u8>) -> Result<(), NoMemory>
+    requires { All (λ delivery. HasLeaf (names_of N.NameOf names.now) delivery.leaf) sent.now }
+    ensures ok { OnOk result (out.new.items ≡ out.old.items ++
+        (flat_map (spec.delivery_text (names_of N.NameOf names.now)) sent.now ++ codes "\n")) }
+    ensures err { OnErr result (Begins out.new.items out.old.items) }
+{
+    for delivery in sent {
+        append_delivery(delivery, names, out)?;
+    }
+    Ok(out.push(b'\n')?)
+}
+
+/// Appends the text of a delivery.
+#[tactic(auto, using(crate::proofs::BeginsLemmas::begins_itself, crate::proofs::BeginsLemmas::begins_before))]
+fn append_delivery<N: NameOf>(
+    delivery: &Delivery,
+    names: &N,
+    out: &mut Vec<u8>,
+) -> Result<(), NoMemory>
+    requires { HasLeaf (names_of N.NameOf names.now) delivery.now.leaf }
+    ensures ok { OnOk result (out.new.items ≡
+        out.old.items ++ spec.delivery_text (names_of N.NameOf names.now) delivery.now) }
+    ensures err { OnErr result (Begins out.new.items out.old.items) }
+{
+    append_all(out, &[b"; ", leaf_name(names, delivery.leaf)])?;
+    out.extend_from_slice(fate_text(delivery.dropped))?;
+    append_event(&delivery.event, out)
+}
+
+/// What stands between the name of a leaf and an event that was sent to it.
+fn fate_text(dropped: bool) -> &'static [u8]
+    ensures { result.now ≡ spec.fate_text dropped }
+{
+    if dropped { b" dropped " } else { b" " }
+}

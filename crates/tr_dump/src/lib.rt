@@ -1,0 +1,23 @@
+//! The texts of reports: the screen, what waits to be painted, the journal, what a point belongs to, and
+//! what waits in an inbox. Each call appends its text to `out`, or nothing where memory is wanted.
+#![tactic(auto)]
+
+mod answers;
+mod dumps;
+mod edits;
+mod entries;
+mod journals;
+mod names;
+mod peeks;
+mod places;
+mod steps;
+mod values;
+mod words;
+
+pub use dumps::dump;
+pub use journals::journal;
+pub use peeks::{Peek3, peek_line};
+pub use places::{inbox, place_line};
+
+#[cfg(test)]
+mod tests;
