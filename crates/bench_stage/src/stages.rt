@@ -1,0 +1,203 @@
+ghost use Rattle.std.specs.Prelude.{◌≤◌, IsTrue};
+ghost use Rattle.tr_forest.specs.Nodes.{IsNode};
+
+use crate::plans::{node_of, place_of};
+use std::alloc::Global;
+use std::io;
+use tr_base::{Kind, LeafId, NoMemory, NodeId, Point, Shape, Shapes, Size};
+use tr_client::Client;
+use tr_forest::{Edit, EditRefused, NodeKind};
+use tr_journal::{Actor, Answer, Opening, Step, covers, is_edit, is_step, may};
+use tr_levels::{Held, Level};
+use tr_stage::Stage;
+use tr_tree::Tree;
+
+/// The screen of each stage.
+const SCREEN: Size = Size {
+    wide: 640,
+    high: 480,
+};
+
+/// The size of each window.
+const WINDOW: Size = Size {
+    wide: 160,
+    high: 120,
+};
+
+/// The root of each stage.
+const ROOT: NodeId = NodeId(0);
+
+/// Why nothing is measured.
+#[derive(Debug, Drop)]
+pub enum Stopped {
+    NoMemory,
+    /// A step isn't allowed, or answers that it wasn't done.
+    Refused,
+    Io(io::Error),
+}
+
+impl From<NoMemory> for Stopped {
+    fn from(_e: NoMemory) -> Stopped {
+        Stopped::NoMemory
+    }
+}
+
+impl From<EditRefused> for Stopped {
+    fn from(e: EditRefused) -> Stopped {
+        match e {
+            EditRefused::NoMemory => Stopped::NoMemory,
+            EditRefused::Fault(_) => Stopped::Refused,
+        }
+    }
+}
+
+impl From<io::Error> for Stopped {
+    fn from(e: io::Error) -> Stopped {
+        Stopped::Io(e)
+    }
+}
+
+/// A stage whose windows lie on a Z, each in front of those before it, and a bit further south-east.
+pub fn stage_of<C: Client>(alloc: Global, contents: &[C]) -> Result<Stage<C>, Stopped> {
+    let mut opening = Opening::new(alloc, SCREEN, Kind::Map8)?;
+    write_glyphs(&mut opening)?;
+    add_root(&mut opening)?;
+    for content in contents {
+        add(&mut opening, content.copy(alloc)?)?;
+    }
+    start(alloc, opening)
+}
+
+/// Writes a glyph for each byte that can have one.
+fn write_glyphs<C: Client>(opening: &mut Opening<C>) -> Result<(), NoMemory> {
+    for byte in 32..127 {
+        opening.glyph(byte, [byte; 8])?;
+    }
+    Ok(())
+}
+
+/// Adds the root to an opening without nodes.
+fn add_root<C: Client>(opening: &mut Opening<C>) -> Result<(), Stopped> {
+    if opening.tree().count() > 0 {
+        return Err(Stopped::Refused);
+    }
+    opening.node(NodeKind::Z, 255)?;
+    if !has_node(opening.tree(), ROOT) {
+        return Err(Stopped::Refused);
+    }
+    opening.root(ROOT)?;
+    Ok(())
+}
+
+/// Adds a window in front of the others.
+fn add<C: Client>(opening: &mut Opening<C>, content: C) -> Result<(), Stopped> {
+    let n = u16::from(opening.tree().leaves());
+    if opening.tree().count() >= 256 || n >= 32 {
+        return Err(Stopped::Refused);
+    }
+    opening.leaf(just(WINDOW), content)?;
+    put(opening, node_of(n), place_of(n))
+}
+
+/// Puts a window onto the root.
+fn put<C: Client>(opening: &mut Opening<C>, child: NodeId, at: Point) -> Result<(), Stopped> {
+    let parent = ROOT;
+    if !is_edit(opening.tree(), &Edit::Attach { child, parent, at }) {
+        return Err(Stopped::Refused);
+    }
+    opening.put(child, parent, at)?;
+    Ok(())
+}
+
+/// The stage of an opening with a root.
+fn start<C: Client>(alloc: Global, opening: Opening<C>) -> Result<Stage<C>, Stopped> {
+    if !opening.is_ready() {
+        return Err(Stopped::Refused);
+    }
+    match Stage::start(alloc, opening) {
+        Ok(stage) => Ok(stage),
+        Err(_opening) => Err(Stopped::NoMemory),
+    }
+}
+
+/// Whether the number is that of a node.
+fn has_node(tree: &Tree, node: NodeId) -> bool
+    ensures { IsTrue result → IsNode tree.now.nodes node }
+{
+    usize::from(node.0) < tree.count()
+}
+
+/// Just this size.
+fn just(size: Size) -> Shapes
+    requires wide { size.wide ≤ 4096 }
+    requires high { size.high ≤ 4096 }
+{
+    Shapes {
+        across: same_lengths(size.wide),
+        down: same_lengths(size.high),
+    }
+}
+
+fn same_lengths(length: u16) -> Shape
+    requires { length ≤ 4096 }
+{
+    Shape {
+        lo: length,
+        pref: length,
+        hi: length,
+    }
+}
+
+/// Makes steps, one after another.
+pub fn make_all<C: Client>(stage: &mut Stage<C>, steps: Vec<Step<C::Cmd>>) -> Result<(), Stopped> {
+    for step in steps {
+        make(stage, step)?;
+    }
+    Ok(())
+}
+
+/// Makes copies of steps, one after another.
+pub fn make_copies<C: Client>(
+    alloc: Global,
+    stage: &mut Stage<C>,
+    steps: &[Step<C::Cmd>],
+) -> Result<(), Stopped> {
+    for step in steps {
+        make(stage, step.copy(alloc)?)?;
+    }
+    Ok(())
+}
+
+/// Makes a step, which is done.
+pub fn make<C: Client>(stage: &mut Stage<C>, step: Step<C::Cmd>) -> Result<(), Stopped> {
+    let actor = maker_of(&step);
+    let level = levels_of(&step);
+    if may(actor, &step) && covers(level, &step) && is_step(stage.opening().tree(), &step) {
+        let reply = stage.step(actor, level, step)?;
+        if reply.answer.same(&Answer::Done) {
+            return Ok(());
+        }
+    }
+    Err(Stopped::Refused)
+}
+
+/// Who makes the step.
+fn maker_of<M>(step: &Step<M>) -> Actor {
+    match *step {
+        Step::Act { leaf, .. } | Step::Flush { leaf } => Actor::Leaf(leaf),
+        Step::Motion { .. } | Step::Alter { .. } => Actor::Desk,
+        _ => Actor::Player,
+    }
+}
+
+/// What is held when the step is made.
+fn levels_of<M>(step: &Step<M>) -> Held {
+    match *step {
+        Step::Act { leaf, .. } => win(leaf),
+        _ => Held::none().with(Level::Mu),
+    }
+}
+
+fn win(leaf: LeafId) -> Held {
+    Held::none().with(Level::Win(leaf))
+}

@@ -1,0 +1,126 @@
+use crate::plans::Plan;
+use std::alloc::Global;
+use std::fmt;
+use tr_base::{Line, NoMemory};
+use tr_widget::{Widget, WidgetCmd};
+use w_canvas::{Area, Canvas, CanvasCmd};
+use w_lines::{Lines, LinesCmd};
+use w_plain::{Solid, SolidCmd};
+
+/// How many lines are kept.
+const LINES: u8 = 200;
+
+/// How many figures a canvas has room for.
+const FIGURES: u8 = 64;
+
+/// How often a window is told its commands in a round.
+const ROUND: u8 = 32;
+
+/// A window of one colour.
+const SOLID: Widget = Widget::Solid(Solid { tint: 7 });
+
+/// The window gets the colour that it began with.
+const TINT: WidgetCmd = WidgetCmd::Solid(SolidCmd::Tint(7));
+
+/// The window gets another colour.
+const OTHER_TINT: WidgetCmd = WidgetCmd::Solid(SolidCmd::Tint(200));
+
+/// The canvas loses its last figure.
+const UNDO: WidgetCmd = WidgetCmd::Canvas(CanvasCmd::Undo);
+
+/// What is measured.
+#[derive(Clone, Copy)]
+pub enum Workload {
+    /// A window of one colour is told a colour.
+    ActOnSolid,
+    /// A typescript with all lines that are kept gets one more.
+    ActOnLines,
+    /// A canvas with all figures that it has room for loses the last one, and gets it back.
+    ActOnCanvas,
+    /// So many commands that wait for a window of one colour are executed.
+    Flush(u8),
+    /// Of so many windows the one behind the others and the one in front are moved to and fro.
+    Move(u8),
+    /// The cursor goes across so many windows.
+    Motion(u8),
+}
+
+impl Workload {
+    /// How it is measured.
+    pub fn plan(self, alloc: Global) -> Result<Plan<Widget>, NoMemory> {
+        match self {
+            Workload::ActOnSolid => solid_plan(alloc),
+            Workload::ActOnLines => lines_plan(alloc),
+            Workload::ActOnCanvas => canvas_plan(alloc),
+            Workload::Flush(count) => flush_plan(alloc, count),
+            Workload::Move(count) => move_plan(alloc, count),
+            Workload::Motion(count) => motion_plan(alloc, count),
+        }
+    }
+}
+
+fn solid_plan(alloc: Global) -> Result<Plan<Widget>, NoMemory> {
+    let mut plan = Plan::of(alloc, &SOLID, 1)?;
+    plan.prepare(&[TINT])?;
+    plan.act(&[OTHER_TINT], ROUND)?;
+    Ok(plan)
+}
+
+fn lines_plan(alloc: Global) -> Result<Plan<Widget>, NoMemory> {
+    let cmds = [line(Line::of(b"trestle> dump the screen")?)];
+    let mut plan = Plan::of(alloc, &Widget::Lines(Lines::new(alloc)?), 1)?;
+    plan.fill(&cmds, LINES)?;
+    plan.prepare(&[line(Line::of(b"dumped")?)])?;
+    plan.act(&cmds, ROUND)?;
+    Ok(plan)
+}
+
+fn canvas_plan(alloc: Global) -> Result<Plan<Widget>, NoMemory> {
+    let mut plan = Plan::of(alloc, &Widget::Canvas(Canvas::new(alloc)?), 1)?;
+    plan.fill(&[figure(9)], FIGURES)?;
+    plan.prepare(&[UNDO, figure(200)])?;
+    plan.act(&[UNDO, figure(9)], ROUND)?;
+    Ok(plan)
+}
+
+fn flush_plan(alloc: Global, count: u8) -> Result<Plan<Widget>, NoMemory> {
+    let mut plan = Plan::of(alloc, &SOLID, 1)?;
+    plan.flush(&[OTHER_TINT], count)?;
+    Ok(plan)
+}
+
+fn move_plan(alloc: Global, count: u8) -> Result<Plan<Widget>, NoMemory> {
+    let mut plan = Plan::of(alloc, &SOLID, count)?;
+    plan.move_windows()?;
+    Ok(plan)
+}
+
+fn motion_plan(alloc: Global, count: u8) -> Result<Plan<Widget>, NoMemory> {
+    let mut plan = Plan::of(alloc, &SOLID, count)?;
+    plan.move_cursor()?;
+    Ok(plan)
+}
+
+/// The typescript gets a line.
+fn line(text: Line) -> WidgetCmd {
+    WidgetCmd::Lines(LinesCmd::Line(text))
+}
+
+/// The canvas gets a figure of this colour.
+fn figure(tint: u8) -> WidgetCmd {
+    let area = Area::edges(10, 110, 10, 90);
+    WidgetCmd::Canvas(CanvasCmd::Rect { area, tint })
+}
+
+impl fmt::Display for Workload {
+    fn fmt<W: fmt::Write>(&self, f: &mut fmt::Formatter<W>) -> fmt::Result {
+        match *self {
+            Workload::ActOnSolid => f.write_str("act on a solid"),
+            Workload::ActOnLines => f.write_str("act on 200 lines"),
+            Workload::ActOnCanvas => f.write_str("act on a canvas of 64 figures"),
+            Workload::Flush(count) => write!(f, "flush of {count}"),
+            Workload::Move(count) => write!(f, "move among {count}"),
+            Workload::Motion(count) => write!(f, "motion among {count}"),
+        }
+    }
+}
