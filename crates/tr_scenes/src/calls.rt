@@ -1,0 +1,206 @@
+//! Calls of a stage, each behind the conditions that it asks for: where one doesn't hold, the test ends. They
+//! are proved of the contents of every client, whose pictures they needn't know.
+ghost use Rattle.std.specs.Prelude.{◌≡◌, ◌<◌, ◌≤◌, ◌+◌, true};
+ghost use Rattle.tr_forest.specs.Nodes.{leaf_count};
+ghost use Rattle.tr_journal.specs.Openings.{tree_of};
+ghost use Rattle.tr_journal.specs.Steps.{IsStep, may, covers};
+ghost use Rattle.tr_stage.specs.Stages as spec;
+
+use super::acts::By;
+use super::openings::{Part, Sample, opening_of};
+use std::process::Abort;
+use tr_base::{Event, LeafId, Line, NoMemory, Point, Selection, Size};
+use tr_client::Client;
+use tr_forest::EditRefused;
+use tr_journal::{Delivery, Entry, Opening, Reply, Step, covers, is_step, may};
+use tr_stage::{Peek, Stage, is_reservable};
+
+/// Ends the test where the step may not be made.
+fn allow<C: Client>(rt: &impl Abort, stage: &Stage<C>, by: &By, step: &Step<C::Cmd>)
+    ensures may { may by.now.actor step.now ≡ true }
+    ensures covers { covers by.now.level step.now ≡ true }
+    ensures values { IsStep (tree_of stage.now.opening).nodes step.now }
+{
+    assert!(rt; may(by.actor, step) && covers(by.level, step));
+    assert!(rt; is_step(stage.opening().tree(), step));
+}
+
+/// Ends the test where room may not be reserved for the step.
+fn allow_reserved<M>(rt: &impl Abort, step: &Step<M>)
+    ensures { spec.is_reservable step.now ≡ true }
+{
+    assert!(rt; is_reservable(step));
+}
+
+/// Ends the test where there is no such leaf.
+fn allow_leaf<C: Client>(rt: &impl Abort, stage: &Stage<C>, leaf: LeafId)
+    ensures { leaf.0 < leaf_count (tree_of stage.now.opening).nodes }
+{
+    assert!(rt; leaf.0 < stage.opening().tree().leaves());
+}
+
+/// The stage of an opening whose root was set.
+fn begin<C: Client>(
+    rt: &(impl Abort + AllocGlobal),
+    opening: Opening<C>,
+) -> Result<Stage<C>, EditRefused> {
+    assert!(rt; opening.is_ready());
+    match Stage::start(rt.alloc(), opening) {
+        Ok(stage) => Ok(stage),
+        Err(_opening) => Err(EditRefused::NoMemory),
+    }
+}
+
+pub fn start<C: Client + Sample>(
+    rt: &(impl Abort + AllocGlobal),
+    size: Size,
+    parts: &[Part],
+) -> Result<Stage<C>, EditRefused> {
+    begin(rt, opening_of(rt, size, parts)?)
+}
+
+pub fn again<C: Client>(
+    rt: &(impl Abort + AllocGlobal),
+    stage: &Stage<C>,
+) -> Result<Stage<C>, EditRefused> {
+    begin(rt, stage.opening().copy()?)
+}
+
+pub fn make<C: Client>(
+    rt: &impl Abort,
+    stage: &mut Stage<C>,
+    by: &By,
+    step: Step<C::Cmd>,
+) -> Result<Reply, NoMemory> {
+    allow(rt, stage, by, &step);
+    stage.step(by.actor, by.level, step)
+}
+
+/// Makes a step for which there is room.
+fn reserved<C: Client>(rt: &impl Abort, stage: &mut Stage<C>, by: &By, step: Step<C::Cmd>) -> Reply
+    requires { 0 < stage.old.spare }
+    ensures { stage.old.spare ≤ stage.new.spare + 1 }
+{
+    allow(rt, stage, by, &step);
+    allow_reserved(rt, &step);
+    stage.step_reserved(by.actor, by.level, step)
+}
+
+pub fn make_reserved<C: Client>(
+    rt: &impl Abort,
+    stage: &mut Stage<C>,
+    by: &By,
+    step: Step<C::Cmd>,
+) -> Result<Reply, NoMemory> {
+    stage.reserve(1)?;
+    Ok(reserved(rt, stage, by, step))
+}
+
+pub fn make_three_reserved<C: Client>(
+    rt: &impl Abort,
+    stage: &mut Stage<C>,
+    by: &By,
+    steps: [Step<C::Cmd>; 3],
+) -> Result<[Reply; 3], NoMemory> {
+    stage.reserve(3)?;
+    let [first, second, third] = steps;
+    let first = reserved(rt, stage, by, first);
+    let second = reserved(rt, stage, by, second);
+    let third = reserved(rt, stage, by, third);
+    Ok([first, second, third])
+}
+
+pub fn settle<C: Client>(stage: &mut Stage<C>) -> Result<(), NoMemory> {
+    stage.settle()
+}
+
+pub fn peek<C: Client>(stage: &Stage<C>) -> Result<Peek, NoMemory> {
+    stage.peek()
+}
+
+pub fn size<C: Client>(stage: &Stage<C>) -> Size {
+    stage.screen().size()
+}
+
+pub fn row<'a, C: Client>(rt: &impl Abort, stage: &'a Stage<C>, v: u16) -> &'a [u8] {
+    let screen = stage.screen();
+    assert!(rt; v < screen.size().high);
+    screen.row(v)
+}
+
+pub fn entries<C: Client>(stage: &Stage<C>) -> usize {
+    stage.journal().len()
+}
+
+pub fn has_entry<C: Client>(
+    rt: &impl Abort,
+    stage: &Stage<C>,
+    k: usize,
+    entry: &Entry<C::Cmd>,
+) -> bool {
+    let journal = stage.journal();
+    assert!(rt; k < journal.len());
+    journal.get(k).same(entry)
+}
+
+pub fn sent<'a, C: Client>(rt: &impl Abort, stage: &'a Stage<C>, k: usize) -> &'a [Delivery] {
+    let journal = stage.journal();
+    assert!(rt; k < journal.len());
+    journal.sent(k)
+}
+
+pub fn waiting<C: Client>(rt: &impl Abort, stage: &Stage<C>, leaf: LeafId) -> usize {
+    allow_leaf(rt, stage, leaf);
+    stage.inbox(leaf).waiting()
+}
+
+pub fn event<C: Client>(rt: &impl Abort, stage: &Stage<C>, leaf: LeafId, i: usize) -> Event {
+    allow_leaf(rt, stage, leaf);
+    let inbox = stage.inbox(leaf);
+    assert!(rt; i < inbox.waiting());
+    inbox.get(i)
+}
+
+pub fn dropped<C: Client>(rt: &impl Abort, stage: &Stage<C>, leaf: LeafId) -> u32 {
+    allow_leaf(rt, stage, leaf);
+    stage.inbox(leaf).dropped()
+}
+
+pub fn value<C: Client>(
+    rt: &(impl Abort + AllocGlobal),
+    stage: &Stage<C>,
+    leaf: LeafId,
+) -> Result<Line, NoMemory> {
+    allow_leaf(rt, stage, leaf);
+    stage.content(leaf).value(rt.alloc())
+}
+
+pub fn commands<C: Client>(rt: &impl Abort, stage: &Stage<C>, leaf: LeafId) -> usize {
+    allow_leaf(rt, stage, leaf);
+    stage.batch(leaf).len()
+}
+
+pub fn leaf_size<C: Client>(rt: &impl Abort, stage: &Stage<C>, leaf: LeafId) -> Size {
+    allow_leaf(rt, stage, leaf);
+    stage.leaf_size(leaf)
+}
+
+pub fn tree_size<C: Client>(stage: &Stage<C>) -> Size {
+    stage.tree().size()
+}
+
+pub fn glyph<C: Client>(stage: &Stage<C>) -> [u8; 8] {
+    stage.font().glyph_of(b'A')
+}
+
+pub fn is_bad<C: Client>(stage: &Stage<C>, p: Point) -> bool {
+    stage.bad().has(p)
+}
+
+pub fn cursor<C: Client>(stage: &Stage<C>) -> Point {
+    stage.desk().cursor()
+}
+
+pub fn owner<C: Client>(stage: &Stage<C>, selection: Selection) -> Option<LeafId> {
+    stage.desk().owner(selection)
+}

@@ -1,0 +1,188 @@
+//! Openings for tests, made of parts as a script's lines are.
+ghost use Rattle.std.specs.Prelude.{◌≡◌, ◌<◌, ◌≤◌, false, None, IsTrue, IsSome, length};
+ghost use Rattle.tr_base.specs.Layouts.{farthest, IsOffset};
+ghost use Rattle.tr_forest.specs.Nodes.{IsNodeKind, is_leaf, shown_by};
+
+use std::process::Abort;
+use tr_base::{Kind, Line, NoMemory, NodeId, Point, Shape, Shapes, Size, is_printable};
+use tr_client::Client;
+use tr_forest::{Edit, EditRefused, NodeKind};
+use tr_journal::{Opening, is_edit};
+use tr_widget::Widget;
+use w_canvas::Canvas;
+use w_lines::Lines;
+use w_meter::Meter;
+use w_plain::{Label, Solid};
+
+/// One of the things that make an opening. The first node is the root.
+#[derive(Clone, Copy)]
+pub enum Part {
+    /// The glyph of A is full.
+    Glyph,
+    /// A node that is no leaf, and its tint.
+    Node(NodeKind, u8),
+    /// A leaf that wants these lengths across and down, at least, by preference and at most, and what it
+    /// shows.
+    Leaf([u16; 3], [u16; 3], Shown),
+    /// The node of the first number becomes a child of the second, and stands there if that is a Z.
+    Put(u16, u16, i32, i32),
+}
+
+/// What a leaf shows at first.
+#[derive(Clone, Copy)]
+pub enum Shown {
+    /// One colour.
+    Solid(u8),
+    /// The text `hi`.
+    Label,
+    /// No line.
+    Lines,
+    /// No figure.
+    Canvas,
+    /// One bar.
+    Meter,
+}
+
+/// A content that tests can make. So what they do with a stage is proved of the contents of every client,
+/// whose pictures it needn't know.
+pub trait Sample: Sized {
+    /// A content that shows this.
+    fn showing(rt: &(impl Abort + AllocGlobal), shown: Shown) -> Result<Self, NoMemory>;
+}
+
+impl Sample for Widget {
+    fn showing(rt: &(impl Abort + AllocGlobal), shown: Shown) -> Result<Widget, NoMemory> {
+        Ok(match shown {
+            Shown::Solid(tint) => Widget::Solid(Solid::new(tint)),
+            Shown::Label => Widget::Label(Label::new(line(rt, b"hi")?)?),
+            Shown::Lines => Widget::Lines(Lines::new(rt.alloc())?),
+            Shown::Canvas => Widget::Canvas(Canvas::new(rt.alloc())?),
+            Shown::Meter => Widget::Meter(Meter::new(rt.alloc(), 1)?),
+        })
+    }
+}
+
+/// The line of these bytes.
+pub fn line(rt: &impl Abort, bytes: &[u8]) -> Result<Line, NoMemory> {
+    assert!(rt; bytes.len() <= 80 && bytes.iter().all(|byte| is_printable(*byte)));
+    Line::of(bytes)
+}
+
+/// Lengths of at least, by preference, and at most.
+fn shape(rt: &impl Abort, lengths: &[u16; 3]) -> Shape {
+    let [lo, pref, hi] = *lengths;
+    assert!(rt; lo <= pref && pref <= hi && hi <= 4096);
+    Shape { lo, pref, hi }
+}
+
+/// The shapes of these lengths.
+fn shapes(rt: &impl Abort, across: &[u16; 3], down: &[u16; 3]) -> Shapes {
+    let (across, down) = (shape(rt, across), shape(rt, down));
+    Shapes { across, down }
+}
+
+/// Whether a point is at most 2048 away each way.
+fn is_offset(at: Point) -> bool
+    ensures { IsTrue result → IsOffset farthest at }
+{
+    -2048 <= at.h && at.h <= 2048 && -2048 <= at.v && at.v <= 2048
+}
+
+/// Whether a node of this kind may be added: it is no leaf, shows no child by name, and its numbers are
+/// within their ranges.
+fn is_inner(kind: &NodeKind) -> bool
+    ensures kind { IsTrue result → IsNodeKind kind.now }
+    ensures shown { IsTrue result → shown_by kind.now ≡ None }
+    ensures inner { IsTrue result → is_leaf kind.now ≡ false }
+{
+    match kind {
+        NodeKind::H | NodeKind::V | NodeKind::Z | NodeKind::Border { .. } => true,
+        NodeKind::T { shown } => shown.is_none(),
+        NodeKind::Page { per, .. } => 1 <= *per && *per <= 16,
+        NodeKind::Rigid { size } => size.wide <= 4096 && size.high <= 4096,
+        NodeKind::Translate { by } => is_offset(*by),
+        NodeKind::Pack { gap, .. } => *gap <= 64,
+        NodeKind::Leaf { .. } => false,
+    }
+}
+
+/// Adds a node that is no leaf.
+fn add_node<C: Client>(
+    rt: &impl Abort,
+    opening: &mut Opening<C>,
+    kind: &NodeKind,
+    tint: u8,
+) -> Result<(), NoMemory> {
+    assert!(rt; opening.tree().count() < 256 && is_inner(kind));
+    opening.node(*kind, tint)?;
+    Ok(())
+}
+
+/// Adds a leaf.
+fn add_leaf<C: Client>(
+    rt: &impl Abort,
+    opening: &mut Opening<C>,
+    shapes: Shapes,
+    content: C,
+) -> Result<(), NoMemory> {
+    assert!(rt; opening.tree().count() < 256 && opening.tree().leaves() < 32);
+    opening.leaf(shapes, content)?;
+    Ok(())
+}
+
+/// Makes a node the child of another.
+fn put<C: Client>(
+    rt: &impl Abort,
+    opening: &mut Opening<C>,
+    child: NodeId,
+    parent: NodeId,
+    at: Point,
+) -> Result<(), EditRefused> {
+    assert!(rt; is_edit(opening.tree(), &Edit::Attach { child, parent, at }));
+    opening.put(child, parent, at)
+}
+
+/// Makes the first node the root.
+fn set_root<C: Client>(rt: &impl Abort, opening: &mut Opening<C>) -> Result<(), EditRefused> {
+    assert!(rt; 0 < opening.tree().count());
+    opening.root(NodeId(0))
+}
+
+fn add<C: Client + Sample>(
+    rt: &(impl Abort + AllocGlobal),
+    opening: &mut Opening<C>,
+    part: &Part,
+) -> Result<(), EditRefused> {
+    match part {
+        Part::Glyph => Ok(opening.glyph(b'A', [0xff; 8])?),
+        Part::Node(kind, tint) => Ok(add_node(rt, opening, kind, *tint)?),
+        Part::Leaf(across, down, shown) => {
+            let shapes = shapes(rt, across, down);
+            Ok(add_leaf(rt, opening, shapes, C::showing(rt, *shown)?)?)
+        }
+        Part::Put(child, parent, h, v) => {
+            let at = Point { h: *h, v: *v };
+            put(rt, opening, NodeId(*child), NodeId(*parent), at)
+        }
+    }
+}
+
+/// The screen alone.
+fn blank<C: Client>(rt: &(impl Abort + AllocGlobal), size: Size) -> Result<Opening<C>, NoMemory> {
+    assert!(rt; 1 <= size.wide && size.wide <= 1024 && 1 <= size.high && size.high <= 1024);
+    Opening::new(rt.alloc(), size, Kind::Map8)
+}
+
+/// The opening of a screen of this size.
+pub fn opening_of<C: Client + Sample>(
+    rt: &(impl Abort + AllocGlobal),
+    size: Size,
+    parts: &[Part],
+) -> Result<Opening<C>, EditRefused> {
+    let mut opening = blank(rt, size)?;
+    for part in parts {
+        add(rt, &mut opening, part)?;
+    }
+    set_root(rt, &mut opening)?;
+    Ok(opening)
+}
