@@ -16,6 +16,3 @@ mod stages;
 
 pub use peeks::Peek;
 pub use stages::{Stage, is_reservable};
-
-#[cfg(test)]
-mod tests;
