@@ -1,0 +1,119 @@
+//! What a line adds.
+ghost use Rattle.std.specs.Prelude.{◌≡◌, [], true, false, OnOk, is_some};
+ghost use Rattle.tr_journal.specs.Steps.{IsQuery};
+ghost use Rattle.tr_grammar.specs.Faults.{version_line, opening_line, step_line, report_line, allows, is_one_too_many, nodes_so_far};
+ghost use Rattle.tr_grammar.specs.Scripts.{after, IsPlayable};
+ghost use Rattle.tr_reader.specs.Adding.{Adds, IsSoundMeaning};
+
+use crate::parts::{Part, Steps, push};
+use crate::readers::Reader;
+use tr_base::NoMemory;
+use tr_grammar::{Code, LineRefused, Meaning, Place};
+use tr_journal::{Actor, Query, Step};
+use tr_widget::WidgetCmd;
+use w_canvas::CanvasCmd;
+use w_lines::LinesCmd;
+use w_meter::MeterCmd;
+use w_plain::{BoardCmd, LabelCmd};
+
+impl<'a> Reader<'a> {
+    /// The script is of this version.
+    fn set_version(&mut self, version: u8)
+        requires { allows self.old.place version_line ≡ true }
+        ensures { self.new ≡ after self.old [] (Meaning.Version version) }
+    {
+        self.version = version;
+        self.place = Place::Head;
+    }
+
+    /// Whether the opening has a root.
+    fn has_root(&self) -> bool
+        ensures { result ≡ is_some (nodes_so_far self.now).root }
+    {
+        match &self.declared {
+            Some(declared) => declared.opening.is_ready(),
+            None => false,
+        }
+    }
+
+    /// The opening ends, if it has a root.
+    fn begin(&mut self) -> Result<(), LineRefused>
+        requires { allows self.old.place opening_line ≡ true }
+        ensures { Adds self.old [] Meaning.Begin self.new result }
+    {
+        if !self.has_root() {
+            return Err(LineRefused::Fault(Code::B6));
+        }
+        self.place = Place::Gap;
+        Ok(())
+    }
+
+    /// The actor makes a step.
+    fn add_step(&mut self, actor: Actor, step: Step<WidgetCmd>) -> Result<(), NoMemory>
+        requires place { allows self.old.place step_line ≡ true }
+        requires playable { IsPlayable (nodes_so_far self.old) (actor, step) }
+        ensures { OnOk result (self.new ≡ after self.old [] (Meaning.Step actor step)) }
+    {
+        // For the prover: its borrow checker finds the types within a command, and so a rule for the
+        // steps, only where the body names them.
+        let _told: Option<(BoardCmd, LabelCmd, LinesCmd, CanvasCmd, MeterCmd)> = None;
+        self.steps.push(actor, step)?;
+        self.place = Place::Steps;
+        Ok(())
+    }
+
+    /// The part ends, and another begins.
+    fn end_part(&mut self) -> Result<(), NoMemory>
+        requires { allows self.old.place step_line ≡ true }
+        ensures { OnOk result (self.new ≡ after self.old [] Meaning.Sync) }
+    {
+        self.ended.reserve(1)?;
+        let reports = std::mem::replace(&mut self.reports, Vec::new(self.alloc));
+        let steps = std::mem::replace(&mut self.steps, Steps::new(self.alloc));
+        self.ended.push_reserved(Part {
+            reports,
+            steps: steps.into_vec(),
+        });
+        self.place = Place::Gap;
+        Ok(())
+    }
+
+    /// A report more.
+    fn add_report(&mut self, query: Query) -> Result<(), NoMemory>
+        requires place { allows self.old.place report_line ≡ true }
+        requires query { IsQuery (nodes_so_far self.old) query }
+        requires room { is_one_too_many self.old (Meaning.Report query) ≡ false }
+        ensures { OnOk result (self.new ≡ after self.old [] (Meaning.Report query)) }
+    {
+        push(&mut self.reports, query)?;
+        self.report_count += 1;
+        self.place = Place::Gap;
+        Ok(())
+    }
+
+    /// The script ends.
+    fn end(&mut self)
+        requires { allows self.old.place report_line ≡ true }
+        ensures { self.new ≡ after self.old [] Meaning.End }
+    {
+        self.place = Place::Ended;
+    }
+
+    /// What a line says comes behind what the lines before it said. Its second word is `name`.
+    pub fn add(&mut self, name: &'a str, meaning: Meaning) -> Result<(), LineRefused>
+        requires sound { IsSoundMeaning self.old name.now meaning }
+        requires room { is_one_too_many self.old meaning ≡ false }
+        ensures { Adds self.old name.now meaning self.new result }
+    {
+        match meaning {
+            Meaning::Version(version) => self.set_version(version),
+            Meaning::Item(item) => return self.add_item(name, item),
+            Meaning::Begin => return self.begin(),
+            Meaning::Step { actor, step } => self.add_step(actor, step)?,
+            Meaning::Sync => self.end_part()?,
+            Meaning::Report(query) => self.add_report(query)?,
+            Meaning::End => self.end(),
+        }
+        Ok(())
+    }
+}
