@@ -1,13 +1,14 @@
 ghost use Rattle.std.specs.Prelude.{◌≡◌, ◌<◌, Some};
 ghost use Rattle.tr_base.specs.declared.Point.{Point};
 ghost use Rattle.tr_region.specs.Points.{holds};
+ghost use Rattle.tr_forest.specs.Forests.{IsForest};
 ghost use Rattle.tr_forest.specs.Nodes.{leaf_count};
 ghost use Rattle.tr_spot.specs.Spots.{HasRoot};
 ghost use Rattle.tr_spot.specs.Leaves.{leaf_size};
 ghost use Rattle.tr_mail.specs.Mails.{inbox_of};
 ghost use Rattle.tr_journal.specs.Openings.{tree_of};
 ghost use Rattle.tr_machine.specs.States.{batch_of, content_of};
-ghost use Rattle.tr_machine.specs.Promises.{Agrees, Fits, Lags};
+ghost use Rattle.tr_machine.specs.Promises.{Agrees, Fits, IsSound, Lags};
 ghost use Rattle.tr_machine.specs.Replays.{IsLegal};
 ghost use Rattle.tr_stage.specs.Stages.{IsOf, state};
 
@@ -31,6 +32,7 @@ impl<C: Client> Stage<C> {
         ensures agrees { Agrees C.Client (state C.Client self.now) self.now.screen }
         ensures fits { Fits C.Client (state C.Client self.now) }
         ensures lags { Lags C.Client (state C.Client self.now) self.now.screen }
+        ensures sound { IsSound C.Client (state C.Client self.now) }
     {
         // Called for what it tells the prover: that the nodes are a forest.
         let _ = self.surface.tree();
@@ -41,6 +43,7 @@ impl<C: Client> Stage<C> {
     pub fn tree(&self) -> &Tree
         ensures value { result.now ≡ (state C.Client self.now).tree }
         ensures root { HasRoot result.now }
+        ensures forest { IsForest result.now.nodes }
         ensures like { IsOf self.now.opening (state C.Client self.now) }
     {
         self.surface.tree()
