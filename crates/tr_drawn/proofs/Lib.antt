@@ -1,0 +1,10 @@
+mod Cutting
+mod Decimals
+mod Passing
+mod Playing
+mod Opening
+mod StepLines
+mod RoundLines
+mod Rounds
+mod Ending
+pub mod DrawnLemmas

@@ -1,0 +1,17 @@
+//! The text that `tr_gen` draws from a number is a script, whatever the number: none of its lines has a
+//! fault. A function that reads such a text so knows that it isn't refused.
+#![tactic(auto)]
+
+ghost use Rattle.std.specs.Prelude.{◌≡◌, ℕ, None, length};
+ghost use Rattle.tr_gen.specs.Scripts as gen;
+ghost use Rattle.tr_grammar.specs.Texts.{lines_of};
+ghost use Rattle.tr_grammar.specs.Scripts.{refusal_of};
+
+/// How many lines each drawn script has. Also tells that each is a script.
+#[tactic(auto, using(crate::proofs::DrawnLemmas::line_count, crate::proofs::DrawnLemmas::is_a_script))]
+pub fn lines() -> u32
+    ensures count { (number : ℕ) → length (lines_of (gen.script_of number)) ≡ result }
+    ensures script { (number : ℕ) → refusal_of (gen.script_of number) ≡ None }
+{
+    2039
+}
