@@ -1,0 +1,4 @@
+mod WordLemmas
+mod ParserLemmas
+mod FlagLemmas
+mod FoundLemmas

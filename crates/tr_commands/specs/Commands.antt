@@ -1,0 +1,32 @@
+-- What the words after the program's name ask for.
+use Rattle.std.specs.Prelude.{ℕ, List, [], ◌∷◌, Option, Some, None, if◌then◌else◌, bytes_eq, codes, map, String, string_bytes}
+use Rattle.std.specs.declared.alloc.Global.{Global}
+use Rattle.tr_grammar.specs.Words.{is_number, nat_of}
+use Rattle.tr_commands.specs.declared.commands.Command.{Command}
+use Rattle.tr_commands.specs.declared.commands.Command.TheVariants.{Play, Serial, Check, Gen}
+
+-- the bytes of each word
+abbrev pub texts_of : List (String Global) → List (List ℕ)
+texts_of words = map string_bytes words
+
+-- what one word asks for alone
+abbrev pub alone : List ℕ → Option Command
+alone word =
+    if bytes_eq word (codes "play") then Some Play
+    else (if bytes_eq word (codes "serial") then Some Serial
+    else (if bytes_eq word (codes "check") then Some Check
+    else None))
+
+-- the script that is drawn from a number, which is spelled in one way
+abbrev pub numbered : List ℕ → Option Command
+numbered number = if is_number 0 4294967295 number then Some (Gen (nat_of number)) else None
+
+-- what two words ask for: `gen` and a number
+abbrev pub with_number : List ℕ → List ℕ → Option Command
+with_number word number = if bytes_eq word (codes "gen") then numbered number else None
+
+-- what a list of words asks for, if it is an accepted one
+abbrev pub command_of : List (List ℕ) → Option Command
+command_of (word ∷ []) = alone word
+command_of (word ∷ number ∷ []) = with_number word number
+command_of _ = None

@@ -1,0 +1,47 @@
+-- The parser of the words, and what it finds. Private contracts alone cite these.
+use Rattle.std.specs.Prelude.{ℕ, ◌==◌, Bool, true, List, [], ◌∷◌, Option, Some, None, codes, slice_index, option_and_then}
+use Rattle.clap.specs.Walk.{Row, Rule, Text, first_of}
+use Rattle.clap.specs.Simple.{App, new_app, new_rule, new_shape, on_top, with_rule, with_subcommand}
+use Rattle.tr_commands.specs.declared.commands.Command.{Command}
+use Rattle.tr_commands.specs.Commands.{command_of}
+
+-- the word begins with a hyphen (45)
+abbrev pub is_flag : List ℕ → Bool
+is_flag word = slice_index word 0 == 45
+
+-- the one argument of `gen`, which it must have
+abbrev pub number_rule : Rule
+number_rule = record (new_rule (codes "number")) { required = true }
+
+-- the program's words without its name: no flags, no `help`, and one of the subcommands
+abbrev pub bare : App
+bare = on_top (λ s. record s {
+  no_binary_name = true;
+  disable_help_flag = true;
+  disable_help_subcommand = true;
+  subcommand_required = true;
+}) (new_app (codes "trestle"))
+
+abbrev pub gen : App
+gen = with_rule (new_app (codes "gen")) number_rule
+
+-- a subcommand with nothing behind its name
+abbrev pub with_name : App → Text → App
+with_name app name = with_subcommand app (new_shape name)
+
+-- the whole parser
+abbrev pub parser : App
+parser = with_subcommand (with_name (with_name (with_name bare (codes "play")) (codes "serial")) (codes "check")) gen.top
+
+-- a word, if there is one, as a list
+abbrev pub words_of_option : Option Text → List Text
+words_of_option None = []
+words_of_option (Some word) = word ∷ []
+
+-- the words that a subcommand and its number stand for
+abbrev pub words_found : Text × List Row → List Text
+words_found found = found.0 ∷ words_of_option (first_of (codes "number") found.1)
+
+-- what a subcommand asks for, if one was found
+abbrev pub command_of_found : Option (Text × List Row) → Option Command
+command_of_found found = option_and_then (λ f. command_of (words_found f)) found
