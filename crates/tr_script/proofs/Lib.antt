@@ -1,0 +1,5 @@
+mod EdgeLemmas
+mod FormLemmas
+mod LineLemmas
+mod NameLemmas
+mod Pieces

@@ -1,0 +1,120 @@
+-- What a line says and its first fault, and the lines that are read so far.
+use Rattle.std.proofs.Common.{◌≡◌, ℕ, ◌+◌, ◌-◌, ◌≤◌, Bool, true, false, List, [], ◌∷◌, ◌++◌, Option, Some, None, Err}
+use Rattle.std.proofs.Common.{cond, length, take, drop, refl, sym, ap, ◌∙◌, arith}
+use Rattle.std.proofs.lemmas.List.{length-take}
+use Rattle.std.proofs.lemmas.List.Splits.{length-slice_split}
+use Rattle.std.proofs.lemmas.List.Sums.{count_by-le-length}
+use Rattle.std.proofs.lemmas.Option.{none-some}
+use Rattle.std.specs.Prelude.{◌==◌}
+use Rattle.std.specs.List.{slice_split}
+use Rattle.tr_grammar.specs.declared.Code.{Code}
+use Rattle.tr_grammar.specs.declared.Code.TheVariants.{B1}
+use Rattle.tr_grammar.specs.declared.LineRefused.{LineRefused}
+use Rattle.tr_grammar.specs.declared.LineRefused.TheVariants as refused
+use Rattle.tr_grammar.specs.declared.Meaning.{Meaning}
+use Rattle.tr_grammar.specs.Texts.{is_plain, is_silent, lines_of, ends_empty, without_empty_end}
+use Rattle.tr_grammar.specs.Words.{word_at, words_of}
+use Rattle.tr_grammar.specs.Forms.{Form, form_of}
+use Rattle.tr_grammar.specs.Meanings.{meaning_of}
+use Rattle.tr_grammar.specs.States.{SoFar, nothing_yet}
+use Rattle.tr_grammar.specs.Faults.{first_of, word_faults, line_faults, fault_as, fault_of, has_ended}
+use Rattle.tr_grammar.specs.Scripts.{after, after_as, next, first_fault, after_all, refused_at}
+use Rattle.tr_reader.specs.Adding.{IsFault}
+use Rattle.tr_script.specs.Reading.{word_fault, meaning_as, ReadsAs}
+
+-- ---- one line
+
+-- a fault that is found is the first also where more are tried
+found_first : (xs ys : List (Code × Bool)) (e : Code) → first_of xs ≡ Some e → first_of (xs ++ ys) ≡ Some e
+found_first [] ys e found = absurd (none-some e found)
+found_first ((code, b) ∷ xs) ys e found = by_test b found (found_first xs ys e)
+  where
+    by_test : (b : Bool) → cond b (Some code) (first_of xs) ≡ Some e → (first_of xs ≡ Some e → first_of (xs ++ ys) ≡ Some e) →
+        cond b (Some code) (first_of (xs ++ ys)) ≡ Some e
+    by_test true found more = found
+    by_test false found more = more found
+
+-- where none is found, the first of those that are left counts
+found_later : (xs ys : List (Code × Bool)) → first_of xs ≡ None → first_of (xs ++ ys) ≡ first_of ys
+found_later [] ys none = refl
+found_later ((code, b) ∷ xs) ys none = by_test b none (found_later xs ys)
+  where
+    by_test : (b : Bool) → cond b (Some code) (first_of xs) ≡ None → (first_of xs ≡ None → first_of (xs ++ ys) ≡ first_of ys) →
+        cond b (Some code) (first_of (xs ++ ys)) ≡ first_of ys
+    by_test true none more = absurd (none-some code (sym none))
+    by_test false none more = more none
+
+-- a fault of the words is the line's
+pub fault_before : (c : SoFar) (n : ℕ) (form : Option Form) (ws : List (List ℕ)) (e : Code) →
+    word_fault c form ws ≡ Some e → fault_as c n form ws ≡ Some e
+fault_before c n None ws e found = found
+fault_before c n (Some f) ws e found = found_first (word_faults c f ws) (line_faults c n (meaning_of c.names ws f)) e found
+
+-- where the words show none, it is that of what they say
+pub fault_behind : (c : SoFar) (n : ℕ) (form : Option Form) (ws : List (List ℕ)) (m : Meaning) →
+    word_fault c form ws ≡ None → meaning_as c form ws ≡ Some m → fault_as c n form ws ≡ first_of (line_faults c n m)
+fault_behind c n None ws m none said = absurd (none-some B1 (sym none))
+fault_behind c n (Some f) ws m none said =
+    let is : meaning_of c.names ws f ≡ m = cc in
+    found_later (word_faults c f ws) (line_faults c n (meaning_of c.names ws f)) none ∙ ap (λ (x : Meaning). first_of (line_faults c n x)) is
+
+-- what the words say comes behind the lines so far
+pub after_said : (c : SoFar) (form : Option Form) (ws : List (List ℕ)) (m : Meaning) →
+    meaning_as c form ws ≡ Some m → after_as c form ws ≡ after c (word_at ws 1) m
+after_said c None ws m said = absurd (none-some m said)
+after_said c (Some f) ws m said =
+    let is : meaning_of c.names ws f ≡ m = cc in
+    ap (λ (x : Meaning). after c (word_at ws 1) x) is
+
+-- why the words are refused, the line is
+pub refused_before : (c : SoFar) (n : ℕ) (form : Option Form) (ws : List (List ℕ)) (e : LineRefused) →
+    ReadsAs c form ws (Err e) → IsFault (fault_as c n form ws) e
+refused_before c n form ws refused.NoMemory read = tt
+refused_before c n form ws (refused.Fault code) read = fault_before c n form ws code read
+
+-- a line that means something, and stands before the end
+pub record IsLoud (c : SoFar) (bytes : List ℕ) : Type 0 where
+  pub plain : is_plain bytes ≡ true
+  pub loud : is_silent bytes ≡ false
+  pub early : has_ended c.place ≡ false
+
+-- its fault is one of its words
+pub fault_of_words : (c : SoFar) (n : ℕ) (bytes : List ℕ) → IsLoud c bytes →
+    fault_of c n bytes ≡ fault_as c n (form_of c.version (words_of bytes)) (words_of bytes)
+unfolding fault_of
+fault_of_words c n bytes h = rw (h.plain, h.loud, h.early) refl
+
+-- what comes behind it is what its words say
+pub next_of_words : (c : SoFar) (bytes : List ℕ) → IsLoud c bytes →
+    next c bytes ≡ after_as c (form_of c.version (words_of bytes)) (words_of bytes)
+unfolding next
+next_of_words c bytes h = rw h.loud refl
+
+-- ---- all lines
+
+-- i of all lines are read, and the script behind them is c
+pub record IsRead (all : List (List ℕ)) (i : ℕ) (c : SoFar) : Type 0 where
+  pub fault : first_fault nothing_yet 1 all ≡ first_fault c (i + 1) (drop i all)
+  pub script : after_all nothing_yet all ≡ after_all c (drop i all)
+
+pub one_read : (all : List (List ℕ)) (i : ℕ) (c : SoFar) (t : List ℕ) → IsRead all i c → drop i all ≡ t ∷ drop (i + 1) all →
+    fault_of c (i + 1) t ≡ None → IsRead all (i + 1) (next c t)
+one_read all i c t so_far at none = record {
+  fault = so_far.fault ∙ rw (at, none) refl;
+  script = so_far.script ∙ rw at refl;
+}
+
+pub is_refused_at : (all : List (List ℕ)) (i : ℕ) (c : SoFar) (t : List ℕ) (e : Code) → IsRead all i c → drop i all ≡ t ∷ drop (i + 1) all →
+    fault_of c (i + 1) t ≡ Some e → first_fault nothing_yet 1 all ≡ Some (refused_at (i + 1) e)
+is_refused_at all i c t e so_far at fault = so_far.fault ∙ rw (at, fault) refl
+
+-- there is at most one line more than there are bytes
+pub few_lines : (bytes : List ℕ) → length (lines_of bytes) ≤ length bytes + 1
+unfolding lines_of
+few_lines bytes =
+    let pieces = slice_split (λ (b : ℕ). b == 10) bytes in
+    omega (arith, fewer pieces (ends_empty pieces), length-slice_split (λ (b : ℕ). b == 10) bytes, count_by-le-length (λ (b : ℕ). b == 10) bytes)
+  where
+    fewer : (ps : List (List ℕ)) (b : Bool) → length (cond b (take (length ps - 1) ps) ps) ≤ length ps
+    fewer ps true = omega (arith, length-take (length ps - 1) ps)
+    fewer ps false = omega arith

@@ -1,0 +1,75 @@
+-- What the readers of lines answer. Contracts of the crate's own functions alone cite this file.
+use Rattle.std.specs.Prelude.{◌≡◌, ℕ, List, [], ◌∷◌, ◌++◌, Bool, true, false, not, ◌||◌, codes, Option, Some, None, Result, Ok, Err, ⊤}
+use Rattle.tr_grammar.specs.declared.Code.{Code}
+use Rattle.tr_grammar.specs.declared.Code.TheVariants.{B1, B2}
+use Rattle.tr_grammar.specs.declared.LineRefused.{LineRefused}
+use Rattle.tr_grammar.specs.declared.LineRefused.TheVariants as refused
+use Rattle.tr_grammar.specs.declared.Meaning.{Meaning}
+use Rattle.tr_grammar.specs.Words.{word_at, int_of, is_signed}
+use Rattle.tr_grammar.specs.Forms.{Form, Version, Screen, Glyph, Put, PutAt, Root, Begin, Mouse, Motion, Key, Attach, AttachAt, Detach, Tint, Widen, Offset, Fix, Move, Lift, Show, Turn, Reshape, Resize, Rescreen, Sync, Dump, Peek, Journal, Where, Inbox, End, among}
+use Rattle.tr_grammar.specs.Meanings.{meaning_of}
+use Rattle.tr_grammar.specs.States.{SoFar}
+use Rattle.tr_grammar.specs.Faults.{first_of, word_faults}
+use Rattle.tr_base.specs.Rects.{Edges, rect_of}
+use Rattle.tr_words.specs.declared.LeafWords.{LeafWords}
+use Rattle.tr_script.specs.declared.widget_lines.EdgeWords.{EdgeWords}
+use Rattle.tr_reader.specs.Adding.{IsSoundMeaning}
+
+-- the first fault that the words show, where their form is this one
+abbrev pub word_fault : SoFar → Option Form → List (List ℕ) → Option Code
+word_fault c None ws = Some B1
+word_fault c (Some f) ws = first_of (word_faults c f ws)
+
+-- what the words say, where they have a form
+abbrev pub meaning_as : SoFar → Option Form → List (List ℕ) → Option Meaning
+meaning_as c None ws = None
+meaning_as c (Some f) ws = Some (meaning_of c.names ws f)
+
+-- what the words of this form say, which is in range, or the first fault that they show
+abbrev pub ReadsAs : SoFar → Option Form → List (List ℕ) → Result Meaning LineRefused → Type 0
+ReadsAs c form ws (Ok m) = (word_fault c form ws ≡ None) × (meaning_as c form ws ≡ Some m) × IsSoundMeaning c (word_at ws 1) m
+ReadsAs c form ws (Err refused.NoMemory) = ⊤
+ReadsAs c form ws (Err (refused.Fault e)) = word_fault c form ws ≡ Some e
+
+-- the same, where the form of the words is the first of these that they have
+abbrev pub Reads : SoFar → List Form → List (List ℕ) → Result Meaning LineRefused → Type 0
+Reads c fs ws answer = ReadsAs c (among c.version fs ws) ws answer
+
+-- the forms of the desk's steps
+abbrev pub desk_forms : List Form
+desk_forms =
+    Mouse ∷ Motion ∷ Key ∷ Attach ∷ AttachAt ∷ Detach ∷ Tint ∷ Widen ∷ Offset ∷ Fix ∷ Move ∷ Lift ∷ Show ∷ Turn ∷ Reshape ∷ Resize
+    ∷ Rescreen ∷ []
+
+-- the forms of lines that neither declare a node or a leaf nor begin with an @
+abbrev pub plain_forms : List Form
+plain_forms =
+    (Version ∷ Screen ∷ Glyph ∷ Put ∷ PutAt ∷ Root ∷ Begin ∷ []) ++ desk_forms
+    ++ (Sync ∷ Dump ∷ Peek ∷ Journal ∷ Where ∷ Inbox ∷ End ∷ [])
+
+-- the words of a line that declares a leaf: those before the widget's, the widget's, and its values
+abbrev pub leaf_line : LeafWords → List ℕ → List (List ℕ) → List (List ℕ)
+leaf_line h widget values =
+    codes "leaf" ∷ h.name.now
+    ∷ h.across.lo.now ∷ h.across.pref.now ∷ h.across.hi.now
+    ∷ h.down.lo.now ∷ h.down.pref.now ∷ h.down.hi.now
+    ∷ widget ∷ values
+
+-- the edges that the words spell
+abbrev pub edges_of : EdgeWords → Edges
+edges_of ws = rect_of (int_of ws.west.now) (int_of ws.east.now) (int_of ws.north.now) (int_of ws.south.now)
+
+-- the words of the edges, and those behind them
+abbrev pub edge_words : EdgeWords → List (List ℕ) → List (List ℕ)
+edge_words ws rest = ws.west.now ∷ ws.east.now ∷ ws.north.now ∷ ws.south.now ∷ rest
+
+-- the word is no edge of a rectangle that a client names
+abbrev pub is_no_edge : List ℕ → Bool
+is_no_edge w = not (is_signed 8192 8192 w)
+
+-- a value with this property where all words are edges, and else B2, whatever values come behind them
+abbrev pub ReadsEdges : {X : Type 0} → EdgeWords → (X → Type 0) → Result X Code → Type 0
+ReadsEdges ws P (Ok x) =
+    (is_no_edge ws.west.now ≡ false) × (is_no_edge ws.east.now ≡ false) × (is_no_edge ws.north.now ≡ false) × (is_no_edge ws.south.now ≡ false) × P x
+ReadsEdges ws P (Err e) =
+    ((rest : Bool) → is_no_edge ws.west.now || (is_no_edge ws.east.now || (is_no_edge ws.north.now || (is_no_edge ws.south.now || rest))) ≡ true) × (e ≡ B2)

@@ -1,0 +1,303 @@
+//! The readers of the desk's steps. Each tests for its faults in the order of their codes.
+ghost use Rattle.std.specs.Prelude.{◌≡◌, [], ◌∷◌, bytes_eq, codes};
+ghost use Rattle.tr_grammar.specs.Forms.{button_words, Mouse, Motion, Key, Attach, AttachAt, Detach};
+ghost use Rattle.tr_grammar.specs.Forms.{Tint, Widen, Offset, Fix, Move, Lift, Show, Turn, Reshape, Resize};
+ghost use Rattle.tr_grammar.specs.Forms.{Rescreen};
+ghost use Rattle.tr_words.specs.Answers.{Chooses, texts};
+ghost use Rattle.tr_script.specs.Reading.{Reads, desk_forms};
+
+use crate::names::node_of;
+use tr_base::{Point, Shapes, Size};
+use tr_forest::Edit;
+use tr_grammar::{Code, LineRefused, Meaning};
+use tr_journal::{Actor, Step};
+use tr_reader::Reader;
+use tr_widget::WidgetCmd;
+use tr_words::{ShapeWords, byte, extent, offset, place, shape, side, small, time};
+
+/// Where a child stands that no point is given for.
+const ORIGIN: Point = Point { h: 0, v: 0 };
+
+/// A step of the desk.
+fn on_desk(step: Step<WidgetCmd>) -> Meaning
+    ensures { result ≡ Meaning.Step Actor.Desk step }
+{
+    Meaning::Step {
+        actor: Actor::Desk,
+        step,
+    }
+}
+
+/// An edit of the tree, which is a step of the desk.
+fn altering(edit: Edit) -> Meaning
+    ensures { result ≡ Meaning.Step Actor.Desk (Step.Alter edit) }
+{
+    on_desk(Step::Alter { edit })
+}
+
+/// Whether a button goes down, by a word.
+fn is_down(word: &str) -> Option<bool>
+    ensures { Chooses button_words word.now (bytes_eq word.now (codes "down")) result }
+{
+    match word {
+        "down" => Some(true),
+        "up" => Some(false),
+        _ => None,
+    }
+}
+
+/// What words say that are those of a desk's step, by the first one, or the first fault that they show.
+pub fn read_desk(reader: &Reader, first: &str, words: &[&str]) -> Result<Meaning, LineRefused>
+    ensures { Reads reader.now desk_forms (first.now ∷ texts words.now) result }
+{
+    match first {
+        "mouse" => read_mouse(reader, words),
+        "motion" => read_motion(reader, words),
+        "key" => read_key(reader, words),
+        "attach" => read_attach(reader, words),
+        "detach" => read_detach(reader, words),
+        "tint" => read_tint(reader, words),
+        "border" => read_widen(reader, words),
+        "offset" => read_offset(reader, words),
+        "fix" => read_fix(reader, words),
+        "move" => read_move(reader, words),
+        "lift" => read_lift(reader, words),
+        "show" => read_show(reader, words),
+        "turn" => read_turn(reader, words),
+        "shapes" => read_reshape(reader, words),
+        "resize" => read_resize(reader, words),
+        "rescreen" => read_rescreen(reader, words),
+        _ => Err(LineRefused::Fault(Code::B1)),
+    }
+}
+
+fn read_mouse(reader: &Reader, words: &[&str]) -> Result<Meaning, LineRefused>
+    ensures { Reads reader.now (Mouse ∷ []) (codes "mouse" ∷ texts words.now) result }
+{
+    let [at, way, button] = words else {
+        return Err(LineRefused::Fault(Code::B1));
+    };
+    let Some(down) = is_down(way) else {
+        return Err(LineRefused::Fault(Code::B1));
+    };
+    reader.in_steps()?;
+    let time = time(at)?;
+    let button = small(button, 1, 5)?;
+    Ok(on_desk(Step::Mouse { time, button, down }))
+}
+
+fn read_motion(reader: &Reader, words: &[&str]) -> Result<Meaning, LineRefused>
+    ensures { Reads reader.now (Motion ∷ []) (codes "motion" ∷ texts words.now) result }
+{
+    let [at, h, v] = words else {
+        return Err(LineRefused::Fault(Code::B1));
+    };
+    reader.in_steps()?;
+    let time = time(at)?;
+    let h = place(h)?;
+    let v = place(v)?;
+    let at = Point { h, v };
+    Ok(on_desk(Step::Motion { time, at }))
+}
+
+fn read_key(reader: &Reader, words: &[&str]) -> Result<Meaning, LineRefused>
+    ensures { Reads reader.now (Key ∷ []) (codes "key" ∷ texts words.now) result }
+{
+    let [at, code] = words else {
+        return Err(LineRefused::Fault(Code::B1));
+    };
+    reader.in_steps()?;
+    let time = time(at)?;
+    let code = byte(code)?;
+    Ok(on_desk(Step::Key { time, code }))
+}
+
+fn read_attach(reader: &Reader, words: &[&str]) -> Result<Meaning, LineRefused>
+    ensures { Reads reader.now (Attach ∷ AttachAt ∷ [])
+        (codes "attach" ∷ texts words.now) result }
+{
+    if let [child, parent] = words {
+        return read_attach_plain(reader, child, parent);
+    }
+    read_attach_at(reader, words)
+}
+
+fn read_attach_plain(reader: &Reader, child: &str, parent: &str) -> Result<Meaning, LineRefused>
+    ensures { Reads reader.now (Attach ∷ [])
+        (codes "attach" ∷ child.now ∷ parent.now ∷ []) result }
+{
+    reader.in_steps()?;
+    let child = node_of(reader, child)?;
+    let parent = node_of(reader, parent)?;
+    let at = ORIGIN;
+    Ok(altering(Edit::Attach { child, parent, at }))
+}
+
+fn read_attach_at(reader: &Reader, words: &[&str]) -> Result<Meaning, LineRefused>
+    ensures { Reads reader.now (AttachAt ∷ []) (codes "attach" ∷ texts words.now) result }
+{
+    let [child, parent, h, v] = words else {
+        return Err(LineRefused::Fault(Code::B1));
+    };
+    reader.in_steps()?;
+    let h = offset(h)?;
+    let v = offset(v)?;
+    let child = node_of(reader, child)?;
+    let parent = node_of(reader, parent)?;
+    let at = Point { h, v };
+    Ok(altering(Edit::Attach { child, parent, at }))
+}
+
+fn read_detach(reader: &Reader, words: &[&str]) -> Result<Meaning, LineRefused>
+    ensures { Reads reader.now (Detach ∷ []) (codes "detach" ∷ texts words.now) result }
+{
+    let [child] = words else {
+        return Err(LineRefused::Fault(Code::B1));
+    };
+    reader.in_steps()?;
+    let child = node_of(reader, child)?;
+    Ok(altering(Edit::Detach { child }))
+}
+
+fn read_tint(reader: &Reader, words: &[&str]) -> Result<Meaning, LineRefused>
+    ensures { Reads reader.now (Tint ∷ []) (codes "tint" ∷ texts words.now) result }
+{
+    let [node, tint] = words else {
+        return Err(LineRefused::Fault(Code::B1));
+    };
+    reader.in_steps()?;
+    let tint = byte(tint)?;
+    let node = node_of(reader, node)?;
+    Ok(altering(Edit::Tint { node, tint }))
+}
+
+fn read_widen(reader: &Reader, words: &[&str]) -> Result<Meaning, LineRefused>
+    ensures { Reads reader.now (Widen ∷ []) (codes "border" ∷ texts words.now) result }
+{
+    let [node, width] = words else {
+        return Err(LineRefused::Fault(Code::B1));
+    };
+    reader.in_steps()?;
+    let width = byte(width)?;
+    let node = node_of(reader, node)?;
+    Ok(altering(Edit::Border { node, width }))
+}
+
+fn read_offset(reader: &Reader, words: &[&str]) -> Result<Meaning, LineRefused>
+    ensures { Reads reader.now (Offset ∷ []) (codes "offset" ∷ texts words.now) result }
+{
+    let [node, h, v] = words else {
+        return Err(LineRefused::Fault(Code::B1));
+    };
+    reader.in_steps()?;
+    let h = offset(h)?;
+    let v = offset(v)?;
+    let node = node_of(reader, node)?;
+    let by = Point { h, v };
+    Ok(altering(Edit::Offset { node, by }))
+}
+
+fn read_fix(reader: &Reader, words: &[&str]) -> Result<Meaning, LineRefused>
+    ensures { Reads reader.now (Fix ∷ []) (codes "fix" ∷ texts words.now) result }
+{
+    let [node, wide, high] = words else {
+        return Err(LineRefused::Fault(Code::B1));
+    };
+    reader.in_steps()?;
+    let wide = extent(wide)?;
+    let high = extent(high)?;
+    let node = node_of(reader, node)?;
+    let size = Size { wide, high };
+    Ok(altering(Edit::Fix { node, size }))
+}
+
+fn read_move(reader: &Reader, words: &[&str]) -> Result<Meaning, LineRefused>
+    ensures { Reads reader.now (Move ∷ []) (codes "move" ∷ texts words.now) result }
+{
+    let [child, h, v] = words else {
+        return Err(LineRefused::Fault(Code::B1));
+    };
+    reader.in_steps()?;
+    let h = offset(h)?;
+    let v = offset(v)?;
+    let child = node_of(reader, child)?;
+    let at = Point { h, v };
+    Ok(altering(Edit::Move { child, at }))
+}
+
+fn read_lift(reader: &Reader, words: &[&str]) -> Result<Meaning, LineRefused>
+    ensures { Reads reader.now (Lift ∷ []) (codes "lift" ∷ texts words.now) result }
+{
+    let [child] = words else {
+        return Err(LineRefused::Fault(Code::B1));
+    };
+    reader.in_steps()?;
+    let child = node_of(reader, child)?;
+    Ok(altering(Edit::Lift { child }))
+}
+
+fn read_show(reader: &Reader, words: &[&str]) -> Result<Meaning, LineRefused>
+    ensures { Reads reader.now (Show ∷ []) (codes "show" ∷ texts words.now) result }
+{
+    let [node, child] = words else {
+        return Err(LineRefused::Fault(Code::B1));
+    };
+    reader.in_steps()?;
+    let node = node_of(reader, node)?;
+    let child = node_of(reader, child)?;
+    Ok(altering(Edit::Show { node, child }))
+}
+
+fn read_turn(reader: &Reader, words: &[&str]) -> Result<Meaning, LineRefused>
+    ensures { Reads reader.now (Turn ∷ []) (codes "turn" ∷ texts words.now) result }
+{
+    let [node, page] = words else {
+        return Err(LineRefused::Fault(Code::B1));
+    };
+    reader.in_steps()?;
+    let page = byte(page)?;
+    let node = node_of(reader, node)?;
+    Ok(altering(Edit::Turn { node, page }))
+}
+
+fn read_reshape(reader: &Reader, words: &[&str]) -> Result<Meaning, LineRefused>
+    ensures { Reads reader.now (Reshape ∷ []) (codes "shapes" ∷ texts words.now) result }
+{
+    let [node, lo, pref, hi, lo_down, pref_down, hi_down] = words else {
+        return Err(LineRefused::Fault(Code::B1));
+    };
+    reader.in_steps()?;
+    let across = shape(&ShapeWords { lo, pref, hi })?;
+    let down = shape(&ShapeWords {
+        lo: lo_down,
+        pref: pref_down,
+        hi: hi_down,
+    })?;
+    let node = node_of(reader, node)?;
+    let shapes = Shapes { across, down };
+    Ok(altering(Edit::Shapes { node, shapes }))
+}
+
+fn read_resize(reader: &Reader, words: &[&str]) -> Result<Meaning, LineRefused>
+    ensures { Reads reader.now (Resize ∷ []) (codes "resize" ∷ texts words.now) result }
+{
+    let [wide, high] = words else {
+        return Err(LineRefused::Fault(Code::B1));
+    };
+    reader.in_steps()?;
+    let wide = side(wide)?;
+    let high = side(high)?;
+    let size = Size { wide, high };
+    Ok(altering(Edit::Resize { size }))
+}
+
+fn read_rescreen(reader: &Reader, words: &[&str]) -> Result<Meaning, LineRefused>
+    ensures { Reads reader.now (Rescreen ∷ []) (codes "rescreen" ∷ texts words.now) result }
+{
+    let [kind] = words else {
+        return Err(LineRefused::Fault(Code::B1));
+    };
+    let kind = reader.kind(kind)?;
+    reader.in_steps()?;
+    Ok(altering(Edit::Rescreen { kind }))
+}

@@ -1,0 +1,20 @@
+//! Scripts: what a text of lines says, or the first line of it that has a fault, with that line's
+//! first fault.
+//!
+//! A line is judged by its row of a table, which has its fixed words, its values with their ranges and
+//! its names, and by what the lines before it declared.
+#![tactic(auto)]
+
+mod desk_lines;
+mod leaf_lines;
+mod lines;
+mod names;
+mod opening_lines;
+mod report_lines;
+mod scripts;
+mod widget_lines;
+
+pub use scripts::read_script;
+
+#[cfg(test)]
+mod tests;

@@ -1,0 +1,151 @@
+//! The reading of a line.
+ghost use Rattle.std.specs.Prelude.{◌≡◌, ◌∷◌, None, IfErr, OnOk};
+ghost use Rattle.std.specs.List.{AllPass};
+ghost use Rattle.tr_base.specs.Lines.{is_printable};
+ghost use Rattle.tr_grammar.specs.Words.{words_of, word_at};
+ghost use Rattle.tr_grammar.specs.Forms.{forms};
+ghost use Rattle.tr_grammar.specs.Faults.{first_of, line_faults, fault_of};
+ghost use Rattle.tr_grammar.specs.Scripts.{after, next};
+ghost use Rattle.tr_words.specs.Answers.{texts};
+ghost use Rattle.tr_reader.specs.Adding.{IsFault, IsSoundMeaning};
+ghost use Rattle.tr_script.specs.Reading.{Reads, plain_forms};
+
+use crate::desk_lines::read_desk;
+use crate::leaf_lines::read_leaf;
+use crate::opening_lines::{
+    read_begin, read_glyph, read_node, read_put, read_root, read_screen, read_version,
+};
+use crate::report_lines::{
+    read_dump, read_end, read_inbox, read_journal, read_peek, read_sync, read_where,
+};
+use crate::widget_lines::read_at;
+use std::alloc::Global;
+use tr_grammar::{Code, LineRefused, Meaning};
+use tr_reader::Reader;
+use tr_words::{is_silent, plain_text, words_of};
+
+/// How many lines a script may have.
+const MOST_LINES: usize = 100_000;
+
+/// The second word of a line, which is the name that it declares if it declares one.
+fn second<'a>(words: &[&'a str]) -> &'a str
+    ensures { result.now ≡ word_at (texts words.now) 1 }
+{
+    words.get(1).copied().unwrap_or("")
+}
+
+/// What words say that are those of a line, or the first fault that they show.
+fn read_words(
+    alloc: Global,
+    reader: &Reader,
+    words: &[&str],
+    line: &str,
+) -> Result<Meaning, LineRefused>
+    requires line { words_of line.now ≡ texts words.now }
+    requires printable { AllPass is_printable line.now }
+    ensures { Reads reader.now forms (texts words.now) result }
+{
+    match words {
+        [] => Err(LineRefused::Fault(Code::B1)),
+        [first, rest @ ..] => read_first(alloc, reader, first, rest, line),
+    }
+}
+
+/// The same, by the first word.
+fn read_first(
+    alloc: Global,
+    reader: &Reader,
+    first: &str,
+    words: &[&str],
+    line: &str,
+) -> Result<Meaning, LineRefused>
+    requires line { words_of line.now ≡ first.now ∷ texts words.now }
+    requires printable { AllPass is_printable line.now }
+    ensures { Reads reader.now forms (first.now ∷ texts words.now) result }
+{
+    match first {
+        "node" => read_node(reader, words),
+        "leaf" => read_leaf(alloc, reader, words, line),
+        _ => match first.strip_prefix('@') {
+            Some(leaf) => read_at(reader, leaf, words, line),
+            None => read_plain(reader, first, words),
+        },
+    }
+}
+
+/// The same, of a line that neither declares a node or a leaf nor begins with an @.
+fn read_plain(reader: &Reader, first: &str, words: &[&str]) -> Result<Meaning, LineRefused>
+    ensures { Reads reader.now plain_forms (first.now ∷ texts words.now) result }
+{
+    match first {
+        "trestle" => read_version(reader, words),
+        "screen" => read_screen(reader, words),
+        "glyph" => read_glyph(reader, words),
+        "put" => read_put(reader, words),
+        "root" => read_root(reader, words),
+        "begin" => read_begin(reader, words),
+        "sync" => read_sync(reader, words),
+        "dump" => read_dump(reader, words),
+        "peek" => read_peek(reader, words),
+        "journal" => read_journal(reader, words),
+        "where" => read_where(reader, words),
+        "inbox" => read_inbox(reader, words),
+        "end" => read_end(reader, words),
+        _ => read_desk(reader, first, words),
+    }
+}
+
+/// What a line says that has so many others before it comes behind what they say. Its second word is
+/// `name`.
+fn take_meaning<'a>(
+    reader: &mut Reader<'a>,
+    number: usize,
+    name: &'a str,
+    meaning: Meaning,
+) -> Result<(), LineRefused>
+    requires { IsSoundMeaning reader.old name.now meaning }
+    ensures none { OnOk result (first_of (line_faults reader.old number meaning) ≡ None) }
+    ensures next { OnOk result (reader.new ≡ after reader.old name.now meaning) }
+    ensures fault { IfErr result (λ e. IsFault (first_of (line_faults reader.old number meaning)) e) }
+{
+    if reader.is_foreign(&meaning) {
+        return Err(LineRefused::Fault(Code::B10));
+    }
+    if reader.is_one_too_many(&meaning) {
+        return Err(LineRefused::Fault(Code::B7));
+    }
+    reader.add(name, meaning)?;
+    if number > MOST_LINES {
+        return Err(LineRefused::Fault(Code::B7));
+    }
+    Ok(())
+}
+
+/// Reads the line of this number.
+#[tactic(auto, unfolding(tr_grammar::specs::Faults::fault_of, tr_grammar::specs::Scripts::next))]
+pub fn take<'a>(
+    alloc: Global,
+    reader: &mut Reader<'a>,
+    number: usize,
+    bytes: &'a [u8],
+) -> Result<(), LineRefused>
+    ensures none { OnOk result (fault_of reader.old number bytes.now ≡ None) }
+    ensures next { OnOk result (reader.new ≡ next reader.old bytes.now) }
+    ensures fault { IfErr result (λ e. IsFault (fault_of reader.old number bytes.now) e) }
+{
+    let Some(line) = plain_text(bytes) else {
+        return Err(LineRefused::Fault(Code::B9));
+    };
+    if is_silent(line) {
+        if number > MOST_LINES && !reader.has_ended() {
+            return Err(LineRefused::Fault(Code::B7));
+        }
+        return Ok(());
+    }
+    if reader.has_ended() {
+        return Err(LineRefused::Fault(Code::B8));
+    }
+    let words = words_of(alloc, line)?;
+    let meaning = read_words(alloc, reader, &words, line)?;
+    take_meaning(reader, number, second(&words), meaning)
+}

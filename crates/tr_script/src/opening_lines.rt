@@ -1,0 +1,263 @@
+//! The readers of the lines of the opening. Each tests for its faults in the order of their codes.
+ghost use Rattle.std.specs.Prelude.{[], ◌∷◌, bytes_eq, codes};
+ghost use Rattle.tr_grammar.specs.Forms.{node_forms, split_words, way_words, Version, Screen, Glyph};
+ghost use Rattle.tr_grammar.specs.Forms.{Split, Page, Border, Rigid, Translate, Pack, Put, PutAt, Root, Begin};
+ghost use Rattle.tr_grammar.specs.Meanings.{split_of};
+ghost use Rattle.tr_words.specs.Answers.{Chooses, texts};
+ghost use Rattle.tr_script.specs.Reading.{Reads};
+
+use crate::names::node_of;
+use tr_base::{Point, Size};
+use tr_forest::NodeKind;
+use tr_grammar::{Code, LineRefused, Meaning};
+use tr_journal::Item;
+use tr_reader::Reader;
+use tr_words::{byte, extent, glyph_byte, name, offset, rows, side, small};
+
+/// Where a child stands that no point is given for.
+const ORIGIN: Point = Point { h: 0, v: 0 };
+
+/// A split that has a tint alone.
+fn split_of(word: &str) -> Option<NodeKind>
+    ensures { Chooses split_words word.now (split_of word.now) result }
+{
+    match word {
+        "h" => Some(NodeKind::H),
+        "v" => Some(NodeKind::V),
+        "z" => Some(NodeKind::Z),
+        "t" => Some(NodeKind::T { shown: None }),
+        _ => None,
+    }
+}
+
+/// Whether rows go down, by a word.
+fn is_down(word: &str) -> Option<bool>
+    ensures { Chooses way_words word.now (bytes_eq word.now (codes "down")) result }
+{
+    match word {
+        "across" => Some(false),
+        "down" => Some(true),
+        _ => None,
+    }
+}
+
+pub fn read_version(reader: &Reader, words: &[&str]) -> Result<Meaning, LineRefused>
+    ensures { Reads reader.now (Version ∷ []) (codes "trestle" ∷ texts words.now) result }
+{
+    let [version] = words else {
+        return Err(LineRefused::Fault(Code::B1));
+    };
+    reader.in_start()?;
+    let version = small(version, 1, 2)?;
+    Ok(Meaning::Version(version))
+}
+
+pub fn read_screen(reader: &Reader, words: &[&str]) -> Result<Meaning, LineRefused>
+    ensures { Reads reader.now (Screen ∷ []) (codes "screen" ∷ texts words.now) result }
+{
+    let [wide, high, kind] = words else {
+        return Err(LineRefused::Fault(Code::B1));
+    };
+    let kind = reader.kind(kind)?;
+    reader.in_head()?;
+    let wide = side(wide)?;
+    let high = side(high)?;
+    let size = Size { wide, high };
+    Ok(Meaning::Item(Item::Screen { size, kind }))
+}
+
+pub fn read_glyph(reader: &Reader, words: &[&str]) -> Result<Meaning, LineRefused>
+    ensures { Reads reader.now (Glyph ∷ []) (codes "glyph" ∷ texts words.now) result }
+{
+    let [byte, rows_word] = words else {
+        return Err(LineRefused::Fault(Code::B1));
+    };
+    reader.in_opening()?;
+    let byte = glyph_byte(byte)?;
+    let rows = rows(rows_word)?;
+    reader.is_new_glyph(byte)?;
+    Ok(Meaning::Item(Item::Glyph { byte, rows }))
+}
+
+pub fn read_node(reader: &Reader, words: &[&str]) -> Result<Meaning, LineRefused>
+    ensures { Reads reader.now node_forms (codes "node" ∷ texts words.now) result }
+{
+    let [new, kind, values @ ..] = words else {
+        return Err(LineRefused::Fault(Code::B1));
+    };
+    match *kind {
+        "page" => read_page(reader, new, values),
+        "border" => read_border(reader, new, values),
+        "rigid" => read_rigid(reader, new, values),
+        "translate" => read_translate(reader, new, values),
+        "pack" => read_pack(reader, new, values),
+        _ => read_split(reader, new, kind, values),
+    }
+}
+
+fn read_split(
+    reader: &Reader,
+    new: &str,
+    kind: &str,
+    values: &[&str],
+) -> Result<Meaning, LineRefused>
+    ensures { Reads reader.now (Split ∷ [])
+        (codes "node" ∷ new.now ∷ kind.now ∷ texts values.now) result }
+{
+    let [tint] = values else {
+        return Err(LineRefused::Fault(Code::B1));
+    };
+    let Some(kind) = split_of(kind) else {
+        return Err(LineRefused::Fault(Code::B1));
+    };
+    reader.in_opening()?;
+    name(new)?;
+    let tint = byte(tint)?;
+    reader.is_new(new)?;
+    Ok(Meaning::Item(Item::Node { kind, tint }))
+}
+
+fn read_page(reader: &Reader, new: &str, values: &[&str]) -> Result<Meaning, LineRefused>
+    ensures { Reads reader.now (Page ∷ [])
+        (codes "node" ∷ new.now ∷ codes "page" ∷ texts values.now) result }
+{
+    let [tint, per] = values else {
+        return Err(LineRefused::Fault(Code::B1));
+    };
+    reader.in_opening()?;
+    name(new)?;
+    let tint = byte(tint)?;
+    let per = small(per, 1, 16)?;
+    reader.is_new(new)?;
+    let kind = NodeKind::Page { per, page: 0 };
+    Ok(Meaning::Item(Item::Node { kind, tint }))
+}
+
+fn read_border(reader: &Reader, new: &str, values: &[&str]) -> Result<Meaning, LineRefused>
+    ensures { Reads reader.now (Border ∷ [])
+        (codes "node" ∷ new.now ∷ codes "border" ∷ texts values.now) result }
+{
+    let [tint, width] = values else {
+        return Err(LineRefused::Fault(Code::B1));
+    };
+    reader.in_opening()?;
+    name(new)?;
+    let tint = byte(tint)?;
+    let width = byte(width)?;
+    reader.is_new(new)?;
+    let kind = NodeKind::Border { width };
+    Ok(Meaning::Item(Item::Node { kind, tint }))
+}
+
+fn read_rigid(reader: &Reader, new: &str, values: &[&str]) -> Result<Meaning, LineRefused>
+    ensures { Reads reader.now (Rigid ∷ [])
+        (codes "node" ∷ new.now ∷ codes "rigid" ∷ texts values.now) result }
+{
+    let [tint, wide, high] = values else {
+        return Err(LineRefused::Fault(Code::B1));
+    };
+    reader.in_opening()?;
+    name(new)?;
+    let tint = byte(tint)?;
+    let wide = extent(wide)?;
+    let high = extent(high)?;
+    reader.is_new(new)?;
+    let kind = NodeKind::Rigid {
+        size: Size { wide, high },
+    };
+    Ok(Meaning::Item(Item::Node { kind, tint }))
+}
+
+fn read_translate(reader: &Reader, new: &str, values: &[&str]) -> Result<Meaning, LineRefused>
+    ensures { Reads reader.now (Translate ∷ [])
+        (codes "node" ∷ new.now ∷ codes "translate" ∷ texts values.now) result }
+{
+    let [tint, h, v] = values else {
+        return Err(LineRefused::Fault(Code::B1));
+    };
+    reader.in_opening()?;
+    name(new)?;
+    let tint = byte(tint)?;
+    let h = offset(h)?;
+    let v = offset(v)?;
+    reader.is_new(new)?;
+    let kind = NodeKind::Translate { by: Point { h, v } };
+    Ok(Meaning::Item(Item::Node { kind, tint }))
+}
+
+fn read_pack(reader: &Reader, new: &str, values: &[&str]) -> Result<Meaning, LineRefused>
+    ensures { Reads reader.now (Pack ∷ [])
+        (codes "node" ∷ new.now ∷ codes "pack" ∷ texts values.now) result }
+{
+    let [tint, way, gap] = values else {
+        return Err(LineRefused::Fault(Code::B1));
+    };
+    let Some(down) = is_down(way) else {
+        return Err(LineRefused::Fault(Code::B1));
+    };
+    if !reader.is_second() {
+        return Err(LineRefused::Fault(Code::B1));
+    }
+    reader.in_opening()?;
+    name(new)?;
+    let tint = byte(tint)?;
+    let gap = small(gap, 0, 64)?;
+    reader.is_new(new)?;
+    let kind = NodeKind::Pack { down, gap };
+    Ok(Meaning::Item(Item::Node { kind, tint }))
+}
+
+pub fn read_put(reader: &Reader, words: &[&str]) -> Result<Meaning, LineRefused>
+    ensures { Reads reader.now (Put ∷ PutAt ∷ []) (codes "put" ∷ texts words.now) result }
+{
+    if let [child, parent] = words {
+        return read_put_plain(reader, child, parent);
+    }
+    read_put_at(reader, words)
+}
+
+fn read_put_plain(reader: &Reader, child: &str, parent: &str) -> Result<Meaning, LineRefused>
+    ensures { Reads reader.now (Put ∷ []) (codes "put" ∷ child.now ∷ parent.now ∷ []) result }
+{
+    reader.in_opening()?;
+    let child = node_of(reader, child)?;
+    let parent = node_of(reader, parent)?;
+    let at = ORIGIN;
+    Ok(Meaning::Item(Item::Put { child, parent, at }))
+}
+
+fn read_put_at(reader: &Reader, words: &[&str]) -> Result<Meaning, LineRefused>
+    ensures { Reads reader.now (PutAt ∷ []) (codes "put" ∷ texts words.now) result }
+{
+    let [child, parent, h, v] = words else {
+        return Err(LineRefused::Fault(Code::B1));
+    };
+    reader.in_opening()?;
+    let h = offset(h)?;
+    let v = offset(v)?;
+    let child = node_of(reader, child)?;
+    let parent = node_of(reader, parent)?;
+    let at = Point { h, v };
+    Ok(Meaning::Item(Item::Put { child, parent, at }))
+}
+
+pub fn read_root(reader: &Reader, words: &[&str]) -> Result<Meaning, LineRefused>
+    ensures { Reads reader.now (Root ∷ []) (codes "root" ∷ texts words.now) result }
+{
+    let [node] = words else {
+        return Err(LineRefused::Fault(Code::B1));
+    };
+    reader.in_opening()?;
+    let node = node_of(reader, node)?;
+    Ok(Meaning::Item(Item::Root { node }))
+}
+
+pub fn read_begin(reader: &Reader, words: &[&str]) -> Result<Meaning, LineRefused>
+    ensures { Reads reader.now (Begin ∷ []) (codes "begin" ∷ texts words.now) result }
+{
+    let [] = words else {
+        return Err(LineRefused::Fault(Code::B1));
+    };
+    reader.in_opening()?;
+    Ok(Meaning::Begin)
+}
