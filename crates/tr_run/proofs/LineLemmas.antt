@@ -1,0 +1,316 @@
+-- What a line of a journal names has a name, where each node and each leaf has one.
+use Rattle.std.proofs.Common.{◌≡◌, ℕ, ◌<◌, Bool, true, false, ◌&&◌, ◌||◌, ◌==◌, List, [], ◌∷◌, ◌++◌, Option, Some, None, length, refl, sym, ap, subst, ◌∙◌, arith}
+use Rattle.std.specs.Prelude.{All}
+use Rattle.std.proofs.lemmas.List.Elements.{All-cons, All-nil, All-push, All-weaker}
+use Rattle.tr_base.specs.declared.LeafId.{LeafId}
+use Rattle.tr_base.specs.declared.NodeId.{NodeId}
+use Rattle.tr_base.specs.declared.Event.{Event}
+use Rattle.tr_base.specs.declared.Spot.{Spot}
+use Rattle.tr_base.specs.declared.Spot.TheVariants as spots
+use Rattle.tr_base.proofs.RectLemmas.{false-true}
+use Rattle.tr_client.specs.declared.clients.Client.{Ghosts}
+use Rattle.tr_forest.specs.declared.Edit.{Edit}
+use Rattle.tr_forest.specs.declared.Edit.TheVariants as edits
+use Rattle.tr_forest.specs.declared.NodeFault.{NodeFault}
+use Rattle.tr_forest.specs.Edits.{IsEdit, refusal}
+use Rattle.tr_forest.specs.Forests.{IsForest}
+use Rattle.tr_forest.specs.Nodes.{Nodes, IsNode, leaf_count}
+use Rattle.tr_tree.specs.Trees.{edited_tree}
+use Rattle.tr_spot.specs.Spots.{spot}
+use Rattle.tr_spot.specs.Spots as below
+use Rattle.tr_spot.proofs.WayLemmas.{equal_numbers, equal_test}
+use Rattle.tr_inbox.specs.declared.Delivery.{Delivery}
+use Rattle.tr_desk.specs.declared.desks.DeskFault.{DeskFault}
+use Rattle.tr_desk.specs.Faults.{time_fault, mouse_fault, own_fault, disown_fault}
+use Rattle.tr_mail.specs.Mails.{Mails, Sending}
+use Rattle.tr_mail.specs.Deliveries as mail
+use Rattle.tr_levels.specs.declared.Level.{Level}
+use Rattle.tr_levels.specs.declared.Level.TheVariants.{Mu, Share, Win}
+use Rattle.tr_journal.specs.declared.items.Item.{Item}
+use Rattle.tr_journal.specs.declared.answers.Answer.{Answer}
+use Rattle.tr_journal.specs.declared.steps.Actor.{Actor}
+use Rattle.tr_journal.specs.declared.steps.Actor.TheVariants as actors
+use Rattle.tr_journal.specs.declared.steps.Query.{Query}
+use Rattle.tr_journal.specs.declared.steps.Query.TheVariants as queries
+use Rattle.tr_journal.specs.declared.steps.Step.{Step}
+use Rattle.tr_journal.specs.declared.steps.Step.TheVariants as steps
+use Rattle.tr_journal.specs.Journals.{JournalLine}
+use Rattle.tr_journal.specs.Openings.{tree_of}
+use Rattle.tr_journal.specs.Steps.{IsLeaf, IsQuery, IsStep, covers, may, stated}
+use Rattle.tr_machine.specs.States.{State, content_of, start}
+use Rattle.tr_machine.specs.Machines as machine
+use Rattle.tr_machine.specs.Machines.{Outcome, asked_of, edited, obeyed, taken, unless}
+use Rattle.tr_machine.specs.Replays.{line_of, next, replay}
+use Rattle.tr_dump.specs.Names.{HasLeaf, HasNode, IsNamedActor, IsNamedEdit, IsNamedLevel, IsNamedLine, IsNamedQuery, IsNamedStep, Names}
+use Rattle.tr_stage.specs.Stages.{IsOf, IsPainters, StageView, state}
+use Rattle.tr_stage.specs.Standings.{Stands}
+use Rattle.tr_run.specs.Texts.{is_report}
+use Rattle.tr_run.specs.Views.{AreNamed, IsKnowing, IsNamed}
+use Rattle.tr_run.proofs.RunLemmas.{state_made}
+use Rattle.tr_run.proofs.MailLemmas.{IsBelow, IsSending, caged-knows, disowned-knows, edited-knows, keyed-knows, moused-knows, moved-knows, no_mail-knows, owned-knows, taken-knows}
+use Rattle.tr_run.proofs.SpotLemmas.{IsWithin, spot_within}
+
+-- ---- the levels of a step
+
+-- a window that is held is held
+held_window : (leaf : LeafId) → (leaf.0 == leaf.0) ≡ true
+held_window leaf = equal_test leaf.0 leaf.0 refl
+
+-- the levels of a step are those that it must hold
+pub covers_stated : {M : Type 0} (step : Step M) → covers (stated step) step ≡ true
+covers_stated (steps.Act leaf cmd) = rw (held_window leaf) refl
+covers_stated (steps.Mark leaf clip) = rw (held_window leaf) refl
+covers_stated (steps.Take leaf) = rw (held_window leaf) refl
+covers_stated (steps.SetCage leaf cage) = rw (held_window leaf) refl
+covers_stated (steps.Own leaf selection time) = rw (held_window leaf) refl
+covers_stated (steps.Disown leaf selection) = rw (held_window leaf) refl
+covers_stated (steps.Read leaf selection) = rw (held_window leaf) refl
+covers_stated step = refl
+
+-- a step of the painter holds the tree's lock alone, and is no report
+pub record IsUnderLock {M : Type 0} (step : Step M) : Type 0 where
+  pub level : stated step ≡ Mu ∷ []
+  pub other : is_report step ≡ false
+
+pub under_lock : {M : Type 0} (t : Nodes) (step : Step M) → IsPainters t step → IsUnderLock step
+under_lock t (steps.Act leaf cmd) is = absurd (false-true is.may)
+under_lock t (steps.Mark leaf clip) is = absurd (false-true is.may)
+under_lock t (steps.Take leaf) is = absurd (false-true is.may)
+under_lock t (steps.SetCage leaf cage) is = absurd (false-true is.may)
+under_lock t (steps.Own leaf selection time) is = absurd (false-true is.may)
+under_lock t (steps.Disown leaf selection) is = absurd (false-true is.may)
+under_lock t (steps.Read leaf selection) is = absurd (false-true is.may)
+under_lock t (steps.Report query) is = absurd (false-true is.may)
+under_lock t step is = record { level = refl; other = refl }
+
+-- ---- names
+
+-- a node of the tree has a name
+has_node : (names : Names) (t : Nodes) (n : NodeId) → AreNamed names t → IsNode t n → HasNode names n
+has_node names t n named is = record { within = omega (arith, named.nodes, is.within) }
+
+-- a leaf of the tree has one
+pub has_leaf : (names : Names) (t : Nodes) (leaf : LeafId) → AreNamed names t → leaf.0 < leaf_count t → HasLeaf names leaf
+has_leaf names t leaf named low = record { within = omega (arith, named.leaves, low) }
+
+-- what an edit names
+named_edit : (names : Names) (t : Nodes) (edit : Edit) → AreNamed names t → IsEdit t edit → IsNamedEdit names edit
+named_edit names t (edits.Attach child parent at) named is = (has_node names t child named is.0, has_node names t parent named is.1)
+named_edit names t (edits.Detach child) named is = has_node names t child named is
+named_edit names t (edits.Tint n tint) named is = has_node names t n named is
+named_edit names t (edits.Border n width) named is = has_node names t n named is
+named_edit names t (edits.Offset n by) named is = has_node names t n named is.0
+named_edit names t (edits.Fix n size) named is = has_node names t n named is.0
+named_edit names t (edits.Move child at) named is = has_node names t child named is.0
+named_edit names t (edits.Lift child) named is = has_node names t child named is
+named_edit names t (edits.Show n child) named is = (has_node names t n named is.0, has_node names t child named is.1)
+named_edit names t (edits.Turn n page) named is = has_node names t n named is
+named_edit names t (edits.Shapes n shapes) named is = has_node names t n named is
+named_edit names t (edits.Resize size) named is = tt
+named_edit names t (edits.Rescreen kind) named is = tt
+
+-- what a report names
+pub named_query : (names : Names) (t : Nodes) (query : Query) → AreNamed names t → IsQuery t query → IsNamedQuery names query
+named_query names t (queries.Inbox leaf) named is = has_leaf names t leaf named is.within
+named_query names t queries.Dump named is = tt
+named_query names t queries.Peek named is = tt
+named_query names t queries.Journal named is = tt
+named_query names t (queries.Where at) named is = tt
+
+-- what a step names
+named_step : {M : Type 0} (names : Names) (t : Nodes) (step : Step M) → AreNamed names t → IsStep t step → IsNamedStep names step
+named_step names t (steps.Alter edit) named is = named_edit names t edit named is
+named_step names t (steps.Flush leaf) named is = has_leaf names t leaf named is.within
+named_step names t (steps.Repaint leaf) named is = has_leaf names t leaf named is.within
+named_step names t (steps.Report query) named is = named_query names t query named is
+named_step names t step named is = tt
+
+or_false : (b : Bool) → (b || false) ≡ true → b ≡ true
+or_false true h = refl
+or_false false h = h
+
+-- a leaf's own steps are those of a leaf of the tree
+own_leaf : {M : Type 0} (t : Nodes) (own : LeafId) (step : Step M) → may (actors.Leaf own) step ≡ true → IsStep t step → own.0 < leaf_count t
+own_leaf t own (steps.Act leaf cmd) h is = omega (arith, equal_numbers own.0 leaf.0 h, is.within)
+own_leaf t own (steps.Mark leaf clip) h is = omega (arith, equal_numbers own.0 leaf.0 h, is.0.within)
+own_leaf t own (steps.Take leaf) h is = omega (arith, equal_numbers own.0 leaf.0 h, is.within)
+own_leaf t own (steps.SetCage leaf cage) h is = omega (arith, equal_numbers own.0 leaf.0 h, is.0.within)
+own_leaf t own (steps.Own leaf selection time) h is = omega (arith, equal_numbers own.0 leaf.0 h, is.0.within)
+own_leaf t own (steps.Disown leaf selection) h is = omega (arith, equal_numbers own.0 leaf.0 h, is.within)
+own_leaf t own (steps.Read leaf selection) h is = omega (arith, equal_numbers own.0 leaf.0 h, is.within)
+own_leaf t own (steps.Mouse time button down) h is = absurd (false-true h)
+own_leaf t own (steps.Motion time at) h is = absurd (false-true h)
+own_leaf t own (steps.Key time code) h is = absurd (false-true h)
+own_leaf t own (steps.Alter edit) h is = absurd (false-true h)
+own_leaf t own (steps.Flush leaf) h is = omega (arith, equal_numbers own.0 leaf.0 (or_false (own.0 == leaf.0) h), is.within)
+own_leaf t own (steps.Repaint leaf) h is = omega (arith, equal_numbers own.0 leaf.0 (or_false (own.0 == leaf.0) h), is.within)
+own_leaf t own steps.PaintFrame h is = absurd (false-true h)
+own_leaf t own steps.Sync h is = absurd (false-true h)
+own_leaf t own (steps.Report query) h is = absurd (false-true h)
+
+-- the actor of a step
+named_actor : {M : Type 0} (names : Names) (t : Nodes) (actor : Actor) (step : Step M) → AreNamed names t → may actor step ≡ true →
+    IsStep t step → IsNamedActor names actor
+named_actor names t (actors.Leaf own) step named h is = has_leaf names t own named (own_leaf t own step h is)
+named_actor names t actor step named h is = tt
+
+-- the tree's lock
+named_lock : (names : Names) → All (IsNamedLevel names) (Mu ∷ [])
+named_lock names = All-cons (IsNamedLevel names) Mu [] tt (All-nil (IsNamedLevel names))
+
+-- a window
+named_window : (names : Names) (t : Nodes) (leaf : LeafId) → AreNamed names t → IsLeaf t leaf → All (IsNamedLevel names) (Win leaf ∷ [])
+named_window names t leaf named is =
+    All-cons (IsNamedLevel names) (Win leaf) [] (has_leaf names t leaf named is.within) (All-nil (IsNamedLevel names))
+
+-- the tree's lock and a window
+named_both : (names : Names) (t : Nodes) (leaf : LeafId) → AreNamed names t → IsLeaf t leaf → All (IsNamedLevel names) (Mu ∷ Win leaf ∷ [])
+named_both names t leaf named is = All-cons (IsNamedLevel names) Mu (Win leaf ∷ []) tt (named_window names t leaf named is)
+
+-- the levels of a step
+named_levels : {M : Type 0} (names : Names) (t : Nodes) (step : Step M) → AreNamed names t → IsStep t step → All (IsNamedLevel names) (stated step)
+named_levels names t (steps.Act leaf cmd) named is = named_window names t leaf named is
+named_levels names t (steps.Mark leaf clip) named is = named_both names t leaf named is.0
+named_levels names t (steps.Take leaf) named is = named_both names t leaf named is
+named_levels names t (steps.SetCage leaf cage) named is = named_both names t leaf named is.0
+named_levels names t (steps.Own leaf selection time) named is = named_both names t leaf named is.0
+named_levels names t (steps.Disown leaf selection) named is = named_both names t leaf named is
+named_levels names t (steps.Read leaf selection) named is = named_both names t leaf named is
+named_levels names t step named is = named_lock names
+
+-- ---- what a step sends
+
+module _ {C M : Type 0} (client : Ghosts C M) where
+  -- the mail of what becomes of a step knows so many leaves, and the step sent events to no others
+  record IsGoing (count : ℕ) (out : Outcome C M) : Type 0 where
+    mail : IsKnowing count out.state.mail
+    sent : All (IsBelow count) out.sent
+
+  -- nothing was sent, and the mail is as before
+  going_still : (count : ℕ) (m : State C M) (answer : Answer) → IsKnowing count m.mail → IsGoing count (record { state = m; answer = answer; sent = [] })
+  going_still count m answer is = record { mail = is; sent = All-nil (IsBelow count) }
+
+  -- a step that the desk refuses, or not
+  going_unless : (count : ℕ) (o : Option DeskFault) (m : State C M) (s : Sending) → IsKnowing count m.mail → IsSending count s →
+      IsGoing count (unless o m s)
+  going_unless count None m s is sends = record { mail = sends.mail; sent = sends.sent }
+  going_unless count (Some fault) m s is sends = record { mail = is; sent = All-nil (IsBelow count) }
+
+  -- an event that is taken, if there is one
+  going_taken : (count : ℕ) (leaf : LeafId) (o : Option Event) (m : State C M) → IsKnowing count m.mail → IsGoing count (taken client leaf o m)
+  going_taken count leaf None m is = record { mail = is; sent = All-nil (IsBelow count) }
+  going_taken count leaf (Some event) m is =
+      record { mail = by_command (asked_of client (content_of client m leaf) event); sent = All-nil (IsBelow count) }
+    where
+      by_command : (o : Option M) → IsKnowing count (obeyed client leaf o (record m { mail = mail.taken leaf m.mail })).mail
+      by_command None = taken-knows count leaf m.mail is
+      by_command (Some cmd) = taken-knows count leaf m.mail is
+
+  -- an edit that the tree refuses, or not
+  going_edited : (count : ℕ) (o : Option NodeFault) (edit : Edit) (m : State C M) → IsKnowing count m.mail → IsGoing count (edited client o edit m)
+  going_edited count (Some fault) edit m is = record { mail = is; sent = All-nil (IsBelow count) }
+  going_edited count None edit m is =
+      let sends : IsSending count (mail.edited m.tree (edited_tree m.tree edit) m.mail) = edited-knows count m.tree (edited_tree m.tree edit) m.mail is in
+      record { mail = sends.mail; sent = sends.sent }
+
+  -- the spot of a leaf is below the count of leaves
+  spot_low : (count : ℕ) (t : Nodes) (s : Spot) → leaf_count t ≡ count → IsWithin t s → below.IsBelow count s
+  spot_low count t (spots.Leaf leaf at size kind) same within = omega (arith, same, within)
+  spot_low count t (spots.Frame n tint kind) same within = tt
+  spot_low count t spots.Off same within = tt
+
+  -- a state whose tree is a forest with as many leaves as another one, and whose mail knows them
+  record IsReady (t : Nodes) (m : State C M) : Type 0 where
+    forest : IsForest m.tree.nodes
+    leaves : leaf_count m.tree.nodes ≡ leaf_count t
+    mail : IsKnowing (leaf_count t) m.mail
+
+  -- each step sends events to leaves of the tree
+  going : (t : Nodes) (m : State C M) (step : Step M) → IsReady t m → IsStep t step → IsGoing (leaf_count t) (machine.step client m step)
+  going t m (steps.Act leaf cmd) ready is = record { mail = ready.mail; sent = All-nil (IsBelow (leaf_count t)) }
+  going t m (steps.Mark leaf clip) ready is = record { mail = ready.mail; sent = All-nil (IsBelow (leaf_count t)) }
+  going t m (steps.Take leaf) ready is = going_taken (leaf_count t) leaf (mail.front_of m.mail leaf) m ready.mail
+  going t m (steps.SetCage leaf cage) ready is =
+      let sends : IsSending (leaf_count t) (mail.caged m.tree leaf cage m.mail) = caged-knows (leaf_count t) m.tree leaf cage m.mail ready.mail in
+      record { mail = sends.mail; sent = sends.sent }
+  going t m (steps.Own leaf selection time) ready is =
+      going_unless (leaf_count t) (own_fault m.mail.desk leaf time) m (mail.owned leaf selection m.mail) ready.mail
+      (owned-knows (leaf_count t) leaf selection m.mail is.0.within ready.mail)
+  going t m (steps.Disown leaf selection) ready is =
+      going_unless (leaf_count t) (disown_fault m.mail.desk leaf selection) m (mail.disowned selection m.mail) ready.mail
+      (disowned-knows (leaf_count t) selection m.mail ready.mail)
+  going t m (steps.Read leaf selection) ready is = record { mail = ready.mail; sent = All-nil (IsBelow (leaf_count t)) }
+  going t m (steps.Mouse time button down) ready is =
+      going_unless (leaf_count t) (mouse_fault m.mail.desk time button down) m (mail.moused m.tree time button down m.mail) ready.mail
+      (moused-knows (leaf_count t) m.tree time button down m.mail
+      (spot_low (leaf_count t) m.tree.nodes (spot m.tree m.mail.desk.cursor) ready.leaves (spot_within m.tree ready.forest m.mail.desk.cursor)) ready.mail)
+  going t m (steps.Motion time at) ready is =
+      going_unless (leaf_count t) (time_fault m.mail.desk time) m (mail.moved m.tree time at m.mail) ready.mail
+      (moved-knows (leaf_count t) m.tree time at m.mail ready.mail)
+  going t m (steps.Key time code) ready is =
+      going_unless (leaf_count t) (time_fault m.mail.desk time) m (mail.keyed time code m.mail) ready.mail
+      (keyed-knows (leaf_count t) time code m.mail ready.mail)
+  going t m (steps.Alter edit) ready is = going_edited (leaf_count t) (refusal m.tree.nodes edit) edit m ready.mail
+  going t m (steps.Flush leaf) ready is = record { mail = ready.mail; sent = All-nil (IsBelow (leaf_count t)) }
+  going t m (steps.Repaint leaf) ready is = record { mail = ready.mail; sent = All-nil (IsBelow (leaf_count t)) }
+  going t m steps.PaintFrame ready is = record { mail = ready.mail; sent = All-nil (IsBelow (leaf_count t)) }
+  going t m steps.Sync ready is = record { mail = ready.mail; sent = All-nil (IsBelow (leaf_count t)) }
+  going t m (steps.Report query) ready is = record { mail = ready.mail; sent = All-nil (IsBelow (leaf_count t)) }
+
+  -- ---- stages
+
+  -- a stage whose journal names what has names, where another one with the same opening and journal does
+  pub named_same : (names : Names) (s n : StageView C M) → IsNamed client names s → n.opening ≡ s.opening → n.journal ≡ s.journal →
+      IsNamed client names n
+  named_same names s n is opening journal = record {
+    tree = subst (λ (items : List (Item C)). AreNamed names (tree_of items).nodes) (sym opening) is.tree;
+    lines = subst (λ (ls : List (JournalLine M)). All (IsNamedLine names) ls) (sym journal) is.lines;
+    mail = subst (λ (items : List (Item C)). IsKnowing (leaf_count (tree_of items).nodes) (replay client items n.journal).mail) (sym opening)
+        (subst (λ (ls : List (JournalLine M)). IsKnowing (leaf_count (tree_of s.opening).nodes) (replay client s.opening ls).mail) (sym journal) is.mail);
+  }
+
+  -- at the start
+  pub named_start : (names : Names) (s : StageView C M) → AreNamed names (tree_of s.opening).nodes → s.journal ≡ [] → IsNamed client names s
+  named_start names s named none = record {
+    tree = named;
+    lines = subst (λ (ls : List (JournalLine M)). All (IsNamedLine names) ls) (sym none) (All-nil (IsNamedLine names));
+    mail = subst (λ (ls : List (JournalLine M)). IsKnowing (leaf_count (tree_of s.opening).nodes) (replay client s.opening ls).mail) (sym none)
+        (no_mail-knows (leaf_count (tree_of s.opening).nodes));
+  }
+
+  -- from one stage to the next an actor made a step, holding the step's levels
+  pub record IsStepped (s n : StageView C M) (actor : Actor) (step : Step M) : Type 0 where
+    pub stands : Stands client s
+    pub like : IsOf s.opening (state client s)
+    pub may : may actor step ≡ true
+    pub values : IsStep (tree_of s.opening).nodes step
+    pub opening : n.opening ≡ s.opening
+    pub journal : n.journal ≡ s.journal ++ line_of client (state client s) actor (stated step) step ∷ []
+
+  -- the next one's journal names what has names, too
+  pub named_next : (names : Names) (s n : StageView C M) (actor : Actor) (step : Step M) → IsNamed client names s → IsStepped s n actor step →
+      IsNamed client names n
+  named_next names s n actor step is made = record {
+    tree = subst (λ (items : List (Item C)). AreNamed names (tree_of items).nodes) (sym made.opening) is.tree;
+    lines = subst (λ (ls : List (JournalLine M)). All (IsNamedLine names) ls) (sym made.journal)
+        (All-push (IsNamedLine names) s.journal (line_of client (state client s) actor (stated step) step) is.lines line);
+    mail = subst (λ (items : List (Item C)). IsKnowing (leaf_count (tree_of items).nodes) (state client n).mail) (sym made.opening)
+        (subst (λ (m : State C M). IsKnowing (leaf_count t) m.mail) (sym (state_made client s n actor (stated step) step made.opening made.journal)) goes.mail);
+  }
+    where
+      t : Nodes
+      t = (tree_of s.opening).nodes
+
+      goes : IsGoing (leaf_count t) (machine.step client (state client s) step)
+      goes = going t (state client s) step (record { forest = made.stands.forest; leaves = made.like.leaves; mail = is.mail }) made.values
+
+      line : IsNamedLine names (line_of client (state client s) actor (stated step) step)
+      line = record {
+        entry = record {
+          actor = named_actor names t actor step is.tree made.may made.values;
+          levels = named_levels names t step is.tree made.values;
+          step = named_step names t step is.tree made.values;
+        };
+        sent = All-weaker (IsBelow (leaf_count t)) (λ (delivery : Delivery). HasLeaf names delivery.leaf)
+            (λ (delivery : Delivery) low. has_leaf names t delivery.leaf is.tree low) (machine.step client (state client s) step).sent goes.sent;
+      }

@@ -1,0 +1,21 @@
+use Rattle.std.proofs.Common.{rules, arith, ◌≡◌, ℕ, ◌++◌, [], ◌∷◌, length, sym, ap, ◌∙◌}
+use Rattle.std.specs.Prelude.{codes, decimal}
+use Rattle.std.proofs.lemmas.Grind.{common_steps}
+use Rattle.tr_dump.specs.Values.{line_text}
+use Rattle.tr_machine.specs.Pictures.{bad_count, stale_count}
+use Rattle.tr_stage.specs.Stages.{state}
+use Rattle.tr_run.proofs.ReportLemmas.{lag_text_of, lag_line-stage}
+use Rattle.tr_run.proofs.reports.append_lag.Goals as goal
+
+pub returns : goal.returns
+returns g c =
+    let s = c.args.stage.now in
+    let old = c.args.out.now.items in
+    let number : c.len-number.result ≡ length s.journal = c.len-number.ensures.count ∙ ap (λ ls. length ls) c.journal.ensures.value in
+    let written : c.extend_from_slice.new.self.items ≡ old ++ lag_text_of c.len-number.result c.in_ok-peek.peek.bad c.in_ok-peek.peek.stale 0 =
+    first_of (search rules, grind (arith, common_steps)) in
+    written
+    ∙ ap (λ (n : ℕ). old ++ lag_text_of n c.in_ok-peek.peek.bad c.in_ok-peek.peek.stale 0) number
+    ∙ ap (λ (n : ℕ). old ++ lag_text_of (length s.journal) n c.in_ok-peek.peek.stale 0) c.in_ok-peek.ensures.bad
+    ∙ ap (λ (n : ℕ). old ++ lag_text_of (length s.journal) (bad_count (state g.C.Client s)) n 0) c.in_ok-peek.ensures.stale
+    ∙ ap (λ t. old ++ t) (sym (lag_line-stage g.C.Client s (length s.journal) c.stands.ensures))

@@ -1,0 +1,23 @@
+use Rattle.std.proofs.Common.{List, [], ◌∷◌, ◌++◌, sym, ap, subst, ◌∙◌}
+use Rattle.tr_levels.specs.declared.Level.{Level}
+use Rattle.tr_journal.specs.Openings.{tree_of}
+use Rattle.tr_journal.specs.Steps.{IsStep}
+use Rattle.tr_machine.specs.Replays.{line_of}
+use Rattle.tr_dump.specs.Names.{names_of}
+use Rattle.tr_stage.specs.Stages.{state}
+use Rattle.tr_run.specs.Views.{RunView}
+use Rattle.tr_run.proofs.LineLemmas.{named_next}
+use Rattle.tr_run.proofs.runs.Run.add.Goals as goal
+
+pub invariant_of-self-2 : goal.invariant_of-self-2
+invariant_of-self-2 g c =
+    let s = c.self.inside.stage in
+    named_next g.C.Client (names_of g.N.NameOf c.self.inside.names.now) s c.step.new.self c.args.actor c.args.step c.self.invariant (record {
+      stands = c.stands.ensures;
+      like = c.tree-tree.ensures.like;
+      may = c.requires.may;
+      values = subst (λ (v : RunView _ _). IsStep (tree_of v.stage.opening).nodes c.args.step) (sym c.self.view_is) c.requires.values;
+      opening = c.step.ensures.opening;
+      journal = c.in_ok-step.ensures.ok
+          ∙ ap (λ (held : List Level). s.journal ++ line_of g.C.Client (state g.C.Client s) c.args.actor held c.args.step ∷ []) c.levels_of-level.ensures;
+    })

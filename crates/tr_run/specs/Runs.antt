@@ -1,0 +1,37 @@
+-- What is done in a run, and the lines of the journal that this makes.
+use Rattle.std.specs.Prelude.{List, [], ◌∷◌, ◌++◌}
+use Rattle.tr_client.specs.declared.clients.Client.{Ghosts}
+use Rattle.tr_journal.specs.declared.steps.Actor.{Actor}
+use Rattle.tr_journal.specs.declared.steps.Actor.TheVariants.{Player}
+use Rattle.tr_journal.specs.declared.steps.Query.{Query}
+use Rattle.tr_journal.specs.declared.steps.Query.TheVariants as queries
+use Rattle.tr_journal.specs.declared.steps.Step.{Step}
+use Rattle.tr_journal.specs.declared.steps.Step.TheVariants as steps
+use Rattle.tr_journal.specs.Journals.{JournalLine}
+use Rattle.tr_journal.specs.Steps.{stated}
+use Rattle.tr_machine.specs.States.{State}
+use Rattle.tr_machine.specs.Replays.{line_of, replay_from}
+use Rattle.tr_machine.specs.Settling.{settling_lines}
+
+-- one thing that is done in a run: an actor makes a step, holding exactly the step's levels, or the painter settles the stage
+pub data Deed (M : Type 0) : Type 0 where
+  makes : Actor → Step M → Deed M
+  settles : Deed M
+
+-- a report is the player's step; the screen is settled before it is dumped
+abbrev pub reporting : {M : Type 0} → Query → List (Deed M)
+reporting queries.Dump = settles ∷ makes Player (steps.Report queries.Dump) ∷ []
+reporting query = makes Player (steps.Report query) ∷ []
+
+module _ {C M : Type 0} (client : Ghosts C M) where
+  -- the lines that a deed makes
+  abbrev pub deed_lines : State C M → Deed M → List (JournalLine M)
+  deed_lines m (makes actor step) = line_of client m actor (stated step) step ∷ []
+  deed_lines m settles = settling_lines client m
+
+  -- the lines that deeds in a row make
+  abbrev pub run_lines : State C M → List (Deed M) → List (JournalLine M)
+  run_lines m [] = []
+  run_lines m (deed ∷ deeds) =
+      let lines = deed_lines m deed in
+      lines ++ run_lines (replay_from client m lines) deeds

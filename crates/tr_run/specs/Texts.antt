@@ -1,0 +1,109 @@
+-- What a run writes: the texts of its reports, or how far the screen lags behind after each step, too, or the sum of a screen's pixels.
+use Rattle.std.specs.Prelude.{ℕ, ◌+◌, Bool, true, false, not, ◌&&◌, if◌then◌else◌, List, [], ◌∷◌, ◌++◌, length, codes, decimal, sum_by}
+use Rattle.tr_base.specs.declared.Point.{Point}
+use Rattle.tr_base.specs.declared.Spot.{Spot}
+use Rattle.tr_base.specs.declared.Spot.TheVariants as spots
+use Rattle.tr_screen.specs.Pictures.{Picture}
+use Rattle.tr_paint.specs.Batches.{touches}
+use Rattle.tr_client.specs.declared.clients.Client.{Ghosts}
+use Rattle.tr_spot.specs.Spots.{spot}
+use Rattle.tr_surface.specs.Counts.{count_on}
+use Rattle.tr_mail.specs.Mails.{inbox_of}
+use Rattle.tr_journal.specs.declared.steps.Query.{Query}
+use Rattle.tr_journal.specs.declared.steps.Query.TheVariants as queries
+use Rattle.tr_journal.specs.declared.steps.Step.{Step}
+use Rattle.tr_journal.specs.declared.steps.Step.TheVariants as steps
+use Rattle.tr_journal.specs.Journals.{JournalLine}
+use Rattle.tr_machine.specs.States.{State, batch_of}
+use Rattle.tr_machine.specs.Pictures.{render, bad_count, waiting_count, stale_count, is_stale}
+use Rattle.tr_machine.specs.Replays.{next}
+use Rattle.tr_dump.specs.declared.Peek3.{Peek3}
+use Rattle.tr_dump.specs.Values.{line_text}
+use Rattle.tr_dump.specs.Names.{Names}
+use Rattle.tr_dump.specs.Reports.{dump_text, peek_text, journal_text, place_text, inbox_text}
+use Rattle.tr_run.specs.declared.modes.Mode.{Mode}
+use Rattle.tr_run.specs.declared.modes.Mode.TheVariants.{Serial, Check, Gen}
+
+-- the sum of all pixels of a picture
+abbrev pub pixel_sum : Picture → ℕ
+pixel_sum p = sum_by (λ row. sum_by (λ pixel. pixel) row) p.rows
+
+-- a sync or a report
+abbrev pub is_players : {M : Type 0} → Step M → Bool
+is_players steps.Sync = true
+is_players (steps.Report query) = true
+is_players step = false
+
+-- a report
+abbrev pub is_report : {M : Type 0} → Step M → Bool
+is_report (steps.Report query) = true
+is_report step = false
+
+-- the screen's lag is written after each step
+abbrev pub is_check : Mode → Bool
+is_check Check = true
+is_check mode = false
+
+module _ {C M : Type 0} (client : Ghosts C M) where
+  -- how far the screen lags behind
+  abbrev pub lag : State C M → Peek3
+  lag m = record { bad = bad_count m; waiting = waiting_count client m; stale = stale_count client m }
+
+  -- a paint command that waits for the leaf of a spot touches the spot
+  abbrev pub is_awaited : State C M → Spot → Bool
+  is_awaited m (spots.Leaf leaf at size kind) = touches (batch_of client m leaf) at
+  is_awaited m spot = false
+
+  -- how many points are stale, and no command that waits for their leaf touches them
+  abbrev pub outside_count : State C M → ℕ
+  outside_count m = count_on m.tree.size (λ p. is_stale client m p && not (is_awaited m (spot m.tree p)))
+
+  -- the line that a check adds to the entry of this number: how far the screen lags behind after it
+  abbrev pub lag_line : ℕ → State C M → List ℕ
+  lag_line number m =
+      line_text (codes "step" ∷ decimal number
+      ∷ codes "bad" ∷ decimal (bad_count m)
+      ∷ codes "stale" ∷ decimal (stale_count client m)
+      ∷ codes "outside" ∷ decimal (outside_count m)
+      ∷ [])
+
+  -- a sync and a report get no such line
+  abbrev pub lag_text : ℕ → State C M → Step M → List ℕ
+  lag_text number m step = if is_players step then [] else lag_line number m
+
+  module _ (words : M → List ℕ) (names : Names) where
+    -- the text of a report on a state that these lines led to
+    abbrev pub report_text : List (JournalLine M) → State C M → Query → List ℕ
+    report_text lines m queries.Dump = dump_text (render client m)
+    report_text lines m queries.Peek = peek_text (lag m)
+    report_text lines m queries.Journal = journal_text words names lines
+    report_text lines m (queries.Where p) = place_text names p (spot m.tree p)
+    report_text lines m (queries.Inbox leaf) = inbox_text names leaf (inbox_of m.mail leaf)
+
+    -- a step that isn't a report has no text
+    abbrev pub step_text : List (JournalLine M) → State C M → Step M → List ℕ
+    step_text lines m (steps.Report query) = report_text lines m query
+    step_text lines m step = []
+
+    -- what is written with a step that is made in a state that these lines led to
+    abbrev pub written : Mode → List (JournalLine M) → State C M → Step M → List ℕ
+    written Serial lines m step = step_text lines m step
+    written Check lines m step = step_text lines m step ++ lag_text (length lines + 1) (next client m step) step
+    written Gen lines m step = []
+
+    -- what is written with later lines of a journal, in a state that the earlier ones led to
+    abbrev pub texts_from : Mode → List (JournalLine M) → State C M → List (JournalLine M) → List ℕ
+    texts_from mode earlier m [] = []
+    texts_from mode earlier m (line ∷ later) =
+        written mode earlier m line.entry.step ++ texts_from mode (earlier ++ line ∷ []) (next client m line.entry.step) later
+
+  -- the sum of the pixels of the screen that was dumped last
+  abbrev pub sum_after : Mode → State C M → ℕ → Step M → ℕ
+  sum_after Gen m sum (steps.Report queries.Dump) = pixel_sum (render client m)
+  sum_after mode m sum step = sum
+
+  -- that sum after some lines of a journal
+  abbrev pub sum_from : Mode → State C M → ℕ → List (JournalLine M) → ℕ
+  sum_from mode m sum [] = sum
+  sum_from mode m sum (line ∷ later) =
+      sum_from mode (next client m line.entry.step) (sum_after mode m sum line.entry.step) later

@@ -1,0 +1,16 @@
+//! A run on one thread: a stage on which steps and reports are made one after another, and the text that
+//! this writes.
+#![tactic(auto)]
+
+mod levels;
+mod modes;
+mod reports;
+mod runs;
+mod standings;
+mod sums;
+
+pub use modes::Mode;
+pub use runs::{Finished, Run};
+
+#[cfg(test)]
+mod tests;

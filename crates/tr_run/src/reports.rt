@@ -1,0 +1,107 @@
+ghost use Rattle.std.specs.Prelude.{◌≡◌, ◌++◌, All, OnOk, length};
+ghost use Rattle.tr_journal.specs.declared.Query.TheVariants.{Dump};
+ghost use Rattle.tr_journal.specs.Openings.{tree_of};
+ghost use Rattle.tr_journal.specs.Steps.{IsQuery};
+ghost use Rattle.tr_spot.specs.Spots.{spot};
+ghost use Rattle.tr_machine.specs.Pictures.{render};
+ghost use Rattle.tr_dump.specs.Names.{IsNamedLine, names_of};
+ghost use Rattle.tr_dump.specs.Reports.{journal_text, peek_text, place_text};
+ghost use Rattle.tr_stage.specs.Stages.{state};
+ghost use Rattle.tr_run.specs.Texts.{lag, lag_line, report_text};
+ghost use Rattle.tr_run.specs.Views.{AreNamed, IsNamed};
+
+use crate::standings::stands;
+use std::alloc::Global;
+use tr_base::{NoMemory, Point};
+use tr_client::Client;
+use tr_dump::{Peek3, dump, inbox, journal, peek_line, place_line};
+use tr_journal::{NameOf, Query};
+use tr_spot::spot_at;
+use tr_stage::Stage;
+
+/// Appends the text of a report. A stage of which the screen is dumped is settled.
+pub(crate) fn append_report<C: Client, N: NameOf>(
+    stage: &Stage<C>,
+    names: &N,
+    query: &Query,
+    out: &mut Vec<u8>,
+) -> Result<(), NoMemory>
+    requires named { IsNamed C.Client (names_of N.NameOf names.now) stage.now }
+    requires values { IsQuery (tree_of stage.now.opening).nodes query.now }
+    requires settled { query.now ≡ Dump → stage.now.screen ≡ render C.Client (state C.Client stage.now) }
+    ensures { OnOk result (out.new.items ≡ out.old.items ++ report_text C.Client C.Cmd.words
+        (names_of N.NameOf names.now) stage.now.journal (state C.Client stage.now) query.now) }
+{
+    match query {
+        Query::Dump => dump(stage.screen(), out),
+        Query::Peek => append_peek(stage, out),
+        Query::Journal => append_journal(stage, names, out),
+        Query::Where(at) => append_place(stage, names, *at, out),
+        Query::Inbox(leaf) => inbox(*leaf, stage.inbox(*leaf), names, out),
+    }
+}
+
+/// Appends how far the screen lags behind.
+fn append_peek<C: Client>(stage: &Stage<C>, out: &mut Vec<u8>) -> Result<(), NoMemory>
+    ensures { OnOk result (out.new.items ≡ out.old.items ++ peek_text (lag C.Client (state C.Client stage.now))) }
+{
+    let peek = stage.peek()?;
+    peek_line(
+        &Peek3 {
+            bad: peek.bad,
+            waiting: peek.waiting,
+            stale: peek.stale,
+        },
+        out,
+    )
+}
+
+/// Appends the journal.
+fn append_journal<C: Client, N: NameOf>(
+    stage: &Stage<C>,
+    names: &N,
+    out: &mut Vec<u8>,
+) -> Result<(), NoMemory>
+    requires { All (IsNamedLine (names_of N.NameOf names.now)) stage.now.journal }
+    ensures { OnOk result (out.new.items ≡ out.old.items ++
+        journal_text C.Cmd.words (names_of N.NameOf names.now) stage.now.journal) }
+{
+    journal(stage.journal(), names, out)
+}
+
+/// Appends what a point belongs to.
+fn append_place<C: Client, N: NameOf>(
+    stage: &Stage<C>,
+    names: &N,
+    at: Point,
+    out: &mut Vec<u8>,
+) -> Result<(), NoMemory>
+    requires { AreNamed (names_of N.NameOf names.now) (tree_of stage.now.opening).nodes }
+    ensures { OnOk result (out.new.items ≡ out.old.items ++
+        place_text (names_of N.NameOf names.now) at (spot (state C.Client stage.now).tree at)) }
+{
+    let spot = spot_at(stage.tree(), at);
+    place_line(at, &spot, names, out)
+}
+
+/// Appends how far the screen lags behind after the last entry of the journal.
+pub(crate) fn append_lag<C: Client>(
+    alloc: Global,
+    stage: &Stage<C>,
+    out: &mut Vec<u8>,
+) -> Result<(), NoMemory>
+    ensures { OnOk result (out.new.items ≡ out.old.items ++
+        lag_line C.Client (length stage.now.journal) (state C.Client stage.now)) }
+{
+    // Called for what it tells the prover: that what is stale waits to be painted.
+    stands(stage);
+    let number = stage.journal().len();
+    let peek = stage.peek()?;
+    let (bad, stale) = (peek.bad, peek.stale);
+    // No point that lags behind lies outside what waits: so it is with each stage.
+    let outside: u32 = 0;
+    let line =
+        format!(in alloc; "step {number} bad {bad} stale {stale} outside {outside}\n")?;
+    out.extend_from_slice(line.as_bytes())?;
+    Ok(())
+}

@@ -1,0 +1,241 @@
+ghost use Rattle.std.specs.Prelude.{◌≡◌, ◌++◌, [], ◌∷◌, true, false, not, ◌&&◌, All, IsSome, IfOk, OnOk};
+ghost use Rattle.tr_levels.specs.declared.Level.TheVariants.{Mu};
+ghost use Rattle.tr_journal.specs.declared.Actor.TheVariants.{Painter, Player};
+ghost use Rattle.tr_journal.specs.declared.Query.TheVariants.{Dump};
+ghost use Rattle.tr_journal.specs.declared.Step.TheVariants.{Report};
+ghost use Rattle.tr_journal.specs.Openings.{tree_of};
+ghost use Rattle.tr_journal.specs.Steps.{IsQuery, IsStep, may, stated};
+ghost use Rattle.tr_machine.specs.Pictures.{render};
+ghost use Rattle.tr_machine.specs.Replays.{line_of};
+ghost use Rattle.tr_machine.specs.Settling.{lines_of, settling_lines};
+ghost use Rattle.tr_dump.specs.Names.{names_of};
+ghost use Rattle.tr_stage.specs.Stages.{IsPainters, state};
+ghost use Rattle.tr_run.specs.Runs.{makes, reporting};
+ghost use Rattle.tr_run.specs.Texts.{is_check, is_players, is_report, sum_after, written};
+ghost use Rattle.tr_run.specs.Views.{AreNamed, Adds, Does};
+
+use crate::levels::levels_of;
+use crate::modes::Mode;
+use crate::reports::{append_lag, append_report};
+use crate::standings::stands;
+use crate::sums::sum_of;
+use std::alloc::Global;
+use std::marker::Model;
+use tr_base::NoMemory;
+use tr_client::Client;
+use tr_journal::{Actor, NameOf, Opening, Query, Step};
+use tr_stage::Stage;
+
+/// A stage on which steps and reports are made one after another, and what was written meanwhile. Each
+/// node and each leaf has a name.
+#[derive(Drop)]
+pub struct Run<'a, C: Client, N: NameOf> {
+    alloc: Global,
+    stage: Stage<C>,
+    names: &'a N,
+    mode: Mode,
+    text: Vec<u8>,
+    sum: u64,
+}
+
+impl<'a, C: Client, N: NameOf> Model for Run<'a, C, N> {
+    ghost use Rattle.tr_dump.specs.Names.{names_of};
+    ghost use Rattle.tr_run.specs.Views.{IsNamed, RunView};
+
+    ghost Value = { RunView C C.Cmd };
+
+    ghost view = { λ r. record {
+      stage = r.stage;
+      names = names_of N.NameOf r.names.now;
+      mode = r.mode;
+      text = r.text.items;
+      sum = r.sum;
+    } };
+
+    ghost invariant = { λ r. IsNamed C.Client (names_of N.NameOf r.names.now) r.stage };
+}
+
+/// What a run ends in.
+#[derive(Drop)]
+pub struct Finished<C: Client> {
+    /// The stage after all steps.
+    pub stage: Stage<C>,
+    /// What was written.
+    pub text: Vec<u8>,
+    /// The sum of the pixels of the last dump, where nothing was written.
+    pub sum: u64,
+}
+
+impl<'a, C: Client, N: NameOf> Run<'a, C, N> {
+    /// A run of an opening whose root was set, before any step.
+    pub fn start(
+        alloc: Global,
+        opening: Opening<C>,
+        names: &'a N,
+        mode: Mode,
+    ) -> Result<Run<'a, C, N>, NoMemory>
+        requires ready { IsSome (tree_of opening).nodes.root }
+        requires named { AreNamed (names_of N.NameOf names.now) (tree_of opening).nodes }
+        ensures opening { IfOk result (λ run. run.stage.opening ≡ opening) }
+        ensures journal { IfOk result (λ run. run.stage.journal ≡ []) }
+        ensures names { IfOk result (λ run. run.names ≡ names_of N.NameOf names.now) }
+        ensures mode { IfOk result (λ run. run.mode ≡ mode) }
+        ensures text { IfOk result (λ run. run.text ≡ []) }
+        ensures sum { IfOk result (λ run. run.sum ≡ 0) }
+    {
+        match Stage::start(alloc, opening) {
+            Ok(stage) => Ok(Run {
+                alloc,
+                stage,
+                names,
+                mode,
+                text: Vec::new(alloc),
+                sum: 0,
+            }),
+            Err(_) => Err(NoMemory),
+        }
+    }
+
+    /// An actor makes a step other than a report, holding exactly the step's levels.
+    pub fn make(&mut self, actor: Actor, step: Step<C::Cmd>) -> Result<(), NoMemory>
+        requires may { may actor step ≡ true }
+        requires values { IsStep (tree_of self.old.stage.opening).nodes step }
+        requires other { is_report step ≡ false }
+        ensures { OnOk result (Does C.Client C.Cmd.words self.old self.new (makes actor step ∷ [])) }
+    {
+        let lags = is_lagging(self.mode, &step);
+        self.add(actor, step)?;
+        if lags {
+            append_lag(self.alloc, &self.stage, &mut self.text)?;
+        }
+        Ok(())
+    }
+
+    /// The player makes a report. The screen is settled before it is dumped.
+    pub fn report(&mut self, query: Query) -> Result<(), NoMemory>
+        requires { IsQuery (tree_of self.old.stage.opening).nodes query }
+        ensures { OnOk result (Does C.Client C.Cmd.words self.old self.new (reporting query)) }
+    {
+        match query {
+            Query::Dump => self.dump(),
+            _ => self.answer(query),
+        }
+    }
+
+    /// The stage so far.
+    pub fn stage(&self) -> &Stage<C>
+        ensures { result.now ≡ self.now.stage }
+    {
+        &self.stage
+    }
+
+    /// The end of the run.
+    pub fn finish(self) -> Finished<C>
+        ensures stage { result.stage ≡ self.entry.stage }
+        ensures text { result.text.items ≡ self.entry.text }
+        ensures sum { result.sum ≡ self.entry.sum }
+    {
+        let Run {
+            stage, text, sum, ..
+        } = self;
+        Finished { stage, text, sum }
+    }
+
+    /// An actor makes a step, holding exactly the step's levels. Nothing is written.
+    fn add(&mut self, actor: Actor, step: Step<C::Cmd>) -> Result<(), NoMemory>
+        requires may { may actor step ≡ true }
+        requires values { IsStep (tree_of self.old.stage.opening).nodes step }
+        ensures opening { self.new.stage.opening ≡ self.old.stage.opening }
+        ensures journal { OnOk result (self.new.stage.journal ≡ self.old.stage.journal ++
+            line_of C.Client (state C.Client self.old.stage) actor (stated step) step ∷ []) }
+        ensures names { self.new.names ≡ self.old.names }
+        ensures mode { self.new.mode ≡ self.old.mode }
+        ensures text { self.new.text ≡ self.old.text }
+        ensures sum { self.new.sum ≡ self.old.sum }
+    {
+        // Called for what they tell the prover: what holds of the stage, and of its tree.
+        stands(&self.stage);
+        let _tree = self.stage.tree();
+        let level = levels_of(&step);
+        self.stage.step(actor, level, step)?;
+        Ok(())
+    }
+
+    /// The player has the screen dumped, once it is settled.
+    fn dump(&mut self) -> Result<(), NoMemory>
+        ensures { OnOk result (Does C.Client C.Cmd.words self.old self.new (reporting Dump)) }
+    {
+        self.settle()?;
+        self.answer(Query::Dump)?;
+        Ok(())
+    }
+
+    /// The player makes a report, and it is written. A stage of which the screen is dumped is settled.
+    fn answer(&mut self, query: Query) -> Result<(), NoMemory>
+        requires values { IsQuery (tree_of self.old.stage.opening).nodes query }
+        requires settled { query ≡ Dump →
+            self.old.stage.screen ≡ render C.Client (state C.Client self.old.stage) }
+        ensures { OnOk result (Adds C.Client C.Cmd.words self.old self.new
+            (line_of C.Client (state C.Client self.old.stage) Player (Mu ∷ []) (Report query) ∷ [])) }
+    {
+        self.tell(&query)?;
+        self.add(Actor::Player, Step::Report { query })?;
+        Ok(())
+    }
+
+    /// The painter brings the screen up to date.
+    fn settle(&mut self) -> Result<(), NoMemory>
+        ensures lines { OnOk result (Adds C.Client C.Cmd.words self.old self.new
+            (settling_lines C.Client (state C.Client self.old.stage))) }
+        ensures screen { OnOk result (self.new.stage.screen ≡ render C.Client (state C.Client self.new.stage)) }
+    {
+        // Called, before and after, for what it tells the prover.
+        stands(&self.stage);
+        let steps = self.stage.steps_to_settle()?;
+        self.paint_all(steps)?;
+        stands(&self.stage);
+        Ok(())
+    }
+
+    /// The painter makes steps, one after another, under the tree's lock.
+    fn paint_all(&mut self, steps: Vec<Step<C::Cmd>>) -> Result<(), NoMemory>
+        requires { All (IsPainters (tree_of self.old.stage.opening).nodes) steps.items }
+        ensures { OnOk result (Adds C.Client C.Cmd.words self.old self.new
+            (lines_of C.Client Painter (Mu ∷ []) (state C.Client self.old.stage) steps.items)) }
+    {
+        for step in steps {
+            self.make(Actor::Painter, step)?;
+        }
+        Ok(())
+    }
+
+    /// Writes a report, or adds up the pixels of a dump.
+    fn tell(&mut self, query: &Query) -> Result<(), NoMemory>
+        requires values { IsQuery (tree_of self.old.stage.opening).nodes query.now }
+        requires settled { query.now ≡ Dump →
+            self.old.stage.screen ≡ render C.Client (state C.Client self.old.stage) }
+        ensures stage { self.new.stage ≡ self.old.stage }
+        ensures names { self.new.names ≡ self.old.names }
+        ensures mode { self.new.mode ≡ self.old.mode }
+        ensures text { OnOk result (self.new.text ≡ self.old.text ++ written C.Client C.Cmd.words
+            self.old.names self.old.mode self.old.stage.journal (state C.Client self.old.stage) (Report query.now)) }
+        ensures sum { OnOk result (self.new.sum ≡
+            sum_after C.Client self.old.mode (state C.Client self.old.stage) self.old.sum (Report query.now)) }
+    {
+        match (self.mode, query) {
+            (Mode::Gen, Query::Dump) => {
+                self.sum = sum_of(self.stage.screen());
+                Ok(())
+            }
+            (Mode::Gen, _) => Ok(()),
+            _ => append_report(&self.stage, self.names, query, &mut self.text),
+        }
+    }
+}
+
+/// Whether it is written how far the screen lags behind a step.
+fn is_lagging<M>(mode: Mode, step: &Step<M>) -> bool
+    ensures { result ≡ is_check mode && not (is_players step.now) }
+{
+    mode == Mode::Check && !matches!(step, Step::Sync | Step::Report { .. })
+}
