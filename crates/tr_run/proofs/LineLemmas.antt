@@ -47,32 +47,13 @@ use Rattle.tr_stage.specs.Standings.{Stands}
 use Rattle.tr_run.specs.Texts.{is_report}
 use Rattle.tr_run.specs.Views.{AreNamed, IsKnowing, IsNamed}
 use Rattle.tr_run.proofs.RunLemmas.{state_made}
-use Rattle.tr_run.proofs.MailLemmas.{IsBelow, IsSending, caged-knows, disowned-knows, edited-knows, keyed-knows, moused-knows, moved-knows, no_mail-knows, owned-knows, taken-knows}
+use Rattle.tr_run.proofs.MailLemmas.{IsBelow, IsSending, caged-knows, disowned-knows, edited-knows, keyed-knows, moused-knows, moved-knows, owned-knows, taken-knows}
 use Rattle.tr_run.proofs.SpotLemmas.{IsWithin, spot_within}
 
 -- ---- the levels of a step
 
--- a window that is held is held
-held_window : (leaf : LeafId) → (leaf.0 == leaf.0) ≡ true
-held_window leaf = equal_test leaf.0 leaf.0 refl
-
--- the levels of a step are those that it must hold
-pub covers_stated : {M : Type 0} (step : Step M) → covers (stated step) step ≡ true
-covers_stated (steps.Act leaf cmd) = rw (held_window leaf) refl
-covers_stated (steps.Mark leaf clip) = rw (held_window leaf) refl
-covers_stated (steps.Take leaf) = rw (held_window leaf) refl
-covers_stated (steps.SetCage leaf cage) = rw (held_window leaf) refl
-covers_stated (steps.Own leaf selection time) = rw (held_window leaf) refl
-covers_stated (steps.Disown leaf selection) = rw (held_window leaf) refl
-covers_stated (steps.Read leaf selection) = rw (held_window leaf) refl
-covers_stated step = refl
-
--- a step of the painter holds the tree's lock alone, and is no report
-pub record IsUnderLock {M : Type 0} (step : Step M) : Type 0 where
-  pub level : stated step ≡ Mu ∷ []
-  pub other : is_report step ≡ false
-
-pub under_lock : {M : Type 0} (t : Nodes) (step : Step M) → IsPainters t step → IsUnderLock step
+-- a step of the painter holds the tree's lock alone
+pub under_lock : {M : Type 0} (t : Nodes) (step : Step M) → IsPainters t step → stated step ≡ Mu ∷ []
 under_lock t (steps.Act leaf cmd) is = absurd (false-true is.may)
 under_lock t (steps.Mark leaf clip) is = absurd (false-true is.may)
 under_lock t (steps.Take leaf) is = absurd (false-true is.may)
@@ -80,8 +61,7 @@ under_lock t (steps.SetCage leaf cage) is = absurd (false-true is.may)
 under_lock t (steps.Own leaf selection time) is = absurd (false-true is.may)
 under_lock t (steps.Disown leaf selection) is = absurd (false-true is.may)
 under_lock t (steps.Read leaf selection) is = absurd (false-true is.may)
-under_lock t (steps.Report query) is = absurd (false-true is.may)
-under_lock t step is = record { level = refl; other = refl }
+under_lock t step is = refl
 
 -- ---- names
 
@@ -90,7 +70,7 @@ has_node : (names : Names) (t : Nodes) (n : NodeId) → AreNamed names t → IsN
 has_node names t n named is = record { within = omega (arith, named.nodes, is.within) }
 
 -- a leaf of the tree has one
-pub has_leaf : (names : Names) (t : Nodes) (leaf : LeafId) → AreNamed names t → leaf.0 < leaf_count t → HasLeaf names leaf
+has_leaf : (names : Names) (t : Nodes) (leaf : LeafId) → AreNamed names t → leaf.0 < leaf_count t → HasLeaf names leaf
 has_leaf names t leaf named low = record { within = omega (arith, named.leaves, low) }
 
 -- what an edit names
@@ -110,7 +90,7 @@ named_edit names t (edits.Resize size) named is = tt
 named_edit names t (edits.Rescreen kind) named is = tt
 
 -- what a report names
-pub named_query : (names : Names) (t : Nodes) (query : Query) → AreNamed names t → IsQuery t query → IsNamedQuery names query
+named_query : (names : Names) (t : Nodes) (query : Query) → AreNamed names t → IsQuery t query → IsNamedQuery names query
 named_query names t (queries.Inbox leaf) named is = has_leaf names t leaf named is.within
 named_query names t queries.Dump named is = tt
 named_query names t queries.Peek named is = tt
@@ -186,10 +166,6 @@ module _ {C M : Type 0} (client : Ghosts C M) where
     mail : IsKnowing count out.state.mail
     sent : All (IsBelow count) out.sent
 
-  -- nothing was sent, and the mail is as before
-  going_still : (count : ℕ) (m : State C M) (answer : Answer) → IsKnowing count m.mail → IsGoing count (record { state = m; answer = answer; sent = [] })
-  going_still count m answer is = record { mail = is; sent = All-nil (IsBelow count) }
-
   -- a step that the desk refuses, or not
   going_unless : (count : ℕ) (o : Option DeskFault) (m : State C M) (s : Sending) → IsKnowing count m.mail → IsSending count s →
       IsGoing count (unless o m s)
@@ -258,25 +234,6 @@ module _ {C M : Type 0} (client : Ghosts C M) where
   going t m (steps.Report query) ready is = record { mail = ready.mail; sent = All-nil (IsBelow (leaf_count t)) }
 
   -- ---- stages
-
-  -- a stage whose journal names what has names, where another one with the same opening and journal does
-  pub named_same : (names : Names) (s n : StageView C M) → IsNamed client names s → n.opening ≡ s.opening → n.journal ≡ s.journal →
-      IsNamed client names n
-  named_same names s n is opening journal = record {
-    tree = subst (λ (items : List (Item C)). AreNamed names (tree_of items).nodes) (sym opening) is.tree;
-    lines = subst (λ (ls : List (JournalLine M)). All (IsNamedLine names) ls) (sym journal) is.lines;
-    mail = subst (λ (items : List (Item C)). IsKnowing (leaf_count (tree_of items).nodes) (replay client items n.journal).mail) (sym opening)
-        (subst (λ (ls : List (JournalLine M)). IsKnowing (leaf_count (tree_of s.opening).nodes) (replay client s.opening ls).mail) (sym journal) is.mail);
-  }
-
-  -- at the start
-  pub named_start : (names : Names) (s : StageView C M) → AreNamed names (tree_of s.opening).nodes → s.journal ≡ [] → IsNamed client names s
-  named_start names s named none = record {
-    tree = named;
-    lines = subst (λ (ls : List (JournalLine M)). All (IsNamedLine names) ls) (sym none) (All-nil (IsNamedLine names));
-    mail = subst (λ (ls : List (JournalLine M)). IsKnowing (leaf_count (tree_of s.opening).nodes) (replay client s.opening ls).mail) (sym none)
-        (no_mail-knows (leaf_count (tree_of s.opening).nodes));
-  }
 
   -- from one stage to the next an actor made a step, holding the step's levels
   pub record IsStepped (s n : StageView C M) (actor : Actor) (step : Step M) : Type 0 where

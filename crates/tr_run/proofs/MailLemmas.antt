@@ -48,10 +48,6 @@ one_sending : (count : ℕ) (b : Bool) (s t : Sending) → IsSending count s →
 one_sending count true s t first second = first
 one_sending count false s t first second = second
 
--- at the start nobody has anything
-pub no_mail-knows : (count : ℕ) → IsKnowing count (no_mail count)
-no_mail-knows count = record { inboxes = length-replicate count nothing; focus = tt; key = tt; source = tt; target = tt }
-
 -- another inbox for a leaf
 with_inbox-knows : (count : ℕ) (leaf : LeafId) (inbox : Contents) (m : Mails) → IsKnowing count m → IsKnowing count (with_inbox leaf inbox m)
 with_inbox-knows count leaf inbox m is = record {

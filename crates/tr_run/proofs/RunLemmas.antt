@@ -183,20 +183,7 @@ module _ {C M : Type 0} (client : Ghosts C M) where
   sum_after-other Gen m sum step h = refl
   sum_after-other mode m sum step h = refl
 
-  -- where nothing tells how far the screen lags behind, nothing is written
-  pub written-quiet : (words : M → List ℕ) (names : Names) (mode : Mode) (lines : List (JournalLine M)) (m : State C M) (step : Step M) →
-      is_report step ≡ false → (is_check mode && not (is_players step)) ≡ false → written client words names mode lines m step ≡ []
-  written-quiet words names Serial lines m step h quiet = step_text-none words names lines m step h
-  written-quiet words names Check lines m step h quiet =
-      ap (λ (t : List ℕ). t ++ cond (is_players step) [] (lag_line client (length lines + 1) (next client m step))) (step_text-none words names lines m step h)
-      ∙ by_players (is_players step) quiet
-    where
-      by_players : (b : Bool) → not b ≡ false → cond b [] (lag_line client (length lines + 1) (next client m step)) ≡ []
-      by_players true quiet = refl
-      by_players false quiet = absurd (false-true (sym quiet))
-  written-quiet words names Gen lines m step h quiet = refl
-
-  -- else just this
+  -- where it is told how far the screen lags behind, just this is written
   pub written-lag : (words : M → List ℕ) (names : Names) (mode : Mode) (lines : List (JournalLine M)) (m : State C M) (step : Step M) →
       is_report step ≡ false → (is_check mode && not (is_players step)) ≡ true →
       written client words names mode lines m step ≡ lag_line client (length lines + 1) (next client m step)
