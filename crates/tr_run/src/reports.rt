@@ -100,8 +100,7 @@ pub(crate) fn append_lag<C: Client>(
     let (bad, stale) = (peek.bad, peek.stale);
     // No point that lags behind lies outside what waits: so it is with each stage.
     let outside: u32 = 0;
-    let line =
-        format!(in alloc; "step {number} bad {bad} stale {stale} outside {outside}\n")?;
+    let line = format!(in alloc; "step {number} bad {bad} stale {stale} outside {outside}\n")?;
     out.extend_from_slice(line.as_bytes())?;
     Ok(())
 }

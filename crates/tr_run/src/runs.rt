@@ -136,7 +136,10 @@ impl<'a, C: Client, N: NameOf> Run<'a, C, N> {
         ensures sum { result.sum ≡ self.entry.sum }
     {
         let Run {
-            stage, text, sum, ..
+            stage,
+            text,
+            sum,
+            ..
         } = self;
         Finished { stage, text, sum }
     }

@@ -185,7 +185,9 @@ fn played<C: Colours>(
 #[test]
 fn reports_are_written(rt: HostRuntime) -> Result<(), Fail> {
     let finished: Finished<Solid> = played(&rt, Mode::Serial)?;
-    assert_eq!(rt; finished.text.as_slice(), b"dump 4 1 map8
+    assert_eq!(rt;
+        finished.text.as_slice(),
+        b"dump 4 1 map8
 01010202
 peek bad 0 waiting 1 stale 2
 where 3 0 leaf b 1 0
@@ -203,7 +205,9 @@ journal 10
 8 player mu inbox a = ok
 9 painter mu repaint b = ok
 10 player mu dump = ok
-".as_slice());
+"
+            .as_slice()
+    );
     assert_eq!(rt; finished.sum, 0);
     Ok(())
 }
@@ -211,7 +215,9 @@ journal 10
 #[test]
 fn a_check_tells_how_far_the_screen_lags_behind(rt: HostRuntime) -> Result<(), Fail> {
     let finished: Finished<Solid> = played(&rt, Mode::Check)?;
-    assert_eq!(rt; finished.text.as_slice(), b"step 1 bad 2 stale 0 outside 0
+    assert_eq!(rt;
+        finished.text.as_slice(),
+        b"step 1 bad 2 stale 0 outside 0
 step 2 bad 0 stale 0 outside 0
 dump 4 1 map8
 01010202
@@ -233,7 +239,9 @@ journal 10
 8 player mu inbox a = ok
 9 painter mu repaint b = ok
 10 player mu dump = ok
-".as_slice());
+"
+            .as_slice()
+    );
     assert_eq!(rt; finished.sum, 0);
     Ok(())
 }

@@ -16,7 +16,7 @@ loop-step-preserved g c =
     c.in-Some.step c.in-Some.is c.next.ensures.steps in
     let k = length c.loop-step.yielded in
     let level = ap (λ s. stated s) turn.1
-        ∙ under_lock (tree_of c.args.self.now.stage.opening).nodes _ (c.requires k c.in-Some.step turn.0) in
+    ∙ under_lock (tree_of c.args.self.now.stage.opening).nodes _ (c.requires k c.in-Some.step turn.0) in
     record {
       can_next = tt;
       is_finite = tt;

@@ -15,7 +15,7 @@ returns-clause-screen g c =
     let stood = subst (λ (v : RunView _ _). Stands g.C.Client v.stage) c.self.view_is c.stands.ensures in
     let stands = subst (λ (v : RunView _ _). Stands g.C.Client v.stage) c.self-2.view_is c.stands-2.ensures in
     let steps = subst (λ (v : RunView _ _). c.in_ok-steps.steps.items ≡ settling g.C.Client (state g.C.Client v.stage)) c.self.view_is
-        c.in_ok-steps.ensures.steps in
+    c.in_ok-steps.ensures.steps in
     settled_screen g.C.Client s n stands
     (settled_is g.C.Client s n stood c.in_ok-paint_all.ensures.opening
     (c.in_ok-paint_all.ensures.journal ∙ ap (λ xs. s.journal ++ lines_of g.C.Client Painter (Mu ∷ []) (state g.C.Client s) xs) steps))
