@@ -2,6 +2,7 @@
 # Runs each test of the stage (crates/tr_scenes) again and again, each time with another one of its
 # allocations refused. A test makes a step once more that wanted memory, and then all must come out as
 # without; or it ends for want of memory, where it was still making its stage. Any other end is an error.
+# The random runs are left out: they have too many allocations, and their model asks for none again.
 #
 #     bench/want_of_memory.sh [PROGRAM]
 #
@@ -25,7 +26,7 @@ run() {
 
 program=$1
 wrong=0
-for test in $("$program" --list | sed -n 's/^\([^ ]*::[^ :]*\).*/\1/p'); do
+for test in $("$program" --list | sed -n '/^trials::/d; s/^\([^ ]*::[^ :]*\).*/\1/p'); do
     run "$test" 0
     count=$(sed -n 's/^allocations //p' "$folder/out")
     same=0

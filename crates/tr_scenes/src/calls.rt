@@ -8,11 +8,13 @@ ghost use Rattle.tr_stage.specs.Stages as spec;
 
 use super::acts::By;
 use super::openings::{Part, Sample, opening_of};
+use super::traces::same_commands;
 use std::process::Abort;
-use tr_base::{Event, LeafId, Line, NoMemory, Point, Selection, Size};
+use tr_base::{Event, LeafId, Line, NoMemory, Point, Selection, Size, whole};
 use tr_client::Client;
 use tr_forest::EditRefused;
 use tr_journal::{Delivery, Entry, Opening, Reply, Step, covers, is_step, may};
+use tr_paint::Batch;
 use tr_stage::{Peek, Stage, is_reservable};
 
 /// Ends the test where the step may not be made.
@@ -128,6 +130,12 @@ pub fn row<'a, C: Client>(rt: &impl Abort, stage: &'a Stage<C>, v: u16) -> &'a [
     screen.row(v)
 }
 
+pub fn pixel<C: Client>(rt: &impl Abort, stage: &Stage<C>, p: Point) -> u8 {
+    let screen = stage.screen();
+    assert!(rt; whole(screen.size()).has(p));
+    screen.at(p)
+}
+
 pub fn entries<C: Client>(stage: &Stage<C>) -> usize {
     stage.journal().len()
 }
@@ -180,6 +188,16 @@ pub fn commands<C: Client>(rt: &impl Abort, stage: &Stage<C>, leaf: LeafId) -> u
     stage.batch(leaf).len()
 }
 
+pub fn has_commands<C: Client>(
+    rt: &impl Abort,
+    stage: &Stage<C>,
+    leaf: LeafId,
+    batch: &Batch,
+) -> bool {
+    allow_leaf(rt, stage, leaf);
+    same_commands(stage.batch(leaf), batch)
+}
+
 pub fn leaf_size<C: Client>(rt: &impl Abort, stage: &Stage<C>, leaf: LeafId) -> Size {
     allow_leaf(rt, stage, leaf);
     stage.leaf_size(leaf)
@@ -203,4 +221,12 @@ pub fn cursor<C: Client>(stage: &Stage<C>) -> Point {
 
 pub fn owner<C: Client>(stage: &Stage<C>, selection: Selection) -> Option<LeafId> {
     stage.desk().owner(selection)
+}
+
+pub fn time<C: Client>(stage: &Stage<C>) -> u32 {
+    stage.desk().time()
+}
+
+pub fn focus<C: Client>(stage: &Stage<C>) -> Option<LeafId> {
+    stage.desk().focus()
 }

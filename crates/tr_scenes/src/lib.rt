@@ -6,6 +6,8 @@ mod acts;
 #[cfg(test)]
 mod calls;
 #[cfg(test)]
+mod draws;
+#[cfg(test)]
 mod events;
 #[cfg(test)]
 mod openings;
@@ -17,3 +19,9 @@ mod reads;
 mod runs;
 #[cfg(test)]
 mod screens;
+#[cfg(test)]
+mod slow;
+#[cfg(test)]
+mod traces;
+#[cfg(test)]
+mod trials;

@@ -4,7 +4,7 @@ ghost use Rattle.tr_base.specs.Layouts.{farthest, IsOffset};
 ghost use Rattle.tr_forest.specs.Nodes.{IsNodeKind, is_leaf, shown_by};
 
 use std::process::Abort;
-use tr_base::{Kind, Line, NoMemory, NodeId, Point, Shape, Shapes, Size, is_printable};
+use tr_base::{Kind, Line, NoMemory, NodeId, Point, Shape, Shapes, Size, Tile, is_printable};
 use tr_client::Client;
 use tr_forest::{Edit, EditRefused, NodeKind};
 use tr_journal::{Opening, is_edit};
@@ -12,13 +12,15 @@ use tr_widget::Widget;
 use w_canvas::Canvas;
 use w_lines::Lines;
 use w_meter::Meter;
-use w_plain::{Label, Solid};
+use w_plain::{Board, Label, Solid};
 
 /// One of the things that make an opening. The first node is the root.
 #[derive(Clone, Copy)]
 pub enum Part {
     /// The glyph of A is full.
     Glyph,
+    /// The glyph of a has these rows.
+    Letter([u8; 8]),
     /// A node that is no leaf, and its tint.
     Node(NodeKind, u8),
     /// A leaf that wants these lengths across and down, at least, by preference and at most, and what it
@@ -26,6 +28,8 @@ pub enum Part {
     Leaf([u16; 3], [u16; 3], Shown),
     /// The node of the first number becomes a child of the second, and stands there if that is a Z.
     Put(u16, u16, i32, i32),
+    /// The same, where the tree allows it.
+    Try(u16, u16, i32, i32),
 }
 
 /// What a leaf shows at first.
@@ -33,6 +37,8 @@ pub enum Part {
 pub enum Shown {
     /// One colour.
     Solid(u8),
+    /// A tile that begins at the corner.
+    Board(Tile),
     /// The text `hi`.
     Label,
     /// No line.
@@ -54,6 +60,7 @@ impl Sample for Widget {
     fn showing(rt: &(impl Abort + AllocGlobal), shown: Shown) -> Result<Widget, NoMemory> {
         Ok(match shown {
             Shown::Solid(tint) => Widget::Solid(Solid::new(tint)),
+            Shown::Board(tile) => Widget::Board(Board::new(tile, Point { h: 0, v: 0 })),
             Shown::Label => Widget::Label(Label::new(line(rt, b"hi")?)?),
             Shown::Lines => Widget::Lines(Lines::new(rt.alloc())?),
             Shown::Canvas => Widget::Canvas(Canvas::new(rt.alloc())?),
@@ -142,6 +149,20 @@ fn put<C: Client>(
     opening.put(child, parent, at)
 }
 
+/// Makes a node the child of another where the tree allows it.
+fn try_put<C: Client>(
+    rt: &impl Abort,
+    opening: &mut Opening<C>,
+    child: NodeId,
+    parent: NodeId,
+    at: Point,
+) -> Result<(), EditRefused> {
+    match put(rt, opening, child, parent, at) {
+        Ok(()) | Err(EditRefused::Fault(_)) => Ok(()),
+        Err(EditRefused::NoMemory) => Err(EditRefused::NoMemory),
+    }
+}
+
 /// Makes the first node the root.
 fn set_root<C: Client>(rt: &impl Abort, opening: &mut Opening<C>) -> Result<(), EditRefused> {
     assert!(rt; 0 < opening.tree().count());
@@ -155,6 +176,7 @@ fn add<C: Client + Sample>(
 ) -> Result<(), EditRefused> {
     match part {
         Part::Glyph => Ok(opening.glyph(b'A', [0xff; 8])?),
+        Part::Letter(rows) => Ok(opening.glyph(b'a', *rows)?),
         Part::Node(kind, tint) => Ok(add_node(rt, opening, kind, *tint)?),
         Part::Leaf(across, down, shown) => {
             let shapes = shapes(rt, across, down);
@@ -163,6 +185,10 @@ fn add<C: Client + Sample>(
         Part::Put(child, parent, h, v) => {
             let at = Point { h: *h, v: *v };
             put(rt, opening, NodeId(*child), NodeId(*parent), at)
+        }
+        Part::Try(child, parent, h, v) => {
+            let at = Point { h: *h, v: *v };
+            try_put(rt, opening, NodeId(*child), NodeId(*parent), at)
         }
     }
 }

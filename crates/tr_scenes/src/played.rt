@@ -6,6 +6,7 @@ use std::process::Abort;
 use tr_base::{Event, LeafId, Line, NoMemory, Point, Selection, Size};
 use tr_forest::EditRefused;
 use tr_journal::{Delivery, Entry, Reply, Step};
+use tr_paint::Batch;
 use tr_stage::{Peek, Stage};
 use tr_widget::{Widget, WidgetCmd};
 
@@ -51,6 +52,9 @@ pub trait Played: Sized + Drop {
     /// A row of the screen.
     fn row(&self, rt: &impl Abort, v: u16) -> &[u8];
 
+    /// The pixel at a point of the screen.
+    fn pixel(&self, rt: &impl Abort, p: Point) -> u8;
+
     /// How many entries the journal has.
     fn entries(&self) -> usize;
 
@@ -75,6 +79,9 @@ pub trait Played: Sized + Drop {
     /// How many paint commands wait for a leaf.
     fn commands(&self, rt: &impl Abort, leaf: LeafId) -> usize;
 
+    /// Whether these commands wait for a leaf.
+    fn has_commands(&self, rt: &impl Abort, leaf: LeafId, batch: &Batch) -> bool;
+
     /// The size of a leaf's window.
     fn leaf_size(&self, rt: &impl Abort, leaf: LeafId) -> Size;
 
@@ -92,6 +99,12 @@ pub trait Played: Sized + Drop {
 
     /// Who owns a selection.
     fn owner(&self, selection: Selection) -> Option<LeafId>;
+
+    /// The present time.
+    fn time(&self) -> u32;
+
+    /// Which leaf has the mouse.
+    fn focus(&self) -> Option<LeafId>;
 }
 
 /// Each is one call, of a function without conditions: so the proof needn't write the laws out.
@@ -146,6 +159,10 @@ impl Played for Stage<Widget> {
         calls::row(rt, self, v)
     }
 
+    fn pixel(&self, rt: &impl Abort, p: Point) -> u8 {
+        calls::pixel(rt, self, p)
+    }
+
     fn entries(&self) -> usize {
         calls::entries(self)
     }
@@ -178,6 +195,10 @@ impl Played for Stage<Widget> {
         calls::commands(rt, self, leaf)
     }
 
+    fn has_commands(&self, rt: &impl Abort, leaf: LeafId, batch: &Batch) -> bool {
+        calls::has_commands(rt, self, leaf, batch)
+    }
+
     fn leaf_size(&self, rt: &impl Abort, leaf: LeafId) -> Size {
         calls::leaf_size(rt, self, leaf)
     }
@@ -200,5 +221,13 @@ impl Played for Stage<Widget> {
 
     fn owner(&self, selection: Selection) -> Option<LeafId> {
         calls::owner(self, selection)
+    }
+
+    fn time(&self) -> u32 {
+        calls::time(self)
+    }
+
+    fn focus(&self) -> Option<LeafId> {
+        calls::focus(self)
     }
 }
