@@ -11,6 +11,3 @@ mod sums;
 
 pub use modes::Mode;
 pub use runs::{Finished, Run};
-
-#[cfg(test)]
-mod tests;
