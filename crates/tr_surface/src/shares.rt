@@ -1,4 +1,4 @@
-ghost use Rattle.std.specs.Prelude.{◌≡◌, IsTrue};
+ghost use Rattle.std.specs.Prelude.{◌≡◌, ◌≢◌, IsTrue, false};
 ghost use Rattle.tr_surface.specs.declared.shares.Share.TheVariants as shares;
 
 use tr_base::{LeafId, Size};
@@ -13,8 +13,10 @@ pub(crate) enum Share {
 }
 
 impl Share {
+    /// Whether all of them do.
     pub fn is_all(self) -> bool
-        ensures { IsTrue result → self ≡ shares.All }
+        ensures all { IsTrue result → self ≡ shares.All }
+        ensures other { result ≡ false → self ≢ shares.All }
     {
         match self {
             Share::All => true,
