@@ -1,0 +1,164 @@
+#!/bin/sh
+# Plays large scripts at a size and at twice that size, and prints for each of them the milliseconds of
+# both, their ratio, and the microseconds that a line of the greater one takes. Where the work grows as the
+# script does the ratio is about 2; above 2.3 something grows faster.
+#
+#     bench/workloads.sh [ROUNDS] [PROGRAM]
+#
+# Each time is the best of ROUNDS (3 if left out), which a busy machine disturbs least. PROGRAM is a built
+# trestle; where it is left out, the launcher proves and builds it. It wants date with %N.
+#
+# A script has at most 100,000 lines, 4 MiB and 64 reports, and one for check 2,000 steps and 65,536 pixels.
+# So the greatest sizes that fit are about 96,000 lines of the typescript, 99,000 moves, 90,000 figures and
+# 90,000 events, and exactly 64 dumps and 2,000 checked steps. The script of gen 1 has one size, and no ratio.
+set -eu
+top=$(CDPATH= cd -P -- "$(dirname -- "$0")/.." && pwd)
+rounds=${1:-3}
+program=${2:-}
+folder=$(mktemp -d)
+trap 'rm -rf "$folder"' EXIT
+if [ -z "$program" ]; then
+    "$top/trestle" serial <"$top/demos/one_pixel.txt" >/dev/null
+    program=$top/.build/trestle
+fi
+
+# write NAME SIZE: writes the script of this name and size. Its numbers look drawn at random, and are the
+# same at each run: no product has more than 47 bits.
+write() {
+    awk -v name="$1" -v n="$2" '
+    function draw(below) { state = state * 40014 % 2147483563; return int(state / 65536) % below }
+    function text(bytes,    t) {
+        for (t = ""; bytes > 0; bytes--) t = t sprintf("%c", 65 + draw(26))
+        return t
+    }
+    function opening(wide, high) { print "trestle 1\nscreen " wide, high, "map8" }
+    function whole(leaf, widget) {
+        print "leaf", leaf, "0 1024 1024 0 1024 1024", widget
+        print "root", leaf "\nbegin"
+    }
+    function windows(wide, high,    w) {
+        print "node desk z 24"
+        for (w = 1; w <= 31; w++) print "leaf w" w, 0, wide, wide, 0, high, high, "solid", 8 * w
+        for (w = 1; w <= 31; w++) print "put w" w, "desk", draw(900), draw(650)
+        print "root desk\nbegin"
+    }
+    function rectangle(    west, north) {
+        west = draw(960)
+        north = draw(700)
+        return west " " west + 1 + draw(64) " " north " " north + 1 + draw(64)
+    }
+
+    # What was written shows after each 25th line. Nearly every line scrolls the whole window.
+    function typescript(    i) {
+        opening(1024, 768)
+        whole("t", "lines")
+        print "@t force"
+        for (i = 1; i <= n; i++) print "@t line " text(16 + draw(24)) (i % 25 ? "" : "\n@t flush")
+        print "sync\ndump"
+    }
+    function moves(    i) {
+        opening(1024, 768)
+        windows(200, 150)
+        for (i = 1; i <= n; i++) {
+            if (draw(2)) print "lift w" 1 + draw(31)
+            else print "move w" 1 + draw(31), draw(900), draw(650)
+        }
+        print "sync\ndump"
+    }
+    # Up to 40 figures stand on the canvas at once.
+    function figures(    i, stand, what) {
+        opening(1024, 768)
+        whole("k", "canvas")
+        for (i = 1; i <= n; i++) {
+            what = stand < 40 ? draw(3) : 2
+            stand += what < 2 ? 1 : stand > 0 ? -1 : 0
+            if (what == 0) print "@k rect", rectangle(), draw(256)
+            else if (what == 1) print "@k swap", rectangle()
+            else print "@k undo"
+            if (i % 10 == 0) print "@k force"
+        }
+        print "sync\ndump"
+    }
+    # A cage is set after each tenth event, and events are taken from time to time.
+    function events(    i, w) {
+        opening(1024, 768)
+        windows(200, 150)
+        for (i = 1; i <= n; i++) {
+            w = 1 + draw(31)
+            if (i % 20 == 5) print "mouse", i, "down 1"
+            else if (i % 20 == 15) print "mouse", i, "up 1"
+            else if (i % 20 == 10) print "key", i, draw(256)
+            else print "motion", i, draw(1024), draw(768)
+            if (i % 10 == 0) print "@w" w, (i % 50 ? "cage 0 150 0 100 " (draw(2) ? "here" : "both") : "take")
+        }
+        print "sync\ndump"
+    }
+    function dumps(    i) {
+        opening(1024, 1024)
+        whole("w", "board 8040201008040201 0 0")
+        for (i = 1; i <= n; i++) print "dump"
+    }
+    # A typescript and a canvas side by side, 256 by 256 together.
+    function steps(    i) {
+        opening(256, 256)
+        print "node row h 0\nleaf t 128 128 128 0 256 256 lines\nleaf k 128 128 128 0 256 256 canvas"
+        print "put t row\nput k row\nroot row\nbegin"
+        for (i = 1; i <= n; i++) {
+            if (i % 10 == 0) print draw(2) ? "@t force" : "@k force"
+            else if (i % 2) print "@t line " text(draw(16))
+            else if (draw(2)) print "@k undo"
+            else print "@k rect 0", 1 + draw(128), 0, 1 + draw(256), draw(256)
+        }
+        print "sync"
+    }
+
+    BEGIN {
+        state = 12345
+        if (name == "typescript") typescript()
+        if (name == "moves") moves()
+        if (name == "figures") figures()
+        if (name == "events") events()
+        if (name == "dumps") dumps()
+        if (name == "steps") steps()
+        print "end"
+    }' >"$folder/$1.$2"
+}
+
+# best WORDS FILE: the nanoseconds that the program takes for a script, in the best of all rounds.
+# (the words of gen are two)
+best() {
+    least=
+    round=0
+    while [ "$round" -lt "$rounds" ]; do
+        start=$(date +%s%N)
+        "$program" $1 <"$2" >/dev/null || { echo "workloads: $1 <$2 ends with status $?" >&2; exit 1; }
+        taken=$(($(date +%s%N) - start))
+        [ -n "$least" ] && [ "$least" -le "$taken" ] || least=$taken
+        round=$((round + 1))
+    done
+    echo "$least"
+}
+
+# measure NAME WORD SIZE: a script of this size, and one of twice the size.
+measure() {
+    greater=$((2 * $3))
+    write "$1" "$3"
+    write "$1" "$greater"
+    once=$(best "$2" "$folder/$1.$3")
+    twice=$(best "$2" "$folder/$1.$greater")
+    echo "$1 $2 $3 $once $greater $twice $(wc -l <"$folder/$1.$greater")" | awk '{
+        printf "%-10s %-6s n=%d ms=%.1f n=%d ms=%.1f ratio=%.2f us_a_line=%.2f\n",
+            $1, $2, $3, $4 / 1e6, $5, $6 / 1e6, $6 / $4, $6 / 1e3 / $7
+    }'
+}
+
+measure typescript serial 40000
+measure moves serial 10000
+measure figures serial 30000
+measure events serial 45000
+measure dumps serial 30
+measure steps check 1000
+taken=$(best 'gen 1' /dev/null)
+echo "$taken" | awk '{
+    printf "generated  gen 1  n=2039 ms=%.1f us_a_line=%.2f\n", $1 / 1e6, $1 / 1e3 / 2039
+}'
