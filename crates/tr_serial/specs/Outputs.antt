@@ -1,0 +1,88 @@
+-- What a script does on one thread, the journal that this makes, and the texts that are written.
+use Rattle.std.specs.Prelude.{◌≡◌, ℕ, false, All, List, [], ◌∷◌, ◌++◌, length, map, codes, decimal}
+use Rattle.std.specs.List.{flat_map}
+use Rattle.tr_client.specs.declared.Client.{Ghosts}
+use Rattle.tr_journal.specs.declared.Actor.TheVariants.{Player}
+use Rattle.tr_journal.specs.declared.Step.TheVariants as steps
+use Rattle.tr_journal.specs.Journals.{JournalLine}
+use Rattle.tr_machine.specs.States.{State, start}
+use Rattle.tr_widget.specs.declared.Widget.{Widget}
+use Rattle.tr_widget.specs.declared.WidgetCmd.{WidgetCmd}
+use Rattle.tr_widget.specs.Widgets.{IsWidget, widget_pic, widget_next, widget_patch, widget_answer, widget_value, widget_keeps, widget_words}
+use Rattle.tr_grammar.specs.States.{Stretch}
+use Rattle.tr_grammar.specs.Names.{Named}
+use Rattle.tr_grammar.specs.Texts.{lines_of}
+use Rattle.tr_grammar.specs.Scripts.{Script, script_of}
+use Rattle.tr_dump.specs.Values.{line_text}
+use Rattle.tr_dump.specs.Names.{Names}
+use Rattle.tr_gen.specs.Scripts as gen
+use Rattle.tr_run.specs.declared.Mode.{Mode}
+use Rattle.tr_run.specs.declared.Mode.TheVariants.{Serial, Check, Gen}
+use Rattle.tr_run.specs.Runs.{Deed, makes, reporting, run_lines}
+use Rattle.tr_run.specs.Texts.{is_report, texts_from, sum_from}
+
+-- the widgets, as what is shown in the windows of a script
+abbrev pub widgets : Ghosts Widget WidgetCmd
+widgets = record {
+  valid = IsWidget;
+  pic = widget_pic;
+  next = widget_next;
+  patch = widget_patch;
+  answer = widget_answer;
+  value = widget_value;
+  keeps = widget_keeps;
+}
+
+-- the names of a script, as the texts of reports have them
+abbrev pub names_in : Named → Names
+names_in names = record { nodes = names.nodes; leaves = names.leaves }
+
+-- what a part has done: its reports, and then its steps
+abbrev pub part_deeds : Stretch → List (Deed WidgetCmd)
+part_deeds part = flat_map reporting part.reports ++ map (λ made. makes made.0 made.1) part.steps
+
+-- a later part begins with a sync
+abbrev pub later_deeds : Stretch → List (Deed WidgetCmd)
+later_deeds part = makes Player steps.Sync ∷ part_deeds part
+
+-- what all parts have done
+abbrev pub deeds : List Stretch → List (Deed WidgetCmd)
+deeds [] = []
+deeds (part ∷ parts) = part_deeds part ++ flat_map later_deeds parts
+
+-- no step of a part is a report: the reports stand before the steps
+abbrev pub HasOnlySteps : Script → Type 0
+HasOnlySteps s = All (λ part. All (λ made. is_report made.1 ≡ false) part.steps) s.parts
+
+-- the journal of a script that is played on one thread
+abbrev pub serial_journal : Script → List (JournalLine WidgetCmd)
+serial_journal s = run_lines widgets (start s.opening) (deeds s.parts)
+
+-- what is written while a script is played
+abbrev pub played_text : Mode → Script → List ℕ
+played_text mode s = texts_from widgets widget_words (names_in s.names) mode [] (start s.opening) (serial_journal s)
+
+-- the sum of the last dump's pixels, in the mode that adds them up, and else 0
+abbrev pub played_sum : Mode → Script → ℕ
+played_sum mode s = sum_from widgets mode (start s.opening) 0 (serial_journal s)
+
+-- what `serial` writes: the texts of the reports
+abbrev pub out_text : Script → List ℕ
+out_text s = played_text Serial s
+
+-- what `check` writes: after each entry but a sync's or a report's also how many points lag behind what the windows are to show
+abbrev pub check_text : Script → List ℕ
+check_text s = played_text Check s
+
+-- the script that is drawn from a number
+abbrev pub drawn : ℕ → Script
+drawn number = script_of (gen.script_of number)
+
+-- what `gen` writes of that: how many lines it has, how many entries its journal gets, and the sum of the pixels of its last dump
+abbrev pub gen_text : ℕ → List ℕ
+gen_text number =
+    let s = drawn number in
+    line_text (codes "gen" ∷ decimal number ∷ [])
+    ++ line_text (codes "lines" ∷ decimal (length (lines_of (gen.script_of number))) ∷ [])
+    ++ line_text (codes "entries" ∷ decimal (length (serial_journal s)) ∷ [])
+    ++ line_text (codes "sum" ∷ decimal (played_sum Gen s) ∷ [])
