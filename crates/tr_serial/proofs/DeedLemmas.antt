@@ -54,12 +54,12 @@ abbrev pub is_later : ℕ → Bool
 is_later zero = false
 is_later (suc k) = true
 
--- what the part behind k others has done
-abbrev pub deeds_at : ℕ → Stretch → List (Deed WidgetCmd)
-deeds_at k part = cond (is_later k) (makes Player Sync ∷ []) [] ++ part_deeds part
+-- what a part has done, which is a later one or not
+abbrev pub deeds_of : Bool → Stretch → List (Deed WidgetCmd)
+deeds_of later part = cond later (makes Player Sync ∷ []) [] ++ part_deeds part
 
 deeds_suc : (parts : List Stretch) (k : ℕ) (part : Stretch) → IsAt parts k part →
-    deeds (take k parts) ++ deeds_at k part ≡ deeds (take (suc k) parts)
+    deeds (take k parts) ++ deeds_of (is_later k) part ≡ deeds (take (suc k) parts)
 deeds_suc [] k part at = let none : k < 0 = at.within in absurd (omega arith)
 deeds_suc (p ∷ ps) zero part at = ap (λ (q : Stretch). part_deeds q) at.is ∙ sym (append-nil (part_deeds p))
 deeds_suc (p ∷ ps) (suc k) part at =
@@ -70,32 +70,21 @@ deeds_suc (p ∷ ps) (suc k) part at =
     ∙ ap (λ (n : ℕ). flat_map later_deeds (take n ps)) (add-one k))
 
 pub deeds_next : (parts : List Stretch) (k : ℕ) (part : Stretch) → IsAt parts k part →
-    deeds (take k parts) ++ deeds_at k part ≡ deeds (take (k + 1) parts)
+    deeds (take k parts) ++ deeds_of (is_later k) part ≡ deeds (take (k + 1) parts)
 deeds_next parts k part at = deeds_suc parts k part at ∙ ap (λ (n : ℕ). deeds (take n parts)) (sym (add-one k))
 
 pub is_later_next : (k : ℕ) → true ≡ is_later (k + 1)
 is_later_next k = sym (ap is_later (add-one k))
 
--- a part that consists of these
-pub deeds_of : (later : Bool) (reports : List Query) (steps : List (Actor × Step WidgetCmd)) (k : ℕ) (part : Stretch) →
-    later ≡ is_later k → ◌≡◌ {A = Stretch} (record { reports = reports; steps = steps }) part →
-    cond later (makes Player Sync ∷ []) [] ++ (flat_map reporting reports ++ map (λ (made : Actor × Step WidgetCmd). makes made.0 made.1) steps)
-    ≡ deeds_at k part
-deeds_of later reports steps k part late is =
-    ap (λ (b : Bool). cond b (makes Player Sync ∷ []) [] ++ part_deeds (record { reports = reports; steps = steps })) late
-    ∙ ap (λ (p : Stretch). deeds_at k p) is
-
--- its reports and steps can be made
-pub record AreReady (t : Nodes) (reports : List Query) (steps : List (Actor × Step WidgetCmd)) : Type 0 where
-  pub reports : All (IsQuery t) reports
+-- its steps can be made
+pub record AreReady (t : Nodes) (steps : List (Actor × Step WidgetCmd)) : Type 0 where
   pub may : All (λ (made : Actor × Step WidgetCmd). may made.0 made.1 ≡ true) steps
   pub values : All (λ (made : Actor × Step WidgetCmd). IsStep t made.1) steps
   pub other : All (λ (made : Actor × Step WidgetCmd). is_report made.1 ≡ false) steps
 
 pub ready : (t : Nodes) (part : Stretch) → IsPlayablePart t part →
-    All (λ (made : Actor × Step WidgetCmd). is_report made.1 ≡ false) part.steps → AreReady t part.reports part.steps
+    All (λ (made : Actor × Step WidgetCmd). is_report made.1 ≡ false) part.steps → AreReady t part.steps
 ready t part playable other = record {
-  reports = playable.reports;
   may = All-weaker (IsPlayable t) (λ (made : Actor × Step WidgetCmd). may made.0 made.1 ≡ true) (λ made is. is.may) part.steps playable.steps;
   values = All-weaker (IsPlayable t) (λ (made : Actor × Step WidgetCmd). IsStep t made.1) (λ made is. is.values) part.steps playable.steps;
   other = other;

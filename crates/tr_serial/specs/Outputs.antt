@@ -78,11 +78,16 @@ check_text s = played_text Check s
 abbrev pub drawn : ℕ → Script
 drawn number = script_of (gen.script_of number)
 
+-- the lines of a summary
+abbrev pub summary_text : ℕ → ℕ → ℕ → ℕ → List ℕ
+summary_text number lines entries sum =
+    line_text (codes "gen" ∷ decimal number ∷ [])
+    ++ line_text (codes "lines" ∷ decimal lines ∷ [])
+    ++ line_text (codes "entries" ∷ decimal entries ∷ [])
+    ++ line_text (codes "sum" ∷ decimal sum ∷ [])
+
 -- what `gen` writes of that: how many lines it has, how many entries its journal gets, and the sum of the pixels of its last dump
 abbrev pub gen_text : ℕ → List ℕ
 gen_text number =
     let s = drawn number in
-    line_text (codes "gen" ∷ decimal number ∷ [])
-    ++ line_text (codes "lines" ∷ decimal (length (lines_of (gen.script_of number))) ∷ [])
-    ++ line_text (codes "entries" ∷ decimal (length (serial_journal s)) ∷ [])
-    ++ line_text (codes "sum" ∷ decimal (played_sum Gen s) ∷ [])
+    summary_text number (length (lines_of (gen.script_of number))) (length (serial_journal s)) (played_sum Gen s)

@@ -26,6 +26,32 @@ fn drawn(alloc: Global, number: u32) -> Result<Script, NoMemory>
     }
 }
 
+/// What a script that was drawn and played comes to.
+#[derive(Clone, Copy, Debug)]
+struct Totals {
+    number: u32,
+    lines: u32,
+    entries: usize,
+    sum: u64,
+}
+
+impl Totals {
+    /// A line for each number.
+    fn text(&self, alloc: Global) -> Result<Vec<u8>, NoMemory>
+        ensures { let s = self.now in
+            IfOk result (λ text. text.items ≡ spec.summary_text s.number s.lines s.entries s.sum) }
+    {
+        let Totals {
+            number,
+            lines,
+            entries,
+            sum,
+        } = self;
+        let text = format!(in alloc; "gen {number}\nlines {lines}\nentries {entries}\nsum {sum}\n")?;
+        Ok(text.into_bytes())
+    }
+}
+
 /// Plays the script that is drawn from a number, and writes how many lines it has, how many entries its journal
 /// gets, and the sum of the pixels of its last dump.
 pub fn summary(alloc: Global, number: u32) -> Result<Played, NoMemory>
@@ -35,11 +61,14 @@ pub fn summary(alloc: Global, number: u32) -> Result<Played, NoMemory>
 {
     let script = drawn(alloc, number)?;
     let Finished { stage, sum, .. } = play(alloc, script, Mode::Gen)?;
-    let lines = lines();
-    let entries = stage.journal().len();
-    let text = format!(in alloc; "gen {number}\nlines {lines}\nentries {entries}\nsum {sum}\n")?;
+    let totals = Totals {
+        number,
+        lines: lines(),
+        entries: stage.journal().len(),
+        sum,
+    };
     Ok(Played {
-        text: text.into_bytes(),
+        text: totals.text(alloc)?,
         stage,
     })
 }

@@ -18,7 +18,7 @@ use tr_journal::{Actor, NameOf, Query, Step};
 use tr_reader::{Names, Part, Script};
 use tr_run::{Finished, Mode, Run};
 use tr_stage::Stage;
-use tr_widget::Widget;
+use tr_widget::{Widget, WidgetCmd};
 
 /// What a script ends in.
 #[derive(Drop)]
@@ -78,37 +78,36 @@ pub(crate) fn play(
 }
 
 /// Plays parts, one after another. Each later one begins with a sync.
-fn play_parts(run: &mut Run<Widget, Names>, parts: Vec<Part>) -> Result<(), NoMemory>
+fn play_parts<C: Client<Cmd = WidgetCmd>, N: NameOf>(
+    run: &mut Run<C, N>,
+    parts: Vec<Part>,
+) -> Result<(), NoMemory>
     requires playable { All (IsPlayablePart (tree_of run.old.stage.opening).nodes) parts.items }
     requires other { All (λ part. All (λ made. is_report made.1 ≡ false) part.steps) parts.items }
-    ensures { OnOk result (Does spec.widgets widget_words run.old run.new (spec.deeds parts.items)) }
+    ensures { OnOk result (Does C.Client C.Cmd.words run.old run.new (spec.deeds parts.items)) }
 {
     let mut is_later = false;
     for part in parts {
-        let Part { reports, steps } = part;
-        play_part(run, is_later, &reports, steps)?;
+        play_part(run, is_later, part)?;
         is_later = true;
     }
     Ok(())
 }
 
 /// Plays a part: its reports, and then its steps. A later one begins with a sync.
-fn play_part<C: Client, N: NameOf>(
+fn play_part<C: Client<Cmd = WidgetCmd>, N: NameOf>(
     run: &mut Run<C, N>,
     is_later: bool,
-    reports: &[Query],
-    steps: Vec<(Actor, Step<C::Cmd>)>,
+    part: Part,
 ) -> Result<(), NoMemory>
-    requires reports { All (IsQuery (tree_of run.old.stage.opening).nodes) reports.now }
-    requires may { All (λ made. may made.0 made.1 ≡ true) steps.items }
-    requires values { All (λ made. IsStep (tree_of run.old.stage.opening).nodes made.1) steps.items }
-    requires other { All (λ made. is_report made.1 ≡ false) steps.items }
+    requires playable { IsPlayablePart (tree_of run.old.stage.opening).nodes part }
+    requires other { All (λ made. is_report made.1 ≡ false) part.steps }
     ensures { OnOk result (Does C.Client C.Cmd.words run.old run.new
-        ((if is_later then makes Player Sync ∷ [] else [])
-        ++ (flat_map reporting reports.now ++ map (λ made. makes made.0 made.1) steps.items))) }
+        ((if is_later then makes Player Sync ∷ [] else []) ++ spec.part_deeds part)) }
 {
+    let Part { reports, steps } = part;
     begin(run, is_later)?;
-    report_all(run, reports)?;
+    report_all(run, &reports)?;
     make_all(run, steps)
 }
 

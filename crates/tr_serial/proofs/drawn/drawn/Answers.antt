@@ -1,19 +1,26 @@
 use Rattle.std.proofs.Common.{◌≡◌, ℕ, List, sym, subst, ◌∙◌}
+use Rattle.std.proofs.lemmas.Option.{none-some}
 use Rattle.tr_gen.specs.Scripts as gen
+use Rattle.tr_grammar.specs.declared.ReadRefused.{ReadRefused}
 use Rattle.tr_grammar.specs.declared.ReadRefused.TheVariants as refused
 use Rattle.tr_grammar.specs.Scripts.{Script, refusal_of, IsCause}
-use Rattle.tr_drawn.proofs.DrawnLemmas.{only_memory}
+use Rattle.tr_drawn.proofs.DrawnLemmas.{is_a_script}
 use Rattle.tr_serial.specs.Outputs.{HasOnlySteps}
 use Rattle.tr_serial.proofs.StepLemmas.{only_steps}
 use Rattle.tr_serial.proofs.drawn.drawn.Goals as goal
 
+-- a text that is drawn isn't refused
+not_refused : (number : ℕ) (bytes : List ℕ) (line code : ℕ) → bytes ≡ gen.script_of number →
+    IsCause (refusal_of bytes) (refused.Refused line code) → ⊥
+not_refused number bytes line code is cause =
+    let none = subst (λ (text : List ℕ). IsCause (refusal_of text) (refused.Refused line code)) is cause in
+    none-some _ (sym (is_a_script number) ∙ none)
+
 pub unreachable-requires : goal.unreachable-requires
 unreachable-requires c =
-    let is = c.in-Err-Refused.field-0-is in
-    let cause = subst (λ (bytes : List ℕ). IsCause (refusal_of bytes) c.in-Err-Refused.field-0) (c.deref.ensures.value ∙ c.in_ok-text.ensures.text)
-    c.in-Err-Refused.ensures.cause in
-    let only : c.in-Err-Refused.field-0 ≡ refused.NoMemory = only_memory c.args.number c.in-Err-Refused.field-0 cause in
-    cc
+    let text = c.deref.ensures.value ∙ c.in_ok-text.ensures.text in
+    let P : ReadRefused → Type 0 = λ e. IsCause (refusal_of c.deref.result.now) e in
+    not_refused c.args.number c.deref.result.now _ _ text (subst P c.in-Err-Refused.field-0-is c.in-Err-Refused.ensures.cause)
 
 pub returns-in-Ok-clause-steps : goal.returns-in-Ok-clause-steps
 returns-in-Ok-clause-steps c =

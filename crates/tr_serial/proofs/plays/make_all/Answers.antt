@@ -13,20 +13,33 @@ use Rattle.tr_run.specs.Texts.{is_report}
 use Rattle.tr_serial.proofs.DeedLemmas.{goes_on, map_next}
 use Rattle.tr_serial.proofs.plays.make_all.Goals as goal
 
-pub make-requires : goal.make-requires
-make-requires g c =
+pub make-requires-clause-may : goal.make-requires-clause-may
+make-requires-clause-may g c = λ κs lives.
     let gives = c.into_iter-actor-iterator.ensures.into_iter_gives in
     let items = YieldsList-from_vec {s = c.into_iter-actor-iterator.result} _ gives.0 (gives.1 ∙ c.args.steps.ok.0) in
     let turn = YieldsList-turn items c.loop-actor.yielded c.loop-actor.actor-iterator c.loop-actor.yielded_by c.next.result c.next.new.self
     (c.in-Some.actor, c.in-Some.step) c.in-Some.is c.next.ensures.steps in
-    let k = length c.loop-actor.yielded in
-    record {
-      may = subst (λ (made : Actor × Step _). may made.0 made.1 ≡ true) (sym turn.1) (c.requires.may k (c.in-Some.actor, c.in-Some.step) turn.0);
-      values = subst (λ (items : List (Item _)). IsStep (tree_of items).nodes c.in-Some.step) (sym c.loop-actor.invariant.did.opening)
-          (subst (λ (made : Actor × Step _). IsStep (tree_of c.args.run.now.stage.opening).nodes made.1) (sym turn.1)
-          (c.requires.values k (c.in-Some.actor, c.in-Some.step) turn.0));
-      other = subst (λ (made : Actor × Step _). is_report made.1 ≡ false) (sym turn.1) (c.requires.other k (c.in-Some.actor, c.in-Some.step) turn.0);
-    }
+    subst (λ (made : Actor × Step _). may made.0 made.1 ≡ true) (sym turn.1)
+    (c.requires.may (length c.loop-actor.yielded) (c.in-Some.actor, c.in-Some.step) turn.0)
+
+pub make-requires-clause-values : goal.make-requires-clause-values
+make-requires-clause-values g c = λ κs lives.
+    let gives = c.into_iter-actor-iterator.ensures.into_iter_gives in
+    let items = YieldsList-from_vec {s = c.into_iter-actor-iterator.result} _ gives.0 (gives.1 ∙ c.args.steps.ok.0) in
+    let turn = YieldsList-turn items c.loop-actor.yielded c.loop-actor.actor-iterator c.loop-actor.yielded_by c.next.result c.next.new.self
+    (c.in-Some.actor, c.in-Some.step) c.in-Some.is c.next.ensures.steps in
+    subst (λ (items : List (Item _)). IsStep (tree_of items).nodes c.in-Some.step) (sym c.loop-actor.invariant.did.opening)
+    (subst (λ (made : Actor × Step _). IsStep (tree_of c.args.run.now.stage.opening).nodes made.1) (sym turn.1)
+    (c.requires.values (length c.loop-actor.yielded) (c.in-Some.actor, c.in-Some.step) turn.0))
+
+pub make-requires-clause-other : goal.make-requires-clause-other
+make-requires-clause-other g c = λ κs lives.
+    let gives = c.into_iter-actor-iterator.ensures.into_iter_gives in
+    let items = YieldsList-from_vec {s = c.into_iter-actor-iterator.result} _ gives.0 (gives.1 ∙ c.args.steps.ok.0) in
+    let turn = YieldsList-turn items c.loop-actor.yielded c.loop-actor.actor-iterator c.loop-actor.yielded_by c.next.result c.next.new.self
+    (c.in-Some.actor, c.in-Some.step) c.in-Some.is c.next.ensures.steps in
+    subst (λ (made : Actor × Step _). is_report made.1 ≡ false) (sym turn.1)
+    (c.requires.other (length c.loop-actor.yielded) (c.in-Some.actor, c.in-Some.step) turn.0)
 
 pub loop-actor-preserved : goal.loop-actor-preserved
 loop-actor-preserved g c =

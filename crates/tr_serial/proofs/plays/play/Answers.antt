@@ -1,0 +1,31 @@
+use Rattle.std.proofs.Common.{ap, subst, ◌∙◌}
+use Rattle.tr_widget.specs.declared.Widget.{Widget}
+use Rattle.tr_widget.specs.declared.WidgetCmd.{WidgetCmd}
+use Rattle.tr_widget.specs.Widgets.{widget_words}
+use Rattle.tr_grammar.specs.Scripts.{Script}
+use Rattle.tr_stage.specs.Stages.{StageView}
+use Rattle.tr_serial.specs.Outputs.{deeds, names_in, widgets}
+use Rattle.tr_serial.proofs.DeedLemmas.{HasPlayed, HasStarted, played}
+use Rattle.tr_serial.proofs.plays.play.Goals as goal
+
+pub returns : goal.returns
+returns c =
+    let i = c.script.inside in
+    let started : HasStarted widgets widget_words c.in_ok-run.run i.opening (names_in i.names) c.args.mode = record {
+      opening = c.in_ok-run.ensures.opening;
+      journal = c.in_ok-run.ensures.journal;
+      names = c.in_ok-run.ensures.names;
+      mode = c.in_ok-run.ensures.mode;
+      text = c.in_ok-run.ensures.text;
+      sum = c.in_ok-run.ensures.sum;
+    } in
+    let end = played widgets widget_words c.in_ok-run.run c.play_parts.new.run i.opening (names_in i.names) c.args.mode (deeds i.parts.items) started
+    c.in_ok-play_parts.ensures in
+    let ends = subst (λ (s : Script). HasPlayed widgets widget_words c.play_parts.new.run s.opening (names_in s.names) c.args.mode (deeds s.parts))
+    c.script.view_is end in
+    record {
+      text = c.finish.ensures.text ∙ ends.text;
+      sum = c.finish.ensures.sum ∙ ends.sum;
+      journal = ap (λ (s : StageView Widget WidgetCmd). s.journal) c.finish.ensures.stage ∙ ends.journal;
+      opening = ap (λ (s : StageView Widget WidgetCmd). s.opening) c.finish.ensures.stage ∙ ends.opening;
+    }
