@@ -84,7 +84,7 @@ fn play_parts<C: Client<Cmd = WidgetCmd>, N: NameOf>(
 ) -> Result<(), NoMemory>
     requires playable { All (IsPlayablePart (tree_of run.old.stage.opening).nodes) parts.items }
     requires other { All (λ part. All (λ made. is_report made.1 ≡ false) part.steps) parts.items }
-    ensures { OnOk result (Does C.Client C.Cmd.words run.old run.new (spec.deeds parts.items)) }
+    ensures { OnOk result (Does C.Client widget_words run.old run.new (spec.deeds parts.items)) }
 {
     let mut is_later = false;
     for part in parts {
@@ -102,7 +102,7 @@ fn play_part<C: Client<Cmd = WidgetCmd>, N: NameOf>(
 ) -> Result<(), NoMemory>
     requires playable { IsPlayablePart (tree_of run.old.stage.opening).nodes part }
     requires other { All (λ made. is_report made.1 ≡ false) part.steps }
-    ensures { OnOk result (Does C.Client C.Cmd.words run.old run.new
+    ensures { OnOk result (Does C.Client widget_words run.old run.new
         ((if is_later then makes Player Sync ∷ [] else []) ++ spec.part_deeds part)) }
 {
     let Part { reports, steps } = part;
@@ -128,7 +128,7 @@ fn report_all<C: Client, N: NameOf>(
     run: &mut Run<C, N>,
     reports: &[Query],
 ) -> Result<(), NoMemory>
-    requires { All (IsQuery (tree_of run.old.stage.opening).nodes) reports.now }
+    requires queries { All (IsQuery (tree_of run.old.stage.opening).nodes) reports.now }
     ensures { OnOk result (Does C.Client C.Cmd.words run.old run.new (flat_map reporting reports.now)) }
 {
     for query in reports {

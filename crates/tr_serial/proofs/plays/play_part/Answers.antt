@@ -11,6 +11,7 @@ use Rattle.tr_journal.specs.declared.Step.TheVariants.{Sync}
 use Rattle.tr_journal.specs.Openings.{tree_of}
 use Rattle.tr_journal.specs.Steps.{IsQuery}
 use Rattle.tr_widget.specs.declared.WidgetCmd.{WidgetCmd}
+use Rattle.tr_widget.specs.Widgets.{widget_words}
 use Rattle.tr_grammar.specs.States.{Stretch}
 use Rattle.tr_run.specs.Runs.{makes, reporting}
 use Rattle.tr_run.specs.Views.{Does}
@@ -18,8 +19,8 @@ use Rattle.tr_run.proofs.RunLemmas.{Does-append}
 use Rattle.tr_serial.proofs.DeedLemmas.{AreReady, deeds_of, ready}
 use Rattle.tr_serial.proofs.plays.play_part.Goals as goal
 
-pub report_all-requires : goal.report_all-requires
-report_all-requires g c = λ κs lives.
+pub report_all-requires-clause-queries : goal.report_all-requires-clause-queries
+report_all-requires-clause-queries g c = λ κs lives.
     let t = (tree_of c.args.run.now.stage.opening).nodes in
     let reports = subst (λ (p : Stretch). All (IsQuery t) p.reports) (sym c.part.view_is) c.requires.playable.reports in
     let lent = subst (λ (queries : List Query). All (IsQuery t) queries) (sym c.deref.ensures.value) reports in
@@ -60,7 +61,7 @@ returns g c =
     let reported = c.report_all.new.run in
     let now = c.make_all.new.run in
     on_ok_weaker c.make_all.result
-    (λ made. subst (λ (p : Stretch). Does g.C.Client g.C.Cmd.Command.words was now (deeds_of c.args.is_later p)) is
-    (Does-append g.C.Client g.C.Cmd.Command.words was c.begin.new.run now first (reports ++ steps) c.in_ok-begin.ensures
-    (Does-append g.C.Client g.C.Cmd.Command.words c.begin.new.run reported now reports steps c.in_ok-report_all.ensures made)))
+    (λ made. subst (λ (p : Stretch). Does g.C.Client widget_words was now (deeds_of c.args.is_later p)) is
+    (Does-append g.C.Client widget_words was c.begin.new.run now first (reports ++ steps) c.in_ok-begin.ensures
+    (Does-append g.C.Client widget_words c.begin.new.run reported now reports steps c.in_ok-report_all.ensures made)))
     c.make_all.ensures

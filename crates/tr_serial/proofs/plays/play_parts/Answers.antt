@@ -8,6 +8,7 @@ use Rattle.tr_journal.specs.declared.Item.{Item}
 use Rattle.tr_journal.specs.declared.Step.{Step}
 use Rattle.tr_journal.specs.Openings.{tree_of}
 use Rattle.tr_widget.specs.declared.WidgetCmd.{WidgetCmd}
+use Rattle.tr_widget.specs.Widgets.{widget_words}
 use Rattle.tr_grammar.specs.States.{Stretch}
 use Rattle.tr_grammar.specs.Scripts.{IsPlayablePart}
 use Rattle.tr_run.specs.Runs.{Deed}
@@ -47,7 +48,7 @@ loop-part-preserved g c =
       can_next = tt;
       is_finite = tt;
       did = rw (length_push c.loop-part.yielded c.in-Some.part)
-          (goes_on g.C.Client g.C.Cmd.Command.words c.args.run.now c.loop-part.run c.play_part.new.run (deeds (take k parts))
+          (goes_on g.C.Client widget_words c.args.run.now c.loop-part.run c.play_part.new.run (deeds (take k parts))
           (deeds_of c.loop-part.is_later c.in-Some.part) (deeds (take (k + 1) parts)) c.loop-part.invariant.did c.in_ok-play_part.ensures
           (ap (λ later. deeds (take k parts) ++ deeds_of later c.in-Some.part) c.loop-part.invariant.later
           ∙ deeds_next parts k c.in-Some.part (record { within = turn.0; is = turn.1 })));
