@@ -47,7 +47,9 @@ impl Totals {
             entries,
             sum,
         } = self;
-        let text = format!(in alloc; "gen {number}\nlines {lines}\nentries {entries}\nsum {sum}\n")?;
+        let text = format!(in alloc;
+            "gen {number}\nlines {lines}\nentries {entries}\nsum {sum}\n"
+        )?;
         Ok(text.into_bytes())
     }
 }

@@ -55,11 +55,7 @@ pub fn check(alloc: Global, script: Script) -> Result<Played, NoMemory>
 }
 
 /// Plays a script in one of the modes.
-pub(crate) fn play(
-    alloc: Global,
-    script: Script,
-    mode: Mode,
-) -> Result<Finished<Widget>, NoMemory>
+pub(crate) fn play(alloc: Global, script: Script, mode: Mode) -> Result<Finished<Widget>, NoMemory>
     requires playable { IsPlayableScript script }
     requires steps { spec.HasOnlySteps script }
     ensures text { IfOk result (λ end. end.text.items ≡ spec.played_text mode script) }
@@ -124,10 +120,7 @@ fn begin<C: Client, N: NameOf>(run: &mut Run<C, N>, is_later: bool) -> Result<()
 }
 
 /// Makes reports, one after another.
-fn report_all<C: Client, N: NameOf>(
-    run: &mut Run<C, N>,
-    reports: &[Query],
-) -> Result<(), NoMemory>
+fn report_all<C: Client, N: NameOf>(run: &mut Run<C, N>, reports: &[Query]) -> Result<(), NoMemory>
     requires queries { All (IsQuery (tree_of run.old.stage.opening).nodes) reports.now }
     ensures { OnOk result (Does C.Client C.Cmd.words run.old run.new (flat_map reporting reports.now)) }
 {
