@@ -1,7 +1,4 @@
-mod Rows
-mod Numbers
-mod Front
-pub mod Forms
 pub mod StreamLemmas
-pub mod PaintLemmas
+pub mod CheckLemmas
+pub mod ReplyLemmas
 pub mod CallLemmas

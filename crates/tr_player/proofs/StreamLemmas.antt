@@ -7,7 +7,7 @@ use Rattle.std.proofs.lemmas.Grind.{common_steps}
 use mathlib.Core.List.{append_assoc}
 use Rattle.std.specs.Io.KnownBytes.{prepend_known}
 use Rattle.tr_io.specs.Streams.{Fell, Grew}
-use Rattle.tr_player.specs.Answers.{IsReadThrough, OfBytesRead, longest_script, most_read}
+use Rattle.tr_player.specs.Answers.{IsReadThrough, OfBytesRead}
 
 -- text that a sink took in two parts
 pub grew_twice : (x y z : Option (List ℕ)) (text : List ℕ) (m n : ℕ) → Grew x y (take m text) → Grew y z (take n (drop m text)) → Grew x z (take (m + n) text)
@@ -34,7 +34,6 @@ drop_all most bytes rest h k = by_test (nat_lt (length bytes) most) refl
 -- where the source came to its end, or as many bytes came as may be read, the bytes are those read
 pub are_read : (left left_new : Option (List ℕ)) (bytes : List ℕ) (n : ℕ) → length bytes ≡ n → Fell left left_new bytes → n ≤ 4194305 →
     (n < 4194305 → IfSome left_new (λ rest. rest ≡ [])) → OfBytesRead left (λ read. bytes ≡ read)
-unfolding most_read longest_script
 are_read left left_new bytes n len e h k = subst (λ (x : Option (List ℕ)). OfBytesRead x (λ read. bytes ≡ read)) (sym e) (by_cases left_new k)
   where
     by_cases : (x : Option (List ℕ)) → (n < 4194305 → IfSome x (λ rest. rest ≡ [])) → OfBytesRead (prepend_known bytes x) (λ read. bytes ≡ read)
@@ -43,7 +42,6 @@ are_read left left_new bytes n len e h k = subst (λ (x : Option (List ℕ)). Of
 
 pub is_read_through : (left left_new : Option (List ℕ)) (bytes : List ℕ) (n : ℕ) → length bytes ≡ n → Fell left left_new bytes → n ≤ 4194305 →
     (n < 4194305 → IfSome left_new (λ rest. rest ≡ [])) → IsReadThrough left left_new
-unfolding most_read longest_script
 is_read_through left left_new bytes n len e h k = subst (λ (x : Option (List ℕ)). IsReadThrough x left_new) (sym e) (by_cases left_new k)
   where
     by_cases : (x : Option (List ℕ)) → (n < 4194305 → IfSome x (λ rest. rest ≡ [])) → IsReadThrough (prepend_known bytes x) x

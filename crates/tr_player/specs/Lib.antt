@@ -1,8 +1,4 @@
-pub mod Texts
-pub mod Scripts
-pub mod Outputs
-pub mod Windows
 pub mod Statuses
+pub mod Checks
 pub mod Answers
 pub mod Replies
-pub mod Reading

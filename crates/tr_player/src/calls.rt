@@ -1,39 +1,38 @@
-ghost use Rattle.std.specs.Prelude.{◌≡◌, ◌≢◌, ◌⊎◌, ◌↔◌, ◌≤◌, [], List, ℕ, IfSome, IsSomeAnd, take};
+ghost use Rattle.std.specs.Prelude.{◌≡◌, ◌≢◌, ◌⊎◌, ◌↔◌, ◌≤◌, [], List, ℕ, None, Some, IfSome, IsSome, IsSomeAnd, take};
 ghost use Rattle.tr_io.specs.Faults.{HasFault};
 ghost use Rattle.tr_io.specs.Streams.{Grew, GrewByPrefix};
-ghost use Rattle.tr_player.specs.Scripts.{IsInForm};
+ghost use Rattle.tr_grammar.specs.Scripts.{Script, script_of};
+ghost use Rattle.tr_commands.specs.Commands.{texts_of};
+ghost use Rattle.tr_serial.specs.Outputs.{drawn, gen_text};
 ghost use Rattle.tr_player.specs.Statuses.{code};
-ghost use Rattle.tr_player.specs.Answers.{Due, IsDue, IsDelivered, IsAnswered, Yields, IsReadThrough, OfBytesRead, Prints, most_read, accepted_arguments, texts_of, text_of, usage_text, read_fault_text, refused_text};
-ghost use Rattle.tr_player.specs.Replies.{due_of};
+ghost use Rattle.tr_player.specs.Answers.{Due, HasPlayed, IsAllowed, IsAnswered, IsDelivered, IsDue, IsReadThrough, OfNumber, OfScriptRead, ReadsNone, Yields, asked_by, read_fault_text, refusal_for, refused_text, text_for, text_of, usage_text};
+ghost use Rattle.tr_player.specs.Replies.{IsReply};
 
 use crate::replies::{Reply, reply_to};
 use crate::statuses::Status;
 use crate::streams::write_all;
 use std::alloc::Global;
 use tr_io::{Sink, Source};
+use tr_stage::Stage;
+use tr_widget::Widget;
 
 /// What a call ends in.
-#[derive(Clone, Copy, Debug, PartialEq, Eq)]
+#[derive(Drop)]
 pub struct Outcome {
     /// The code of a `Status`.
     pub status: u8,
+    /// The stage after all steps, where the status is 0.
+    pub stage: Option<Stage<Widget>>,
 }
 
-impl Outcome {
-    fn of(status: Status) -> Outcome
-        ensures { result.status ≡ code status }
-    {
-        Outcome {
-            status: status.code(),
-        }
-    }
-}
-
-/// Plays the script that the source has, where the words are `serial`, and writes what it prints.
-/// The words are the arguments after the program's name; others are answered with the usage.
+/// Plays a script on one thread, and writes what is due. The words are those after the program's name. For
+/// `serial` these are the reports of the script that the source has; for `check` also, after each entry of
+/// the journal but a sync's or a report's, how many points lag behind what the windows are to show; for
+/// `gen N` a summary of the script that the number gives. Other words, and `play`, are answered with the
+/// usage. For these and for `gen` nothing is read.
 ///
-/// The causes are looked at in this order: usage, read fault, script. Want of memory may take the
-/// place of each answer before the first byte is written, and a write fault afterwards.
+/// The causes are looked at in this order: usage, read fault, script, run. Want of memory may take the place
+/// of each answer before the first byte is written, and a write fault afterwards.
 pub fn serial_call<S: Source, K: Sink>(
     alloc: Global,
     words: &[String],
@@ -45,25 +44,27 @@ pub fn serial_call<S: Source, K: Sink>(
 
     // All of it at once: one of the answers is due, and what became of it. The clauses below follow.
     ensures answered { IsAnswered (record {
-      arguments = texts_of words.now;
+      task = asked_by (texts_of words.now);
       left = S.left source.old;
       left_new = S.left source.new;
       faults = S.faults source.old;
       faults_new = S.faults source.new;
-    }) result.status (record {
+    }) (record { status = result.status; stage = result.stage }) (record {
       written = K.written sink.old;
       written_new = K.written sink.new;
       faults = K.faults sink.old;
       faults_new = K.faults sink.new;
     }) }
 
-    // Usage: exactly where the arguments are not the accepted ones. Then nothing is read.
+    // Usage: exactly where the words are no accepted list; `play` is none here.
     ensures usage { Yields result.status
-        ((result.status ≡ code Status.Usage) ↔ (texts_of words.now ≢ accepted_arguments)) }
-    ensures unread { texts_of words.now ≢ accepted_arguments →
-        (S.left source.new ≡ S.left source.old) × (S.faults source.new ≡ S.faults source.old) }
+        ((result.status ≡ code Status.Usage) ↔ (asked_by (texts_of words.now) ≡ None)) }
     ensures usage_text { result.status ≡ code Status.Usage →
         Grew (K.written sink.old) (K.written sink.new) usage_text }
+
+    // Nothing is read then, nor for a number, whatever is answered.
+    ensures unread { ReadsNone (asked_by (texts_of words.now)) →
+        (S.left source.new ≡ S.left source.old) × (S.faults source.new ≡ S.faults source.old) }
 
     // Read fault: only where the source had one.
     ensures read_fault { result.status ≡ code Status.ReadFault →
@@ -71,27 +72,42 @@ pub fn serial_call<S: Source, K: Sink>(
     ensures read_fault_text { result.status ≡ code Status.ReadFault →
         Grew (K.written sink.old) (K.written sink.new) read_fault_text }
 
-    // Refused: of the answers to a script that was read, exactly where the bytes are in no script's form.
-    ensures refused { Yields result.status (result.status ≢ code Status.Usage →
-        result.status ≢ code Status.ReadFault → OfBytesRead (S.left source.old) (λ bytes.
-        (result.status ≡ code Status.Refused) ↔ (IsInForm bytes → ⊥))) }
+    // Refused: of the answers to a script that was read, exactly where its bytes are refused, with the first fault.
+    ensures refused { Yields result.status (result.status ≢ code Status.ReadFault →
+        OfScriptRead (asked_by (texts_of words.now)) (S.left source.old) (λ reading bytes.
+        (result.status ≡ code Status.Refused) ↔ IsSome (refusal_for reading bytes))) }
     ensures refused_text { result.status ≡ code Status.Refused →
-        Grew (K.written sink.old) (K.written sink.new) refused_text }
+        OfScriptRead (asked_by (texts_of words.now)) (S.left source.old) (λ reading bytes.
+        IsSomeAnd (refusal_for reading bytes) (λ r. Grew (K.written sink.old) (K.written sink.new) (refused_text r))) }
+    ensures never_refused { OfNumber (asked_by (texts_of words.now)) (λ number. result.status ≢ code Status.Refused) }
     ensures read_through { (result.status ≡ code Status.Done) ⊎ (result.status ≡ code Status.Refused) →
-        IsReadThrough (S.left source.old) (S.left source.new) }
+        (ReadsNone (asked_by (texts_of words.now)) → ⊥) → IsReadThrough (S.left source.old) (S.left source.new) }
 
-    // Done: the source was read to its end. The bytes read are a script, and what is written is the
-    // text of each script that they spell.
-    ensures read_to_end { result.status ≡ code Status.Done →
+    // Done: the source was read to its end. The script in the bytes read was played: what is written is its
+    // text, the stage has its opening, and the journal is the serial one.
+    ensures read_to_end { result.status ≡ code Status.Done → (ReadsNone (asked_by (texts_of words.now)) → ⊥) →
         IfSome (S.left source.new) (λ rest. rest ≡ []) }
-    ensures output { result.status ≡ code Status.Done → OfBytesRead (S.left source.old) (λ bytes.
-        (text : List ℕ) × Prints bytes text × Grew (K.written sink.old) (K.written sink.new) text) }
+    ensures output { result.status ≡ code Status.Done →
+        OfScriptRead (asked_by (texts_of words.now)) (S.left source.old) (λ reading bytes.
+        Grew (K.written sink.old) (K.written sink.new) (text_for reading (script_of bytes))) }
+    ensures stage { result.status ≡ code Status.Done →
+        OfScriptRead (asked_by (texts_of words.now)) (S.left source.old) (λ reading bytes.
+        IsSomeAnd result.stage (λ stage. HasPlayed (script_of bytes) stage)) }
+
+    // The same of the script that a number gives.
+    ensures summed_up { result.status ≡ code Status.Done →
+        OfNumber (asked_by (texts_of words.now)) (λ number.
+        Grew (K.written sink.old) (K.written sink.new) (gen_text number)
+        × IsSomeAnd result.stage (λ stage. HasPlayed (drawn number) stage)) }
+
+    // There is a stage exactly then.
+    ensures has_stage { IsSome result.stage ↔ (result.status ≡ code Status.Done) }
 
     // Write fault: only where the sink had one. What is written is a prefix of the text that is due.
     ensures write_fault { result.status ≡ code Status.WriteFault →
         HasFault (K.faults sink.old) (K.faults sink.new) }
     ensures prefix { result.status ≡ code Status.WriteFault → (due : Due) × IsDue (record {
-      arguments = texts_of words.now;
+      task = asked_by (texts_of words.now);
       left = S.left source.old;
       left_new = S.left source.new;
       faults = S.faults source.old;
@@ -102,22 +118,27 @@ pub fn serial_call<S: Source, K: Sink>(
     ensures no_memory { result.status ≡ code Status.NoMemory →
         K.written sink.new ≡ K.written sink.old }
 
-    // A script in form is played, where no fault is counted.
-    ensures complete { texts_of words.now ≡ accepted_arguments →
-        IsSomeAnd (S.left source.old) (λ left. IsInForm (take most_read left)) →
+    // What isn't refused is played, where no fault is counted.
+    ensures complete { IsAllowed (asked_by (texts_of words.now)) (S.left source.old) →
         (HasFault (S.faults source.old) (S.faults source.new) → ⊥) →
         (HasFault (K.faults sink.old) (K.faults sink.new) → ⊥) →
         (result.status ≡ code Status.Done) ⊎ (result.status ≡ code Status.NoMemory) }
 {
     let Ok(reply) = reply_to(alloc, words, source) else {
-        return Outcome::of(Status::NoMemory);
+        return Outcome {
+            status: Status::NoMemory.code(),
+            stage: None,
+        };
     };
-    Outcome::of(deliver(sink, &reply))
+    deliver(sink, reply)
 }
 
-/// Writes the text of a reply, and answers the status.
-fn deliver<K: Sink>(sink: &mut K, reply: &Reply) -> Status
-    ensures delivered { IsDelivered (due_of reply.now) (code result) (record {
+/// Writes the text of a reply, and answers its status and its stage.
+fn deliver<K: Sink>(sink: &mut K, reply: Reply) -> Outcome
+    ensures delivered { (due : Due) → IsReply due reply → IsDelivered due (record {
+      status = result.status;
+      stage = result.stage;
+    }) (record {
       written = K.written sink.old;
       written_new = K.written sink.new;
       faults = K.faults sink.old;
@@ -126,11 +147,18 @@ fn deliver<K: Sink>(sink: &mut K, reply: &Reply) -> Status
     ensures rising { K.faults sink.old ≤ K.faults sink.new }
 {
     let text = reply.text();
-    if sink.reserve(text.len()).is_err() {
-        return Status::NoMemory;
-    }
-    match write_all(sink, text) {
-        Ok(()) => reply.status(),
-        Err(_) => Status::WriteFault,
+    let status = if sink.reserve(text.len()).is_err() {
+        Status::NoMemory
+    } else if write_all(sink, text).is_err() {
+        Status::WriteFault
+    } else {
+        return Outcome {
+            status: reply.status().code(),
+            stage: reply.into_stage(),
+        };
+    };
+    Outcome {
+        status: status.code(),
+        stage: None,
     }
 }

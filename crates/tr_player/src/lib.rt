@@ -1,15 +1,12 @@
-//! The top call: a script comes in, and the text that it prints goes out.
+//! The top call: words come in, and a script from a source; the text that is due goes out.
 #![tactic(auto)]
 
 mod calls;
-mod dumps;
+mod checks;
 mod errors;
 mod replies;
-mod screens;
-mod scripts;
 mod statuses;
 mod streams;
-mod words;
 
 pub use calls::{Outcome, serial_call};
 pub use statuses::Status;

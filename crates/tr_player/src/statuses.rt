@@ -6,9 +6,9 @@ ghost use Rattle.tr_player.specs.Statuses.{code};
 pub enum Status {
     /// The script was played, and what it prints is written.
     Done,
-    /// The arguments are not the accepted ones.
+    /// The words ask for nothing.
     Usage,
-    /// The script is in no form.
+    /// The script is refused.
     Refused,
     /// The source had a fault.
     ReadFault,

@@ -1,12 +1,15 @@
-ghost use Rattle.std.specs.Prelude.{◌≡◌, ◌≢◌, ◌⊎◌, ◌↔◌, ◌≤◌, ℕ, List, drop, take, IfOk, IfSome, IsSomeAnd};
+ghost use Rattle.std.specs.Prelude.{◌≡◌, ◌≢◌, ◌⊎◌, ◌↔◌, drop, None, IfOk, IfSome, IsSome};
 ghost use Rattle.std.specs.Process.{exit_status};
 ghost use Rattle.std.specs.Vec.Iter.{into_iter_items};
 ghost use Rattle.tr_io.specs.Faults.{HasFault};
 ghost use Rattle.tr_io.specs.Streams.{Grew};
-ghost use Rattle.tr_player.specs.Scripts.{IsInForm};
+ghost use Rattle.tr_grammar.specs.Scripts.{script_of};
+ghost use Rattle.tr_commands.specs.Commands.{texts_of};
+ghost use Rattle.tr_serial.specs.Outputs.{gen_text};
 ghost use Rattle.tr_player.specs.Statuses.{code};
-ghost use Rattle.tr_player.specs.Answers.{IsAnswered, Yields, OfBytesRead, Prints, most_read, accepted_arguments, texts_of};
-ghost use Rattle.trestle.specs.Arguments.{status_without, status_unheard, heard};
+ghost use Rattle.tr_player.specs.Answers.{IsAllowed, OfNumber, OfScriptRead, Yields, asked_by, refusal_for, text_for};
+ghost use Rattle.trestle.specs.Arguments.{heard, status_unheard, status_without};
+ghost use Rattle.trestle.specs.Runs.{IsEnd};
 
 use std::alloc::{AllocError, Global};
 use std::env::Args;
@@ -19,8 +22,8 @@ use tr_player::{Status, serial_call};
 /// The status where the system refused the program its arguments. No call answers it.
 const REFUSED_STATUS: u8 = 7;
 
-/// Plays the script that the source has, as the arguments say that the system handed out. The first
-/// of these is the program's name. The answer is the status to end with.
+/// Does what the arguments ask for that the system handed out. The first of these is the program's name.
+/// The answer is the status to end with.
 pub fn run<S: Source, K: Sink>(
     alloc: Global,
     all: io::Result<Args>,
@@ -34,8 +37,8 @@ pub fn run<S: Source, K: Sink>(
         × (K.written sink.new ≡ K.written sink.old) × (K.faults sink.new ≡ K.faults sink.old)) }
 
     // With them: the status of the call, all of it at once, and then what matters most of it.
-    ensures answered { IfSome (heard all) (λ arguments. IsAnswered (record {
-      arguments = arguments;
+    ensures answered { IfSome (heard all) (λ words. IsEnd (record {
+      task = asked_by words;
       left = S.left source.old;
       left_new = S.left source.new;
       faults = S.faults source.old;
@@ -46,18 +49,24 @@ pub fn run<S: Source, K: Sink>(
       faults = K.faults sink.old;
       faults_new = K.faults sink.new;
     })) }
-    ensures usage { IfSome (heard all) (λ arguments. Yields (exit_status result)
-        ((exit_status result ≡ code Status.Usage) ↔ (arguments ≢ accepted_arguments))) }
-    ensures output { exit_status result ≡ code Status.Done → OfBytesRead (S.left source.old) (λ bytes.
-        (text : List ℕ) × Prints bytes text × Grew (K.written sink.old) (K.written sink.new) text) }
+    ensures usage { IfSome (heard all) (λ words. Yields (exit_status result)
+        ((exit_status result ≡ code Status.Usage) ↔ (asked_by words ≡ None))) }
+    ensures refused { IfSome (heard all) (λ words. Yields (exit_status result)
+        (exit_status result ≢ code Status.ReadFault →
+        OfScriptRead (asked_by words) (S.left source.old) (λ reading bytes.
+        (exit_status result ≡ code Status.Refused) ↔ IsSome (refusal_for reading bytes)))) }
+    ensures output { IfSome (heard all) (λ words. exit_status result ≡ code Status.Done →
+        OfScriptRead (asked_by words) (S.left source.old) (λ reading bytes.
+        Grew (K.written sink.old) (K.written sink.new) (text_for reading (script_of bytes)))) }
+    ensures summed_up { IfSome (heard all) (λ words. exit_status result ≡ code Status.Done →
+        OfNumber (asked_by words) (λ number. Grew (K.written sink.old) (K.written sink.new) (gen_text number))) }
     ensures read_fault { exit_status result ≡ code Status.ReadFault →
         HasFault (S.faults source.old) (S.faults source.new) }
     ensures write_fault { exit_status result ≡ code Status.WriteFault →
         HasFault (K.faults sink.old) (K.faults sink.new) }
     ensures no_memory { exit_status result ≡ code Status.NoMemory →
         K.written sink.new ≡ K.written sink.old }
-    ensures complete { IfSome (heard all) (λ arguments. arguments ≡ accepted_arguments →
-        IsSomeAnd (S.left source.old) (λ left. IsInForm (take most_read left)) →
+    ensures complete { IfSome (heard all) (λ words. IsAllowed (asked_by words) (S.left source.old) →
         (HasFault (S.faults source.old) (S.faults source.new) → ⊥) →
         (HasFault (K.faults sink.old) (K.faults sink.new) → ⊥) →
         (exit_status result ≡ code Status.Done) ⊎ (exit_status result ≡ code Status.NoMemory)) }
@@ -88,7 +97,7 @@ fn after_name(alloc: Global, all: Args) -> Result<Vec<String>, AllocError>
 }
 
 /// The status to end with where the system handed out no arguments, unless one of them is no text:
-/// that one is not accepted, so the call answers it.
+/// that one asks for nothing, so the call answers it.
 fn status_without(kind: ErrorKind) -> Option<u8>
     ensures { result ≡ status_without kind }
 {
@@ -99,15 +108,15 @@ fn status_without(kind: ErrorKind) -> Option<u8>
     }
 }
 
-/// The call with these arguments: the program ends with its status.
+/// The call with these words: the program ends with its status, and drops its stage.
 fn play<S: Source, K: Sink>(
     alloc: Global,
-    arguments: &[String],
+    words: &[String],
     source: &mut S,
     sink: &mut K,
 ) -> ExitCode
-    ensures answered { IsAnswered (record {
-      arguments = texts_of arguments.now;
+    ensures answered { IsEnd (record {
+      task = asked_by (texts_of words.now);
       left = S.left source.old;
       left_new = S.left source.new;
       faults = S.faults source.old;
@@ -119,20 +128,26 @@ fn play<S: Source, K: Sink>(
       faults_new = K.faults sink.new;
     }) }
     ensures usage { Yields (exit_status result)
-        ((exit_status result ≡ code Status.Usage) ↔ (texts_of arguments.now ≢ accepted_arguments)) }
-    ensures output { exit_status result ≡ code Status.Done → OfBytesRead (S.left source.old) (λ bytes.
-        (text : List ℕ) × Prints bytes text × Grew (K.written sink.old) (K.written sink.new) text) }
+        ((exit_status result ≡ code Status.Usage) ↔ (asked_by (texts_of words.now) ≡ None)) }
+    ensures refused { Yields (exit_status result) (exit_status result ≢ code Status.ReadFault →
+        OfScriptRead (asked_by (texts_of words.now)) (S.left source.old) (λ reading bytes.
+        (exit_status result ≡ code Status.Refused) ↔ IsSome (refusal_for reading bytes))) }
+    ensures output { exit_status result ≡ code Status.Done →
+        OfScriptRead (asked_by (texts_of words.now)) (S.left source.old) (λ reading bytes.
+        Grew (K.written sink.old) (K.written sink.new) (text_for reading (script_of bytes))) }
+    ensures summed_up { exit_status result ≡ code Status.Done →
+        OfNumber (asked_by (texts_of words.now)) (λ number.
+        Grew (K.written sink.old) (K.written sink.new) (gen_text number)) }
     ensures read_fault { exit_status result ≡ code Status.ReadFault →
         HasFault (S.faults source.old) (S.faults source.new) }
     ensures write_fault { exit_status result ≡ code Status.WriteFault →
         HasFault (K.faults sink.old) (K.faults sink.new) }
     ensures no_memory { exit_status result ≡ code Status.NoMemory →
         K.written sink.new ≡ K.written sink.old }
-    ensures complete { texts_of arguments.now ≡ accepted_arguments →
-        IsSomeAnd (S.left source.old) (λ left. IsInForm (take most_read left)) →
+    ensures complete { IsAllowed (asked_by (texts_of words.now)) (S.left source.old) →
         (HasFault (S.faults source.old) (S.faults source.new) → ⊥) →
         (HasFault (K.faults sink.old) (K.faults sink.new) → ⊥) →
         (exit_status result ≡ code Status.Done) ⊎ (exit_status result ≡ code Status.NoMemory) }
 {
-    ExitCode::from(serial_call(alloc, arguments, source, sink).status)
+    ExitCode::from(serial_call(alloc, words, source, sink).status)
 }

@@ -2,22 +2,21 @@ use super::*;
 use std::io;
 use std::io::ErrorKind;
 use std::test::Fail;
-use tr_io::{SteadySink, SteadySource};
-
-const ONE_PIXEL: &[u8] =
-    b"trestle 1\nscreen 1 1 map8\nleaf a 1 1 1 1 1 1 solid 7\nroot a\nbegin\ndump\nend\n";
+use tr_io::{MemorySource, SteadySink, SteadySource};
 
 const USAGE: &[u8] = b"usage: trestle play|serial|check|gen N\n";
 
-/// The text that is written for arguments that the system hands out.
+const SCRIPT: &[u8] = b"trestle 1\n";
+
+/// The text that is written for arguments that the system hands out, where each read fails. What a script
+/// prints is tried by the program itself, on its standard input.
 #[test]
 fn arguments_after_the_name_are_heard(rt: HostRuntime) -> Result<(), Fail> {
     for (texts, text) in [
-        (
-            ["trestle", "serial"].as_slice(),
-            b"dump 1 1 map8\n07\n".as_slice(),
-        ),
+        (["trestle", "serial"].as_slice(), b"read fault\n".as_slice()),
+        (&["trestle", "check"], b"read fault\n"),
         (&["serial"], USAGE),
+        (&["trestle"], USAGE),
         (&["trestle", "serial", "x"], USAGE),
         (&[], USAGE),
     ] {
@@ -25,7 +24,8 @@ fn arguments_after_the_name_are_heard(rt: HostRuntime) -> Result<(), Fail> {
         for argument in texts {
             all.push(String::from_str(rt.alloc(), argument)?)?;
         }
-        let mut source = SteadySource::new(Vec::from_slice(rt.alloc(), ONE_PIXEL)?);
+        let script = Vec::from_slice(rt.alloc(), SCRIPT)?;
+        let mut source = MemorySource::new(script, Vec::from_slice(rt.alloc(), &[1])?);
         let mut sink = SteadySink::new(rt.alloc());
         let _ = run(rt.alloc(), Ok(all.into_iter()), &mut source, &mut sink);
         assert_eq!(rt; sink.written(), text);
@@ -41,7 +41,7 @@ fn arguments_may_be_missing(rt: HostRuntime) -> Result<(), Fail> {
         (ErrorKind::OutOfMemory, b"".as_slice()),
         (ErrorKind::PermissionDenied, b""),
     ] {
-        let mut source = SteadySource::new(Vec::from_slice(rt.alloc(), ONE_PIXEL)?);
+        let mut source = SteadySource::new(Vec::from_slice(rt.alloc(), SCRIPT)?);
         let mut sink = SteadySink::new(rt.alloc());
         let _ = run(
             rt.alloc(),
@@ -50,7 +50,7 @@ fn arguments_may_be_missing(rt: HostRuntime) -> Result<(), Fail> {
             &mut sink,
         );
         assert_eq!(rt; sink.written(), text);
-        assert_eq!(rt; source.left().len(), ONE_PIXEL.len());
+        assert_eq!(rt; source.left().len(), SCRIPT.len());
     }
     Ok(())
 }

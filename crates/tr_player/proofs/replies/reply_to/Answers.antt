@@ -1,15 +1,26 @@
-use Rattle.std.proofs.Common.{List, ℕ, subst, sym}
-use Rattle.tr_player.specs.Scripts.{IsScript, IsInForm}
-use Rattle.tr_player.proofs.CallLemmas.{output_due}
+use Rattle.std.proofs.Common.{◌≡◌, refl, ap}
+use Rattle.std.specs.Prelude.{Some}
+use Rattle.tr_serial.specs.Outputs.{gen_text, drawn}
+use Rattle.tr_commands.specs.declared.Command.TheVariants.{Gen}
+use Rattle.tr_commands.specs.Commands.{command_of, texts_of}
+use Rattle.tr_player.specs.Answers.{Asked, asked_by, played, task_of}
+use Rattle.tr_player.proofs.ReplyLemmas.{due_for_number}
 use Rattle.tr_player.proofs.replies.reply_to.Goals as goal
 
-pub returns-in-Some-clause-due : goal.returns-in-Some-clause-due
-returns-in-Some-clause-due g c =
-    let read = c.in-Some.ensures in
-    let found = read.found in
-    let same = c.deref.ensures.value in (
-      c.are_accepted.ensures.0 c.if-not-are_accepted.false,
-      c.in-Ok.ensures.through,
-      output_due _ _ _ _ c.in-Ok.ensures.bytes (subst IsInForm same (found.0, found.1))
-          (λ s is. read.only s (subst (λ (b : List ℕ). IsScript b s) (sym same) is)) c.in_ok-output-in-Some.ensures,
+pub returns-in_ok-summary-in-Some-Gen-clause-due : goal.returns-in_ok-summary-in-Some-Gen-clause-due
+returns-in_ok-summary-in-Some-Gen-clause-due g c =
+    let number = c.in-Some-Gen.number in
+    let made = c.in_ok-summary-in-Some-Gen.ensures in
+    let found : command_of (texts_of c.args.words.now) ≡ Some (Gen number) =
+    cc (c.in_ok-command_of.ensures, c.in-Some-Gen.is, c.in-Some-Gen.field-0-is) in
+    let a : Asked = record {
+      task = asked_by (texts_of c.args.words.now);
+      left = g.S.Source.left c.args.source.now;
+      left_new = g.S.Source.left c.args.source.now;
+      faults = g.S.Source.faults c.args.source.now;
+      faults_new = g.S.Source.faults c.args.source.now;
+    } in (
+      played (drawn number) (gen_text number),
+      due_for_number number a (ap task_of found) (record { left = refl; faults = refl }),
+      (made.text, record { opening = made.opening; journal = made.journal }),
     )

@@ -1,0 +1,31 @@
+-- What follows of the arguments that the system handed out.
+use Rattle.std.proofs.Common.{◌≡◌, ℕ, List, [], drop, Result, Ok, Err, Option, Some, None, String, Global, sym, subst}
+use Rattle.std.specs.Prelude.{IfSome}
+use Rattle.std.specs.declared.vec.IntoIter.{IntoIter}
+use Rattle.std.specs.Vec.Iter.{into_iter_items}
+use Rattle.std.specs.IoError.{error_kind}
+use Rattle.std.specs.declared.io.Error.{Error}
+use Rattle.tr_commands.specs.Commands.{texts_of}
+use Rattle.trestle.specs.Arguments.{heard, none_unless, status_without}
+
+-- what the system hands out: the arguments, or why there are none
+abbrev pub Handed : Type 0
+Handed = Result (IntoIter (String Global) Global) Error
+
+-- what holds of all words holds of those that are heard
+pub of_any : (P : List (List ℕ) → Type 0) (words : Option (List (List ℕ))) → ((ws : List (List ℕ)) → P ws) → IfSome words P
+of_any P None p = tt
+of_any P (Some ws) p = p ws
+
+-- what holds of the words after the first holds of those that are heard, where the system handed out arguments
+pub of_heard : (P : List (List ℕ) → Type 0) (handed : Handed) (all : IntoIter (String Global) Global) (words : List (String Global)) → handed ≡ Ok all →
+    words ≡ drop 1 (into_iter_items all) → P (texts_of words) → IfSome (heard handed) P
+of_heard P handed all words is rest p =
+    subst (λ (x : Handed). IfSome (heard x) P) (sym is) (subst (λ (ws : List (String Global)). P (texts_of ws)) rest p)
+
+-- what holds of no words holds of those that are heard, where one of the arguments is no text
+pub of_none : (P : List (List ℕ) → Type 0) (handed : Handed) (e : Error) (words : List (String Global)) → handed ≡ Err e →
+    status_without (error_kind e) ≡ None → words ≡ [] → P (texts_of words) → IfSome (heard handed) P
+of_none P handed e words is silent none p =
+    subst (λ (x : Handed). IfSome (heard x) P) (sym is)
+    (subst (λ (s : Option ℕ). IfSome (none_unless s) P) (sym silent) (subst (λ (ws : List (String Global)). P (texts_of ws)) none p))
