@@ -71,33 +71,45 @@ fn script_in(alloc: Global, text: &[u8]) -> Result<Script, ReadRefused>
     read_script(alloc, text)
 }
 
+/// What `serial` writes of a script, and how many entries its journal gets.
+fn serial_of(alloc: Global, text: &[u8]) -> Result<(Vec<u8>, usize), Fail> {
+    let script = script_in(alloc, text)?;
+    let Played { text, stage } = serial(alloc, script)?;
+    Ok((text, stage.journal().len()))
+}
+
+/// What `check` writes of a script, and how many entries its journal gets.
+fn check_of(alloc: Global, text: &[u8]) -> Result<(Vec<u8>, usize), Fail> {
+    let script = script_in(alloc, text)?;
+    let Played { text, stage } = check(alloc, script)?;
+    Ok((text, stage.journal().len()))
+}
+
+/// What `summary` writes of a number.
+fn summary_of(alloc: Global, number: u32) -> Result<Vec<u8>, Fail> {
+    let Played { text, .. } = summary(alloc, number)?;
+    Ok(text)
+}
+
 #[test]
 fn serial_writes_the_reports(rt: HostRuntime) -> Result<(), Fail> {
-    let alloc = rt.alloc();
-    let Ok(script) = script_in(alloc, SCRIPT) else {
-        panic!(rt; "it is a script");
-    };
-    let played = serial(alloc, script)?;
-    assert_eq!(rt; played.text.as_slice(), REPORTS);
-    assert_eq!(rt; played.stage.journal().len(), 11);
+    let (text, entries) = serial_of(rt.alloc(), SCRIPT)?;
+    assert_eq!(rt; text.as_slice(), REPORTS);
+    assert_eq!(rt; entries, 11);
     Ok(())
 }
 
 #[test]
 fn check_writes_the_lag_too(rt: HostRuntime) -> Result<(), Fail> {
-    let alloc = rt.alloc();
-    let Ok(script) = script_in(alloc, SCRIPT) else {
-        panic!(rt; "it is a script");
-    };
-    let played = check(alloc, script)?;
-    assert_eq!(rt; played.text.as_slice(), CHECKED);
-    assert_eq!(rt; played.stage.journal().len(), 11);
+    let (text, entries) = check_of(rt.alloc(), SCRIPT)?;
+    assert_eq!(rt; text.as_slice(), CHECKED);
+    assert_eq!(rt; entries, 11);
     Ok(())
 }
 
 #[test]
 fn summary_counts_the_lines(rt: HostRuntime) -> Result<(), Fail> {
-    let played = summary(rt.alloc(), 0)?;
-    assert!(rt; played.text.starts_with(b"gen 0\nlines 2039\nentries "));
+    let text = summary_of(rt.alloc(), 0)?;
+    assert!(rt; text.starts_with(b"gen 0\nlines 2039\nentries "));
     Ok(())
 }
