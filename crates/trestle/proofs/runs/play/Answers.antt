@@ -1,7 +1,10 @@
 use Rattle.std.proofs.Common.{◌≡◌, ◌≢◌, ◌↔◌, ℕ, sym, ◌∙◌, subst}
-use Rattle.std.specs.Prelude.{IsSome}
+use Rattle.std.specs.Prelude.{IsSome, IsSomeAnd}
+use Rattle.tr_io.specs.Streams.{Grew}
 use Rattle.tr_commands.specs.Commands.{texts_of}
-use Rattle.tr_player.specs.Answers.{OfScriptRead, Yields, asked_by, refusal_for}
+use Rattle.tr_serial.specs.Outputs.{gen_text, drawn}
+use Rattle.tr_player.specs.Answers.{HasPlayed, OfScriptRead, Yields, asked_by, refusal_for}
+use Rattle.trestle.proofs.ArgumentLemmas.{first_of_number}
 use Rattle.trestle.proofs.runs.play.Goals as goal
 
 pub returns-clause-answered : goal.returns-clause-answered
@@ -16,4 +19,8 @@ returns-clause-refused g c =
     (sym c.from.ensures) c.serial_call.ensures.refused
 
 pub returns-clause-summed_up : goal.returns-clause-summed_up
-returns-clause-summed_up g c = λ e. c.serial_call.ensures.summed_up (sym c.from.ensures ∙ e)
+returns-clause-summed_up g c = λ e.
+    let task = asked_by (texts_of c.args.words.now) in
+    let writes : ℕ → Type 0 = λ number. Grew (g.K.Sink.written c.args.sink.now) (g.K.Sink.written c.serial_call.new.sink) (gen_text number) in
+    let plays : ℕ → Type 0 = λ number. IsSomeAnd c.serial_call.result.stage (λ stage. HasPlayed (drawn number) stage) in
+    first_of_number task writes plays (c.serial_call.ensures.summed_up (sym c.from.ensures ∙ e))
