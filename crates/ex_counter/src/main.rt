@@ -1,0 +1,248 @@
+//! A client to copy from, and a program that shows two of its windows: the mouse clicks in each, a key is
+//! struck, and the windows take these events. It prints the screen at first and after each of the three,
+//! and in the end the journal, which has every step with its answer.
+//!
+//! The client is `counters.rt`, with its meaning and its laws in specs/. The rest is generic over clients,
+//! so that no proof of it looks into the laws of one.
+#![tactic(auto)]
+
+mod counters;
+mod names;
+
+ghost use Rattle.std.specs.Prelude.{◌≡◌, false, None};
+ghost use Rattle.tr_forest.specs.Nodes.{IsNodeKind, is_leaf, shown_by};
+
+use crate::counters::Counter;
+use crate::names::Names;
+use std::alloc::Global;
+use std::io;
+use std::io::ErrorKind;
+use tr_base::{Kind, LeafId, NoMemory, NodeId, Point, Selection, Shape, Shapes, Size};
+use tr_client::Client;
+use tr_forest::{Edit, EditRefused, NodeKind};
+use tr_journal::{Actor, Opening, Query, Step, is_edit, is_step, may};
+use tr_run::{Finished, Mode, Run};
+
+const SCREEN: Size = Size { wide: 24, high: 8 };
+
+/// What a window wants each way: eleven points, half of what the border leaves across.
+const ANY: Shape = Shape {
+    lo: 0,
+    pref: 11,
+    hi: 4096,
+};
+
+/// The windows are numbered as they are added, and so are all nodes.
+const WEST: LeafId = LeafId(0);
+
+const EAST: LeafId = LeafId(1);
+
+/// Why nothing is printed.
+#[derive(Debug, Drop)]
+enum Stopped {
+    NoMemory,
+    /// A node or a step isn't allowed. It doesn't happen here.
+    Refused,
+}
+
+impl From<NoMemory> for Stopped {
+    fn from(_e: NoMemory) -> Stopped {
+        Stopped::NoMemory
+    }
+}
+
+impl From<EditRefused> for Stopped {
+    fn from(e: EditRefused) -> Stopped {
+        match e {
+            EditRefused::NoMemory => Stopped::NoMemory,
+            EditRefused::Fault(_) => Stopped::Refused,
+        }
+    }
+}
+
+impl From<Stopped> for io::Error {
+    fn from(e: Stopped) -> io::Error {
+        match e {
+            Stopped::NoMemory => io::Error::from(ErrorKind::OutOfMemory),
+            Stopped::Refused => io::Error::from(ErrorKind::InvalidInput),
+        }
+    }
+}
+
+fn main(rt: HostRuntime) -> io::Result<()> {
+    let text = text(rt.alloc(), Counter::new(5), Counter::new(7))?;
+    rt.write_all(&text)
+}
+
+/// What the program prints.
+fn text<C: Client>(alloc: Global, west: C, east: C) -> Result<Vec<u8>, Stopped> {
+    let run = start(alloc, opening(alloc, west, east)?)?;
+    play(run)
+}
+
+/// Plays a run to its end. It answers what was printed meanwhile.
+fn play<C: Client>(mut run: Run<'static, C, Names>) -> Result<Vec<u8>, Stopped> {
+    make_all(&mut run)?;
+    Ok(text_of(run))
+}
+
+/// All that happens.
+fn make_all<C: Client>(run: &mut Run<C, Names>) -> Result<(), Stopped> {
+    show(run)?;
+    click(run, WEST, Point { h: 4, v: 4 }, 1)?;
+    show(run)?;
+    click(run, EAST, Point { h: 18, v: 4 }, 2)?;
+    show(run)?;
+    strike(run, EAST, b'+', 3)?;
+    show(run)?;
+    list(run)
+}
+
+/// What was printed. For the prover a function of its own: `play` is slow to prove where it takes a run
+/// apart.
+fn text_of<C: Client>(run: Run<'static, C, Names>) -> Vec<u8> {
+    let Finished { text, .. } = run.finish();
+    text
+}
+
+// ---- The opening: a border around two windows that stand side by side.
+
+fn opening<C: Client>(alloc: Global, west: C, east: C) -> Result<Opening<C>, Stopped> {
+    let mut opening = Opening::new(alloc, SCREEN, Kind::Map8)?;
+    let border = add_frame(&mut opening, NodeKind::Border { width: 1 })?;
+    let row = add_frame(&mut opening, NodeKind::H)?;
+    let west = add_window(&mut opening, west)?;
+    let east = add_window(&mut opening, east)?;
+    put(&mut opening, west, row)?;
+    put(&mut opening, east, row)?;
+    put(&mut opening, row, border)?;
+    set_root(&mut opening, border)?;
+    Ok(opening)
+}
+
+/// Adds a node that isn't a window.
+fn add_frame<C: Client>(opening: &mut Opening<C>, kind: NodeKind) -> Result<NodeId, Stopped>
+    requires kind { IsNodeKind kind }
+    requires shown { shown_by kind ≡ None }
+    requires inner { is_leaf kind ≡ false }
+{
+    if opening.tree().count() >= 256 {
+        return Err(Stopped::Refused);
+    }
+    Ok(opening.node(kind, 255)?)
+}
+
+/// Adds a window with its content.
+fn add_window<C: Client>(opening: &mut Opening<C>, content: C) -> Result<NodeId, Stopped> {
+    let nodes = opening.tree().count();
+    if nodes >= 256 || opening.tree().leaves() >= 32 {
+        return Err(Stopped::Refused);
+    }
+    let shapes = Shapes {
+        across: ANY,
+        down: ANY,
+    };
+    opening.leaf(shapes, content)?;
+    Ok(NodeId(nodes as u16))
+}
+
+/// Makes a node the last child of another.
+fn put<C: Client>(opening: &mut Opening<C>, child: NodeId, parent: NodeId) -> Result<(), Stopped> {
+    // Where it stands matters to the children of a Z alone.
+    let at = Point { h: 0, v: 0 };
+    if !is_edit(opening.tree(), &Edit::Attach { child, parent, at }) {
+        return Err(Stopped::Refused);
+    }
+    opening.put(child, parent, at)?;
+    Ok(())
+}
+
+/// Makes a node the root.
+fn set_root<C: Client>(opening: &mut Opening<C>, node: NodeId) -> Result<(), Stopped> {
+    if usize::from(node.0) >= opening.tree().count() {
+        return Err(Stopped::Refused);
+    }
+    opening.root(node)?;
+    Ok(())
+}
+
+/// A run that begins with this opening. Each node needs a name, since texts name them.
+fn start<C: Client>(alloc: Global, opening: Opening<C>) -> Result<Run<'static, C, Names>, Stopped> {
+    let tree = opening.tree();
+    if tree.count() != 4 || tree.leaves() != 2 || tree.root().is_none() {
+        return Err(Stopped::Refused);
+    }
+    Ok(Run::start(alloc, opening, &Names, Mode::Serial)?)
+}
+
+// ---- The steps: events come from the desk, and each window takes its own.
+
+/// The mouse goes over a window, and a button goes down and up. The window takes both events, and becomes
+/// the one that keys go to.
+fn click<C: Client>(
+    run: &mut Run<C, Names>,
+    leaf: LeafId,
+    at: Point,
+    time: u32,
+) -> Result<(), Stopped> {
+    make(run, Actor::Desk, Step::Motion { time, at })?;
+    press(run, leaf, true, time)?;
+    press(run, leaf, false, time)?;
+    // The time has to be that of the event that the window was sent last.
+    let selection = Selection::Key;
+    let own = Step::Own {
+        leaf,
+        selection,
+        time,
+    };
+    make(run, Actor::Leaf(leaf), own)
+}
+
+/// A button goes down or up, and the window takes the event.
+fn press<C: Client>(
+    run: &mut Run<C, Names>,
+    leaf: LeafId,
+    down: bool,
+    time: u32,
+) -> Result<(), Stopped> {
+    let button = 1;
+    make(run, Actor::Desk, Step::Mouse { time, button, down })?;
+    make(run, Actor::Leaf(leaf), Step::Take { leaf })
+}
+
+/// A key is struck, and the window that keys go to takes the event.
+fn strike<C: Client>(
+    run: &mut Run<C, Names>,
+    leaf: LeafId,
+    code: u8,
+    time: u32,
+) -> Result<(), Stopped> {
+    make(run, Actor::Desk, Step::Key { time, code })?;
+    make(run, Actor::Leaf(leaf), Step::Take { leaf })
+}
+
+/// Makes a step, if it is allowed. What it is answered stands in the journal.
+fn make<C: Client>(
+    run: &mut Run<C, Names>,
+    actor: Actor,
+    step: Step<C::Cmd>,
+) -> Result<(), Stopped> {
+    if let Step::Report { .. } = step {
+        return Err(Stopped::Refused);
+    }
+    if !may(actor, &step) || !is_step(run.stage().opening().tree(), &step) {
+        return Err(Stopped::Refused);
+    }
+    run.make(actor, step)?;
+    Ok(())
+}
+
+/// Prints the screen, once it is up to date.
+fn show<C: Client>(run: &mut Run<C, Names>) -> Result<(), Stopped> {
+    Ok(run.report(Query::Dump)?)
+}
+
+/// Prints the journal.
+fn list<C: Client>(run: &mut Run<C, Names>) -> Result<(), Stopped> {
+    Ok(run.report(Query::Journal)?)
+}
