@@ -1,5 +1,5 @@
 -- What is done one after another, and what a run from its start comes to.
-use Rattle.std.proofs.Common.{◌≡◌, ℕ, zero, suc, ◌+◌, ◌<◌, true, false, cond, List, [], ◌∷◌, ◌++◌, length, take, get_or, refl, sym, ap, subst, ◌∙◌, append_assoc, add-one, arith}
+use Rattle.std.proofs.Common.{◌≡◌, ℕ, zero, suc, ◌+◌, ◌<◌, true, false, cond, List, [], ◌∷◌, ◌++◌, length, take, get_or, sym, ap, subst, ◌∙◌, append_assoc, add-one, arith}
 use Rattle.std.specs.Prelude.{Bool, All, map}
 use Rattle.std.specs.List.{flat_map}
 use Rattle.std.proofs.lemmas.List.{append-nil, flat_map_more, map_more, take_more}
@@ -9,11 +9,10 @@ use Rattle.tr_forest.specs.Nodes.{Nodes}
 use Rattle.tr_journal.specs.declared.Actor.{Actor}
 use Rattle.tr_journal.specs.declared.Actor.TheVariants.{Player}
 use Rattle.tr_journal.specs.declared.Item.{Item}
-use Rattle.tr_journal.specs.declared.Query.{Query}
 use Rattle.tr_journal.specs.declared.Step.{Step}
 use Rattle.tr_journal.specs.declared.Step.TheVariants.{Sync}
 use Rattle.tr_journal.specs.Journals.{JournalLine}
-use Rattle.tr_journal.specs.Steps.{IsQuery, IsStep, may}
+use Rattle.tr_journal.specs.Steps.{IsStep, may}
 use Rattle.tr_widget.specs.declared.WidgetCmd.{WidgetCmd}
 use Rattle.tr_machine.specs.States.{State, start}
 use Rattle.tr_machine.specs.Replays.{replay}
@@ -22,7 +21,7 @@ use Rattle.tr_grammar.specs.Scripts.{IsPlayable, IsPlayablePart}
 use Rattle.tr_dump.specs.Names.{Names}
 use Rattle.tr_stage.specs.Stages.{state}
 use Rattle.tr_run.specs.declared.Mode.{Mode}
-use Rattle.tr_run.specs.Runs.{Deed, makes, reporting, run_lines}
+use Rattle.tr_run.specs.Runs.{Deed, makes, run_lines}
 use Rattle.tr_run.specs.Texts.{is_report, sum_from, texts_from}
 use Rattle.tr_run.specs.Views.{Does, RunView}
 use Rattle.tr_run.proofs.RunLemmas.{Does-append}

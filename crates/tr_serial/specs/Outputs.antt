@@ -5,7 +5,7 @@ use Rattle.tr_client.specs.declared.Client.{Ghosts}
 use Rattle.tr_journal.specs.declared.Actor.TheVariants.{Player}
 use Rattle.tr_journal.specs.declared.Step.TheVariants as steps
 use Rattle.tr_journal.specs.Journals.{JournalLine}
-use Rattle.tr_machine.specs.States.{State, start}
+use Rattle.tr_machine.specs.States.{start}
 use Rattle.tr_widget.specs.declared.Widget.{Widget}
 use Rattle.tr_widget.specs.declared.WidgetCmd.{WidgetCmd}
 use Rattle.tr_widget.specs.Widgets.{IsWidget, widget_pic, widget_next, widget_patch, widget_answer, widget_value, widget_keeps, widget_words}

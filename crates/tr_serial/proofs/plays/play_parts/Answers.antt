@@ -11,7 +11,6 @@ use Rattle.tr_widget.specs.declared.WidgetCmd.{WidgetCmd}
 use Rattle.tr_widget.specs.Widgets.{widget_words}
 use Rattle.tr_grammar.specs.States.{Stretch}
 use Rattle.tr_grammar.specs.Scripts.{IsPlayablePart}
-use Rattle.tr_run.specs.Runs.{Deed}
 use Rattle.tr_run.specs.Texts.{is_report}
 use Rattle.tr_serial.specs.Outputs.{deeds}
 use Rattle.tr_serial.proofs.DeedLemmas.{deeds_next, deeds_of, goes_on, is_later_next}
