@@ -54,8 +54,8 @@ impl Totals {
     }
 }
 
-/// Plays the script that is drawn from a number, and writes how many lines it has, how many entries its journal
-/// gets, and the sum of the pixels of its last dump.
+/// Plays the script that is drawn from a number, and writes how many lines it has, how many entries its
+/// journal gets, and the sum of the pixels of its last dump.
 pub fn summary(alloc: Global, number: u32) -> Result<Played, NoMemory>
     ensures text { IfOk result (λ played. played.text.items ≡ spec.gen_text number) }
     ensures journal { IfOk result (λ played. played.stage.journal ≡ spec.serial_journal (spec.drawn number)) }
