@@ -2,7 +2,7 @@ use super::*;
 use std::alloc::{AllocError, Global};
 use std::test::Fail;
 use tr_base::NoMemory;
-use tr_io::{Failed, MemorySink, MemorySource, Sink, SteadySink, SteadySource};
+use tr_io::{Failed, MemorySink, MemorySource, Sink, Source, SteadySink, SteadySource};
 
 const USAGE: &[u8] = b"usage: trestle play|serial|check|gen N\n";
 
@@ -44,22 +44,29 @@ fn words_of(alloc: Global, texts: &[&str]) -> Result<Vec<String>, AllocError> {
     Ok(words)
 }
 
-fn entries_of(outcome: &Outcome) -> Option<usize> {
-    match &outcome.stage {
-        Some(stage) => Some(stage.journal().len()),
-        None => None,
+/// The status that a call ends in, and how many entries the journal of its stage has, if it hands one out.
+fn end_of<S: Source, K: Sink>(
+    alloc: Global,
+    texts: &[&str],
+    source: &mut S,
+    sink: &mut K,
+) -> Result<(u8, Option<usize>), AllocError> {
+    let words = words_of(alloc, texts)?;
+    let Outcome { status, stage } = serial_call(alloc, &words, source, sink);
+    match stage {
+        Some(stage) => Ok((status, Some(stage.journal().len()))),
+        None => Ok((status, None)),
     }
 }
 
 /// The answer to these words and to a script, where no read and no write fails.
 fn answer_to(alloc: Global, texts: &[&str], script: Vec<u8>) -> Result<Answer, AllocError> {
-    let words = words_of(alloc, texts)?;
     let mut source = SteadySource::new(script);
     let mut sink = SteadySink::new(alloc);
-    let outcome = serial_call(alloc, &words, &mut source, &mut sink);
+    let (status, entries) = end_of(alloc, texts, &mut source, &mut sink)?;
     Ok(Answer {
-        status: outcome.status,
-        entries: entries_of(&outcome),
+        status,
+        entries,
         written: Vec::from_slice(alloc, sink.written())?,
         left: source.left().len(),
     })
@@ -102,12 +109,7 @@ fn scripts_are_played_or_refused(rt: HostRuntime) -> Result<(), Fail> {
         ("serial", b"", 3, b"refused: line 1 B8\n"),
         ("serial", b"trestle 1\nscr", 3, b"refused: line 2 B1\n"),
         ("check", b"trestle 1\nscr", 3, b"refused: line 2 B1\n"),
-        (
-            "serial",
-            &PIXEL[..PIXEL.len() - 4],
-            3,
-            b"refused: line 7 B8\n",
-        ),
+        ("serial", &PIXEL[..71], 3, b"refused: line 7 B8\n"),
         ("serial", NO_END, 3, NO_END_TEXT),
     ]
     .iter()
@@ -221,17 +223,16 @@ fn answer_with_faults(
     script: &[u8],
     faults: (&[u64], &[u64]),
 ) -> Result<Answer, AllocError> {
-    let words = words_of(alloc, &[word])?;
     let (reads, writes) = faults;
     let mut source = MemorySource::new(
         Vec::from_slice(alloc, script)?,
         Vec::from_slice(alloc, reads)?,
     );
     let mut sink = MemorySink::new(alloc, 4, Vec::from_slice(alloc, writes)?);
-    let outcome = serial_call(alloc, &words, &mut source, &mut sink);
+    let (status, entries) = end_of(alloc, &[word], &mut source, &mut sink)?;
     Ok(Answer {
-        status: outcome.status,
-        entries: entries_of(&outcome),
+        status,
+        entries,
         written: Vec::from_slice(alloc, sink.written())?,
         left: source.left().len(),
     })
@@ -298,11 +299,10 @@ impl Sink for FullSink {
 #[test]
 fn want_of_memory_has_a_status(rt: HostRuntime) -> Result<(), Fail> {
     for word in ["serial", "check", "play"] {
-        let words = words_of(rt.alloc(), &[word])?;
         let mut source = SteadySource::new(Vec::from_slice(rt.alloc(), PIXEL)?);
-        let outcome = serial_call(rt.alloc(), &words, &mut source, &mut FullSink);
-        assert_eq!(rt; outcome.status, 6);
-        assert!(rt; outcome.stage.is_none());
+        let (status, entries) = end_of(rt.alloc(), &[word], &mut source, &mut FullSink)?;
+        assert_eq!(rt; status, 6);
+        assert_eq!(rt; entries, None);
     }
     Ok(())
 }
