@@ -1,5 +1,5 @@
-use Rattle.std.proofs.Common.{◌≡◌, ◌⊎◌, ℕ, List, refl, sym, ◌∙◌, ap, inl}
-use Rattle.std.specs.Prelude.{Option, None}
+use Rattle.std.proofs.Common.{◌≡◌, ◌⊎◌, refl, sym, ◌∙◌, ap, inl}
+use Rattle.std.specs.Prelude.{None}
 use Rattle.std.specs.Process.{exit_status}
 use Rattle.std.specs.IoError.{error_kind}
 use Rattle.tr_io.specs.Faults.{HasFault}
