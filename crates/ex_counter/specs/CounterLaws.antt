@@ -55,7 +55,8 @@ grown-beside low high h order beside = grind (arith, ints)
 -- ---- a part of the picture is painted
 
 -- the bar over the background, by whether a point lies in the bar
-bar-makes : (look : Look) (tint : ℕ) (bar : Bool) → Makes look.kind (cond bar (Value (eff look.kind (Set tint) 0)) Keep) 0 (eff look.kind (cond bar (Set tint) Bg) 0)
+bar-makes : (look : Look) (tint : ℕ) (bar : Bool) →
+    Makes look.kind (cond bar (Value (eff look.kind (Set tint) 0)) Keep) 0 (eff look.kind (cond bar (Set tint) Bg) 0)
 bar-makes look tint true = refl
 bar-makes look tint false = refl
 
@@ -103,7 +104,9 @@ grown-gives look size tint false after before old q is inside beside = is ∙ ap
 pub counter_patches : (look : Look) (size : Size) (x : Counter) (cmd : CounterCmd) → IsCounter x → IsCounterCmd cmd → IsWindowSize size →
     IsPatch look size (counter_patch look size x cmd) (counter_pic look size x) (counter_pic look size (counter_next x cmd))
 counter_patches look size x (Add n) valid known small =
-    two_patches look size (kept growth) [] old new new (kept_patch look size growth old new (λ q here. gives q here)) (no_patch look size new new (λ q here. refl))
+    two_patches look size (kept growth) [] old new new
+        (kept_patch look size growth old new (λ q here. gives q here))
+        (no_patch look size new new (λ q here. refl))
   where
     high : ℕ
     high = min (x.count + n) greatest
@@ -123,8 +126,9 @@ counter_patches look size x (Add n) valid known small =
     gives : (q : Point) → has_point (whole_of size) q ≡ true → Gives look.kind size (deed look growth q) old q (new q)
     gives q here =
         rw (columns-have (whole_of size) x.count (min (x.count + n) greatest) q here)
-        (grown-gives look size x.tint (between (pos x.count) (pos (min (x.count + n) greatest)) q.h) (between (pos 0) (pos (min (x.count + n) greatest)) q.h)
-        (between (pos 0) (pos x.count) q.h) old q refl (grown-in x.count (min (x.count + n) greatest) q.h) (grown-beside x.count (min (x.count + n) greatest) q.h order))
+        (grown-gives look size x.tint (between (pos x.count) (pos high) q.h) (between (pos 0) (pos high) q.h)
+        (between (pos 0) (pos x.count) q.h) old q refl (grown-in x.count high q.h)
+        (grown-beside x.count high q.h order))
 
 pub counter_empty_patches : (look : Look) (size : Size) (x : Counter) (cmd : CounterCmd) → IsCounter x → IsCounterCmd cmd → IsWindowSize size →
     is_flat size ≡ true → counter_patch look size x cmd ≡ []

@@ -18,6 +18,3 @@ pub use dumps::dump;
 pub use journals::journal;
 pub use peeks::{Peek3, peek_line};
 pub use places::{inbox, place_line};
-
-#[cfg(test)]
-mod tests;

@@ -23,6 +23,3 @@ pub use ranges::{is_edit, is_step};
 pub use rights::{covers, may};
 pub use steps::{Actor, Query, Step};
 pub use tr_inbox::Delivery;
-
-#[cfg(test)]
-mod tests;

@@ -1,11 +1,15 @@
-ghost use Rattle.std.specs.Prelude.{◌≡◌, ◌≢◌, ◌⊎◌, ◌↔◌, ◌≤◌, [], List, ℕ, None, Some, IfSome, IsSome, IsSomeAnd, take};
+ghost use Rattle.std.specs.Prelude.{◌≡◌, ◌≢◌, ◌⊎◌, ◌↔◌, ◌≤◌, [], List, ℕ, None, Some, take};
+ghost use Rattle.std.specs.Prelude.{IfSome, IsSome, IsSomeAnd};
 ghost use Rattle.tr_io.specs.Faults.{HasFault};
 ghost use Rattle.tr_io.specs.Streams.{Grew, GrewByPrefix};
 ghost use Rattle.tr_grammar.specs.Scripts.{Script, script_of};
 ghost use Rattle.tr_commands.specs.Commands.{texts_of};
 ghost use Rattle.tr_serial.specs.Outputs.{drawn, gen_text};
 ghost use Rattle.tr_player.specs.Statuses.{code};
-ghost use Rattle.tr_player.specs.Answers.{Due, HasPlayed, IsAllowed, IsAnswered, IsDelivered, IsDue, IsReadThrough, OfNumber, OfScriptRead, ReadsNone, Yields, asked_by, read_fault_text, refusal_for, refused_text, text_for, text_of, usage_text};
+ghost use Rattle.tr_player.specs.Answers.{Due, HasPlayed, IsAllowed, IsAnswered, IsDelivered, IsDue};
+ghost use Rattle.tr_player.specs.Answers.{IsReadThrough, OfNumber, OfScriptRead, ReadsNone, Yields};
+ghost use Rattle.tr_player.specs.Answers.{asked_by, read_fault_text, refusal_for, refused_text, text_for, text_of};
+ghost use Rattle.tr_player.specs.Answers.{usage_text};
 ghost use Rattle.tr_player.specs.Replies.{IsReply};
 
 use crate::replies::{Reply, reply_to};
@@ -72,16 +76,20 @@ pub fn serial_call<S: Source, K: Sink>(
     ensures read_fault_text { result.status ≡ code Status.ReadFault →
         Grew (K.written sink.old) (K.written sink.new) read_fault_text }
 
-    // Refused: of the answers to a script that was read, exactly where its bytes are refused, with the first fault.
+    // Refused: of the answers to a script that was read, exactly where its bytes are refused, with the
+    // first fault.
     ensures refused { Yields result.status (result.status ≢ code Status.ReadFault →
         OfScriptRead (asked_by (texts_of words.now)) (S.left source.old) (λ reading bytes.
         (result.status ≡ code Status.Refused) ↔ IsSome (refusal_for reading bytes))) }
     ensures refused_text { result.status ≡ code Status.Refused →
         OfScriptRead (asked_by (texts_of words.now)) (S.left source.old) (λ reading bytes.
-        IsSomeAnd (refusal_for reading bytes) (λ r. Grew (K.written sink.old) (K.written sink.new) (refused_text r))) }
-    ensures never_refused { OfNumber (asked_by (texts_of words.now)) (λ number. result.status ≢ code Status.Refused) }
+        IsSomeAnd (refusal_for reading bytes) (λ refusal.
+        Grew (K.written sink.old) (K.written sink.new) (refused_text refusal))) }
+    ensures never_refused { OfNumber (asked_by (texts_of words.now)) (λ number.
+        result.status ≢ code Status.Refused) }
     ensures read_through { (result.status ≡ code Status.Done) ⊎ (result.status ≡ code Status.Refused) →
-        (ReadsNone (asked_by (texts_of words.now)) → ⊥) → IsReadThrough (S.left source.old) (S.left source.new) }
+        (ReadsNone (asked_by (texts_of words.now)) → ⊥) →
+        IsReadThrough (S.left source.old) (S.left source.new) }
 
     // Done: the source was read to its end. The script in the bytes read was played: what is written is its
     // text, the stage has its opening, and the journal is the serial one.

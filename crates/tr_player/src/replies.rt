@@ -127,7 +127,8 @@ fn reply_to_source<S: Source>(
 
 /// The reply to the bytes of a script.
 fn reply_to_bytes(alloc: Global, checks: bool, bytes: &[u8]) -> Result<Reply, NoMemory>
-    ensures { IfOk result (λ reply. (due : Due) × IsDueOfText (reading checks) bytes.now due × IsReply due reply) }
+    ensures { IfOk result (λ reply.
+        (due : Due) × IsDueOfText (reading checks) bytes.now due × IsReply due reply) }
 {
     match read_script(alloc, bytes) {
         Ok(script) => reply_to_script(alloc, checks, script),

@@ -14,6 +14,3 @@ pub use names::Names;
 pub use parts::Part;
 pub use readers::Reader;
 pub use scripts::Script;
-
-#[cfg(test)]
-mod tests;

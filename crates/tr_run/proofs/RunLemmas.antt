@@ -19,11 +19,11 @@ use Rattle.tr_machine.specs.Replays.{line_of, next, replay, replay_from}
 use Rattle.tr_machine.specs.Settling.{after_steps, lines_of, settling_lines}
 use Rattle.tr_machine.proofs.JournalLemmas.{lines_of-take, replay-append, replay-more, replay_from-append, replay_from-lines_of}
 use Rattle.tr_dump.specs.Names.{Names}
-use Rattle.tr_stage.specs.Stages.{StageView, state}
+use Rattle.tr_stage.specs.Stages.{StageView, is_note, state}
 use Rattle.tr_run.specs.declared.modes.Mode.{Mode}
 use Rattle.tr_run.specs.declared.modes.Mode.TheVariants.{Serial, Check, Gen}
-use Rattle.tr_run.specs.Runs.{Deed, makes, settles, deed_lines, reporting, run_lines}
-use Rattle.tr_run.specs.Texts.{is_check, is_players, is_report, lag_line, report_text, step_text, sum_after, sum_from, texts_from, written}
+use Rattle.tr_run.specs.Runs.{Cue, makes, settles, cue_lines, reporting, run_lines}
+use Rattle.tr_run.specs.Texts.{is_check, is_report, lag_line, report_text, told_text, sum_after, sum_from, texts_from, written}
 use Rattle.tr_run.specs.Views.{Adds, Does, RunView}
 
 module _ {C M : Type 0} (client : Ghosts C M) where
@@ -52,12 +52,12 @@ module _ {C M : Type 0} (client : Ghosts C M) where
       ∙ ap (λ (ls : List (JournalLine M)). (now ++ some) ++ texts_from client words names mode ls (replay_from client after xs) ys)
       (append_assoc earlier (x ∷ []) xs)
 
-  -- the lines of some deeds, and then of more
-  pub run_lines-append : (m : State C M) (xs ys : List (Deed M)) →
+  -- the lines of some cues, and then of more
+  pub run_lines-append : (m : State C M) (xs ys : List (Cue M)) →
       run_lines client m (xs ++ ys) ≡ run_lines client m xs ++ run_lines client (replay_from client m (run_lines client m xs)) ys
   run_lines-append m [] ys = refl
   run_lines-append m (x ∷ xs) ys =
-      let first : List (JournalLine M) = deed_lines client m x in
+      let first : List (JournalLine M) = cue_lines client m x in
       let after : State C M = replay_from client m first in
       ap (λ (ls : List (JournalLine M)). first ++ ls) (run_lines-append after xs ys)
       ∙ sym (append_assoc first (run_lines client after xs) (run_lines client (replay_from client after (run_lines client after xs)) ys))
@@ -124,8 +124,8 @@ module _ {C M : Type 0} (client : Ghosts C M) where
   pub Does-none : (words : M → List ℕ) (a : RunView C M) → Does client words a a []
   Does-none words a = Adds-none words a
 
-  -- some deeds were done, and then more
-  pub Does-append : (words : M → List ℕ) (a b c : RunView C M) (xs ys : List (Deed M)) → Does client words a b xs →
+  -- some cues were done, and then more
+  pub Does-append : (words : M → List ℕ) (a b c : RunView C M) (xs ys : List (Cue M)) → Does client words a b xs →
       Does client words b c ys → Does client words a c (xs ++ ys)
   Does-append words a b c xs ys first second =
       subst (λ (ls : List (JournalLine M)). Adds client words a c ls)
@@ -171,10 +171,10 @@ module _ {C M : Type 0} (client : Ghosts C M) where
   -- ---- what is written with a step that isn't a report
 
   -- it has no text
-  step_text-none : (words : M → List ℕ) (names : Names) (lines : List (JournalLine M)) (m : State C M) (step : Step M) →
-      is_report step ≡ false → step_text client words names lines m step ≡ []
-  step_text-none words names lines m (steps.Report query) h = absurd (false-true (sym h))
-  step_text-none words names lines m step h = refl
+  told_text-none : (words : M → List ℕ) (names : Names) (lines : List (JournalLine M)) (m : State C M) (step : Step M) →
+      is_report step ≡ false → told_text client words names lines m step ≡ []
+  told_text-none words names lines m (steps.Report query) h = absurd (false-true (sym h))
+  told_text-none words names lines m step h = refl
 
   -- it leaves the sum
   pub sum_after-other : (mode : Mode) (m : State C M) (sum : ℕ) (step : Step M) → is_report step ≡ false →
@@ -185,16 +185,16 @@ module _ {C M : Type 0} (client : Ghosts C M) where
 
   -- where it is told how far the screen lags behind, just this is written
   pub written-lag : (words : M → List ℕ) (names : Names) (mode : Mode) (lines : List (JournalLine M)) (m : State C M) (step : Step M) →
-      is_report step ≡ false → (is_check mode && not (is_players step)) ≡ true →
+      is_report step ≡ false → (is_check mode && not (is_note step)) ≡ true →
       written client words names mode lines m step ≡ lag_line client (length lines + 1) (next client m step)
   written-lag words names Serial lines m step h lags = absurd (false-true lags)
   written-lag words names Check lines m step h lags =
-      ap (λ (t : List ℕ). t ++ cond (is_players step) [] (lag_line client (length lines + 1) (next client m step))) (step_text-none words names lines m step h)
-      ∙ by_players (is_players step) lags
+      ap (λ (t : List ℕ). t ++ cond (is_note step) [] (lag_line client (length lines + 1) (next client m step))) (told_text-none words names lines m step h)
+      ∙ unless_note (is_note step) lags
     where
-      by_players : (b : Bool) → not b ≡ true → cond b [] (lag_line client (length lines + 1) (next client m step)) ≡ lag_line client (length lines + 1) (next client m step)
-      by_players true lags = absurd (false-true lags)
-      by_players false lags = refl
+      unless_note : (b : Bool) → not b ≡ true → cond b [] (lag_line client (length lines + 1) (next client m step)) ≡ lag_line client (length lines + 1) (next client m step)
+      unless_note true lags = absurd (false-true lags)
+      unless_note false lags = refl
   written-lag words names Gen lines m step h lags = absurd (false-true lags)
 
   -- ---- a step that is added, and then written
@@ -210,7 +210,7 @@ module _ {C M : Type 0} (client : Ghosts C M) where
 
   -- then it was written how far the screen lags behind
   pub lagged : {words : M → List ℕ} {a v : RunView C M} {actor : Actor} {step : Step M} (text : List ℕ) → HasAdded a v actor step →
-      is_report step ≡ false → (is_check a.mode && not (is_players step)) ≡ true →
+      is_report step ≡ false → (is_check a.mode && not (is_note step)) ≡ true →
       text ≡ v.text ++ lag_line client (length v.stage.journal) (state client v.stage) →
       Adds client words a (record v { text = text }) (line_of client (state client a.stage) actor (stated step) step ∷ [])
   lagged {words} {a} {v} {actor} {step} text added other lags is = made_adds {words = words} {a = a} {b = new} {actor = actor} {step = step} (record {
@@ -271,7 +271,7 @@ module _ {C M : Type 0} (client : Ghosts C M) where
   pub reports : (words : M → List ℕ) (a b : RunView C M) (query : Query) → (query ≡ queries.Dump → ⊥) →
       Adds client words a b (line_of client (state client a.stage) Player (Mu ∷ []) (steps.Report query) ∷ []) →
       Does client words a b (reporting query)
-  reports words a b query other made = subst (λ (deeds : List (Deed M)). Does client words a b deeds) (sym (reporting-other query other)) made
+  reports words a b query other made = subst (λ (cues : List (Cue M)). Does client words a b cues) (sym (reporting-other query other)) made
 
   -- the stage was settled, and then a dump was made
   pub dumps : (words : M → List ℕ) (a b c : RunView C M) → Adds client words a b (settling_lines client (state client a.stage)) →

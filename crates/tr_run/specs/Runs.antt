@@ -14,24 +14,24 @@ use Rattle.tr_machine.specs.Replays.{line_of, replay_from}
 use Rattle.tr_machine.specs.Settling.{settling_lines}
 
 -- one thing that is done in a run: an actor makes a step, holding exactly the step's levels, or the painter settles the stage
-pub data Deed (M : Type 0) : Type 0 where
-  makes : Actor → Step M → Deed M
-  settles : Deed M
+pub data Cue (M : Type 0) : Type 0 where
+  makes : Actor → Step M → Cue M
+  settles : Cue M
 
 -- a report is the player's step; the screen is settled before it is dumped
-abbrev pub reporting : {M : Type 0} → Query → List (Deed M)
+abbrev pub reporting : {M : Type 0} → Query → List (Cue M)
 reporting queries.Dump = settles ∷ makes Player (steps.Report queries.Dump) ∷ []
 reporting query = makes Player (steps.Report query) ∷ []
 
 module _ {C M : Type 0} (client : Ghosts C M) where
-  -- the lines that a deed makes
-  abbrev pub deed_lines : State C M → Deed M → List (JournalLine M)
-  deed_lines m (makes actor step) = line_of client m actor (stated step) step ∷ []
-  deed_lines m settles = settling_lines client m
+  -- the lines that a cue makes
+  abbrev pub cue_lines : State C M → Cue M → List (JournalLine M)
+  cue_lines m (makes actor step) = line_of client m actor (stated step) step ∷ []
+  cue_lines m settles = settling_lines client m
 
-  -- the lines that deeds in a row make
-  abbrev pub run_lines : State C M → List (Deed M) → List (JournalLine M)
+  -- the lines that cues in a row make
+  abbrev pub run_lines : State C M → List (Cue M) → List (JournalLine M)
   run_lines m [] = []
-  run_lines m (deed ∷ deeds) =
-      let lines = deed_lines m deed in
-      lines ++ run_lines (replay_from client m lines) deeds
+  run_lines m (cue ∷ cues) =
+      let lines = cue_lines m cue in
+      lines ++ run_lines (replay_from client m lines) cues

@@ -17,6 +17,7 @@ use Rattle.tr_journal.specs.Journals.{JournalLine}
 use Rattle.tr_machine.specs.States.{State, batch_of}
 use Rattle.tr_machine.specs.Pictures.{render, bad_count, waiting_count, stale_count, is_stale}
 use Rattle.tr_machine.specs.Replays.{next}
+use Rattle.tr_stage.specs.Stages.{is_note}
 use Rattle.tr_dump.specs.declared.Peek3.{Peek3}
 use Rattle.tr_dump.specs.Values.{line_text}
 use Rattle.tr_dump.specs.Names.{Names}
@@ -27,12 +28,6 @@ use Rattle.tr_run.specs.declared.modes.Mode.TheVariants.{Serial, Check, Gen}
 -- the sum of all pixels of a picture
 abbrev pub pixel_sum : Picture → ℕ
 pixel_sum p = sum_by (λ row. sum_by (λ pixel. pixel) row) p.rows
-
--- a sync or a report
-abbrev pub is_players : {M : Type 0} → Step M → Bool
-is_players steps.Sync = true
-is_players (steps.Report query) = true
-is_players step = false
 
 -- a report
 abbrev pub is_report : {M : Type 0} → Step M → Bool
@@ -69,7 +64,7 @@ module _ {C M : Type 0} (client : Ghosts C M) where
 
   -- a sync and a report get no such line
   abbrev pub lag_text : ℕ → State C M → Step M → List ℕ
-  lag_text number m step = if is_players step then [] else lag_line number m
+  lag_text number m step = if is_note step then [] else lag_line number m
 
   module _ (words : M → List ℕ) (names : Names) where
     -- the text of a report on a state that these lines led to
@@ -81,14 +76,14 @@ module _ {C M : Type 0} (client : Ghosts C M) where
     report_text lines m (queries.Inbox leaf) = inbox_text names leaf (inbox_of m.mail leaf)
 
     -- a step that isn't a report has no text
-    abbrev pub step_text : List (JournalLine M) → State C M → Step M → List ℕ
-    step_text lines m (steps.Report query) = report_text lines m query
-    step_text lines m step = []
+    abbrev pub told_text : List (JournalLine M) → State C M → Step M → List ℕ
+    told_text lines m (steps.Report query) = report_text lines m query
+    told_text lines m step = []
 
     -- what is written with a step that is made in a state that these lines led to
     abbrev pub written : Mode → List (JournalLine M) → State C M → Step M → List ℕ
-    written Serial lines m step = step_text lines m step
-    written Check lines m step = step_text lines m step ++ lag_text (length lines + 1) (next client m step) step
+    written Serial lines m step = told_text lines m step
+    written Check lines m step = told_text lines m step ++ lag_text (length lines + 1) (next client m step) step
     written Gen lines m step = []
 
     -- what is written with later lines of a journal, in a state that the earlier ones led to

@@ -9,7 +9,7 @@ use Rattle.tr_journal.specs.Openings.{tree_of}
 use Rattle.tr_dump.specs.Names.{IsNamedLine, Names}
 use Rattle.tr_stage.specs.Stages.{StageView, state}
 use Rattle.tr_run.specs.declared.modes.Mode.{Mode}
-use Rattle.tr_run.specs.Runs.{Deed, run_lines}
+use Rattle.tr_run.specs.Runs.{Cue, run_lines}
 use Rattle.tr_run.specs.Texts.{texts_from, sum_from}
 
 -- each node and each leaf has a name
@@ -49,6 +49,6 @@ module _ {C M : Type 0} (client : Ghosts C M) (words : M → List ℕ) where
     pub text : new.text ≡ old.text ++ texts_from client words old.names old.mode old.stage.journal (state client old.stage) lines
     pub sum : new.sum ≡ sum_from client old.mode (state client old.stage) old.sum lines
 
-  -- meanwhile these deeds were done
-  abbrev pub Does : RunView C M → RunView C M → List (Deed M) → Type 0
-  Does old new deeds = Adds old new (run_lines client (state client old.stage) deeds)
+  -- meanwhile these cues were done
+  abbrev pub Does : RunView C M → RunView C M → List (Cue M) → Type 0
+  Does old new cues = Adds old new (run_lines client (state client old.stage) cues)

@@ -9,9 +9,9 @@ ghost use Rattle.tr_machine.specs.Pictures.{render};
 ghost use Rattle.tr_machine.specs.Replays.{line_of};
 ghost use Rattle.tr_machine.specs.Settling.{lines_of, settling_lines};
 ghost use Rattle.tr_dump.specs.Names.{names_of};
-ghost use Rattle.tr_stage.specs.Stages.{IsPainters, state};
+ghost use Rattle.tr_stage.specs.Stages.{IsPainters, is_note, state};
 ghost use Rattle.tr_run.specs.Runs.{makes, reporting};
-ghost use Rattle.tr_run.specs.Texts.{is_check, is_players, is_report, sum_after, written};
+ghost use Rattle.tr_run.specs.Texts.{is_check, is_report, sum_after, written};
 ghost use Rattle.tr_run.specs.Views.{AreNamed, Adds, Does};
 
 use crate::levels::levels_of;
@@ -238,7 +238,7 @@ impl<'a, C: Client, N: NameOf> Run<'a, C, N> {
 
 /// Whether it is written how far the screen lags behind a step.
 fn is_lagging<M>(mode: Mode, step: &Step<M>) -> bool
-    ensures { result ≡ is_check mode && not (is_players step.now) }
+    ensures { result ≡ is_check mode && not (is_note step.now) }
 {
     mode == Mode::Check && !matches!(step, Step::Sync | Step::Report { .. })
 }

@@ -15,6 +15,3 @@ mod scripts;
 mod widget_lines;
 
 pub use scripts::read_script;
-
-#[cfg(test)]
-mod tests;

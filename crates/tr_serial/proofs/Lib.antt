@@ -1,2 +1,2 @@
-pub mod DeedLemmas
+pub mod CueLemmas
 pub mod StepLemmas

@@ -18,7 +18,7 @@ use Rattle.tr_dump.specs.Names.{Names}
 use Rattle.tr_gen.specs.Scripts as gen
 use Rattle.tr_run.specs.declared.Mode.{Mode}
 use Rattle.tr_run.specs.declared.Mode.TheVariants.{Serial, Check, Gen}
-use Rattle.tr_run.specs.Runs.{Deed, makes, reporting, run_lines}
+use Rattle.tr_run.specs.Runs.{Cue, makes, reporting, run_lines}
 use Rattle.tr_run.specs.Texts.{is_report, texts_from, sum_from}
 
 -- the widgets, as what is shown in the windows of a script
@@ -38,17 +38,17 @@ abbrev pub names_in : Named → Names
 names_in names = record { nodes = names.nodes; leaves = names.leaves }
 
 -- what a part has done: its reports, and then its steps
-abbrev pub part_deeds : Stretch → List (Deed WidgetCmd)
-part_deeds part = flat_map reporting part.reports ++ map (λ made. makes made.0 made.1) part.steps
+abbrev pub part_cues : Stretch → List (Cue WidgetCmd)
+part_cues part = flat_map reporting part.reports ++ map (λ made. makes made.0 made.1) part.steps
 
 -- a later part begins with a sync
-abbrev pub later_deeds : Stretch → List (Deed WidgetCmd)
-later_deeds part = makes Player steps.Sync ∷ part_deeds part
+abbrev pub later_cues : Stretch → List (Cue WidgetCmd)
+later_cues part = makes Player steps.Sync ∷ part_cues part
 
 -- what all parts have done
-abbrev pub deeds : List Stretch → List (Deed WidgetCmd)
-deeds [] = []
-deeds (part ∷ parts) = part_deeds part ++ flat_map later_deeds parts
+abbrev pub cues : List Stretch → List (Cue WidgetCmd)
+cues [] = []
+cues (part ∷ parts) = part_cues part ++ flat_map later_cues parts
 
 -- no step of a part is a report: the reports stand before the steps
 abbrev pub HasOnlySteps : Script → Type 0
@@ -56,7 +56,7 @@ HasOnlySteps s = All (λ part. All (λ made. is_report made.1 ≡ false) part.st
 
 -- the journal of a script that is played on one thread
 abbrev pub serial_journal : Script → List (JournalLine WidgetCmd)
-serial_journal s = run_lines widgets (start s.opening) (deeds s.parts)
+serial_journal s = run_lines widgets (start s.opening) (cues s.parts)
 
 -- what is written while a script is played
 abbrev pub played_text : Mode → Script → List ℕ

@@ -80,7 +80,7 @@ fn play_parts<C: Client<Cmd = WidgetCmd>, N: NameOf>(
 ) -> Result<(), NoMemory>
     requires playable { All (IsPlayablePart (tree_of run.old.stage.opening).nodes) parts.items }
     requires other { All (λ part. All (λ made. is_report made.1 ≡ false) part.steps) parts.items }
-    ensures { OnOk result (Does C.Client widget_words run.old run.new (spec.deeds parts.items)) }
+    ensures { OnOk result (Does C.Client widget_words run.old run.new (spec.cues parts.items)) }
 {
     let mut is_later = false;
     for part in parts {
@@ -99,7 +99,7 @@ fn play_part<C: Client<Cmd = WidgetCmd>, N: NameOf>(
     requires playable { IsPlayablePart (tree_of run.old.stage.opening).nodes part }
     requires other { All (λ made. is_report made.1 ≡ false) part.steps }
     ensures { OnOk result (Does C.Client widget_words run.old run.new
-        ((if is_later then makes Player Sync ∷ [] else []) ++ spec.part_deeds part)) }
+        ((if is_later then makes Player Sync ∷ [] else []) ++ spec.part_cues part)) }
 {
     let Part { reports, steps } = part;
     begin(run, is_later)?;

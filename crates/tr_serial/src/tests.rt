@@ -71,17 +71,14 @@ fn script_in(alloc: Global, text: &[u8]) -> Result<Script, ReadRefused>
     read_script(alloc, text)
 }
 
-/// What `serial` writes of a script, and how many entries its journal gets.
-fn serial_of(alloc: Global, text: &[u8]) -> Result<(Vec<u8>, usize), Fail> {
+/// What `check` or else `serial` writes of a script, and how many entries its journal gets.
+fn played(alloc: Global, checks: bool, text: &[u8]) -> Result<(Vec<u8>, usize), Fail> {
     let script = script_in(alloc, text)?;
-    let Played { text, stage } = serial(alloc, script)?;
-    Ok((text, stage.journal().len()))
-}
-
-/// What `check` writes of a script, and how many entries its journal gets.
-fn check_of(alloc: Global, text: &[u8]) -> Result<(Vec<u8>, usize), Fail> {
-    let script = script_in(alloc, text)?;
-    let Played { text, stage } = check(alloc, script)?;
+    let Played { text, stage } = if checks {
+        check(alloc, script)?
+    } else {
+        serial(alloc, script)?
+    };
     Ok((text, stage.journal().len()))
 }
 
@@ -93,7 +90,7 @@ fn summary_of(alloc: Global, number: u32) -> Result<Vec<u8>, Fail> {
 
 #[test]
 fn serial_writes_the_reports(rt: HostRuntime) -> Result<(), Fail> {
-    let (text, entries) = serial_of(rt.alloc(), SCRIPT)?;
+    let (text, entries) = played(rt.alloc(), false, SCRIPT)?;
     assert_eq!(rt; text.as_slice(), REPORTS);
     assert_eq!(rt; entries, 11);
     Ok(())
@@ -101,7 +98,7 @@ fn serial_writes_the_reports(rt: HostRuntime) -> Result<(), Fail> {
 
 #[test]
 fn check_writes_the_lag_too(rt: HostRuntime) -> Result<(), Fail> {
-    let (text, entries) = check_of(rt.alloc(), SCRIPT)?;
+    let (text, entries) = played(rt.alloc(), true, SCRIPT)?;
     assert_eq!(rt; text.as_slice(), CHECKED);
     assert_eq!(rt; entries, 11);
     Ok(())

@@ -14,6 +14,3 @@ mod surfaces;
 
 pub use keepers::Keeper;
 pub use surfaces::Surface;
-
-#[cfg(test)]
-mod tests;

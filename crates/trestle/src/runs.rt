@@ -59,7 +59,8 @@ pub fn run<S: Source, K: Sink>(
         OfScriptRead (asked_by words) (S.left source.old) (λ reading bytes.
         Grew (K.written sink.old) (K.written sink.new) (text_for reading (script_of bytes)))) }
     ensures summed_up { IfSome (heard all) (λ words. exit_status result ≡ code Status.Done →
-        OfNumber (asked_by words) (λ number. Grew (K.written sink.old) (K.written sink.new) (gen_text number))) }
+        OfNumber (asked_by words) (λ number.
+        Grew (K.written sink.old) (K.written sink.new) (gen_text number))) }
     ensures read_fault { exit_status result ≡ code Status.ReadFault →
         HasFault (S.faults source.old) (S.faults source.new) }
     ensures write_fault { exit_status result ≡ code Status.WriteFault →

@@ -10,7 +10,7 @@ use Rattle.tr_journal.specs.Openings.{tree_of}
 use Rattle.tr_journal.specs.Steps.{IsStep, may}
 use Rattle.tr_run.specs.Runs.{makes}
 use Rattle.tr_run.specs.Texts.{is_report}
-use Rattle.tr_serial.proofs.DeedLemmas.{goes_on, map_next}
+use Rattle.tr_serial.proofs.CueLemmas.{goes_on, map_next}
 use Rattle.tr_serial.proofs.plays.make_all.Goals as goal
 
 pub make-requires-clause-may : goal.make-requires-clause-may

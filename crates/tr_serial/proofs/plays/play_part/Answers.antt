@@ -16,7 +16,7 @@ use Rattle.tr_grammar.specs.States.{Stretch}
 use Rattle.tr_run.specs.Runs.{makes, reporting}
 use Rattle.tr_run.specs.Views.{Does}
 use Rattle.tr_run.proofs.RunLemmas.{Does-append}
-use Rattle.tr_serial.proofs.DeedLemmas.{AreReady, deeds_of, ready}
+use Rattle.tr_serial.proofs.CueLemmas.{AreReady, cues_of, ready}
 use Rattle.tr_serial.proofs.plays.play_part.Goals as goal
 
 pub report_all-requires-clause-queries : goal.report_all-requires-clause-queries
@@ -61,7 +61,7 @@ returns g c =
     let reported = c.report_all.new.run in
     let now = c.make_all.new.run in
     on_ok_weaker c.make_all.result
-    (λ made. subst (λ (p : Stretch). Does g.C.Client widget_words was now (deeds_of c.args.is_later p)) is
+    (λ made. subst (λ (p : Stretch). Does g.C.Client widget_words was now (cues_of c.args.is_later p)) is
     (Does-append g.C.Client widget_words was c.begin.new.run now first (reports ++ steps) c.in_ok-begin.ensures
     (Does-append g.C.Client widget_words c.begin.new.run reported now reports steps c.in_ok-report_all.ensures made)))
     c.make_all.ensures

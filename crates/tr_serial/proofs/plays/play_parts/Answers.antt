@@ -12,8 +12,8 @@ use Rattle.tr_widget.specs.Widgets.{widget_words}
 use Rattle.tr_grammar.specs.States.{Stretch}
 use Rattle.tr_grammar.specs.Scripts.{IsPlayablePart}
 use Rattle.tr_run.specs.Texts.{is_report}
-use Rattle.tr_serial.specs.Outputs.{deeds}
-use Rattle.tr_serial.proofs.DeedLemmas.{deeds_next, deeds_of, goes_on, is_later_next}
+use Rattle.tr_serial.specs.Outputs.{cues}
+use Rattle.tr_serial.proofs.CueLemmas.{cues_next, cues_of, goes_on, is_later_next}
 use Rattle.tr_serial.proofs.plays.play_parts.Goals as goal
 
 pub play_part-requires-clause-playable : goal.play_part-requires-clause-playable
@@ -47,9 +47,9 @@ loop-part-preserved g c =
       can_next = tt;
       is_finite = tt;
       did = rw (length_push c.loop-part.yielded c.in-Some.part)
-          (goes_on g.C.Client widget_words c.args.run.now c.loop-part.run c.play_part.new.run (deeds (take k parts))
-          (deeds_of c.loop-part.is_later c.in-Some.part) (deeds (take (k + 1) parts)) c.loop-part.invariant.did c.in_ok-play_part.ensures
-          (ap (λ later. deeds (take k parts) ++ deeds_of later c.in-Some.part) c.loop-part.invariant.later
-          ∙ deeds_next parts k c.in-Some.part (record { within = turn.0; is = turn.1 })));
+          (goes_on g.C.Client widget_words c.args.run.now c.loop-part.run c.play_part.new.run (cues (take k parts))
+          (cues_of c.loop-part.is_later c.in-Some.part) (cues (take (k + 1) parts)) c.loop-part.invariant.did c.in_ok-play_part.ensures
+          (ap (λ later. cues (take k parts) ++ cues_of later c.in-Some.part) c.loop-part.invariant.later
+          ∙ cues_next parts k c.in-Some.part (record { within = turn.0; is = turn.1 })));
       later = rw (length_push c.loop-part.yielded c.in-Some.part) (is_later_next k);
     }

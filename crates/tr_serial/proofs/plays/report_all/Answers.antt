@@ -2,7 +2,7 @@ use Rattle.std.proofs.Common.{◌+◌, take}
 use Rattle.std.specs.List.{flat_map}
 use Rattle.std.proofs.lemmas.List.{get_or_default}
 use Rattle.tr_run.specs.Runs.{reporting}
-use Rattle.tr_serial.proofs.DeedLemmas.{flat_map_next, goes_on}
+use Rattle.tr_serial.proofs.CueLemmas.{flat_map_next, goes_on}
 use Rattle.tr_serial.proofs.plays.report_all.Goals as goal
 
 pub loop-query-preserved : goal.loop-query-preserved

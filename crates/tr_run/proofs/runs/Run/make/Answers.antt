@@ -1,5 +1,6 @@
 use Rattle.std.proofs.Common.{◌&&◌, not, sym, ap, subst, ◌∙◌}
-use Rattle.tr_run.specs.Texts.{is_check, is_players}
+use Rattle.tr_run.specs.Texts.{is_check}
+use Rattle.tr_stage.specs.Stages.{is_note}
 use Rattle.tr_run.specs.Views.{RunView}
 use Rattle.tr_run.proofs.RunLemmas.{HasAdded, lagged}
 use Rattle.tr_run.proofs.runs.Run.make.Goals as goal
@@ -16,5 +17,5 @@ returns-in_ok-append_lag g c =
       sum = c.add.ensures.sum;
     }))
     c.requires.other
-    (ap (λ (v : RunView _ _). is_check v.mode && not (is_players c.args.step)) (sym c.self.view_is) ∙ sym c.is_lagging-lags.ensures ∙ c.if-lags.true)
+    (ap (λ (v : RunView _ _). is_check v.mode && not (is_note c.args.step)) (sym c.self.view_is) ∙ sym c.is_lagging-lags.ensures ∙ c.if-lags.true)
     c.in_ok-append_lag.ensures

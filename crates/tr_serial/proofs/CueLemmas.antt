@@ -21,11 +21,11 @@ use Rattle.tr_grammar.specs.Scripts.{IsPlayable, IsPlayablePart}
 use Rattle.tr_dump.specs.Names.{Names}
 use Rattle.tr_stage.specs.Stages.{state}
 use Rattle.tr_run.specs.declared.Mode.{Mode}
-use Rattle.tr_run.specs.Runs.{Deed, makes, run_lines}
+use Rattle.tr_run.specs.Runs.{Cue, makes, run_lines}
 use Rattle.tr_run.specs.Texts.{is_report, sum_from, texts_from}
 use Rattle.tr_run.specs.Views.{Does, RunView}
 use Rattle.tr_run.proofs.RunLemmas.{Does-append}
-use Rattle.tr_serial.specs.Outputs.{deeds, later_deeds, part_deeds}
+use Rattle.tr_serial.specs.Outputs.{cues, later_cues, part_cues}
 
 -- ---- lists so far, and one element more
 
@@ -54,23 +54,23 @@ is_later zero = false
 is_later (suc k) = true
 
 -- what a part has done, which is a later one or not
-abbrev pub deeds_of : Bool → Stretch → List (Deed WidgetCmd)
-deeds_of later part = cond later (makes Player Sync ∷ []) [] ++ part_deeds part
+abbrev pub cues_of : Bool → Stretch → List (Cue WidgetCmd)
+cues_of later part = cond later (makes Player Sync ∷ []) [] ++ part_cues part
 
-deeds_suc : (parts : List Stretch) (k : ℕ) (part : Stretch) → IsAt parts k part →
-    deeds (take k parts) ++ deeds_of (is_later k) part ≡ deeds (take (suc k) parts)
-deeds_suc [] k part at = let none : k < 0 = at.within in absurd (omega arith)
-deeds_suc (p ∷ ps) zero part at = ap (λ (q : Stretch). part_deeds q) at.is ∙ sym (append-nil (part_deeds p))
-deeds_suc (p ∷ ps) (suc k) part at =
+cues_suc : (parts : List Stretch) (k : ℕ) (part : Stretch) → IsAt parts k part →
+    cues (take k parts) ++ cues_of (is_later k) part ≡ cues (take (suc k) parts)
+cues_suc [] k part at = let none : k < 0 = at.within in absurd (omega arith)
+cues_suc (p ∷ ps) zero part at = ap (λ (q : Stretch). part_cues q) at.is ∙ sym (append-nil (part_cues p))
+cues_suc (p ∷ ps) (suc k) part at =
     let within : k < length ps = omega (arith, at.within) in
-    append_assoc (part_deeds p) (flat_map later_deeds (take k ps)) (later_deeds part)
-    ∙ ap (λ (ds : List (Deed WidgetCmd)). part_deeds p ++ ds)
-    (flat_map_next later_deeds ps k part (record { within = within; is = at.is })
-    ∙ ap (λ (n : ℕ). flat_map later_deeds (take n ps)) (add-one k))
+    append_assoc (part_cues p) (flat_map later_cues (take k ps)) (later_cues part)
+    ∙ ap (λ (ds : List (Cue WidgetCmd)). part_cues p ++ ds)
+    (flat_map_next later_cues ps k part (record { within = within; is = at.is })
+    ∙ ap (λ (n : ℕ). flat_map later_cues (take n ps)) (add-one k))
 
-pub deeds_next : (parts : List Stretch) (k : ℕ) (part : Stretch) → IsAt parts k part →
-    deeds (take k parts) ++ deeds_of (is_later k) part ≡ deeds (take (k + 1) parts)
-deeds_next parts k part at = deeds_suc parts k part at ∙ ap (λ (n : ℕ). deeds (take n parts)) (sym (add-one k))
+pub cues_next : (parts : List Stretch) (k : ℕ) (part : Stretch) → IsAt parts k part →
+    cues (take k parts) ++ cues_of (is_later k) part ≡ cues (take (k + 1) parts)
+cues_next parts k part at = cues_suc parts k part at ∙ ap (λ (n : ℕ). cues (take n parts)) (sym (add-one k))
 
 pub is_later_next : (k : ℕ) → true ≡ is_later (k + 1)
 is_later_next k = sym (ap is_later (add-one k))
@@ -92,11 +92,11 @@ ready t part playable other = record {
 -- ---- runs
 
 module _ {C M : Type 0} (client : Ghosts C M) (words : M → List ℕ) where
-  -- some deeds were done, and then more, which together are these
-  pub goes_on : (a now new : RunView C M) (before more together : List (Deed M)) → Does client words a now before →
+  -- some cues were done, and then more, which together are these
+  pub goes_on : (a now new : RunView C M) (before more together : List (Cue M)) → Does client words a now before →
       Does client words now new more → before ++ more ≡ together → Does client words a new together
   goes_on a now new before more together so_far next is =
-      subst (λ (ds : List (Deed M)). Does client words a new ds) is (Does-append client words a now new before more so_far next)
+      subst (λ (ds : List (Cue M)). Does client words a new ds) is (Does-append client words a now new before more so_far next)
 
   -- a run before its first step
   pub record HasStarted (a : RunView C M) (items : List (Item C)) (named : Names) (how : Mode) : Type 0 where
@@ -107,14 +107,14 @@ module _ {C M : Type 0} (client : Ghosts C M) (words : M → List ℕ) where
     pub text : a.text ≡ []
     pub sum : a.sum ≡ 0
 
-  -- what all the deeds of a run come to
-  pub record HasPlayed (b : RunView C M) (items : List (Item C)) (named : Names) (how : Mode) (done : List (Deed M)) : Type 0 where
+  -- what all the cues of a run come to
+  pub record HasPlayed (b : RunView C M) (items : List (Item C)) (named : Names) (how : Mode) (done : List (Cue M)) : Type 0 where
     pub opening : b.stage.opening ≡ items
     pub journal : b.stage.journal ≡ run_lines client (start items) done
     pub text : b.text ≡ texts_from client words named how [] (start items) (run_lines client (start items) done)
     pub sum : b.sum ≡ sum_from client how (start items) 0 (run_lines client (start items) done)
 
-  pub played : (a b : RunView C M) (items : List (Item C)) (named : Names) (how : Mode) (done : List (Deed M)) →
+  pub played : (a b : RunView C M) (items : List (Item C)) (named : Names) (how : Mode) (done : List (Cue M)) →
       HasStarted a items named how → Does client words a b done → HasPlayed b items named how done
   played a b items named how done started did = record {
     opening = did.opening ∙ started.opening;
