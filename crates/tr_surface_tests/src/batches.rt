@@ -1,8 +1,12 @@
 //! Batches for a leaf of two points.
+ghost use Rattle.tr_paint.specs.Paints.{IsNearPaint};
+
 use tr_base::{NoMemory, Op, Point, Rect};
 use tr_paint::{Batch, Paint};
 
-fn batch_of(rt: &impl AllocGlobal, paint: Paint) -> Result<Batch, NoMemory> {
+fn batch_of(rt: &impl AllocGlobal, paint: Paint) -> Result<Batch, NoMemory>
+    requires { IsNearPaint paint }
+{
     let mut batch = Batch::new(rt.alloc());
     batch.push(paint)?;
     Ok(batch)
