@@ -105,8 +105,8 @@ pub counter_patches : (look : Look) (size : Size) (x : Counter) (cmd : CounterCm
     IsPatch look size (counter_patch look size x cmd) (counter_pic look size x) (counter_pic look size (counter_next x cmd))
 counter_patches look size x (Add n) valid known small =
     two_patches look size (kept growth) [] old new new
-        (kept_patch look size growth old new (λ q here. gives q here))
-        (no_patch look size new new (λ q here. refl))
+    (kept_patch look size growth old new (λ q here. gives q here))
+    (no_patch look size new new (λ q here. refl))
   where
     high : ℕ
     high = min (x.count + n) greatest
