@@ -1,0 +1,135 @@
+ghost use Rattle.std.specs.Prelude.{◌≡◌, ◌<◌, ◌+◌, ◌^◌, ◌++◌, ◌∷◌, [], length, IfOk, OnOk, OnErr};
+ghost use Rattle.tr_client.specs.Laws.{IsWindowSize};
+ghost use Rattle.tr_book.specs.Books.{HaveLevels, HoldsNoLeaf, view_of};
+
+use std::alloc::Global;
+use std::marker::Model;
+use tr_base::{Font, Kind, NoMemory, Size};
+use tr_client::{Client, Prepared};
+use tr_levels::Held;
+
+/// The commands of one window that wait to be handed over, in their order, prepared over a content.
+/// Each has its level: what its caller held below the window's lock, which is never a share or a
+/// window. A book has no limit.
+#[derive(Drop)]
+pub struct Book<C: Client> {
+    prepared: Prepared<C>,
+    levels: Vec<Held>,
+    handed: u64,
+}
+
+impl<C: Client> Model for Book<C> {
+    ghost use Rattle.tr_book.specs.Books.{BookView, HaveLevels, view_of};
+
+    ghost Value = { BookView C C.Cmd };
+
+    ghost view = { λ b. record {
+      prepared = view_of b.prepared;
+      levels = b.levels.items;
+      handed = b.handed;
+    } };
+
+    ghost invariant = { λ b. HaveLevels b.prepared.commands.items b.levels.items };
+}
+
+impl<C: Client> Book<C> {
+    /// No command waits, and none was handed over.
+    pub fn fresh(
+        alloc: Global,
+        content: C,
+        font: &Font,
+        size: Size,
+        kind: Kind,
+    ) -> Result<Book<C>, NoMemory>
+        requires { IsWindowSize size }
+        ensures from { IfOk result (λ b. b.prepared.from ≡ content) }
+        ensures font { IfOk result (λ b. b.prepared.font ≡ font.now) }
+        ensures size { IfOk result (λ b. b.prepared.size ≡ size) }
+        ensures kind { IfOk result (λ b. b.prepared.kind ≡ kind) }
+        ensures commands { IfOk result (λ b. b.prepared.commands ≡ []) }
+        ensures levels { IfOk result (λ b. b.levels ≡ []) }
+        ensures handed { IfOk result (λ b. b.handed ≡ 0) }
+    {
+        Ok(Book {
+            prepared: Prepared::fresh(alloc, content, font, size, kind)?,
+            levels: Vec::new(alloc),
+            handed: 0,
+        })
+    }
+
+    /// The command waits, as the last one. For want of memory it is let go, and the book is as
+    /// before. The level holds no share and no window, as `Held::parts` shows.
+    pub fn post(&mut self, level: Held, cmd: C::Cmd) -> Result<(), NoMemory>
+        requires { HoldsNoLeaf level }
+        ensures ok_prepared { OnOk result (self.new.prepared ≡
+            record self.old.prepared { commands = self.old.prepared.commands ++ cmd ∷ [] }) }
+        ensures ok_levels { OnOk result (self.new.levels ≡ self.old.levels ++ level ∷ []) }
+        ensures handed { self.new.handed ≡ self.old.handed }
+        ensures err { OnErr result (self.new ≡ self.old) }
+    {
+        self.levels.reserve(1)?;
+        self.prepared.add(cmd)?;
+        self.levels.push(level)?;
+        Ok(())
+    }
+
+    /// The waiting commands are prepared anew from another content, for another font, size and
+    /// kind.
+    pub fn refit(&mut self, content: C, font: &Font, size: Size, kind: Kind) -> Result<(), NoMemory>
+        requires { IsWindowSize size }
+        ensures commands { self.new.prepared.commands ≡ self.old.prepared.commands }
+        ensures levels { self.new.levels ≡ self.old.levels }
+        ensures handed { self.new.handed ≡ self.old.handed }
+        ensures from { OnOk result (self.new.prepared.from ≡ content) }
+        ensures font { OnOk result (self.new.prepared.font ≡ font.now) }
+        ensures size { OnOk result (self.new.prepared.size ≡ size) }
+        ensures kind { OnOk result (self.new.prepared.kind ≡ kind) }
+        ensures err { OnErr result (self.new ≡ self.old) }
+    {
+        self.prepared.refit(content, font, size, kind)?;
+        Ok(())
+    }
+
+    /// The waiting commands were handed over: they are counted, and the next ones are prepared over
+    /// what `fresh` has.
+    pub fn renew(&mut self, fresh: Prepared<C>)
+        requires fresh { fresh.commands.items ≡ [] }
+        requires count { self.old.handed + length self.old.prepared.commands < 2 ^ 64 }
+        ensures prepared { self.new.prepared ≡ view_of fresh }
+        ensures levels { self.new.levels ≡ [] }
+        ensures handed { self.new.handed ≡ self.old.handed + length self.old.prepared.commands }
+    {
+        self.handed += self.waiting() as u64;
+        self.levels.clear();
+        self.prepared = fresh;
+    }
+
+    /// How many commands wait.
+    pub fn waiting(&self) -> usize
+        ensures waiting { result ≡ length self.now.prepared.commands }
+        ensures invariant { HaveLevels self.now.prepared.commands self.now.levels }
+    {
+        self.prepared.commands.len()
+    }
+
+    /// How many commands were handed over.
+    pub fn handed(&self) -> u64
+        ensures { result ≡ self.now.handed }
+    {
+        self.handed
+    }
+
+    /// The waiting commands, as they are prepared.
+    pub fn prepared(&self) -> &Prepared<C>
+        ensures { view_of result.now ≡ self.now.prepared }
+    {
+        &self.prepared
+    }
+
+    /// The levels of the waiting commands, in their order.
+    pub fn levels(&self) -> &[Held]
+        ensures { result.now ≡ self.now.levels }
+    {
+        &self.levels
+    }
+}
