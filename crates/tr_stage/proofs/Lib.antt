@@ -10,3 +10,4 @@ pub mod AlterLemmas
 pub mod SettleLemmas
 pub mod CountLemmas
 pub mod StaleLemmas
+pub mod HandingLemmas

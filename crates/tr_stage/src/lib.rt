@@ -7,6 +7,7 @@ mod acts;
 mod alters;
 mod counts;
 mod devices;
+mod handing;
 mod lines;
 mod paints;
 mod peeks;

@@ -1,6 +1,7 @@
 ghost use Rattle.std.specs.Prelude.{◌≡◌, ◌<◌, Some};
 ghost use Rattle.tr_base.specs.declared.Point.{Point};
 ghost use Rattle.tr_region.specs.Points.{holds};
+ghost use Rattle.tr_client.specs.Laws.{IsWindowSize};
 ghost use Rattle.tr_forest.specs.Forests.{IsForest};
 ghost use Rattle.tr_forest.specs.Nodes.{leaf_count};
 ghost use Rattle.tr_spot.specs.Spots.{HasRoot};
@@ -83,7 +84,8 @@ impl<C: Client> Stage<C> {
     /// The size of a leaf's window. That of a leaf that gets no place is 0 by 0.
     pub fn leaf_size(&self, leaf: LeafId) -> Size
         requires { leaf.0 < leaf_count (tree_of self.now.opening).nodes }
-        ensures { result ≡ leaf_size (state C.Client self.now).tree leaf }
+        ensures value { result ≡ leaf_size (state C.Client self.now).tree leaf }
+        ensures window { IsWindowSize result }
     {
         leaf_size(self.surface.tree(), leaf)
     }

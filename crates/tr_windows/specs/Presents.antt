@@ -33,6 +33,10 @@ cleared w = idle w.content
 abbrev pub mark_on : {C : Type 0} → Size → Edges → Present C → Present C
 mark_on size clip w = record w { batch = w.batch ++ kept (Spoil (meet_of clip (whole_of size))) }
 
+-- a window gets another content, and these commands wait behind those that wait already
+abbrev pub taken_over : {C : Type 0} → C → List Paint → Present C → Present C
+taken_over content batch w = record { content = content; batch = w.batch ++ batch }
+
 -- what waits for a window is let go where its size or the kind of its pixels changes
 abbrev pub refitted : {C : Type 0} → Seen → Seen → LeafId → Present C → Present C
 refitted was is leaf w = if is_reshaped was is leaf then cleared w else w

@@ -79,6 +79,16 @@ impl<C: Client> Window<C> {
         Ok(())
     }
 
+    /// It gets another content, and these commands wait behind those that wait already.
+    pub fn take_over(&mut self, content: C, batch: &Batch) -> Result<(), NoMemory>
+        ensures ok { OnOk result (self.new ≡ spec.taken_over content batch.now self.old) }
+        ensures err { OnErr result (self.new ≡ self.old) }
+    {
+        self.batch.append(batch)?;
+        self.content = content;
+        Ok(())
+    }
+
     /// What waits is let go.
     pub fn clear(&mut self)
         ensures { self.new ≡ spec.cleared self.old }

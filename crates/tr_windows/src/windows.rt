@@ -103,6 +103,18 @@ impl<C: Client> Windows<C> {
         Ok(())
     }
 
+    /// A leaf's window gets another content, and these commands wait behind those that wait already.
+    pub fn take_over(&mut self, leaf: LeafId, content: C, batch: &Batch) -> Result<(), NoMemory>
+        requires leaf { leaf.0 < length self.old }
+        requires valid { C.valid content }
+        ensures ok { OnOk result (self.new ≡
+            changed_at leaf.0 (spec.taken_over content batch.now) self.old) }
+        ensures err { OnErr result (self.new ≡ self.old) }
+    {
+        take_over_at(&mut self.windows, leaf, content, batch)?;
+        Ok(())
+    }
+
     /// What waits for a leaf's window is let go.
     pub fn clear(&mut self, leaf: LeafId)
         requires { leaf.0 < length self.old }
@@ -226,6 +238,23 @@ fn mark_at<C: Client>(
 {
     let window = &mut windows[usize::from(leaf.0)];
     window.mark(size, clip)?;
+    Ok(())
+}
+
+/// The window at a place gets another content, and these commands wait behind those that wait already.
+fn take_over_at<C: Client>(
+    windows: &mut Vec<Window<C>>,
+    leaf: LeafId,
+    content: C,
+    batch: &Batch,
+) -> Result<(), NoMemory>
+    requires leaf { leaf.0 < length windows.old.items }
+    ensures ok { OnOk result (windows.new.items ≡
+        changed_at leaf.0 (spec.taken_over content batch.now) windows.old.items) }
+    ensures err { OnErr result (windows.new.items ≡ windows.old.items) }
+{
+    let window = &mut windows[usize::from(leaf.0)];
+    window.take_over(content, batch)?;
     Ok(())
 }
 
