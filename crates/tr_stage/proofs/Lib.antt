@@ -11,3 +11,5 @@ pub mod SettleLemmas
 pub mod CountLemmas
 pub mod StaleLemmas
 pub mod HandingLemmas
+pub mod SharingLemmas
+pub mod SharedLemmas

@@ -212,7 +212,7 @@ module _ {C M : Type 0} (client : Ghosts C M) where
     pub paints : IsPainting how (meet_of (whole_of extent) (whole_of extent)) batch (client.pic how extent content)
 
   -- it gives each visible point the colour that it is to have
-  plan_paints : {m : State C M} {leaf : LeafId} {how : Look} {extent : Size} {origin : Point} {content : C} {batch : List Paint} (base : Base) (p : Point) →
+  pub plan_paints : {m : State C M} {leaf : LeafId} {how : Look} {extent : Size} {origin : Point} {content : C} {batch : List Paint} (base : Base) (p : Point) →
       IsForest m.tree.nodes → IsPlan m leaf how extent origin content batch → is_visible m leaf p ≡ true → base.visible (in_leaf m.tree leaf p) ≡ true →
       colour_after how base batch origin p ≡ Some (want client m p)
   plan_paints {m} {leaf} {how} {extent} {origin} {content} {batch} base p forest plan seen known =

@@ -13,7 +13,10 @@ mod paints;
 mod peeks;
 mod reads;
 mod settles;
+mod shared;
+mod sharing;
 mod stages;
 
 pub use peeks::Peek;
+pub use sharing::Painted;
 pub use stages::{Stage, is_reservable};

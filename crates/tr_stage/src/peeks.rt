@@ -132,7 +132,7 @@ impl<C: Client> Stage<C> {
 }
 
 /// Where the north-west corner of a leaf's window lies on the screen.
-fn corner_of(tree: &Tree, leaf: LeafId) -> Point
+pub(crate) fn corner_of(tree: &Tree, leaf: LeafId) -> Point
     requires { leaf.0 < leaf_count tree.now.nodes }
     ensures value { result ≡ leaf_corner tree.now leaf }
     ensures origin { IsOrigin result }

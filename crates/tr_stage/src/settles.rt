@@ -86,7 +86,7 @@ impl<C: Client> Stage<C> {
 
     /// Makes steps of the painter, one after another, under the tree's lock. For want of memory those made
     /// so far stand.
-    fn paint_all(&mut self, steps: Vec<Step<C::Cmd>>) -> Result<(), NoMemory>
+    pub(crate) fn paint_all(&mut self, steps: Vec<Step<C::Cmd>>) -> Result<(), NoMemory>
         requires { All (IsPainters (tree_of self.old.opening).nodes) steps.items }
         ensures opening { self.new.opening ≡ self.old.opening }
         ensures ok { let m = state C.Client self.old in OnOk result (self.new.journal ≡

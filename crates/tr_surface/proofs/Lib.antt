@@ -8,3 +8,5 @@ pub mod BadLemmas
 pub mod PixelLemmas
 pub mod EditLemmas
 pub mod TintLemmas
+pub mod PutLemmas
+pub mod RowReadLemmas

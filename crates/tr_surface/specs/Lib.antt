@@ -3,3 +3,4 @@ pub mod Frames
 pub mod TreeSteps
 pub mod Shares
 pub mod Counts
+pub mod Puts

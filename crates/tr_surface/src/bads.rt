@@ -68,8 +68,8 @@ impl Surface {
         Ok(bad.extents())
     }
 
-    /// The bad points of a leaf.
-    fn bad_of(&self, leaf: LeafId) -> Result<Region, NoMemory>
+    /// The bad visible points of a leaf.
+    pub fn bad_of(&self, leaf: LeafId) -> Result<Region, NoMemory>
         requires { leaf.0 < leaf_count self.now.tree.nodes }
         ensures { IfOk result (λ r. (p : Point) →
             holds r p ≡ holds self.now.bad p && is_in_leaf leaf (spot self.now.tree p)) }

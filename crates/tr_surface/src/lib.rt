@@ -8,9 +8,11 @@ mod executes;
 mod fills;
 mod frames;
 mod keepers;
+mod puts;
 mod shares;
 mod steps;
 mod surfaces;
 
 pub use keepers::Keeper;
+pub use puts::pixels_at;
 pub use surfaces::Surface;

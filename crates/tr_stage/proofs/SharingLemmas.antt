@@ -1,0 +1,278 @@
+-- A leaf's bad points that are painted apart from the screen, and put there.
+use Rattle.std.proofs.Common.{◌≡◌, ℕ, ◌<◌, Bool, true, false, cond, ◌&&◌, not, List, [], ◌∷◌, ◌++◌, Option, Some, None, length, refl, sym, ap, subst, ◌∙◌}
+use Rattle.std.specs.Prelude.{is_none, slice_index}
+use Rattle.std.specs.Option.{option_map}
+use Rattle.std.proofs.lemmas.Bool.{and_parts}
+use Rattle.tr_base.specs.declared.Point.{Point}
+use Rattle.tr_base.specs.declared.Size.{Size}
+use Rattle.tr_base.specs.declared.LeafId.{LeafId}
+use Rattle.tr_base.specs.declared.Spot.{Spot}
+use Rattle.tr_base.specs.declared.Spot.TheVariants as spots
+use Rattle.tr_base.specs.Rects.{Edges, has_point, whole_of}
+use Rattle.tr_base.proofs.RectLemmas.{false-true}
+use Rattle.tr_region.specs.Points.{holds}
+use Rattle.tr_screen.specs.Pictures.{Picture, pixel_of}
+use Rattle.tr_screen.specs.Runs.{Repaints}
+use Rattle.tr_paint.specs.declared.Paint.{Paint}
+use Rattle.tr_paint.specs.Batches.{touches}
+use Rattle.tr_paint.specs.Traces.{Look, after}
+use Rattle.tr_exec.specs.Executions.{base_of, colour_after, placed}
+use Rattle.tr_client.specs.declared.clients.Client.{Ghosts}
+use Rattle.tr_forest.specs.Forests.{IsForest}
+use Rattle.tr_tree.specs.Trees.{Seen}
+use Rattle.tr_spot.specs.Spots.{spot, is_in_leaf}
+use Rattle.tr_spot.specs.Leaves.{in_leaf, leaf_corner, leaf_size}
+use Rattle.tr_spot.proofs.WayLemmas.{equal_numbers, equal_test}
+use Rattle.tr_surface.specs.Surfaces.{Shown, IsShown, is_on}
+use Rattle.tr_surface.specs.Puts.{place_in}
+use Rattle.tr_journal.specs.declared.answers.Answer.TheVariants as answers
+use Rattle.tr_journal.specs.declared.steps.Step.TheVariants as steps
+use Rattle.tr_machine.specs.Windows.{Window, content, updated}
+use Rattle.tr_machine.specs.States.{State, base, batch_of, changed_at, content_of, look, window_of}
+use Rattle.tr_machine.specs.Paintings.{is_visible, repainted}
+use Rattle.tr_machine.specs.Pictures.{colour_in, shown, shown_of, want}
+use Rattle.tr_machine.specs.Promises.{Fits}
+use Rattle.tr_machine.specs.Machines.{done}
+use Rattle.tr_machine.proofs.BaseLemmas.{leaf_on, placed-in_leaf}
+use Rattle.tr_machine.proofs.FlushLemmas.{brought, forest_of}
+use Rattle.tr_machine.proofs.ListLemmas.{window_here, window_there}
+use Rattle.tr_machine.proofs.ShownLemmas.{IsShowing, colour_in_leaf, colour_same, untouched_colour}
+use Rattle.tr_machine.proofs.SoundLemmas.{fits}
+use Rattle.tr_windows.specs.Presents.{Present, cleared}
+use Rattle.tr_windows.proofs.PresentLemmas.{presents-repainted}
+use Rattle.tr_stage.specs.Stages.{IsAt, Parts}
+use Rattle.tr_stage.specs.Sharing.{IsPaintedOf}
+use Rattle.tr_stage.proofs.StageLemmas.{holding}
+use Rattle.tr_stage.proofs.DeviceLemmas.{Before, IsAfter, IsMaking, forest_before, made_step, state_before}
+use Rattle.tr_stage.proofs.StaleLemmas.{IsPlan, plan_paints}
+
+-- a spot that is in one leaf, and not in another, tells the two apart
+apart : (leaf other : LeafId) (s : Spot) → is_in_leaf leaf s ≡ false → is_in_leaf other s ≡ true → leaf.0 ≡ other.0 → ⊥
+apart leaf other (spots.Leaf l q size kind) out here same =
+    false-true (sym out ∙ equal_test l.0 leaf.0 (equal_numbers l.0 other.0 here ∙ sym same))
+apart leaf other (spots.Frame n tint kind) out here same = false-true here
+apart leaf other spots.Off out here same = false-true here
+
+and_false : (b : Bool) → (b && false) ≡ false
+and_false true = refl
+and_false false = refl
+
+and_true : (b : Bool) → (b && true) ≡ b
+and_true true = refl
+and_true false = refl
+
+-- what is left of the bad points is none of those that are put
+left_in : (b : Bool) → (b && not (b && true)) ≡ false
+left_in true = refl
+left_in false = refl
+
+left_out : (b : Bool) → (b && not (b && false)) ≡ b
+left_out true = refl
+left_out false = refl
+
+module _ {C M : Type 0} (client : Ghosts C M) where
+  -- ---- painting apart
+
+  -- executed within visible points of the leaf, a painting of its window gives each of them the colour that it is to have
+  pub painted_part : {m : State C M} {leaf : LeafId} {how : Look} {extent : Size} {origin : Point} {content : C} {batch : List Paint}
+      (part bad : List Edges) (old new : Picture) → IsForest m.tree.nodes → IsPlan client m leaf how extent origin content batch →
+      ((p : Point) → holds part p ≡ true → is_visible m leaf p ≡ true) →
+      ((p : Point) (x : ℕ) → holds part p ≡ true → colour_after how (base_of origin part bad old) batch origin p ≡ Some x → pixel_of new p ≡ x) →
+      (p : Point) → holds part p ≡ true → pixel_of new p ≡ want client m p
+  painted_part {m} {leaf} {how} {extent} {origin} {content} {batch} part bad old new forest plan sees known p held =
+      known p (want client m p) held (plan_paints client (base_of origin part bad old) p forest plan (sees p held) seen)
+    where
+      placed_is : placed origin (in_leaf m.tree leaf p) ≡ p
+      placed_is = ap (λ (c : Point). placed c (in_leaf m.tree leaf p)) plan.corner ∙ placed-in_leaf m.tree leaf p
+
+      seen : holds part (placed origin (in_leaf m.tree leaf p)) ≡ true
+      seen = ap (λ (r : Point). holds part r) placed_is ∙ held
+
+  -- ---- putting
+
+  -- the leaf shows its present content
+  now_shown : (m : State C M) (leaf : LeafId) (bad : Point → Bool) → shown_of (brought client leaf bad m) leaf ≡ content_of client m leaf
+  now_shown m leaf bad =
+      ap (λ (o : Option (Window C M)). option_map (λ w. w.shown) o) (window_here leaf leaf (updated client) m refl)
+      ∙ by_window (window_of m leaf)
+    where
+      by_window : (o : Option (Window C M)) → option_map (λ w. w.shown) (option_map (updated client) o) ≡ option_map (content client) o
+      by_window None = refl
+      by_window (Some w) = refl
+
+  -- a surface before and after the pixels of a leaf's bad points are put, as the contract has it; nothing waits for the leaf
+  pub record IsPut (m : State C M) (s n : Shown) (leaf : LeafId) : Type 0 where
+    pub was : IsShown s
+    pub is : IsShown n
+    pub tree : n.tree ≡ s.tree
+    pub showing : IsShowing client m s
+    pub fits : Fits client m
+    pub idle : batch_of client m leaf ≡ []
+    pub part : List Edges
+    pub pixels : List ℕ
+    pub painted : IsPaintedOf client m leaf part pixels
+    pub puts : Repaints (holds part) (λ p. slice_index pixels (place_in part p)) s.screen n.screen
+    pub left : (p : Point) → holds n.bad p ≡ (holds s.bad p && not (holds part p))
+
+  module _ (m : State C M) (s n : Shown) (leaf : LeafId) (r : IsPut m s n leaf) where
+    -- the state after it
+    abbrev next_state : State C M
+    next_state = repainted client leaf m
+
+    same_tree : n.tree ≡ m.tree
+    same_tree = r.tree ∙ r.showing.tree
+
+    forest : IsForest m.tree.nodes
+    forest = forest_of client m s r.was r.showing
+
+    -- the bad points then
+    bad_seen : (p : Point) → is_visible m leaf p ≡ true → next_state.bad p ≡ false
+    bad_seen p seen =
+        let found : Bool = is_none (after (look m) (base client m leaf) (batch_of client m leaf) (in_leaf m.tree leaf p)) in
+        ap (λ b. cond b found (m.bad p) && not b) seen ∙ and_false found
+
+    bad_hidden : (p : Point) → is_visible m leaf p ≡ false → next_state.bad p ≡ m.bad p
+    bad_hidden p hidden =
+        let found : Bool = is_none (after (look m) (base client m leaf) (batch_of client m leaf) (in_leaf m.tree leaf p)) in
+        ap (λ b. cond b found (m.bad p) && not b) hidden ∙ and_true (m.bad p)
+
+    bad_left : (p : Point) → holds n.bad p ≡ (m.bad p && not (m.bad p && is_visible m leaf p))
+    bad_left p = r.left p ∙ ap (λ b. b && not (holds r.part p)) (r.showing.bad p) ∙ ap (λ b. m.bad p && not b) (r.painted.points p)
+
+    bad_is : (p : Point) → holds n.bad p ≡ next_state.bad p
+    bad_is p = by_sight (is_visible m leaf p) refl
+      where
+        by_sight : (c : Bool) → is_visible m leaf p ≡ c → holds n.bad p ≡ next_state.bad p
+        by_sight true seen = bad_left p ∙ ap (λ b. m.bad p && not (m.bad p && b)) seen ∙ left_in (m.bad p) ∙ sym (bad_seen p seen)
+        by_sight false hidden = bad_left p ∙ ap (λ b. m.bad p && not (m.bad p && b)) hidden ∙ left_out (m.bad p) ∙ sym (bad_hidden p hidden)
+
+    on_old : (p : Point) → is_on m.tree p ≡ true → has_point (whole_of s.screen.size) p ≡ true
+    on_old p on = ap (λ (z : Size). has_point (whole_of z) p) (r.was.size ∙ ap (λ (t : Seen). t.size) r.showing.tree) ∙ on
+
+    -- what is put has its pixel
+    put_pixel : (p : Point) → is_on m.tree p ≡ true → holds r.part p ≡ true → pixel_of n.screen p ≡ want client m p
+    put_pixel p on held =
+        r.puts.points p (on_old p on)
+        ∙ ap (λ b. cond b (slice_index r.pixels (place_in r.part p)) (pixel_of s.screen p)) held
+        ∙ r.painted.colours p held
+
+    -- all else keeps its pixel
+    kept_pixel : (p : Point) → is_on m.tree p ≡ true → holds r.part p ≡ false → pixel_of n.screen p ≡ pixel_of s.screen p
+    kept_pixel p on out =
+        r.puts.points p (on_old p on) ∙ ap (λ b. cond b (slice_index r.pixels (place_in r.part p)) (pixel_of s.screen p)) out
+
+    -- a visible point of the leaf is to have the colour that the leaf shows then
+    want_is : (p : Point) → is_visible m leaf p ≡ true → want client m p ≡ shown client next_state p
+    want_is p seen =
+        colour_in_leaf client (content_of client m) m leaf p forest seen
+        ∙ sym (colour_in_leaf client (shown_of next_state) next_state leaf p forest seen
+        ∙ ap (λ (o : Option C). colour_in client m (leaf_size m.tree leaf) (in_leaf m.tree leaf p) o) (now_shown m leaf next_state.bad))
+
+    -- a visible point of the leaf has its colour
+    seen_good : (p : Point) → is_on m.tree p ≡ true → is_visible m leaf p ≡ true → pixel_of n.screen p ≡ shown client next_state p
+    seen_good p on seen = by_bad (m.bad p) refl
+      where
+        by_bad : (b : Bool) → m.bad p ≡ b → pixel_of n.screen p ≡ shown client next_state p
+        by_bad true bad =
+            put_pixel p on (r.painted.points p ∙ ap (λ b. b && is_visible m leaf p) bad ∙ seen) ∙ want_is p seen
+        by_bad false good =
+            kept_pixel p on (r.painted.points p ∙ ap (λ b. b && is_visible m leaf p) good)
+            ∙ r.showing.agrees.good p on good
+            ∙ colour_in_leaf client (shown_of m) m leaf p forest seen
+            ∙ untouched_colour client m leaf p r.fits seen good (ap (λ (cs : List Paint). touches cs (in_leaf m.tree leaf p)) r.idle)
+            ∙ sym (colour_in_leaf client (content_of client m) m leaf p forest seen)
+            ∙ want_is p seen
+
+    -- a good point of another leaf, or of a frame, has its pixel still
+    hidden_good : (p : Point) → is_on m.tree p ≡ true → is_visible m leaf p ≡ false → next_state.bad p ≡ false →
+        pixel_of n.screen p ≡ shown client next_state p
+    hidden_good p on hidden good =
+        kept_pixel p on (r.painted.points p ∙ ap (λ b. m.bad p && b) hidden ∙ and_false (m.bad p))
+        ∙ r.showing.agrees.good p on (sym (bad_hidden p hidden) ∙ good)
+        ∙ sym (colour_same client (shown_of m) (shown_of next_state) m next_state (spot m.tree p) refl stays)
+      where
+        stays : (other : LeafId) → is_in_leaf other (spot m.tree p) ≡ true → shown_of next_state other ≡ shown_of m other
+        stays other here =
+            ap (λ (o : Option (Window C M)). option_map (λ w. w.shown) o)
+            (window_there leaf other (updated client) m (apart leaf other (spot m.tree p) hidden here))
+
+    -- after it the surface shows the machine's next state
+    pub put_shows : IsShowing client (repainted client leaf m) n
+    put_shows = record {
+      tree = same_tree;
+      bad = bad_is;
+      agrees = record {
+        size = r.is.size ∙ ap (λ (t : Seen). t.size) same_tree;
+        kind = r.is.kind ∙ ap (λ (t : Seen). t.kind) same_tree;
+        good = λ p on good. by_sight p on good (is_visible m leaf p) refl;
+      };
+    }
+      where
+        by_sight : (p : Point) → is_on m.tree p ≡ true → next_state.bad p ≡ false → (c : Bool) → is_visible m leaf p ≡ c →
+            pixel_of n.screen p ≡ shown client next_state p
+        by_sight p on good true seen = seen_good p on seen
+        by_sight p on good false hidden = hidden_good p on hidden good
+
+  -- the parts of a stage before and after it
+  pub record IsPutOn (b : Before C M) (leaf : LeafId) (new : Parts C) : Type 0 where
+    pub shown : IsShown new.surface
+    pub tree : new.surface.tree ≡ b.parts.surface.tree
+    pub idle : batch_of client (state_before client b) leaf ≡ []
+    pub part : List Edges
+    pub pixels : List ℕ
+    pub painted : IsPaintedOf client (state_before client b) leaf part pixels
+    pub puts : Repaints (holds part) (λ p. slice_index pixels (place_in part p)) b.parts.surface.screen new.surface.screen
+    pub left : (p : Point) → holds new.surface.bad p ≡ (holds b.parts.surface.bad p && not (holds part p))
+    pub windows : new.windows ≡ changed_at leaf.0 cleared b.parts.windows
+    pub mail : new.mail ≡ b.parts.mail
+
+  -- it is a repaint
+  pub put_made : (b : Before C M) (leaf : LeafId) (new : Parts C) → IsMaking client b (steps.Repaint leaf) → (x : IsPutOn b leaf new) →
+      IsAfter client b (steps.Repaint leaf) answers.Done [] new
+  put_made b leaf new making x =
+      let m : State C M = state_before client b in
+      made_step client b (steps.Repaint leaf) new making (record {
+        obeys = tt;
+        out = done (repainted client leaf m);
+        is = refl;
+        inboxes = refl;
+        holds = record {
+          shows = put_shows m b.parts.surface new.surface leaf (record {
+            was = making.shown;
+            is = x.shown;
+            tree = x.tree;
+            showing = (holding client m b.parts making.is.kept).shows;
+            fits = fits client m (forest_before client b (steps.Repaint leaf) making) making.is.kept.sound;
+            idle = x.idle;
+            part = x.part;
+            pixels = x.pixels;
+            painted = x.painted;
+            puts = x.puts;
+            left = x.left;
+          });
+          windows =
+              x.windows ∙ ap (λ (ws : List (Present C)). changed_at leaf.0 cleared ws) making.is.kept.windows
+              ∙ sym (presents-repainted client m leaf);
+          mail = x.mail ∙ making.is.kept.mail;
+        };
+      })
+
+  -- ---- the bad points of a leaf
+
+  -- those that a surface tells are the machine's
+  pub bad_part : (m : State C M) (parts : Parts C) (leaf : LeafId) (part : List Edges) → IsAt client m parts →
+      ((p : Point) → holds part p ≡ (holds parts.surface.bad p && is_in_leaf leaf (spot parts.surface.tree p))) →
+      (p : Point) → holds part p ≡ (m.bad p && is_visible m leaf p)
+  bad_part m parts leaf part at is p =
+      is p ∙ ap (λ b. b && is_in_leaf leaf (spot parts.surface.tree p)) (at.bad p)
+      ∙ ap (λ (t : Seen). m.bad p && is_in_leaf leaf (spot t p)) at.tree
+
+  -- they are visible points
+  pub part_visible : (m : State C M) (leaf : LeafId) (part : List Edges) → ((p : Point) → holds part p ≡ (m.bad p && is_visible m leaf p)) →
+      (p : Point) → holds part p ≡ true → is_visible m leaf p ≡ true
+  part_visible m leaf part is p held = (and_parts (m.bad p) (is_visible m leaf p) (sym (is p) ∙ held)).1
+
+  -- visible points of a leaf lie on each screen of the tree's size
+  pub part_on : (m : State C M) (leaf : LeafId) (part : List Edges) (size : Size) → size ≡ m.tree.size →
+      ((p : Point) → holds part p ≡ true → is_visible m leaf p ≡ true) → (p : Point) → holds part p ≡ true → has_point (whole_of size) p ≡ true
+  part_on m leaf part size same sees p held = ap (λ (z : Size). has_point (whole_of z) p) same ∙ leaf_on m.tree leaf p (sees p held)

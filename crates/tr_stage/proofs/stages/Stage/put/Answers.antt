@@ -1,0 +1,57 @@
+use Rattle.std.proofs.Common.{◌≡◌, ◌∙◌, [], sym, subst, ap, refl}
+use Rattle.tr_journal.specs.declared.steps.Step.TheVariants.{Repaint}
+use Rattle.tr_machine.specs.States.{batch_of}
+use Rattle.tr_stage.specs.Stages.{Parts, StageView, state}
+use Rattle.tr_stage.specs.Sharing.{IsPaintedOf}
+use Rattle.tr_stage.proofs.DeviceLemmas.{Before, IsMaking}
+use Rattle.tr_stage.proofs.PaintLemmas.{leaf_within}
+use Rattle.tr_stage.proofs.SharingLemmas.{put_made}
+use Rattle.tr_stage.proofs.stages.Stage.put.Goals as goal
+
+pub clear-requires-after_bounds : goal.clear-requires-after_bounds
+clear-requires-after_bounds g c κs within =
+    let s = c.self.inside in
+    let b : Before g.row.C.Denot g.row.C-Cmd.Denot = record {
+      opening = s.opening;
+      lines = s.journal.lines;
+      parts = record { surface = s.surface; windows = s.windows; mail = s.mail };
+      actor = c.args.by.now.actor;
+      held = c.args.by.now.level;
+    } in
+    leaf_within g.C.Client c.args.self.now b c.args.leaf (ap (λ v. v.opening) c.self.view_is) c.self.invariant c.requires.values
+
+pub invariant_of-self-2 : goal.invariant_of-self-2
+invariant_of-self-2 g c =
+    let s = c.self.inside in
+    let b : Before g.row.C.Denot g.row.C-Cmd.Denot = record {
+      opening = s.opening;
+      lines = s.journal.lines;
+      parts = record { surface = s.surface; windows = s.windows; mail = s.mail };
+      actor = c.args.by.now.actor;
+      held = c.args.by.now.level;
+    } in
+    let m : IsMaking g.C.Client b (Repaint c.args.leaf) = record {
+      is = c.self.invariant;
+      shown = c.tree.ensures.invariant;
+      view = c.args.self.now;
+      same = ap (λ v. v.opening) c.self.view_is;
+      may = c.requires.may;
+      covers = c.requires.covers;
+      values = c.requires.values;
+    } in
+    let new : Parts g.row.C.Denot = record { surface = c.put.new.self; windows = c.clear.new.self; mail = s.mail } in
+    let done = c.in_ok-put.ensures in
+    let back = sym c.self.view_is in
+    rw (c.write.ensures.lines, c.entry-entry.ensures, c.reserve.ensures.lines)
+    (put_made g.C.Client b c.args.leaf new m (record {
+      shown = c.tree-2.ensures.invariant;
+      tree = c.put.ensures.tree;
+      idle = subst (λ (v : StageView _ _). batch_of g.C.Client (state g.C.Client v) c.args.leaf ≡ []) back c.requires.idle;
+      part = c.args.part.now;
+      pixels = c.args.pixels.now;
+      painted = subst (λ (v : StageView _ _). IsPaintedOf g.C.Client (state g.C.Client v) c.args.leaf c.args.part.now c.args.pixels.now) back c.requires.painted;
+      puts = done.pixels;
+      left = done.bad;
+      windows = c.clear.ensures;
+      mail = refl;
+    }))

@@ -1,0 +1,142 @@
+ghost use Rattle.std.specs.Prelude.{◌≡◌, ◌<◌, ◌++◌, ◌∷◌, [], true, IfOk, OnOk, OnErr};
+ghost use Rattle.tr_base.specs.declared.Point.{Point};
+ghost use Rattle.tr_region.specs.Points.{holds};
+ghost use Rattle.tr_screen.specs.Pictures.{pixel_of};
+ghost use Rattle.tr_forest.specs.Nodes.{leaf_count};
+ghost use Rattle.tr_levels.specs.declared.Level.TheVariants.{Share};
+ghost use Rattle.tr_journal.specs.declared.Actor.TheVariants.{Painter};
+ghost use Rattle.tr_journal.specs.Openings.{tree_of};
+ghost use Rattle.tr_journal.specs.Steps.{IsStep, may, covers};
+ghost use Rattle.tr_machine.specs.States.{batch_of};
+ghost use Rattle.tr_machine.specs.Paintings.{is_visible};
+ghost use Rattle.tr_machine.specs.Pictures.{want};
+ghost use Rattle.tr_stage.specs.Sharing.{IsPaintedOf};
+ghost use Rattle.tr_stage.specs.Stages.{KeepsOthers, line, state};
+
+use crate::lines::{By, write};
+use crate::peeks::corner_of;
+use crate::stages::Stage;
+use tr_base::{Env, LeafId, NoMemory, whole};
+use tr_client::Client;
+use tr_exec::execute;
+use tr_journal::{Actor, Answer, Reply, Step};
+use tr_levels::{Held, Level};
+use tr_region::Region;
+use tr_screen::Screen;
+use tr_spot::leaf_size;
+use tr_surface::pixels_at;
+
+/// The bad points of a leaf's window, painted apart from the screen.
+#[derive(Drop)]
+pub struct Painted {
+    pub leaf: LeafId,
+    /// Its bad visible points, in the screen's coordinates.
+    pub part: Region,
+    /// Their pixels, by the rectangles of `part` in order and by rows within each.
+    pub pixels: Vec<u8>,
+}
+
+impl<C: Client> Stage<C> {
+    /// Paints a leaf's bad points, apart from the screen.
+    pub fn paint_bad(&self, leaf: LeafId) -> Result<Painted, NoMemory>
+        requires leaf { leaf.0 < leaf_count (tree_of self.now.opening).nodes }
+        ensures leaf { IfOk result (λ painted. painted.leaf ≡ leaf) }
+        ensures painted { IfOk result (λ painted.
+            IsPaintedOf C.Client (state C.Client self.now) leaf painted.part painted.pixels.items) }
+    {
+        // Called for what it tells the prover: that the screen has a size, and agrees with the state.
+        self.stands();
+        let screen = self.surface.screen();
+        let part = self.surface.bad_of(leaf)?;
+        let mut wanted = Screen::blank(self.alloc, screen.size(), screen.kind())?;
+        self.paint_part(leaf, &part, &mut wanted)?;
+        let pixels = pixels_at(self.alloc, &wanted, &part)?;
+        Ok(Painted { leaf, part, pixels })
+    }
+
+    /// Gives visible points of a leaf the colour that they are to have.
+    fn paint_part(&self, leaf: LeafId, part: &Region, wanted: &mut Screen) -> Result<(), NoMemory>
+        requires leaf { leaf.0 < leaf_count (tree_of self.now.opening).nodes }
+        requires size { wanted.old.size ≡ self.now.screen.size }
+        requires kind { wanted.old.kind ≡ self.now.screen.kind }
+        requires part { let m = state C.Client self.now in
+            (p : Point) → holds part.now p ≡ true → is_visible m leaf p ≡ true }
+        ensures painted { let m = state C.Client self.now in
+            OnOk result ((p : Point) → holds part.now p ≡ true →
+            pixel_of wanted.new p ≡ want C.Client m p) }
+        ensures size { wanted.new.size ≡ wanted.old.size }
+        ensures kind { wanted.new.kind ≡ wanted.old.kind }
+    {
+        // Called for what it tells the prover: that the screen has the tree's size and kind.
+        self.stands();
+        let tree = self.surface.tree();
+        let env = Env {
+            kind: tree.kind(),
+            font: self.opening.font(),
+        };
+        let size = leaf_size(tree, leaf);
+        let content = self.windows.content(leaf);
+        let painting = content.paint(self.alloc, &env, size, whole(size))?;
+        let corner = corner_of(tree, leaf);
+        let mut unknown = Region::empty(self.alloc);
+        execute(
+            self.alloc,
+            &painting,
+            &env,
+            corner,
+            part,
+            wanted,
+            &mut unknown,
+        )?;
+        Ok(())
+    }
+
+    /// Puts a leaf's bad points that were painted onto the screen: the painter's repaint, at the leaf's
+    /// share alone. For want of memory nothing is made.
+    pub fn put_painted(&mut self, painted: Painted) -> Result<(), NoMemory>
+        requires leaf { painted.leaf.0 < leaf_count (tree_of self.old.opening).nodes }
+        requires idle { batch_of C.Client (state C.Client self.old) painted.leaf ≡ [] }
+        requires painted { IsPaintedOf C.Client (state C.Client self.old) painted.leaf painted.part painted.pixels.items }
+        ensures opening { self.new.opening ≡ self.old.opening }
+        ensures ok { let made = Step.Repaint painted.leaf in
+            OnOk result (self.new.journal ≡ self.old.journal
+            ++ line C.Client self.old Painter (Share painted.leaf ∷ []) made ∷ []) }
+        ensures err_journal { OnErr result (self.new.journal ≡ self.old.journal) }
+        ensures err_screen { OnErr result (self.new.screen ≡ self.old.screen) }
+        ensures others { let t = (state C.Client self.old).tree in
+            OnOk result (KeepsOthers {M = C.Cmd} t (Step.Repaint painted.leaf) self.old.screen self.new.screen) }
+    {
+        let by = By {
+            actor: Actor::Painter,
+            level: Held::none().with(Level::Share(painted.leaf)),
+        };
+        self.put(&by, painted.leaf, &painted.part, &painted.pixels)?;
+        Ok(())
+    }
+
+    /// Makes a repaint of a leaf for which nothing waits, by the pixels of its bad points.
+    fn put(&mut self, by: &By, leaf: LeafId, part: &Region, pixels: &[u8]) -> Result<Reply, NoMemory>
+        requires may { may {M = C.Cmd} by.now.actor (Step.Repaint leaf) ≡ true }
+        requires covers { covers {M = C.Cmd} by.now.level (Step.Repaint leaf) ≡ true }
+        requires values { IsStep {M = C.Cmd} (tree_of self.old.opening).nodes (Step.Repaint leaf) }
+        requires idle { batch_of C.Client (state C.Client self.old) leaf ≡ [] }
+        requires painted { IsPaintedOf C.Client (state C.Client self.old) leaf part.now pixels.now }
+        ensures opening { self.new.opening ≡ self.old.opening }
+        ensures ok { let made = Step.Repaint leaf in
+            OnOk result (self.new.journal ≡
+            self.old.journal ++ line C.Client self.old by.now.actor by.now.level made ∷ []) }
+        ensures err_journal { OnErr result (self.new.journal ≡ self.old.journal) }
+        ensures err_screen { OnErr result (self.new.screen ≡ self.old.screen) }
+        ensures others { let t = (state C.Client self.old).tree in
+            OnOk result (KeepsOthers {M = C.Cmd} t (Step.Repaint leaf) self.old.screen self.new.screen) }
+    {
+        self.journal.reserve(1)?;
+        // Called, here and below, for what it tells the prover: that the surface is one.
+        let _ = self.surface.tree();
+        self.surface.put(part, pixels)?;
+        let _ = self.surface.tree();
+        self.windows.clear(leaf);
+        let entry = by.entry(Step::Repaint { leaf }, Answer::Done, 0);
+        Ok(write(&mut self.journal, entry, &[]))
+    }
+}
