@@ -1,7 +1,7 @@
 -- What a line of a journal names has a name, where each node and each leaf has one.
 use Rattle.std.proofs.Common.{◌≡◌, ℕ, ◌<◌, Bool, true, false, ◌&&◌, ◌||◌, ◌==◌, List, [], ◌∷◌, ◌++◌, Option, Some, None, length, refl, sym, ap, subst, ◌∙◌, arith}
 use Rattle.std.specs.Prelude.{All}
-use Rattle.std.proofs.lemmas.List.Elements.{All-cons, All-nil, All-push, All-weaker}
+use Rattle.std.proofs.lemmas.List.Elements.{All-append, All-cons, All-head, All-nil, All-push, All-tail, All-weaker}
 use Rattle.tr_base.specs.declared.LeafId.{LeafId}
 use Rattle.tr_base.specs.declared.NodeId.{NodeId}
 use Rattle.tr_base.specs.declared.Event.{Event}
@@ -40,7 +40,9 @@ use Rattle.tr_journal.specs.Steps.{IsLeaf, IsQuery, IsStep, covers, may, stated}
 use Rattle.tr_machine.specs.States.{State, content_of, start}
 use Rattle.tr_machine.specs.Machines as machine
 use Rattle.tr_machine.specs.Machines.{Outcome, asked_of, edited, obeyed, taken, unless}
-use Rattle.tr_machine.specs.Replays.{line_of, next, replay}
+use Rattle.tr_machine.specs.Replays.{IsLegal, IsLegalFrom, IsLegalLine, line_of, next, replay, replay_from}
+use Rattle.tr_machine.proofs.JournalLemmas.{replay-append}
+use Rattle.tr_machine.proofs.KeptLemmas.{AreAsMany, IsKept, as_many, kept_next, step_along}
 use Rattle.tr_dump.specs.Names.{HasLeaf, HasNode, IsNamedActor, IsNamedEdit, IsNamedLevel, IsNamedLine, IsNamedQuery, IsNamedStep, Names}
 use Rattle.tr_stage.specs.Stages.{IsOf, IsPainters, StageView, state}
 use Rattle.tr_stage.specs.Standings.{Stands}
@@ -271,3 +273,109 @@ module _ {C M : Type 0} (client : Ghosts C M) where
         sent = All-weaker (IsBelow (leaf_count t)) (λ (delivery : Delivery). HasLeaf names delivery.leaf)
             (λ (delivery : Delivery) low. has_leaf names t delivery.leaf is.tree low) (machine.step client (state client s) step).sent goes.sent;
       }
+
+  -- ---- lines that others made
+
+  -- the levels of a line are those of leaves that have names
+  abbrev pub HasNamedLevels : Names → JournalLine M → Type 0
+  HasNamedLevels names line = All (IsNamedLevel names) line.entry.level
+
+  -- a state whose tree is a forest with as many nodes and leaves as another one, and whose mail knows them
+  pub record IsLike (t : Nodes) (m : State C M) : Type 0 where
+    pub forest : IsForest m.tree.nodes
+    pub many : AreAsMany t m.tree.nodes
+    pub mail : IsKnowing (leaf_count t) m.mail
+
+  -- a line that the machine made
+  named_made : (names : Names) (t : Nodes) (m : State C M) (actor : Actor) (held : List Level) (step : Step M) → AreNamed names t →
+      IsLike t m → may actor step ≡ true → IsStep t step → All (IsNamedLevel names) held → IsNamedLine names (line_of client m actor held step)
+  named_made names t m actor held step named like may values levels =
+      let goes : IsGoing (leaf_count t) (machine.step client m step) =
+          going t m step (record { forest = like.forest; leaves = like.many.leaves; mail = like.mail }) values in
+      record {
+        entry = record {
+          actor = named_actor names t actor step named may values;
+          levels = levels;
+          step = named_step names t step named values;
+        };
+        sent = All-weaker (IsBelow (leaf_count t)) (λ (delivery : Delivery). HasLeaf names delivery.leaf)
+            (λ (delivery : Delivery) low. has_leaf names t delivery.leaf named low) (machine.step client m step).sent goes.sent;
+      }
+
+  -- the state after a step
+  like_next : (t : Nodes) (m : State C M) (step : Step M) → IsLike t m → IsStep t step → IsLike t (next client m step)
+  like_next t m step like values =
+      let kept : IsKept client m (next client m step) = kept_next client m step like.forest (step_along t m.tree.nodes like.many step values) in
+      let goes : IsGoing (leaf_count t) (machine.step client m step) =
+          going t m step (record { forest = like.forest; leaves = like.many.leaves; mail = like.mail }) values in
+      record {
+        forest = kept.forest;
+        many = record { nodes = kept.nodes ∙ like.many.nodes; leaves = kept.leaves ∙ like.many.leaves };
+        mail = goes.mail;
+      }
+
+  -- what some lines name has names, and the mail after them knows the leaves
+  record AreNamedTo (names : Names) (t : Nodes) (m : State C M) (lines : List (JournalLine M)) : Type 0 where
+    named : All (IsNamedLine names) lines
+    mail : IsKnowing (leaf_count t) (replay_from client m lines).mail
+
+  named_lines : (names : Names) (t : Nodes) (m : State C M) (lines : List (JournalLine M)) → AreNamed names t → IsLike t m →
+      IsLegalFrom client t m lines → All (HasNamedLevels names) lines → AreNamedTo names t m lines
+  named_lines names t m [] named like legal levels = record { named = All-nil (IsNamedLine names); mail = like.mail }
+  named_lines names t m (line ∷ lines) named like legal levels =
+      let new : State C M = next client m line.entry.step in
+      let first : IsNamedLine names (line_of client m line.entry.actor line.entry.level line.entry.step) =
+          named_made names t m line.entry.actor line.entry.level line.entry.step named like legal.0.may legal.0.values
+          (All-head (HasNamedLevels names) line lines levels) in
+      let later : AreNamedTo names t new lines =
+          named_lines names t new lines named (like_next t m line.entry.step like legal.0.values) legal.1
+          (All-tail (HasNamedLevels names) line lines levels) in
+      record {
+        named = All-cons (IsNamedLine names) line lines (subst (λ (l : JournalLine M). IsNamedLine names l) (sym legal.0.made) first) later.named;
+        mail = later.mail;
+      }
+
+  -- of a legal journal the later lines are legal, from the state that the earlier ones led to
+  pub legal_later : (t : Nodes) (m : State C M) (xs ys : List (JournalLine M)) → IsLegalFrom client t m (xs ++ ys) →
+      IsLegalFrom client t (replay_from client m xs) ys
+  legal_later t m [] ys legal = legal
+  legal_later t m (x ∷ xs) ys legal = legal_later t (next client m x.entry.step) xs ys legal.1
+
+  -- from one stage to a later one some lines were added, by whomever
+  pub record IsLater (names : Names) (s n : StageView C M) (lines : List (JournalLine M)) : Type 0 where
+    pub stands : Stands client s
+    pub like : IsOf s.opening (state client s)
+    pub legal : IsLegal client n.opening n.journal
+    pub opening : n.opening ≡ s.opening
+    pub journal : n.journal ≡ s.journal ++ lines
+    pub levels : All (HasNamedLevels names) lines
+
+  -- the later one's journal names what has names, too
+  pub named_later : (names : Names) (s n : StageView C M) (lines : List (JournalLine M)) → IsNamed client names s → IsLater names s n lines →
+      IsNamed client names n
+  named_later names s n lines is later = record {
+    tree = subst (λ (items : List (Item C)). AreNamed names (tree_of items).nodes) (sym later.opening) is.tree;
+    lines = subst (λ (ls : List (JournalLine M)). All (IsNamedLine names) ls) (sym later.journal)
+        (All-append (IsNamedLine names) s.journal lines is.lines named.named);
+    mail = subst (λ (items : List (Item C)). IsKnowing (leaf_count (tree_of items).nodes) (state client n).mail) (sym later.opening)
+        (subst (λ (m : State C M). IsKnowing (leaf_count t) m.mail) (sym after) named.mail);
+  }
+    where
+      t : Nodes
+      t = (tree_of s.opening).nodes
+
+      after : state client n ≡ replay_from client (state client s) lines
+      after =
+          ap (λ (items : List (Item C)). replay client items n.journal) later.opening
+          ∙ ap (λ (ls : List (JournalLine M)). replay client s.opening ls) later.journal
+          ∙ replay-append client s.opening s.journal lines
+
+      legal : IsLegalFrom client t (state client s) lines
+      legal = legal_later t (start s.opening) s.journal lines
+          (subst (λ (ls : List (JournalLine M)). IsLegal client s.opening ls) later.journal
+          (subst (λ (items : List (Item C)). IsLegal client items n.journal) later.opening later.legal))
+
+      named : AreNamedTo names t (state client s) lines
+      named = named_lines names t (state client s) lines is.tree
+          (record { forest = later.stands.forest; many = record { nodes = later.like.nodes; leaves = later.like.leaves }; mail = is.mail })
+          legal later.levels

@@ -33,6 +33,13 @@ pub record RunView (C M : Type 0) : Type 0 where
   pub text : List ℕ
   pub sum : ℕ
 
+-- a run without its stage
+pub record PausedView : Type 0 where
+  pub names : Names
+  pub mode : Mode
+  pub text : List ℕ
+  pub sum : ℕ
+
 -- each node and each leaf of a stage has a name, and so has whatever the lines of its journal name
 pub record IsNamed {C M : Type 0} (client : Ghosts C M) (names : Names) (s : StageView C M) : Type 0 where
   pub tree : AreNamed names (tree_of s.opening).nodes

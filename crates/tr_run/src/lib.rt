@@ -10,4 +10,4 @@ mod standings;
 mod sums;
 
 pub use modes::Mode;
-pub use runs::{Finished, Run};
+pub use runs::{Finished, Paused, Run};

@@ -12,7 +12,7 @@ ghost use Rattle.tr_dump.specs.Names.{names_of};
 ghost use Rattle.tr_stage.specs.Stages.{IsPainters, is_note, state};
 ghost use Rattle.tr_run.specs.Runs.{makes, reporting};
 ghost use Rattle.tr_run.specs.Texts.{is_check, is_report, sum_after, written};
-ghost use Rattle.tr_run.specs.Views.{AreNamed, Adds, Does};
+ghost use Rattle.tr_run.specs.Views.{AreNamed, IsNamed, Adds, Does};
 
 use crate::levels::levels_of;
 use crate::modes::Mode;
@@ -129,6 +129,33 @@ impl<'a, C: Client, N: NameOf> Run<'a, C, N> {
         &self.stage
     }
 
+    /// Takes the stage out, so that others may make steps on it.
+    pub fn pause(self) -> (Stage<C>, Paused<'a, N>)
+        ensures stage { result.0 ≡ self.entry.stage }
+        ensures names { result.1.names ≡ self.entry.names }
+        ensures mode { result.1.mode ≡ self.entry.mode }
+        ensures text { result.1.text ≡ self.entry.text }
+        ensures sum { result.1.sum ≡ self.entry.sum }
+        ensures invariant { IsNamed C.Client self.entry.names self.entry.stage }
+    {
+        let Run {
+            alloc,
+            stage,
+            names,
+            mode,
+            text,
+            sum,
+        } = self;
+        let paused = Paused {
+            alloc,
+            names,
+            mode,
+            text,
+            sum,
+        };
+        (stage, paused)
+    }
+
     /// The end of the run.
     pub fn finish(self) -> Finished<C>
         ensures stage { result.stage ≡ self.entry.stage }
@@ -232,6 +259,58 @@ impl<'a, C: Client, N: NameOf> Run<'a, C, N> {
             }
             (Mode::Gen, _) => Ok(()),
             _ => append_report(&self.stage, self.names, query, &mut self.text),
+        }
+    }
+}
+
+/// A run without its stage.
+#[derive(Drop)]
+pub struct Paused<'a, N: NameOf> {
+    alloc: Global,
+    names: &'a N,
+    mode: Mode,
+    text: Vec<u8>,
+    sum: u64,
+}
+
+impl<'a, N: NameOf> Model for Paused<'a, N> {
+    ghost use Rattle.tr_dump.specs.Names.{names_of};
+    ghost use Rattle.tr_run.specs.Views.{PausedView};
+
+    ghost Value = { PausedView };
+
+    ghost view = { λ r. record {
+      names = names_of N.NameOf r.names.now;
+      mode = r.mode;
+      text = r.text.items;
+      sum = r.sum;
+    } };
+}
+
+impl<'a, N: NameOf> Paused<'a, N> {
+    /// Goes on with a stage. Each node and each leaf of it has a name, and so has whatever its journal names.
+    pub fn resume<C: Client>(self, stage: Stage<C>) -> Run<'a, C, N>
+        requires named { IsNamed C.Client self.names stage }
+        ensures stage { result.stage ≡ stage }
+        ensures names { result.names ≡ self.entry.names }
+        ensures mode { result.mode ≡ self.entry.mode }
+        ensures text { result.text ≡ self.entry.text }
+        ensures sum { result.sum ≡ self.entry.sum }
+    {
+        let Paused {
+            alloc,
+            names,
+            mode,
+            text,
+            sum,
+        } = self;
+        Run {
+            alloc,
+            stage,
+            names,
+            mode,
+            text,
+            sum,
         }
     }
 }

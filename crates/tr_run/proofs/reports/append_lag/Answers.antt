@@ -1,8 +1,6 @@
-use Rattle.std.proofs.Common.{rules, arith, ◌≡◌, ℕ, ◌++◌, [], ◌∷◌, length, sym, ap, ◌∙◌}
-use Rattle.std.specs.Prelude.{codes, decimal}
+use Rattle.std.proofs.Common.{rules, arith, ◌≡◌, ℕ, ◌++◌, length, sym, ap, ◌∙◌}
 use Rattle.std.proofs.lemmas.Grind.{common_steps}
-use Rattle.tr_dump.specs.Values.{line_text}
-use Rattle.tr_machine.specs.Pictures.{bad_count, stale_count}
+use Rattle.tr_machine.specs.Pictures.{bad_count}
 use Rattle.tr_stage.specs.Stages.{state}
 use Rattle.tr_run.proofs.ReportLemmas.{lag_text_of, lag_line-stage}
 use Rattle.tr_run.proofs.reports.append_lag.Goals as goal
