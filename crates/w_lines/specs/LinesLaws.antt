@@ -36,7 +36,7 @@ use Rattle.w_lines.specs.declared.commands.LinesCmd.TheVariants.{Line, Clear}
 use Rattle.w_lines.specs.Lines.{IsLines, IsLinesCmd, most_lines, last_of, room, most_shown, begin_of, in_cells, line_colour, colour_in, lines_pic, lines_next, area_of, upwards, cleared, written_below, moved_up, line_patch, lines_patch, lines_answer, lines_keeps}
 
 -- the cells of a line hold only points that have as many lines above them
-cells-above : (above : ℕ) (line : List ℕ) (q : Point) → in_cells above line q ≡ true → unsigned_abs q.v / 8 ≡ above
+pub cells-above : (above : ℕ) (line : List ℕ) (q : Point) → in_cells above line q ≡ true → unsigned_abs q.v / 8 ≡ above
 cells-above above line q here =
     let east = pos 0 +ℤ pos (8 * length line) in
     let both = both_hold _ _ (sym (has_point-rect_of (pos 0) east (pos (8 * above)) (pos (8 * above) +ℤ pos 8) q) ∙ here) in
@@ -46,7 +46,7 @@ cells-above above line q here =
     down above v h = grind (arith, ints, nat_tests)
 
 -- where a line has no text all is background
-no_text : (look : Look) (above : ℕ) (q : Point) → line_colour look above [] q ≡ 0
+pub no_text : (look : Look) (above : ℕ) (q : Point) → line_colour look above [] q ≡ 0
 no_text look above q = ap (λ b. cond b (colour_of (text_bit look.font (begin_of above) [] q)) 0) nowhere
   where
     nowhere : in_cells above [] q ≡ false
@@ -55,13 +55,13 @@ no_text look above q = ap (λ b. cond b (colour_of (text_bit look.font (begin_of
         ∙ ap (λ b. b && between (pos (8 * above)) (pos (8 * above) +ℤ pos 8) q.v) (between-empty (pos 0) (pos 0) q.h refl)
 
 -- and so it is below the last line
-colour-beyond : (look : Look) (lines : List (List ℕ)) (q : Point) → length lines ≤ unsigned_abs q.v / 8 → colour_in look lines q ≡ 0
+pub colour-beyond : (look : Look) (lines : List (List ℕ)) (q : Point) → length lines ≤ unsigned_abs q.v / 8 → colour_in look lines q ≡ 0
 colour-beyond look lines q past =
     let above = unsigned_abs q.v / 8 in
     ap (λ (line : List ℕ). line_colour look above line q) (get_or_past lines above [] past) ∙ no_text look above q
 
 -- one item more is found at its own place alone
-get_or-more : (xs : List (List ℕ)) (x : List ℕ) (i : ℕ) → (i ≡ length xs → ⊥) → get_or (xs ++ x ∷ []) i [] ≡ get_or xs i []
+pub get_or-more : (xs : List (List ℕ)) (x : List ℕ) (i : ℕ) → (i ≡ length xs → ⊥) → get_or (xs ++ x ∷ []) i [] ≡ get_or xs i []
 get_or-more xs x i apart = by_test (nat_lt i (length xs)) refl
   where
     by_test : (b : Bool) → nat_lt i (length xs) ≡ b → get_or (xs ++ x ∷ []) i [] ≡ get_or xs i []
@@ -72,7 +72,7 @@ get_or-more xs x i apart = by_test (nat_lt i (length xs)) refl
         get_or_past (xs ++ x ∷ []) i [] long ∙ sym (get_or_past xs i [] (omega arith))
 
 -- one line more below the others gives the points of its cells its colours, and leaves all others
-colour-more : (look : Look) (lines : List (List ℕ)) (line : List ℕ) (q : Point) →
+pub colour-more : (look : Look) (lines : List (List ℕ)) (line : List ℕ) (q : Point) →
     (let count = length lines in
     cond (in_cells count line q) (colour_of (text_bit look.font (begin_of count) line q)) (colour_in look lines q) ≡ colour_in look (lines ++ line ∷ []) q)
 colour-more look lines line q = by_test (unsigned_abs q.v / 8) (unsigned_abs q.v / 8 == length lines) refl refl
@@ -100,7 +100,7 @@ colour-more look lines line q = by_test (unsigned_abs q.v / 8) (unsigned_abs q.v
         outside false inside apart = inside
 
 -- a line that stands one lower has the same colours eight points further down
-colour-lower : (look : Look) (above : ℕ) (line : List ℕ) (q : Point) →
+pub colour-lower : (look : Look) (above : ℕ) (line : List ℕ) (q : Point) →
     line_colour look (above + 1) line (before_shift q upwards) ≡ line_colour look above line q
 colour-lower look above line q =
     ap (λ b. coloured b (q.h -ℤ pos 0 -ℤ pos 0) (q.v -ℤ neg_ℤ (pos 8) -ℤ pos (8 * (above + 1)))) inside
@@ -134,7 +134,7 @@ colour-lower look above line q =
         ∙ sym (has_point-rect_of (pos 0) east (pos (8 * above)) (pos (8 * above) +ℤ pos 8) q)
 
 -- without the first line, each point has the colour of the point one line lower
-colour-moved : (look : Look) (first : List ℕ) (lines : List (List ℕ)) (q : Point) → pos 0 ≤ℤ q.v →
+pub colour-moved : (look : Look) (first : List ℕ) (lines : List (List ℕ)) (q : Point) → pos 0 ≤ℤ q.v →
     colour_in look (first ∷ lines) (before_shift q upwards) ≡ colour_in look lines q
 colour-moved look first lines q inside =
     let above = unsigned_abs q.v / 8 in
@@ -147,7 +147,7 @@ colour-moved look first lines q inside =
     lower v inside = grind (arith, ints)
 
 -- a deed that makes one colour of another gives the point its colour
-makes-gives : (kind : Kind) (size : Size) (d : Deed) (old : Point → ℕ) (q : Point) (new : ℕ) →
+pub makes-gives : (kind : Kind) (size : Size) (d : Deed) (old : Point → ℕ) (q : Point) (new : ℕ) →
     Makes kind d (old q) new → Gives kind size d old q new
 makes-gives kind size Keep old q new makes = makes
 makes-gives kind size Lose old q new makes = absurd makes
@@ -156,7 +156,7 @@ makes-gives kind size (Value x) old q new makes = makes
 makes-gives kind size (Change op) old q new makes = makes
 
 -- a line that is written below the others makes the picture of one line more
-line-makes : (look : Look) (part : Edges) (lines : List (List ℕ)) (line : List ℕ) (q : Point) → has_point part q ≡ true →
+pub line-makes : (look : Look) (part : Edges) (lines : List (List ℕ)) (line : List ℕ) (q : Point) → has_point part q ≡ true →
     Makes look.kind (deed look (Text part (begin_of (length lines)) plain line) q) (colour_in look lines q) (colour_in look (lines ++ line ∷ []) q)
 line-makes look part lines line q here =
     let text : Paint = Text part (begin_of (length lines)) plain line in
@@ -176,13 +176,13 @@ written_patch look size lines line above is =
     (λ q here. makes-gives look.kind size (deed look text q) (colour_in look lines) q (new q) (line-makes look (whole_of size) lines line q here))))
 
 -- a point of a window lies in the area of some lines where it has as many lines above it as one of them
-rows-from : (size : Size) (q : Point) → has_point (whole_of size) q ≡ true → pos 0 ≤ℤ q.v
+pub rows-from : (size : Size) (q : Point) → has_point (whole_of size) q ≡ true → pos 0 ≤ℤ q.v
 rows-from size q here = first q.v (both_hold _ _ (sym (has_point-rect_of (pos 0) (pos size.wide) (pos 0) (pos size.high) q) ∙ here)).1
   where
     first : (v : ℤ) → between (pos 0) (pos size.high) v ≡ true → pos 0 ≤ℤ v
     first v h = grind (arith, ints)
 
-area-has : (size : Size) (above end : ℕ) (q : Point) → has_point (whole_of size) q ≡ true →
+pub area-has : (size : Size) (above end : ℕ) (q : Point) → has_point (whole_of size) q ≡ true →
     has_point (area_of size above end) q ≡ nat_le above (unsigned_abs q.v / 8) && nat_lt (unsigned_abs q.v / 8) end
 area-has size above end q here =
     let both = both_hold _ _ (sym (has_point-rect_of (pos 0) (pos size.wide) (pos 0) (pos size.high) q) ∙ here) in
@@ -248,7 +248,7 @@ moved_patch look size (first ∷ lines) line count long some =
         ap (λ b. mixed b q) above ∙ colour-beyond look (first ∷ lines) q past ∙ sym (colour-beyond look lines q (omega arith))
 
 -- of lines that are no more than n, the last n are all
-last_of-all : (n : ℕ) (lines : List (List ℕ)) → length lines ≤ n → last_of n lines ≡ lines
+pub last_of-all : (n : ℕ) (lines : List (List ℕ)) → length lines ≤ n → last_of n lines ≡ lines
 last_of-all n lines few = let none : length lines - n ≡ 0 = omega arith in ap (λ i. drop i lines) none
 
 last_of-none : (n : ℕ) (lines : List (List ℕ)) → n ≡ 0 → last_of n lines ≡ []
@@ -340,10 +340,10 @@ lines_patches look size x Clear valid known small =
     (cleared_painting look (whole_of size)))
 
 -- a window without columns has no part
-no_columns : (size : Size) (above end : ℕ) → size.wide ≡ 0 → area_of size above end ≡ empty_rect
+pub no_columns : (size : Size) (above end : ℕ) → size.wide ≡ 0 → area_of size above end ≡ empty_rect
 no_columns size above end flat = ap (λ (wide : ℕ). rect_of (pos 0) (pos wide) (pos (8 * above)) (pos (8 * end))) flat
 
-nothing_written : (size : Size) (above : ℕ) (line : List ℕ) → is_flat size ≡ true → written_below size above line ≡ []
+pub nothing_written : (size : Size) (above : ℕ) (line : List ℕ) → is_flat size ≡ true → written_below size above line ≡ []
 nothing_written size above line flat = rw (flat-whole size flat, meet-nothing (cells_of (begin_of above) (length line))) refl
 
 nothing_moved : (size : Size) (count : ℕ) (line : List ℕ) → is_flat size ≡ true → size.wide ≡ 0 → moved_up size count line ≡ []
