@@ -1,5 +1,5 @@
 #!/bin/sh
-# Runs each test of the stage (crates/tr_scenes) again and again, each time with another one of its
+# Runs each test of the stage (crates/tr_stage_tests) again and again, each time with another one of its
 # allocations refused. A test makes a step once more that wanted memory, and then all must come out as
 # without; or it ends for want of memory, where it was still making its stage. Any other end is an error.
 # The random runs are left out: they have too many allocations, and their model asks for none again.
@@ -14,8 +14,8 @@ trap 'rm -rf "$folder"' EXIT
 cc -O2 -shared -fPIC -o "$folder/nth.so" "$top/bench/nth_allocation.c" -ldl
 
 if [ $# -eq 0 ]; then
-    (cd "$top/crates/tr_scenes" && rt test >"$folder/rt" 2>&1) || { tail -n 5 "$folder/rt" >&2; exit 1; }
-    set -- "$top/crates/tr_scenes/out/tr_scenes_tests"
+    (cd "$top/crates/tr_stage_tests" && rt test >"$folder/rt" 2>&1) || { tail -n 5 "$folder/rt" >&2; exit 1; }
+    set -- "$top/crates/tr_stage_tests/out/tr_scenes_tests"
 fi
 
 # run TEST NUMBER: its status in $status, what it wrote in $folder/out. No allocation has the number 0.

@@ -7,9 +7,9 @@ use Rattle.tr_widget.specs.declared.WidgetCmd.{WidgetCmd}
 use Rattle.tr_grammar.specs.Scripts.{Refusal, Script, most_bytes, refusal_of, script_of}
 use Rattle.tr_stage.specs.Stages.{StageView}
 use Rattle.tr_serial.specs.Outputs.{out_text, check_text, gen_text, drawn, serial_journal}
-use Rattle.tr_commands.specs.declared.Command.{Command}
-use Rattle.tr_commands.specs.declared.Command.TheVariants as commands
-use Rattle.tr_commands.specs.Commands.{command_of}
+use Rattle.tr_arguments.specs.declared.Command.{Command}
+use Rattle.tr_arguments.specs.declared.Command.TheVariants as commands
+use Rattle.tr_arguments.specs.Commands.{command_of}
 use Rattle.tr_player.specs.declared.statuses.Status.{Status}
 use Rattle.tr_player.specs.declared.statuses.Status.TheVariants.{Done, Usage, Refused, ReadFault, WriteFault, NoMemory}
 use Rattle.tr_player.specs.Statuses.{code}

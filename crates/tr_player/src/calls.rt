@@ -3,7 +3,7 @@ ghost use Rattle.std.specs.Prelude.{IfSome, IsSome, IsSomeAnd};
 ghost use Rattle.tr_io.specs.Faults.{HasFault};
 ghost use Rattle.tr_io.specs.Streams.{Grew, GrewByPrefix};
 ghost use Rattle.tr_grammar.specs.Scripts.{Script, script_of};
-ghost use Rattle.tr_commands.specs.Commands.{texts_of};
+ghost use Rattle.tr_arguments.specs.Commands.{texts_of};
 ghost use Rattle.tr_serial.specs.Outputs.{drawn, gen_text};
 ghost use Rattle.tr_player.specs.Statuses.{code};
 ghost use Rattle.tr_player.specs.Answers.{Due, HasPlayed, IsAllowed, IsAnswered, IsDelivered, IsDue};

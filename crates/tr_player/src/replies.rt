@@ -1,6 +1,6 @@
 ghost use Rattle.std.specs.Prelude.{◌≡◌, ◌≤◌, None, Some, IfOk};
 ghost use Rattle.tr_grammar.specs.Scripts.{IsPlayableScript};
-ghost use Rattle.tr_commands.specs.Commands.{texts_of};
+ghost use Rattle.tr_arguments.specs.Commands.{texts_of};
 ghost use Rattle.tr_serial.specs.Outputs.{HasOnlySteps};
 ghost use Rattle.tr_player.specs.Answers.{Due, IsDue, IsDueOfBytes, IsStageOf, ReadsNone, asked_by, reads, refused, status_of, text_of};
 ghost use Rattle.tr_player.specs.Replies.{IsDueOfText, IsReply, due_of_script, reading};
@@ -11,7 +11,7 @@ use crate::statuses::Status;
 use crate::streams::read_all;
 use std::alloc::Global;
 use tr_base::NoMemory;
-use tr_commands::{Command, command_of};
+use tr_arguments::{Command, command_of};
 use tr_grammar::{Code, ReadRefused};
 use tr_io::Source;
 use tr_reader::Script;

@@ -5,7 +5,7 @@ ghost use Rattle.tr_serial.specs.Outputs as spec;
 use crate::plays::{Played, play};
 use std::alloc::Global;
 use tr_base::NoMemory;
-use tr_drawn::lines;
+use tr_gen_valid::lines;
 use tr_gen::script_of;
 use tr_grammar::ReadRefused;
 use tr_reader::Script;

@@ -5,7 +5,7 @@ use Rattle.std.specs.declared.vec.IntoIter.{IntoIter}
 use Rattle.std.specs.Vec.Iter.{into_iter_items}
 use Rattle.std.specs.IoError.{error_kind}
 use Rattle.std.specs.declared.io.Error.{Error}
-use Rattle.tr_commands.specs.Commands.{texts_of}
+use Rattle.tr_arguments.specs.Commands.{texts_of}
 use Rattle.tr_player.specs.Answers.{Task, reads, sums_up, OfNumber}
 use Rattle.trestle.specs.Arguments.{heard, none_unless, status_without}
 

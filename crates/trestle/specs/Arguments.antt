@@ -9,7 +9,7 @@ use Rattle.std.specs.declared.io.ErrorKind.{ErrorKind}
 use Rattle.std.specs.declared.io.ErrorKind.TheVariants.{InvalidData, OutOfMemory}
 use Rattle.tr_player.specs.declared.statuses.Status.TheVariants.{NoMemory}
 use Rattle.tr_player.specs.Statuses.{code}
-use Rattle.tr_commands.specs.Commands.{texts_of}
+use Rattle.tr_arguments.specs.Commands.{texts_of}
 
 -- the status where the system refused the program its arguments
 abbrev pub refused_status : ℕ

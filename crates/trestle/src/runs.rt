@@ -4,7 +4,7 @@ ghost use Rattle.std.specs.Vec.Iter.{into_iter_items};
 ghost use Rattle.tr_io.specs.Faults.{HasFault};
 ghost use Rattle.tr_io.specs.Streams.{Grew};
 ghost use Rattle.tr_grammar.specs.Scripts.{script_of};
-ghost use Rattle.tr_commands.specs.Commands.{texts_of};
+ghost use Rattle.tr_arguments.specs.Commands.{texts_of};
 ghost use Rattle.tr_serial.specs.Outputs.{gen_text};
 ghost use Rattle.tr_player.specs.Statuses.{code};
 ghost use Rattle.tr_player.specs.Answers.{IsAllowed, OfNumber, OfScriptRead, Yields, asked_by, refusal_for, text_for};

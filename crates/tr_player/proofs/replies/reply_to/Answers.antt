@@ -1,8 +1,8 @@
 use Rattle.std.proofs.Common.{◌≡◌, refl, ap}
 use Rattle.std.specs.Prelude.{Some}
 use Rattle.tr_serial.specs.Outputs.{gen_text, drawn}
-use Rattle.tr_commands.specs.declared.Command.TheVariants.{Gen}
-use Rattle.tr_commands.specs.Commands.{command_of, texts_of}
+use Rattle.tr_arguments.specs.declared.Command.TheVariants.{Gen}
+use Rattle.tr_arguments.specs.Commands.{command_of, texts_of}
 use Rattle.tr_player.specs.Answers.{Asked, asked_by, played, task_of}
 use Rattle.tr_player.proofs.ReplyLemmas.{due_for_number}
 use Rattle.tr_player.proofs.replies.reply_to.Goals as goal

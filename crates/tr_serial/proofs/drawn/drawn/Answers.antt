@@ -4,7 +4,7 @@ use Rattle.tr_gen.specs.Scripts as gen
 use Rattle.tr_grammar.specs.declared.ReadRefused.{ReadRefused}
 use Rattle.tr_grammar.specs.declared.ReadRefused.TheVariants as refused
 use Rattle.tr_grammar.specs.Scripts.{Script, refusal_of, IsCause}
-use Rattle.tr_drawn.proofs.DrawnLemmas.{is_a_script}
+use Rattle.tr_gen_valid.proofs.DrawnLemmas.{is_a_script}
 use Rattle.tr_serial.specs.Outputs.{HasOnlySteps}
 use Rattle.tr_serial.proofs.StepLemmas.{only_steps}
 use Rattle.tr_serial.proofs.drawn.drawn.Goals as goal

@@ -1,7 +1,7 @@
 use Rattle.std.proofs.Common.{◌≡◌, ◌≢◌, ◌↔◌, ℕ, sym, ◌∙◌, subst}
 use Rattle.std.specs.Prelude.{IsSome, IsSomeAnd}
 use Rattle.tr_io.specs.Streams.{Grew}
-use Rattle.tr_commands.specs.Commands.{texts_of}
+use Rattle.tr_arguments.specs.Commands.{texts_of}
 use Rattle.tr_serial.specs.Outputs.{gen_text, drawn}
 use Rattle.tr_player.specs.Answers.{HasPlayed, OfScriptRead, Yields, asked_by, refusal_for}
 use Rattle.trestle.proofs.ArgumentLemmas.{first_of_number}

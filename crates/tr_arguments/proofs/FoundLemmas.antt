@@ -10,8 +10,8 @@ use Rattle.clap.specs.declared.parser.matches.ArgMatches.TheViews.{out-ArgMatche
 use Rattle.clap.specs.declared.parser.matches.SubCommand.{SubCommand}
 use Rattle.clap.specs.declared.parser.matches.Found.{Found}
 use Rattle.clap.proofs.WalkLemmas.{first_value-rows}
-use Rattle.tr_commands.specs.Commands.{command_of}
-use Rattle.tr_commands.specs.Parsers.{command_of_found, words_of_option}
+use Rattle.tr_arguments.specs.Commands.{command_of}
+use Rattle.tr_arguments.specs.Parsers.{command_of_found, words_of_option}
 
 module _ {Z : Type 0} where
   rows_found : (sub : Option (Box SubCommand Z)) (name : Text) (rows : List Row) →

@@ -1,9 +1,9 @@
 use Rattle.std.proofs.Common.{◌∙◌, sym}
 use Rattle.clap.specs.Words.{app_of}
-use Rattle.tr_commands.specs.Commands.{texts_of}
-use Rattle.tr_commands.proofs.FlagLemmas.{texts_plain}
-use Rattle.tr_commands.proofs.ParserLemmas.{refused, taken}
-use Rattle.tr_commands.proofs.commands.parse.Goals as goal
+use Rattle.tr_arguments.specs.Commands.{texts_of}
+use Rattle.tr_arguments.proofs.FlagLemmas.{texts_plain}
+use Rattle.tr_arguments.proofs.ParserLemmas.{refused, taken}
+use Rattle.tr_arguments.proofs.commands.parse.Goals as goal
 
 pub returns-in-Ok : goal.returns-in-Ok
 returns-in-Ok c =

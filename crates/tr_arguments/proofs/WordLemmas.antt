@@ -7,7 +7,7 @@ use Rattle.clap.specs.Walk.{Held, Names, Rule, Step, Text, Walk, after_step, ans
 use Rattle.clap.specs.Simple.{Shape}
 use Rattle.clap.specs.Kinds.{Kinds, or_else}
 use Rattle.clap.specs.Faults.{bundle_fault, flag_word_fault, other_fault, step_fault, turn_fault, walk_fault, word_fault}
-use Rattle.tr_commands.specs.Parsers.{is_flag}
+use Rattle.tr_arguments.specs.Parsers.{is_flag}
 
 -- the word is no option, no bundle of flags and no `--`
 record IsPlain (word : Text) : Type 0 where

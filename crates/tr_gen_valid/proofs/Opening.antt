@@ -10,8 +10,8 @@ use Rattle.tr_grammar.specs.Faults.{fault_of}
 use Rattle.tr_grammar.specs.Scripts.{next, first_fault}
 use Rattle.tr_forest.specs.Families.{depth_within, height_within, is_under_within}
 use Rattle.hex.specs.Hex.{decode_pairs}
-use Rattle.tr_drawn.proofs.Passing.{Pass}
-use Rattle.tr_drawn.proofs.Playing.{state, at_begin}
+use Rattle.tr_gen_valid.proofs.Passing.{Pass}
+use Rattle.tr_gen_valid.proofs.Playing.{state, at_begin}
 
 opening_plain : list_all is_plain opening_lines ≡ true
 unfolding opening_lines is_plain

@@ -17,9 +17,9 @@ use Rattle.clap.specs.Values.{kind_of}
 use Rattle.clap.proofs.OnLiterals.{clap_on_literals}
 use Rattle.clap.proofs.FaultLemmas.{stopped_fault}
 use Rattle.clap.proofs.WalkLemmas.{walk_stopped}
-use Rattle.tr_commands.specs.Commands.{command_of}
-use Rattle.tr_commands.specs.Parsers.{command_of_found, gen, is_flag, parser, words_found}
-use Rattle.tr_commands.proofs.WordLemmas.{between, turn_plain, walk_next, walked_plain}
+use Rattle.tr_arguments.specs.Commands.{command_of}
+use Rattle.tr_arguments.specs.Parsers.{command_of_found, gen, is_flag, parser, words_found}
+use Rattle.tr_arguments.proofs.WordLemmas.{between, turn_plain, walk_next, walked_plain}
 
 -- the parser as it is built, and its subcommands' names
 abbrev top : Shape

@@ -6,8 +6,8 @@ use Rattle.tr_grammar.specs.declared.places.Place.TheVariants as places
 use Rattle.tr_grammar.specs.Texts.{is_plain}
 use Rattle.tr_grammar.specs.Forms.{Dump, End}
 use Rattle.tr_grammar.specs.Faults.{allows, report_line, has_ended, reports_so_far}
-use Rattle.tr_drawn.proofs.Passing.{IsOfForm, HaveNoFault, Pass, one_passes, both_pass}
-use Rattle.tr_drawn.proofs.Playing.{Playing, state}
+use Rattle.tr_gen_valid.proofs.Passing.{IsOfForm, HaveNoFault, Pass, one_passes, both_pass}
+use Rattle.tr_gen_valid.proofs.Playing.{Playing, state}
 
 ending_plain : (is_plain (codes "dump") ≡ true) × (is_plain (codes "end") ≡ true)
 unfolding is_plain

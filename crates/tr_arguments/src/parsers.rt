@@ -1,6 +1,6 @@
 //! The parser of the words, which is `clap`'s: a subcommand for each accepted first word.
 ghost use Rattle.std.specs.Prelude.{◌≡◌, IfOk};
-ghost use Rattle.tr_commands.specs.Parsers.{parser};
+ghost use Rattle.tr_arguments.specs.Parsers.{parser};
 ghost use Rattle.clap.specs.Words.{app_of};
 
 use clap::{Arg, Command};

@@ -11,10 +11,10 @@ use Rattle.tr_gen.specs.Lines as lines
 use Rattle.tr_grammar.specs.Names.{number_of}
 use Rattle.tr_grammar.specs.Forms.{Field, byte, offset, edge, number, text, AddLine, AddRect, AddSwap, Undo, SetBar, SetTint, Move, Lift}
 use Rattle.tr_grammar.specs.Faults.{is_misspelled}
-use Rattle.tr_drawn.proofs.Cutting.{is_word_byte, is_word}
-use Rattle.tr_drawn.proofs.Decimals.{decimal_is_word, signed_is_word, is_number-decimal, is_signed-decimal}
-use Rattle.tr_drawn.proofs.Playing.{names}
-use Rattle.tr_drawn.proofs.StepLines.{MakeStep, IsStepLine}
+use Rattle.tr_gen_valid.proofs.Cutting.{is_word_byte, is_word}
+use Rattle.tr_gen_valid.proofs.Decimals.{decimal_is_word, signed_is_word, is_number-decimal, is_signed-decimal}
+use Rattle.tr_gen_valid.proofs.Playing.{names}
+use Rattle.tr_gen_valid.proofs.StepLines.{MakeStep, IsStepLine}
 
 -- ---- words that stand for values
 

@@ -10,12 +10,12 @@ use Rattle.tr_grammar.specs.declared.ReadRefused.TheVariants as refused
 use Rattle.tr_grammar.specs.Texts.{lines_of}
 use Rattle.tr_grammar.specs.States.{nothing_yet}
 use Rattle.tr_grammar.specs.Scripts.{first_fault, most_bytes, refusal_of, refused_at, IsCause}
-use Rattle.tr_drawn.proofs.Cutting.{lines_of-text_of, length-text_of-le}
-use Rattle.tr_drawn.proofs.Passing.{Pass, both_pass}
-use Rattle.tr_drawn.proofs.Playing.{Playing, state, at_begin}
-use Rattle.tr_drawn.proofs.Opening.{length_opening, opening_passes}
-use Rattle.tr_drawn.proofs.Rounds.{all_played}
-use Rattle.tr_drawn.proofs.Ending.{dumped, over, ending_passes}
+use Rattle.tr_gen_valid.proofs.Cutting.{lines_of-text_of, length-text_of-le}
+use Rattle.tr_gen_valid.proofs.Passing.{Pass, both_pass}
+use Rattle.tr_gen_valid.proofs.Playing.{Playing, state, at_begin}
+use Rattle.tr_gen_valid.proofs.Opening.{length_opening, opening_passes}
+use Rattle.tr_gen_valid.proofs.Rounds.{all_played}
+use Rattle.tr_gen_valid.proofs.Ending.{dumped, over, ending_passes}
 
 -- the lines have no fault, and the last of them is the end
 record ArePassed (ts : List (List ℕ)) : Type 0 where

@@ -1,8 +1,8 @@
 //! What the words of the command line ask for.
 ghost use Rattle.std.specs.Prelude.{◌≡◌, ◌∷◌, false, IfOk, option_map, string_bytes};
 ghost use Rattle.std.specs.List.{list_any};
-ghost use Rattle.tr_commands.specs.Commands.{command_of, numbered, texts_of};
-ghost use Rattle.tr_commands.specs.Parsers.{command_of_found, is_flag, words_of_option};
+ghost use Rattle.tr_arguments.specs.Commands.{command_of, numbered, texts_of};
+ghost use Rattle.tr_arguments.specs.Parsers.{command_of_found, is_flag, words_of_option};
 ghost use Rattle.clap.specs.Words.{subcommand_rows_of};
 
 use crate::parsers::parser;

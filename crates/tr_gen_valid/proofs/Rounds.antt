@@ -11,10 +11,10 @@ use Rattle.tr_grammar.specs.Texts.{is_plain}
 use Rattle.tr_grammar.specs.Forms.{Sync}
 use Rattle.tr_grammar.specs.States.{Stretch}
 use Rattle.tr_grammar.specs.Faults.{reports_so_far}
-use Rattle.tr_drawn.proofs.Passing.{IsOfForm, HaveNoFault, Pass, none_pass, one_passes, both_pass}
-use Rattle.tr_drawn.proofs.Playing.{Playing, state, at_begin, synced, IsPlaying}
-use Rattle.tr_drawn.proofs.StepLines.{GoOn, line_goes_on}
-use Rattle.tr_drawn.proofs.RoundLines.{round_steps}
+use Rattle.tr_gen_valid.proofs.Passing.{IsOfForm, HaveNoFault, Pass, none_pass, one_passes, both_pass}
+use Rattle.tr_gen_valid.proofs.Playing.{Playing, state, at_begin, synced, IsPlaying}
+use Rattle.tr_gen_valid.proofs.StepLines.{GoOn, line_goes_on}
+use Rattle.tr_gen_valid.proofs.RoundLines.{round_steps}
 
 -- ---- syncs
 

@@ -10,7 +10,7 @@ use Rattle.std.proofs.lemmas.List.Folds.{list_all-append}
 use Rattle.std.proofs.lemmas.Slice.Eq.{bytes_eq-Decides}
 use Rattle.std.proofs.lemmas.Str.Parse.{digit_at}
 use Rattle.tr_grammar.specs.Words.{nat_of, is_number, int_of, is_signed}
-use Rattle.tr_drawn.proofs.Cutting.{is_word_byte, is_word}
+use Rattle.tr_gen_valid.proofs.Cutting.{is_word_byte, is_word}
 
 -- ---- words
 

@@ -2,8 +2,8 @@
 use Rattle.std.specs.Prelude.{ℕ, List, [], ◌∷◌, Option, Some, None, if◌then◌else◌, bytes_eq, codes, map, String, string_bytes}
 use Rattle.std.specs.declared.alloc.Global.{Global}
 use Rattle.tr_grammar.specs.Words.{is_number, nat_of}
-use Rattle.tr_commands.specs.declared.commands.Command.{Command}
-use Rattle.tr_commands.specs.declared.commands.Command.TheVariants.{Play, Serial, Check, Gen}
+use Rattle.tr_arguments.specs.declared.commands.Command.{Command}
+use Rattle.tr_arguments.specs.declared.commands.Command.TheVariants.{Play, Serial, Check, Gen}
 
 -- the bytes of each word
 abbrev pub texts_of : List (String Global) → List (List ℕ)

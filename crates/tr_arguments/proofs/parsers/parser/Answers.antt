@@ -2,8 +2,8 @@ use Rattle.std.proofs.Common.{◌≡◌, ◌∙◌, rules, ap, ap₂, true}
 use Rattle.std.proofs.lemmas.Result.{IfOk-weaker}
 use Rattle.clap.specs.Words.{App, Shape, app_of, rule_of, with_rule, with_subcommand}
 use Rattle.clap.specs.Simple.{app_of_fields, on_top}
-use Rattle.tr_commands.specs.Parsers.{bare, gen, number_rule}
-use Rattle.tr_commands.proofs.parsers.parser.Goals as goal
+use Rattle.tr_arguments.specs.Parsers.{bare, gen, number_rule}
+use Rattle.tr_arguments.proofs.parsers.parser.Goals as goal
 
 pub returns : goal.returns
 returns c =

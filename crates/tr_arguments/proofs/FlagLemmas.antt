@@ -9,8 +9,8 @@ use Rattle.std.proofs.lemmas.Str.Parse.{digit_at}
 use Rattle.std.proofs.lemmas.Fmt.{decimal_is_IsNumeral, decimal_nonempty}
 use Rattle.clap.proofs.WalkLemmas.{list_any-map}
 use Rattle.tr_grammar.specs.Words.{is_number, nat_of}
-use Rattle.tr_commands.specs.Commands.{command_of, texts_of}
-use Rattle.tr_commands.specs.Parsers.{is_flag}
+use Rattle.tr_arguments.specs.Commands.{command_of, texts_of}
+use Rattle.tr_arguments.specs.Parsers.{is_flag}
 
 -- such a word is no other that doesn't begin with one
 no_word : (t word : List ℕ) → is_flag t ≡ false → is_flag word ≡ true → bytes_eq word t ≡ false

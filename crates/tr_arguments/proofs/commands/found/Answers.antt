@@ -1,7 +1,7 @@
 use Rattle.std.proofs.Common.{◌∙◌, option_map}
 use Rattle.clap.specs.Words.{found_of}
-use Rattle.tr_commands.proofs.FoundLemmas.{found_command}
-use Rattle.tr_commands.proofs.commands.found.Goals as goal
+use Rattle.tr_arguments.proofs.FoundLemmas.{found_command}
+use Rattle.tr_arguments.proofs.commands.found.Goals as goal
 
 pub returns-in-Some : goal.returns-in-Some
 returns-in-Some c =

@@ -13,9 +13,9 @@ use Rattle.tr_grammar.specs.Forms.{Form, fields, filled, form_of}
 use Rattle.tr_grammar.specs.Meanings.{meaning_of}
 use Rattle.tr_grammar.specs.Faults.{Sort, step_line, sort_of, allows, is_misspelled, is_declared_again, is_undeclared, is_foreign, is_refused, is_one_too_many}
 use Rattle.tr_grammar.specs.Scripts.{after}
-use Rattle.tr_drawn.proofs.Cutting.{is_word, words_of-join, plain_words}
-use Rattle.tr_drawn.proofs.Passing.{IsOfForm, HaveNoFault, Pass, one_passes}
-use Rattle.tr_drawn.proofs.Playing.{names, Playing, state, stepped, IsPlaying}
+use Rattle.tr_gen_valid.proofs.Cutting.{is_word, words_of-join, plain_words}
+use Rattle.tr_gen_valid.proofs.Passing.{IsOfForm, HaveNoFault, Pass, one_passes}
+use Rattle.tr_gen_valid.proofs.Playing.{names, Playing, state, stepped, IsPlaying}
 
 abbrev is_step : Meaning → Bool
 is_step (meanings.Step actor step) = true

@@ -2,8 +2,8 @@
 use Rattle.std.specs.Prelude.{ℕ, ◌==◌, Bool, true, List, [], ◌∷◌, Option, Some, None, codes, slice_index, option_and_then}
 use Rattle.clap.specs.Walk.{Row, Rule, Text, first_of}
 use Rattle.clap.specs.Simple.{App, new_app, new_rule, new_shape, on_top, with_rule, with_subcommand}
-use Rattle.tr_commands.specs.declared.commands.Command.{Command}
-use Rattle.tr_commands.specs.Commands.{command_of}
+use Rattle.tr_arguments.specs.declared.commands.Command.{Command}
+use Rattle.tr_arguments.specs.Commands.{command_of}
 
 -- the word begins with a hyphen (45)
 abbrev pub is_flag : List ℕ → Bool
