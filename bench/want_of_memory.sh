@@ -15,7 +15,7 @@ cc -O2 -shared -fPIC -o "$folder/nth.so" "$top/bench/nth_allocation.c" -ldl
 
 if [ $# -eq 0 ]; then
     (cd "$top/crates/tr_stage_tests" && rt test >"$folder/rt" 2>&1) || { tail -n 5 "$folder/rt" >&2; exit 1; }
-    set -- "$top/crates/tr_stage_tests/out/tr_scenes_tests"
+    set -- "$top/crates/tr_stage_tests/out/tr_stage_tests_tests"
 fi
 
 # run TEST NUMBER: its status in $status, what it wrote in $folder/out. No allocation has the number 0.
