@@ -22,7 +22,7 @@ use Rattle.tr_grammar.specs.Words.{words_of, word_at}
 use Rattle.tr_grammar.specs.Names.{Named}
 use Rattle.tr_grammar.specs.Forms.{Form, form_of}
 use Rattle.tr_grammar.specs.Meanings.{meaning_of}
-use Rattle.tr_grammar.specs.States.{Stretch, SoFar, empty_part, nothing_yet}
+use Rattle.tr_grammar.specs.States.{Part, SoFar, empty_part, nothing_yet}
 use Rattle.tr_grammar.specs.Faults.{has_ended, fault_of}
 
 -- ---- what a line adds
@@ -108,7 +108,7 @@ refusal_of bytes =
 pub record Script : Type 0 where
   pub opening : List (Item Widget)
   pub names : Named
-  pub parts : List Stretch
+  pub parts : List Part
 
 -- the script so far as a whole one: its last part ends
 abbrev pub whole : SoFar → Script
@@ -124,7 +124,7 @@ pub record IsPlayable (t : Nodes) (made : Actor × Step WidgetCmd) : Type 0 wher
   pub values : IsStep t made.1
 
 -- all of a part can be reported and played
-pub record IsPlayablePart (t : Nodes) (part : Stretch) : Type 0 where
+pub record IsPlayablePart (t : Nodes) (part : Part) : Type 0 where
   pub reports : All (IsQuery t) part.reports
   pub steps : All (IsPlayable t) part.steps
 

@@ -11,7 +11,7 @@ use Rattle.tr_grammar.specs.declared.places.Place.TheVariants.{Start}
 use Rattle.tr_grammar.specs.Names.{Named, no_names}
 
 -- what a contract sees of a part of a script: its reports, and then its steps, each with who makes it
-pub record Stretch : Type 0 where
+pub record Part : Type 0 where
   pub reports : List Query
   pub steps : List (Actor × Step WidgetCmd)
 
@@ -23,11 +23,11 @@ pub record SoFar : Type 0 where
   pub names : Named
   pub items : List (Item Widget)
   pub glyphs : List ℕ
-  pub ended : List Stretch
-  pub part : Stretch
+  pub ended : List Part
+  pub part : Part
 
 -- a part without a line
-abbrev pub empty_part : Stretch
+abbrev pub empty_part : Part
 empty_part = record { reports = []; steps = [] }
 
 -- before the first line

@@ -12,7 +12,7 @@ use Rattle.tr_grammar.specs.Words.{words_of, word_at}
 use Rattle.tr_grammar.specs.Names.{Named}
 use Rattle.tr_grammar.specs.Forms.{Form, form_of, Version, Screen, Glyph, Split, Page, Border, Rigid, Translate, Pack, Solid, Board, Label, Lines, Canvas, Meter, Put, PutAt, Root, Begin, Sync, Dump, Peek, Journal, Where, Inbox, End}
 use Rattle.tr_grammar.specs.Meanings.{meaning_of}
-use Rattle.tr_grammar.specs.States.{SoFar, Stretch, nothing_yet}
+use Rattle.tr_grammar.specs.States.{SoFar, Part, nothing_yet}
 use Rattle.tr_grammar.specs.Scripts.{after, after_all, after_as, next, script_of}
 use Rattle.tr_run.specs.Texts.{is_report}
 use Rattle.tr_serial.specs.Outputs.{HasOnlySteps}
@@ -22,7 +22,7 @@ abbrev IsOther : Actor × Step WidgetCmd → Type 0
 IsOther made = is_report made.1 ≡ false
 
 -- no step of a part is one
-abbrev AreOther : Stretch → Type 0
+abbrev AreOther : Part → Type 0
 AreOther part = All IsOther part.steps
 
 -- nor is one of the script so far

@@ -9,7 +9,7 @@ use Rattle.tr_machine.specs.States.{start}
 use Rattle.tr_widget.specs.declared.Widget.{Widget}
 use Rattle.tr_widget.specs.declared.WidgetCmd.{WidgetCmd}
 use Rattle.tr_widget.specs.Widgets.{IsWidget, widget_pic, widget_next, widget_patch, widget_answer, widget_value, widget_keeps, widget_words}
-use Rattle.tr_grammar.specs.States.{Stretch}
+use Rattle.tr_grammar.specs.States.{Part}
 use Rattle.tr_grammar.specs.Names.{Named}
 use Rattle.tr_grammar.specs.Texts.{lines_of}
 use Rattle.tr_grammar.specs.Scripts.{Script, script_of}
@@ -38,15 +38,15 @@ abbrev pub names_in : Named → Names
 names_in names = record { nodes = names.nodes; leaves = names.leaves }
 
 -- what a part has done: its reports, and then its steps
-abbrev pub part_cues : Stretch → List (Cue WidgetCmd)
+abbrev pub part_cues : Part → List (Cue WidgetCmd)
 part_cues part = flat_map reporting part.reports ++ map (λ made. makes made.0 made.1) part.steps
 
 -- a later part begins with a sync
-abbrev pub later_cues : Stretch → List (Cue WidgetCmd)
+abbrev pub later_cues : Part → List (Cue WidgetCmd)
 later_cues part = makes Player steps.Sync ∷ part_cues part
 
 -- what all parts have done
-abbrev pub cues : List Stretch → List (Cue WidgetCmd)
+abbrev pub cues : List Part → List (Cue WidgetCmd)
 cues [] = []
 cues (part ∷ parts) = part_cues part ++ flat_map later_cues parts
 

@@ -9,7 +9,7 @@ use Rattle.tr_journal.specs.declared.Step.{Step}
 use Rattle.tr_journal.specs.Openings.{tree_of}
 use Rattle.tr_widget.specs.declared.WidgetCmd.{WidgetCmd}
 use Rattle.tr_widget.specs.Widgets.{widget_words}
-use Rattle.tr_grammar.specs.States.{Stretch}
+use Rattle.tr_grammar.specs.States.{Part}
 use Rattle.tr_grammar.specs.Scripts.{IsPlayablePart}
 use Rattle.tr_run.specs.Texts.{is_report}
 use Rattle.tr_serial.specs.Outputs.{cues}
@@ -23,7 +23,7 @@ play_part-requires-clause-playable g c = λ κs lives.
     let turn = YieldsList-turn items c.loop-part.yielded c.loop-part.part-iterator c.loop-part.yielded_by c.next.result c.next.new.self
     c.in-Some.part c.in-Some.is c.next.ensures.steps in
     subst (λ (opened : List (Item _)). IsPlayablePart (tree_of opened).nodes c.in-Some.part) (sym c.loop-part.invariant.did.opening)
-    (subst (λ (p : Stretch). IsPlayablePart (tree_of c.args.run.now.stage.opening).nodes p) (sym turn.1)
+    (subst (λ (p : Part). IsPlayablePart (tree_of c.args.run.now.stage.opening).nodes p) (sym turn.1)
     (c.requires.playable (length c.loop-part.yielded) c.in-Some.part turn.0))
 
 pub play_part-requires-clause-other : goal.play_part-requires-clause-other
@@ -32,7 +32,7 @@ play_part-requires-clause-other g c = λ κs lives.
     let items = YieldsList-from_vec {s = c.into_iter-part-iterator.result} _ gives.0 (gives.1 ∙ c.args.parts.ok.0) in
     let turn = YieldsList-turn items c.loop-part.yielded c.loop-part.part-iterator c.loop-part.yielded_by c.next.result c.next.new.self
     c.in-Some.part c.in-Some.is c.next.ensures.steps in
-    subst (λ (p : Stretch). All (λ (made : Actor × Step WidgetCmd). is_report made.1 ≡ false) p.steps) (sym turn.1)
+    subst (λ (p : Part). All (λ (made : Actor × Step WidgetCmd). is_report made.1 ≡ false) p.steps) (sym turn.1)
     (c.requires.other (length c.loop-part.yielded) c.in-Some.part turn.0)
 
 pub loop-part-preserved : goal.loop-part-preserved
