@@ -8,9 +8,10 @@ ghost use Rattle.tr_grammar.specs.Forms as form;
 ghost use Rattle.tr_words.specs.Answers.{texts};
 ghost use Rattle.tr_script.specs.Reading.{Reads, leaf_line};
 
+use crate::refusals::NO_FORM;
 use std::alloc::Global;
 use tr_base::{Point, Shapes, Tile};
-use tr_grammar::{Code, LineRefused, Meaning};
+use tr_grammar::{LineRefused, Meaning};
 use tr_journal::Item;
 use tr_reader::Reader;
 use tr_widget::Widget;
@@ -46,7 +47,7 @@ pub fn read_leaf(
         values @ ..,
     ] = words
     else {
-        return Err(LineRefused::Fault(Code::B1));
+        return Err(NO_FORM);
     };
     let head = LeafWords {
         name: new,
@@ -64,7 +65,7 @@ pub fn read_leaf(
         "lines" => read_typescript(alloc, reader, &head, values),
         "canvas" => read_canvas(alloc, reader, &head, values),
         "meter" => read_meter(alloc, reader, &head, values),
-        _ => Err(LineRefused::Fault(Code::B1)),
+        _ => Err(NO_FORM),
     }
 }
 
@@ -73,7 +74,7 @@ fn read_solid(reader: &Reader, head: &LeafWords, values: &[&str]) -> Result<Mean
         (codes "solid") (texts values.now)) result }
 {
     let [tint] = values else {
-        return Err(LineRefused::Fault(Code::B1));
+        return Err(NO_FORM);
     };
     reader.in_opening()?;
     name(head.name)?;
@@ -91,7 +92,7 @@ fn read_board(reader: &Reader, head: &LeafWords, values: &[&str]) -> Result<Mean
         (codes "board") (texts values.now)) result }
 {
     let [tile, h, v] = values else {
-        return Err(LineRefused::Fault(Code::B1));
+        return Err(NO_FORM);
     };
     reader.in_opening()?;
     name(head.name)?;
@@ -138,7 +139,7 @@ fn read_typescript(
         (codes "lines") (texts values.now)) result }
 {
     let [] = values else {
-        return Err(LineRefused::Fault(Code::B1));
+        return Err(NO_FORM);
     };
     reader.in_opening()?;
     name(head.name)?;
@@ -160,7 +161,7 @@ fn read_canvas(
         (codes "canvas") (texts values.now)) result }
 {
     let [] = values else {
-        return Err(LineRefused::Fault(Code::B1));
+        return Err(NO_FORM);
     };
     reader.in_opening()?;
     name(head.name)?;
@@ -182,7 +183,7 @@ fn read_meter(
         (codes "meter") (texts values.now)) result }
 {
     let [bars] = values else {
-        return Err(LineRefused::Fault(Code::B1));
+        return Err(NO_FORM);
     };
     reader.in_opening()?;
     name(head.name)?;

@@ -10,6 +10,7 @@ mod leaf_lines;
 mod lines;
 mod names;
 mod opening_lines;
+mod refusals;
 mod report_lines;
 mod scripts;
 mod widget_lines;

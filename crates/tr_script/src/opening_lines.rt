@@ -7,15 +7,16 @@ ghost use Rattle.tr_words.specs.Answers.{Chooses, texts};
 ghost use Rattle.tr_script.specs.Reading.{Reads};
 
 use crate::names::node_of;
+use crate::refusals::NO_FORM;
 use tr_base::{Point, Size};
 use tr_forest::NodeKind;
-use tr_grammar::{Code, LineRefused, Meaning};
+use tr_grammar::{LineRefused, Meaning};
 use tr_journal::Item;
 use tr_reader::Reader;
 use tr_words::{byte, extent, glyph_byte, name, offset, rows, side, small};
 
 /// Where a child stands that no point is given for.
-const ORIGIN: Point = Point { h: 0, v: 0 };
+pub const ORIGIN: Point = Point { h: 0, v: 0 };
 
 /// A split that has a tint alone.
 fn split_of(word: &str) -> Option<NodeKind>
@@ -45,7 +46,7 @@ pub fn read_version(reader: &Reader, words: &[&str]) -> Result<Meaning, LineRefu
     ensures { Reads reader.now (Version ∷ []) (codes "trestle" ∷ texts words.now) result }
 {
     let [version] = words else {
-        return Err(LineRefused::Fault(Code::B1));
+        return Err(NO_FORM);
     };
     reader.in_start()?;
     let version = small(version, 1, 2)?;
@@ -56,7 +57,7 @@ pub fn read_screen(reader: &Reader, words: &[&str]) -> Result<Meaning, LineRefus
     ensures { Reads reader.now (Screen ∷ []) (codes "screen" ∷ texts words.now) result }
 {
     let [wide, high, kind] = words else {
-        return Err(LineRefused::Fault(Code::B1));
+        return Err(NO_FORM);
     };
     let kind = reader.kind(kind)?;
     reader.in_head()?;
@@ -70,7 +71,7 @@ pub fn read_glyph(reader: &Reader, words: &[&str]) -> Result<Meaning, LineRefuse
     ensures { Reads reader.now (Glyph ∷ []) (codes "glyph" ∷ texts words.now) result }
 {
     let [byte, rows_word] = words else {
-        return Err(LineRefused::Fault(Code::B1));
+        return Err(NO_FORM);
     };
     reader.in_opening()?;
     let byte = glyph_byte(byte)?;
@@ -83,7 +84,7 @@ pub fn read_node(reader: &Reader, words: &[&str]) -> Result<Meaning, LineRefused
     ensures { Reads reader.now node_forms (codes "node" ∷ texts words.now) result }
 {
     let [new, kind, values @ ..] = words else {
-        return Err(LineRefused::Fault(Code::B1));
+        return Err(NO_FORM);
     };
     match *kind {
         "page" => read_page(reader, new, values),
@@ -105,10 +106,10 @@ fn read_split(
         (codes "node" ∷ new.now ∷ kind.now ∷ texts values.now) result }
 {
     let [tint] = values else {
-        return Err(LineRefused::Fault(Code::B1));
+        return Err(NO_FORM);
     };
     let Some(kind) = split_of(kind) else {
-        return Err(LineRefused::Fault(Code::B1));
+        return Err(NO_FORM);
     };
     reader.in_opening()?;
     name(new)?;
@@ -122,7 +123,7 @@ fn read_page(reader: &Reader, new: &str, values: &[&str]) -> Result<Meaning, Lin
         (codes "node" ∷ new.now ∷ codes "page" ∷ texts values.now) result }
 {
     let [tint, per] = values else {
-        return Err(LineRefused::Fault(Code::B1));
+        return Err(NO_FORM);
     };
     reader.in_opening()?;
     name(new)?;
@@ -138,7 +139,7 @@ fn read_border(reader: &Reader, new: &str, values: &[&str]) -> Result<Meaning, L
         (codes "node" ∷ new.now ∷ codes "border" ∷ texts values.now) result }
 {
     let [tint, width] = values else {
-        return Err(LineRefused::Fault(Code::B1));
+        return Err(NO_FORM);
     };
     reader.in_opening()?;
     name(new)?;
@@ -154,7 +155,7 @@ fn read_rigid(reader: &Reader, new: &str, values: &[&str]) -> Result<Meaning, Li
         (codes "node" ∷ new.now ∷ codes "rigid" ∷ texts values.now) result }
 {
     let [tint, wide, high] = values else {
-        return Err(LineRefused::Fault(Code::B1));
+        return Err(NO_FORM);
     };
     reader.in_opening()?;
     name(new)?;
@@ -173,7 +174,7 @@ fn read_translate(reader: &Reader, new: &str, values: &[&str]) -> Result<Meaning
         (codes "node" ∷ new.now ∷ codes "translate" ∷ texts values.now) result }
 {
     let [tint, h, v] = values else {
-        return Err(LineRefused::Fault(Code::B1));
+        return Err(NO_FORM);
     };
     reader.in_opening()?;
     name(new)?;
@@ -190,13 +191,13 @@ fn read_pack(reader: &Reader, new: &str, values: &[&str]) -> Result<Meaning, Lin
         (codes "node" ∷ new.now ∷ codes "pack" ∷ texts values.now) result }
 {
     let [tint, way, gap] = values else {
-        return Err(LineRefused::Fault(Code::B1));
+        return Err(NO_FORM);
     };
     let Some(down) = is_down(way) else {
-        return Err(LineRefused::Fault(Code::B1));
+        return Err(NO_FORM);
     };
     if !reader.is_second() {
-        return Err(LineRefused::Fault(Code::B1));
+        return Err(NO_FORM);
     }
     reader.in_opening()?;
     name(new)?;
@@ -230,7 +231,7 @@ fn read_put_at(reader: &Reader, words: &[&str]) -> Result<Meaning, LineRefused>
     ensures { Reads reader.now (PutAt ∷ []) (codes "put" ∷ texts words.now) result }
 {
     let [child, parent, h, v] = words else {
-        return Err(LineRefused::Fault(Code::B1));
+        return Err(NO_FORM);
     };
     reader.in_opening()?;
     let h = offset(h)?;
@@ -245,7 +246,7 @@ pub fn read_root(reader: &Reader, words: &[&str]) -> Result<Meaning, LineRefused
     ensures { Reads reader.now (Root ∷ []) (codes "root" ∷ texts words.now) result }
 {
     let [node] = words else {
-        return Err(LineRefused::Fault(Code::B1));
+        return Err(NO_FORM);
     };
     reader.in_opening()?;
     let node = node_of(reader, node)?;
@@ -256,7 +257,7 @@ pub fn read_begin(reader: &Reader, words: &[&str]) -> Result<Meaning, LineRefuse
     ensures { Reads reader.now (Begin ∷ []) (codes "begin" ∷ texts words.now) result }
 {
     let [] = words else {
-        return Err(LineRefused::Fault(Code::B1));
+        return Err(NO_FORM);
     };
     reader.in_opening()?;
     Ok(Meaning::Begin)

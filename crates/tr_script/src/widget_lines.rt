@@ -13,6 +13,7 @@ ghost use Rattle.tr_words.specs.Answers.{Chooses, texts};
 ghost use Rattle.tr_script.specs.Reading.{Reads, ReadsAs, ReadsEdges, edges_of, edge_words};
 
 use crate::names::leaf_of;
+use crate::refusals::NO_FORM;
 use tr_base::{LeafId, Point, Rect, Selection, Tile};
 use tr_cage::Cage;
 use tr_grammar::{Code, LineRefused, Meaning};
@@ -120,7 +121,7 @@ pub fn read_at(
     ensures { Reads reader.now act_forms ((64 ∷ leaf.now) ∷ texts words.now) result }
 {
     let [act, values @ ..] = words else {
-        return Err(LineRefused::Fault(Code::B1));
+        return Err(NO_FORM);
     };
     match *act {
         "mark" => read_mark(reader, leaf, values),
@@ -143,7 +144,7 @@ pub fn read_at(
         "exchange" => read_exchange(reader, leaf, values),
         "undo" => read_undo(reader, leaf, values),
         "bar" => read_bar(reader, leaf, values),
-        _ => Err(LineRefused::Fault(Code::B1)),
+        _ => Err(NO_FORM),
     }
 }
 
@@ -152,7 +153,7 @@ fn read_mark(reader: &Reader, leaf: &str, values: &[&str]) -> Result<Meaning, Li
         ((64 ∷ leaf.now) ∷ codes "mark" ∷ texts values.now) result }
 {
     let [west, east, north, south] = values else {
-        return Err(LineRefused::Fault(Code::B1));
+        return Err(NO_FORM);
     };
     reader.in_steps()?;
     let clip = clip_of(&EdgeWords {
@@ -170,7 +171,7 @@ fn read_flush(reader: &Reader, leaf: &str, values: &[&str]) -> Result<Meaning, L
         ((64 ∷ leaf.now) ∷ codes "flush" ∷ texts values.now) result }
 {
     let [] = values else {
-        return Err(LineRefused::Fault(Code::B1));
+        return Err(NO_FORM);
     };
     reader.in_steps()?;
     let leaf = leaf_of(reader, leaf)?;
@@ -182,7 +183,7 @@ fn read_force(reader: &Reader, leaf: &str, values: &[&str]) -> Result<Meaning, L
         ((64 ∷ leaf.now) ∷ codes "force" ∷ texts values.now) result }
 {
     let [] = values else {
-        return Err(LineRefused::Fault(Code::B1));
+        return Err(NO_FORM);
     };
     reader.in_steps()?;
     let leaf = leaf_of(reader, leaf)?;
@@ -194,7 +195,7 @@ fn read_take(reader: &Reader, leaf: &str, values: &[&str]) -> Result<Meaning, Li
         ((64 ∷ leaf.now) ∷ codes "take" ∷ texts values.now) result }
 {
     let [] = values else {
-        return Err(LineRefused::Fault(Code::B1));
+        return Err(NO_FORM);
     };
     reader.in_steps()?;
     let leaf = leaf_of(reader, leaf)?;
@@ -206,10 +207,10 @@ fn read_cage(reader: &Reader, leaf: &str, values: &[&str]) -> Result<Meaning, Li
         ((64 ∷ leaf.now) ∷ codes "cage" ∷ texts values.now) result }
 {
     let [west, east, north, south, holders] = values else {
-        return Err(LineRefused::Fault(Code::B1));
+        return Err(NO_FORM);
     };
     if !is_cage_word(holders) {
-        return Err(LineRefused::Fault(Code::B1));
+        return Err(NO_FORM);
     }
     let edges = EdgeWords {
         west,
@@ -243,7 +244,7 @@ fn read_free(reader: &Reader, leaf: &str, values: &[&str]) -> Result<Meaning, Li
         ((64 ∷ leaf.now) ∷ codes "free" ∷ texts values.now) result }
 {
     let [] = values else {
-        return Err(LineRefused::Fault(Code::B1));
+        return Err(NO_FORM);
     };
     reader.in_steps()?;
     let cage = Cage::Everywhere;
@@ -256,10 +257,10 @@ fn read_own(reader: &Reader, leaf: &str, values: &[&str]) -> Result<Meaning, Lin
         ((64 ∷ leaf.now) ∷ codes "own" ∷ texts values.now) result }
 {
     let [selection, at] = values else {
-        return Err(LineRefused::Fault(Code::B1));
+        return Err(NO_FORM);
     };
     let Some(selection) = selection_of(selection) else {
-        return Err(LineRefused::Fault(Code::B1));
+        return Err(NO_FORM);
     };
     reader.in_steps()?;
     let time = time(at)?;
@@ -279,10 +280,10 @@ fn read_disown(reader: &Reader, leaf: &str, values: &[&str]) -> Result<Meaning, 
         ((64 ∷ leaf.now) ∷ codes "disown" ∷ texts values.now) result }
 {
     let [selection] = values else {
-        return Err(LineRefused::Fault(Code::B1));
+        return Err(NO_FORM);
     };
     let Some(selection) = selection_of(selection) else {
-        return Err(LineRefused::Fault(Code::B1));
+        return Err(NO_FORM);
     };
     reader.in_steps()?;
     let leaf = leaf_of(reader, leaf)?;
@@ -294,10 +295,10 @@ fn read_read(reader: &Reader, leaf: &str, values: &[&str]) -> Result<Meaning, Li
         ((64 ∷ leaf.now) ∷ codes "read" ∷ texts values.now) result }
 {
     let [selection] = values else {
-        return Err(LineRefused::Fault(Code::B1));
+        return Err(NO_FORM);
     };
     let Some(selection) = selection_of(selection) else {
-        return Err(LineRefused::Fault(Code::B1));
+        return Err(NO_FORM);
     };
     reader.in_steps()?;
     let leaf = leaf_of(reader, leaf)?;
@@ -309,7 +310,7 @@ fn read_set_tint(reader: &Reader, leaf: &str, values: &[&str]) -> Result<Meaning
         ((64 ∷ leaf.now) ∷ codes "tint" ∷ texts values.now) result }
 {
     let [tint] = values else {
-        return Err(LineRefused::Fault(Code::B1));
+        return Err(NO_FORM);
     };
     reader.in_steps()?;
     let tint = byte(tint)?;
@@ -322,7 +323,7 @@ fn read_tile(reader: &Reader, leaf: &str, values: &[&str]) -> Result<Meaning, Li
         ((64 ∷ leaf.now) ∷ codes "tile" ∷ texts values.now) result }
 {
     let [tile] = values else {
-        return Err(LineRefused::Fault(Code::B1));
+        return Err(NO_FORM);
     };
     reader.in_steps()?;
     let tile = Tile { rows: rows(tile)? };
@@ -335,7 +336,7 @@ fn read_shift(reader: &Reader, leaf: &str, values: &[&str]) -> Result<Meaning, L
         ((64 ∷ leaf.now) ∷ codes "shift" ∷ texts values.now) result }
 {
     let [h, v] = values else {
-        return Err(LineRefused::Fault(Code::B1));
+        return Err(NO_FORM);
     };
     reader.in_steps()?;
     let h = shift(h)?;
@@ -384,7 +385,7 @@ fn read_clear(reader: &Reader, leaf: &str, values: &[&str]) -> Result<Meaning, L
         ((64 ∷ leaf.now) ∷ codes "clear" ∷ texts values.now) result }
 {
     let [] = values else {
-        return Err(LineRefused::Fault(Code::B1));
+        return Err(NO_FORM);
     };
     reader.in_steps()?;
     let leaf = leaf_of(reader, leaf)?;
@@ -396,7 +397,7 @@ fn read_rect(reader: &Reader, leaf: &str, values: &[&str]) -> Result<Meaning, Li
         ((64 ∷ leaf.now) ∷ codes "rect" ∷ texts values.now) result }
 {
     let [west, east, north, south, tint] = values else {
-        return Err(LineRefused::Fault(Code::B1));
+        return Err(NO_FORM);
     };
     reader.in_steps()?;
     let area = area_of(&EdgeWords {
@@ -415,7 +416,7 @@ fn read_swap(reader: &Reader, leaf: &str, values: &[&str]) -> Result<Meaning, Li
         ((64 ∷ leaf.now) ∷ codes "swap" ∷ texts values.now) result }
 {
     let [west, east, north, south] = values else {
-        return Err(LineRefused::Fault(Code::B1));
+        return Err(NO_FORM);
     };
     reader.in_steps()?;
     let area = area_of(&EdgeWords {
@@ -436,10 +437,10 @@ fn read_exchange(reader: &Reader, leaf: &str, values: &[&str]) -> Result<Meaning
         ((64 ∷ leaf.now) ∷ codes "exchange" ∷ texts values.now) result }
 {
     let [west, east, north, south, a, b] = values else {
-        return Err(LineRefused::Fault(Code::B1));
+        return Err(NO_FORM);
     };
     if !reader.is_second() {
-        return Err(LineRefused::Fault(Code::B1));
+        return Err(NO_FORM);
     }
     let edges = EdgeWords {
         west,
@@ -474,7 +475,7 @@ fn read_undo(reader: &Reader, leaf: &str, values: &[&str]) -> Result<Meaning, Li
         ((64 ∷ leaf.now) ∷ codes "undo" ∷ texts values.now) result }
 {
     let [] = values else {
-        return Err(LineRefused::Fault(Code::B1));
+        return Err(NO_FORM);
     };
     reader.in_steps()?;
     let leaf = leaf_of(reader, leaf)?;
@@ -486,7 +487,7 @@ fn read_bar(reader: &Reader, leaf: &str, values: &[&str]) -> Result<Meaning, Lin
         ((64 ∷ leaf.now) ∷ codes "bar" ∷ texts values.now) result }
 {
     let [bar, height] = values else {
-        return Err(LineRefused::Fault(Code::B1));
+        return Err(NO_FORM);
     };
     reader.in_steps()?;
     let bar = BarNumber::of(small(bar, 0, 31)?);
