@@ -46,7 +46,6 @@ use Rattle.tr_machine.proofs.KeptLemmas.{AreAsMany, IsKept, as_many, kept_next, 
 use Rattle.tr_dump.specs.Names.{HasLeaf, HasNode, IsNamedActor, IsNamedEdit, IsNamedLevel, IsNamedLine, IsNamedQuery, IsNamedStep, Names}
 use Rattle.tr_stage.specs.Stages.{IsOf, IsPainters, StageView, state}
 use Rattle.tr_stage.specs.Standings.{Stands}
-use Rattle.tr_run.specs.Texts.{is_report}
 use Rattle.tr_run.specs.Views.{AreNamed, IsKnowing, IsNamed}
 use Rattle.tr_run.proofs.RunLemmas.{state_made}
 use Rattle.tr_run.proofs.MailLemmas.{IsBelow, IsSending, caged-knows, disowned-knows, edited-knows, keyed-knows, moused-knows, moved-knows, owned-knows, taken-knows}

@@ -29,11 +29,6 @@ use Rattle.tr_run.specs.declared.modes.Mode.TheVariants.{Serial, Check, Gen}
 abbrev pub pixel_sum : Picture → ℕ
 pixel_sum p = sum_by (λ row. sum_by (λ pixel. pixel) row) p.rows
 
--- a report
-abbrev pub is_report : {M : Type 0} → Step M → Bool
-is_report (steps.Report query) = true
-is_report step = false
-
 -- the screen's lag is written after each step
 abbrev pub is_check : Mode → Bool
 is_check Check = true

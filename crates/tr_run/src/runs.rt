@@ -4,6 +4,7 @@ ghost use Rattle.tr_journal.specs.declared.Actor.TheVariants.{Painter, Player};
 ghost use Rattle.tr_journal.specs.declared.Query.TheVariants.{Dump};
 ghost use Rattle.tr_journal.specs.declared.Step.TheVariants.{Report};
 ghost use Rattle.tr_journal.specs.Openings.{tree_of};
+ghost use Rattle.tr_journal.specs.Reports.{is_report};
 ghost use Rattle.tr_journal.specs.Steps.{IsQuery, IsStep, may, stated};
 ghost use Rattle.tr_machine.specs.Pictures.{render};
 ghost use Rattle.tr_machine.specs.Replays.{line_of};
@@ -11,7 +12,7 @@ ghost use Rattle.tr_machine.specs.Settling.{lines_of, settling_lines};
 ghost use Rattle.tr_dump.specs.Names.{names_of};
 ghost use Rattle.tr_stage.specs.Stages.{IsPainters, is_note, state};
 ghost use Rattle.tr_run.specs.Runs.{makes, reporting};
-ghost use Rattle.tr_run.specs.Texts.{is_check, is_report, sum_after, written};
+ghost use Rattle.tr_run.specs.Texts.{is_check, sum_after, written};
 ghost use Rattle.tr_run.specs.Views.{AreNamed, IsNamed, Adds, Does};
 
 use crate::levels::levels_of;

@@ -1,5 +1,5 @@
 -- What a script does on one thread, the journal that this makes, and the texts that are written.
-use Rattle.std.specs.Prelude.{◌≡◌, ℕ, false, All, List, [], ◌∷◌, ◌++◌, length, map, codes, decimal}
+use Rattle.std.specs.Prelude.{ℕ, List, [], ◌∷◌, ◌++◌, length, map, codes, decimal}
 use Rattle.std.specs.List.{flat_map}
 use Rattle.tr_client.specs.declared.Client.{Ghosts}
 use Rattle.tr_journal.specs.declared.Actor.TheVariants.{Player}
@@ -19,7 +19,7 @@ use Rattle.tr_gen.specs.Scripts as gen
 use Rattle.tr_run.specs.declared.Mode.{Mode}
 use Rattle.tr_run.specs.declared.Mode.TheVariants.{Serial, Check, Gen}
 use Rattle.tr_run.specs.Runs.{Cue, makes, reporting, run_lines}
-use Rattle.tr_run.specs.Texts.{is_report, texts_from, sum_from}
+use Rattle.tr_run.specs.Texts.{texts_from, sum_from}
 
 -- the widgets, as what is shown in the windows of a script
 abbrev pub widgets : Ghosts Widget WidgetCmd
@@ -49,10 +49,6 @@ later_cues part = makes Player steps.Sync ∷ part_cues part
 abbrev pub cues : List Part → List (Cue WidgetCmd)
 cues [] = []
 cues (part ∷ parts) = part_cues part ++ flat_map later_cues parts
-
--- no step of a part is a report: the reports stand before the steps
-abbrev pub HasOnlySteps : Script → Type 0
-HasOnlySteps s = All (λ part. All (λ made. is_report made.1 ≡ false) part.steps) s.parts
 
 -- the journal of a script that is played on one thread
 abbrev pub serial_journal : Script → List (JournalLine WidgetCmd)

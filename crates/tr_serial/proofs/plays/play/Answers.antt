@@ -7,19 +7,15 @@ use Rattle.tr_widget.specs.declared.WidgetCmd.{WidgetCmd}
 use Rattle.tr_widget.specs.Widgets.{widget_words}
 use Rattle.tr_grammar.specs.Scripts.{IsPlayablePart, Script}
 use Rattle.tr_stage.specs.Stages.{StageView}
-use Rattle.tr_serial.specs.Outputs.{HasOnlySteps, cues, names_in, widgets}
+use Rattle.tr_serial.specs.Outputs.{cues, names_in, widgets}
 use Rattle.tr_serial.proofs.CueLemmas.{HasPlayed, HasStarted, played}
 use Rattle.tr_serial.proofs.plays.play.Goals as goal
 
-pub play_parts-requires-clause-playable : goal.play_parts-requires-clause-playable
-play_parts-requires-clause-playable c = λ κs.
+pub play_parts-requires : goal.play_parts-requires
+play_parts-requires c = λ κs.
     let P : Script → Type 0 = λ s. All (IsPlayablePart (tree_of s.opening).nodes) s.parts in
-    let parts = subst P (sym c.script.view_is) c.requires.playable.parts in
+    let parts = subst P (sym c.script.view_is) c.requires.parts in
     subst (λ (opened : List (Item Widget)). All (IsPlayablePart (tree_of opened).nodes) c.script.inside.parts.items) (sym c.in_ok-run.ensures.opening) parts
-
-pub play_parts-requires-clause-other : goal.play_parts-requires-clause-other
-play_parts-requires-clause-other c = λ κs.
-    let P : Script → Type 0 = λ s. HasOnlySteps s in subst P (sym c.script.view_is) c.requires.steps
 
 pub returns : goal.returns
 returns c =
