@@ -21,7 +21,7 @@ use Rattle.tr_grammar.specs.declared.meanings.Meaning.{Meaning}
 use Rattle.tr_grammar.specs.declared.meanings.Meaning.TheVariants as meanings
 use Rattle.tr_grammar.specs.Texts.{is_silent, lines_of}
 use Rattle.tr_grammar.specs.Words.{words_of, word_at}
-use Rattle.tr_grammar.specs.Names.{Named}
+use Rattle.tr_journal.specs.Names.{Names}
 use Rattle.tr_grammar.specs.Forms.{Form, form_of}
 use Rattle.tr_grammar.specs.Meanings.{meaning_of}
 use Rattle.tr_grammar.specs.States.{Part, SoFar, empty_part, nothing_yet}
@@ -30,7 +30,7 @@ use Rattle.tr_grammar.specs.Faults.{has_ended, fault_of}
 -- ---- what a line adds
 
 -- the names with that of a node, which w is
-abbrev pub with_name : List ℕ → Item Widget → Named → Named
+abbrev pub with_name : List ℕ → Item Widget → Names → Names
 with_name w (items.Node kind tint) names = record names { nodes = names.nodes ++ w ∷ [] }
 with_name w (items.Leaf shapes content) names =
     record { nodes = names.nodes ++ w ∷ []; leaves = names.leaves ++ w ∷ [] }
@@ -109,7 +109,7 @@ refusal_of bytes =
 -- what a contract sees of a script: what its opening has, the names, and its parts
 pub record Script : Type 0 where
   pub opening : List (Item Widget)
-  pub names : Named
+  pub names : Names
   pub parts : List Part
 
 -- the script so far as a whole one: its last part ends

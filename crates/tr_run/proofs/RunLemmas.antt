@@ -19,7 +19,7 @@ use Rattle.tr_machine.specs.States.{State}
 use Rattle.tr_machine.specs.Replays.{line_of, next, replay, replay_from}
 use Rattle.tr_machine.specs.Settling.{after_steps, lines_of, settling_lines}
 use Rattle.tr_machine.proofs.JournalLemmas.{lines_of-take, replay-append, replay-more, replay_from-append, replay_from-lines_of}
-use Rattle.tr_dump.specs.Names.{Names}
+use Rattle.tr_journal.specs.Names.{Names}
 use Rattle.tr_stage.specs.Stages.{StageView, is_note, state}
 use Rattle.tr_run.specs.declared.modes.Mode.{Mode}
 use Rattle.tr_run.specs.declared.modes.Mode.TheVariants.{Serial, Check, Gen}

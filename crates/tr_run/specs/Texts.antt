@@ -20,7 +20,7 @@ use Rattle.tr_machine.specs.Replays.{next}
 use Rattle.tr_stage.specs.Stages.{is_note}
 use Rattle.tr_dump.specs.declared.Peek3.{Peek3}
 use Rattle.tr_dump.specs.Values.{line_text}
-use Rattle.tr_dump.specs.Names.{Names}
+use Rattle.tr_journal.specs.Names.{Names}
 use Rattle.tr_dump.specs.Reports.{dump_text, peek_text, journal_text, place_text, inbox_text}
 use Rattle.tr_run.specs.declared.modes.Mode.{Mode}
 use Rattle.tr_run.specs.declared.modes.Mode.TheVariants.{Serial, Check, Gen}

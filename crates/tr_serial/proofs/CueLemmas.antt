@@ -19,7 +19,7 @@ use Rattle.tr_machine.specs.States.{State, start}
 use Rattle.tr_machine.specs.Replays.{replay}
 use Rattle.tr_grammar.specs.States.{Part}
 use Rattle.tr_grammar.specs.Scripts.{IsPlayable, IsPlayablePart}
-use Rattle.tr_dump.specs.Names.{Names}
+use Rattle.tr_journal.specs.Names.{Names}
 use Rattle.tr_stage.specs.Stages.{state}
 use Rattle.tr_run.specs.declared.Mode.{Mode}
 use Rattle.tr_run.specs.Runs.{Cue, makes, run_lines}

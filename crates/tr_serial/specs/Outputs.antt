@@ -10,11 +10,9 @@ use Rattle.tr_widget.specs.declared.Widget.{Widget}
 use Rattle.tr_widget.specs.declared.WidgetCmd.{WidgetCmd}
 use Rattle.tr_widget.specs.Widgets.{IsWidget, widget_pic, widget_next, widget_patch, widget_answer, widget_value, widget_keeps, widget_words}
 use Rattle.tr_grammar.specs.States.{Part}
-use Rattle.tr_grammar.specs.Names.{Named}
 use Rattle.tr_grammar.specs.Texts.{lines_of}
 use Rattle.tr_grammar.specs.Scripts.{Script, script_of}
 use Rattle.tr_dump.specs.Values.{line_text}
-use Rattle.tr_dump.specs.Names.{Names}
 use Rattle.tr_gen.specs.Scripts as gen
 use Rattle.tr_run.specs.declared.Mode.{Mode}
 use Rattle.tr_run.specs.declared.Mode.TheVariants.{Serial, Check, Gen}
@@ -32,10 +30,6 @@ widgets = record {
   value = widget_value;
   keeps = widget_keeps;
 }
-
--- the names of a script, as the texts of reports have them
-abbrev pub names_in : Named → Names
-names_in names = record { nodes = names.nodes; leaves = names.leaves }
 
 -- what a part has done: its reports, and then its steps
 abbrev pub part_cues : Part → List (Cue WidgetCmd)
@@ -56,7 +50,7 @@ serial_journal s = run_lines widgets (start s.opening) (cues s.parts)
 
 -- what is written while a script is played
 abbrev pub played_text : Mode → Script → List ℕ
-played_text mode s = texts_from widgets widget_words (names_in s.names) mode [] (start s.opening) (serial_journal s)
+played_text mode s = texts_from widgets widget_words s.names mode [] (start s.opening) (serial_journal s)
 
 -- the sum of the last dump's pixels, in the mode that adds them up, and else 0
 abbrev pub played_sum : Mode → Script → ℕ
