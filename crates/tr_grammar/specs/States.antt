@@ -8,7 +8,8 @@ use Rattle.tr_widget.specs.declared.Widget.{Widget}
 use Rattle.tr_widget.specs.declared.WidgetCmd.{WidgetCmd}
 use Rattle.tr_grammar.specs.declared.places.Place.{Place}
 use Rattle.tr_grammar.specs.declared.places.Place.TheVariants.{Start}
-use Rattle.tr_grammar.specs.Names.{Named, no_names}
+use Rattle.tr_journal.specs.Names.{Names}
+use Rattle.tr_grammar.specs.Names.{no_names}
 
 -- what a contract sees of a part of a script: its reports, and then its steps, each with who makes it
 pub record Part : Type 0 where
@@ -20,7 +21,7 @@ pub record Part : Type 0 where
 pub record SoFar : Type 0 where
   pub version : ℕ
   pub place : Place
-  pub names : Named
+  pub names : Names
   pub items : List (Item Widget)
   pub glyphs : List ℕ
   pub ended : List Part

@@ -5,6 +5,7 @@
 //! its names, and by what the lines before it declared.
 #![tactic(auto)]
 
+mod act_lines;
 mod desk_lines;
 mod leaf_lines;
 mod lines;

@@ -10,6 +10,7 @@ ghost use Rattle.tr_words.specs.Answers.{texts};
 ghost use Rattle.tr_reader.specs.Adding.{IsFault, IsSoundMeaning};
 ghost use Rattle.tr_script.specs.Reading.{Reads, plain_forms};
 
+use crate::act_lines::read_at;
 use crate::desk_lines::read_desk;
 use crate::leaf_lines::read_leaf;
 use crate::opening_lines::{
@@ -19,7 +20,6 @@ use crate::refusals::NO_FORM;
 use crate::report_lines::{
     read_dump, read_end, read_inbox, read_journal, read_peek, read_sync, read_where,
 };
-use crate::widget_lines::read_at;
 use std::alloc::Global;
 use tr_grammar::{Code, LineRefused, Meaning};
 use tr_reader::Reader;

@@ -1,10 +1,12 @@
 //! The readers of the lines of the opening. Each tests for its faults in the order of their codes.
-ghost use Rattle.std.specs.Prelude.{[], ◌∷◌, bytes_eq, codes};
+ghost use Rattle.std.specs.Prelude.{◌≡◌, [], ◌∷◌, bytes_eq, codes, not};
+ghost use Rattle.tr_grammar.specs.Words.{is_name, is_number, nat_of};
 ghost use Rattle.tr_grammar.specs.Forms.{node_forms, split_words, way_words, Version, Screen, Glyph};
 ghost use Rattle.tr_grammar.specs.Forms.{Split, Page, Border, Rigid, Translate, Pack, Put, PutAt, Root, Begin};
 ghost use Rattle.tr_grammar.specs.Meanings.{split_of};
+ghost use Rattle.tr_grammar.specs.Faults.{allows, opening_line};
 ghost use Rattle.tr_words.specs.Answers.{Chooses, texts};
-ghost use Rattle.tr_script.specs.Reading.{Reads};
+ghost use Rattle.tr_script.specs.Reading.{Begins, Reads};
 
 use crate::names::node_of;
 use crate::refusals::NO_FORM;
@@ -96,6 +98,16 @@ pub fn read_node(reader: &Reader, words: &[&str]) -> Result<Meaning, LineRefused
     }
 }
 
+/// The tint of a node that isn't a leaf, of a line that may stand there.
+fn tint_of(reader: &Reader, new: &str, tint: &str) -> Result<u8, Code>
+    ensures { Begins (not (allows reader.now.place opening_line))
+        (not (is_name new.now) ∷ not (is_number 0 255 tint.now) ∷ []) (λ n. n ≡ nat_of tint.now) result }
+{
+    reader.in_opening()?;
+    name(new)?;
+    byte(tint)
+}
+
 fn read_split(
     reader: &Reader,
     new: &str,
@@ -111,9 +123,7 @@ fn read_split(
     let Some(kind) = split_of(kind) else {
         return Err(NO_FORM);
     };
-    reader.in_opening()?;
-    name(new)?;
-    let tint = byte(tint)?;
+    let tint = tint_of(reader, new, tint)?;
     reader.is_new(new)?;
     Ok(Meaning::Item(Item::Node { kind, tint }))
 }
@@ -125,9 +135,7 @@ fn read_page(reader: &Reader, new: &str, values: &[&str]) -> Result<Meaning, Lin
     let [tint, per] = values else {
         return Err(NO_FORM);
     };
-    reader.in_opening()?;
-    name(new)?;
-    let tint = byte(tint)?;
+    let tint = tint_of(reader, new, tint)?;
     let per = small(per, 1, 16)?;
     reader.is_new(new)?;
     let kind = NodeKind::Page { per, page: 0 };
@@ -141,9 +149,7 @@ fn read_border(reader: &Reader, new: &str, values: &[&str]) -> Result<Meaning, L
     let [tint, width] = values else {
         return Err(NO_FORM);
     };
-    reader.in_opening()?;
-    name(new)?;
-    let tint = byte(tint)?;
+    let tint = tint_of(reader, new, tint)?;
     let width = byte(width)?;
     reader.is_new(new)?;
     let kind = NodeKind::Border { width };
@@ -157,9 +163,7 @@ fn read_rigid(reader: &Reader, new: &str, values: &[&str]) -> Result<Meaning, Li
     let [tint, wide, high] = values else {
         return Err(NO_FORM);
     };
-    reader.in_opening()?;
-    name(new)?;
-    let tint = byte(tint)?;
+    let tint = tint_of(reader, new, tint)?;
     let wide = extent(wide)?;
     let high = extent(high)?;
     reader.is_new(new)?;
@@ -176,9 +180,7 @@ fn read_translate(reader: &Reader, new: &str, values: &[&str]) -> Result<Meaning
     let [tint, h, v] = values else {
         return Err(NO_FORM);
     };
-    reader.in_opening()?;
-    name(new)?;
-    let tint = byte(tint)?;
+    let tint = tint_of(reader, new, tint)?;
     let h = offset(h)?;
     let v = offset(v)?;
     reader.is_new(new)?;
@@ -199,9 +201,7 @@ fn read_pack(reader: &Reader, new: &str, values: &[&str]) -> Result<Meaning, Lin
     if !reader.is_second() {
         return Err(NO_FORM);
     }
-    reader.in_opening()?;
-    name(new)?;
-    let tint = byte(tint)?;
+    let tint = tint_of(reader, new, tint)?;
     let gap = small(gap, 0, 64)?;
     reader.is_new(new)?;
     let kind = NodeKind::Pack { down, gap };

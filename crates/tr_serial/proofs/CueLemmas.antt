@@ -12,17 +12,18 @@ use Rattle.tr_journal.specs.declared.Item.{Item}
 use Rattle.tr_journal.specs.declared.Step.{Step}
 use Rattle.tr_journal.specs.declared.Step.TheVariants.{Sync}
 use Rattle.tr_journal.specs.Journals.{JournalLine}
+use Rattle.tr_journal.specs.Reports.{is_report}
 use Rattle.tr_journal.specs.Steps.{IsStep, may}
 use Rattle.tr_widget.specs.declared.WidgetCmd.{WidgetCmd}
 use Rattle.tr_machine.specs.States.{State, start}
 use Rattle.tr_machine.specs.Replays.{replay}
 use Rattle.tr_grammar.specs.States.{Part}
 use Rattle.tr_grammar.specs.Scripts.{IsPlayable, IsPlayablePart}
-use Rattle.tr_dump.specs.Names.{Names}
+use Rattle.tr_journal.specs.Names.{Names}
 use Rattle.tr_stage.specs.Stages.{state}
 use Rattle.tr_run.specs.declared.Mode.{Mode}
 use Rattle.tr_run.specs.Runs.{Cue, makes, run_lines}
-use Rattle.tr_run.specs.Texts.{is_report, sum_from, texts_from}
+use Rattle.tr_run.specs.Texts.{sum_from, texts_from}
 use Rattle.tr_run.specs.Views.{Does, RunView}
 use Rattle.tr_run.proofs.RunLemmas.{Does-append}
 use Rattle.tr_serial.specs.Outputs.{cues, later_cues, part_cues}
@@ -81,12 +82,11 @@ pub record AreReady (t : Nodes) (steps : List (Actor × Step WidgetCmd)) : Type 
   pub values : All (λ (made : Actor × Step WidgetCmd). IsStep t made.1) steps
   pub other : All (λ (made : Actor × Step WidgetCmd). is_report made.1 ≡ false) steps
 
-pub ready : (t : Nodes) (part : Part) → IsPlayablePart t part →
-    All (λ (made : Actor × Step WidgetCmd). is_report made.1 ≡ false) part.steps → AreReady t part.steps
-ready t part playable other = record {
+pub ready : (t : Nodes) (part : Part) → IsPlayablePart t part → AreReady t part.steps
+ready t part playable = record {
   may = All-weaker (IsPlayable t) (λ (made : Actor × Step WidgetCmd). may made.0 made.1 ≡ true) (λ made is. is.may) part.steps playable.steps;
   values = All-weaker (IsPlayable t) (λ (made : Actor × Step WidgetCmd). IsStep t made.1) (λ made is. is.values) part.steps playable.steps;
-  other = other;
+  other = All-weaker (IsPlayable t) (λ (made : Actor × Step WidgetCmd). is_report made.1 ≡ false) (λ made is. is.other) part.steps playable.steps;
 }
 
 -- ---- runs
