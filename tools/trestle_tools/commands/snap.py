@@ -7,7 +7,7 @@ from typing import Iterator, List, NamedTuple, Optional
 from . import FINE, FOUND, parser, write
 from ..comparison import plural, report
 from ..outputs import take_apart
-from ..program import READ_FAULT, Played, Trouble, due_status, play, read_bytes
+from ..program import PLAYED, READ_FAULT, REFUSED, Played, Trouble, due_status, play, read_bytes
 
 WHAT = """\
 Plays each script and compares what it writes, and its status, with the output that is stored beside it. Of
@@ -61,10 +61,8 @@ def main(arguments: List[str]) -> int:
         for stored in stored_beside(script, asked):
             compared += 1
             differing += 0 if settled(script, stored, asked) else 1
-    if differing:
-        write(f"snap: {differing} of {plural(compared, 'output')} differ" + ("s" if compared == 1 else ""))
-    else:
-        write(f"snap: {plural(compared, 'output')} of {plural(len(scripts), 'script')} as stored")
+    count = f"{plural(compared, 'output')} of {plural(len(scripts), 'script')}"
+    write(f"snap: {count} as stored" if not differing else f"snap: {differing} not as stored, of {count}")
     return FOUND if differing else FINE
 
 
@@ -101,28 +99,30 @@ def settled(script: Path, stored: Stored, asked: argparse.Namespace) -> bool:
     if before is None:
         write(f"{script}: no output is stored; ./snap --update {script} stores it as {stored.path}")
         return False
-    write(f"{script}: {stored.word} writes another text than {stored.path}{told_status(before, played)}")
+    if played.status != due_status(before):
+        write(f"{script}: {stored.word} {ending(played)}, and {stored.path} has status {due_status(before)}")
+        return False
+    write(f"{script}: {stored.word} writes another text than {stored.path}")
     write(f"A is {stored.path}, B is what {stored.word} writes now")
     for line in report(take_apart(before), take_apart(played.text())):
         write(line)
     return False
 
 
-def told_status(before: str, played: Played) -> str:
-    """The status, where it is another one than the stored one."""
-    if due_status(before) == played.status:
-        return ""
-    return f", and ends with {played.status} in place of {due_status(before)}"
+def ending(played: Played) -> str:
+    """How a script ended, and where to look further."""
+    first = played.text().split("\n")[0] if played.status != PLAYED else ""
+    further = {REFUSED: "; ./why says why"}.get(played.status, "")
+    return f"ends with status {played.status}" + (f" ({first}{further})" if first else "")
 
 
 def updated(script: Path, stored: Stored, played: Played, asked: argparse.Namespace) -> bool:
     """Stores an output, and tells its file; but no other status than the stored one, unless it is asked for."""
     status = due_status(stored.text() or "")
     if played.status not in (status, asked.status):
-        first = played.text().split("\n")[0]
-        write(f"{script}: the status is {played.status} and not {status} ({first or 'nothing is written'}): not stored")
+        write(f"{script}: {stored.word} {ending(played)}, where {status} is stored: not stored")
         if played.status <= READ_FAULT:
-            write(f"  --status {played.status} stores it all the same; ./why {script} says what is wrong")
+            write(f"  (to store it all the same: --status {played.status})")
         return False
     if played.status != due_status(played.text()):
         write(f"{script}: an output with status {played.status} cannot be stored")
