@@ -202,16 +202,23 @@ def unknown_first(case: Case, word: Word) -> Iterator[Cause]:
 def empty_words(case: Case, forms: List[Form]) -> Iterator[Cause]:
     """Blanks at the end of a line, and two in a row where no text may stand."""
     words = case.words()
-    texts = [form for form in forms if form.has_text() and [it.text for it in words[form.place : form.place + 1]] == [form.choice]]
-    fixed = words[: len(texts[0].slots) - 1] if texts else words
+    fixed = fixed_words(words, forms)
     empty = [word for word in fixed if not word.text]
     ending = len(case.line.text.rstrip(" "))
-    if empty and empty[-1].column >= ending and not texts:
+    if empty and empty[-1].column >= ending and len(fixed) == len(words):
         count = len(case.line.text) - ending
-        blanks = "a blank" if count == 1 else f"{count} blanks"
-        yield Cause(f"{blanks} at the end of the line: take {'it' if count == 1 else 'them'} away", ending, count)
+        says = "a blank at the end of the line: take it away"
+        yield Cause(says if count == 1 else f"{count} blanks at the end of the line: take them away", ending, count)
     elif empty:
         yield Cause("two blanks in a row: words are separated by exactly one", empty[0].column - 1, 2)
+
+
+def fixed_words(words: List[Word], forms: List[Form]) -> List[Word]:
+    """The words of a line that are no part of a text."""
+    for form in forms:
+        if form.has_text() and len(words) > form.place and words[form.place].text == form.choice:
+            return words[: len(form.slots) - 1]
+    return words
 
 
 def unknown_choice(case: Case, word: Word, choices: Dict[str, List[Form]]) -> Cause:

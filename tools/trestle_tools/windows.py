@@ -2,7 +2,7 @@
 
 The lines are taken as right: the program has said so. Edits after `begin` are taken over where they were made."""
 
-from typing import Dict, Iterator, List, NamedTuple, Optional
+from typing import Dict, Iterator, List, Optional, Set
 
 from .grammar import REPORTS
 from .scripts import DEPTH, Line
@@ -79,13 +79,6 @@ class Window:
         return named[0] if named else self.children[0].name if self.children else None
 
 
-class Glyph(NamedTuple):
-    """Where a glyph is declared."""
-
-    byte: int
-    line: int
-
-
 class Windows:
     """What the lines so far say."""
 
@@ -102,6 +95,8 @@ class Windows:
         self.screen: List[str] = []
         self.kind = ""
         self.leaves = self.reports = self.syncs = 0
+        # The windows that were below the root at some time.
+        self.placed: Set[str] = set()
         # The first word of the last line that means something.
         self.last = ""
 
@@ -153,6 +148,12 @@ class Windows:
     def add_begin(self, line: Line, _words: List[str]) -> None:
         """The end of the opening."""
         self.begin_line = line.number
+        self.place(self.root)
+
+    def place(self, window: Optional[Window]) -> None:
+        """Notes a window, and all in it, as placed, where it is below the root."""
+        if window and self.root in window.above():
+            self.placed.update(it.name for it in window.below())
 
     def attach_fault(self, child: Window, parent: Window) -> Optional[str]:
         """Why a window can't become a child of another, as the program's N1 to N5 have it."""
@@ -169,3 +170,40 @@ class Windows:
         if len(list(parent.above())) + child.height() > DEPTH:
             return f"the tree would be deeper than {DEPTH} windows"
         return None
+
+    def edit(self, words: List[str]) -> Optional[str]:
+        """Takes over an edit that was made, and says why it changes nothing, where that is so."""
+        edit, values = words[0], words[2:]
+        if edit == "resize":
+            same, self.screen = self.screen == words[1:], words[1:]
+            return f"the screen is {' by '.join(words[1:])} already" if same else None
+        if edit == "rescreen":
+            same, self.kind = self.kind == words[1], words[1]
+            return f"the screen is {words[1]} already" if same else None
+        window = self.names[words[1]]
+        if edit == "attach":
+            self.names[words[2]].attach(window, values[1:])
+            self.place(window)
+            return None
+        if edit == "detach":
+            window.detach()
+            return None
+        return self.lift(window) if edit == "lift" else self.set(window, edit, values)
+
+    def lift(self, window: Window) -> Optional[str]:
+        """Brings a child of a z to the front."""
+        children = window.parent.children if window.parent else []
+        if children[:1] == [window]:
+            return f"{window.name} is the front one of {window.parent.name} already"
+        children.remove(window)
+        children.insert(0, window)
+        return None
+
+    def set(self, window: Window, edit: str, values: List[str]) -> Optional[str]:
+        """Sets what an edit sets of a window."""
+        before = [window.shown()] if edit == "show" else window.settings.get(edit)
+        window.settings[edit] = values
+        if before != values:
+            return None
+        told = {"move": f"is at {' '.join(values)}", "show": f"shows {values[0]}", "turn": f"is at page {values[0]}"}
+        return f"{window.name} {told.get(edit, 'has ' + ' '.join(values))} already"
