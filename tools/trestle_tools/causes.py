@@ -155,6 +155,7 @@ def word_causes(case: Case) -> Iterator[Cause]:
     if not forms:
         yield from unknown_first(case, words[0])
         return
+    yield from comment_behind(case, forms)
     yield from empty_words(case, forms)
     if words[0].text == "@":
         yield at(words[0], "behind the @ stands the name of a leaf, without a blank between")
@@ -164,7 +165,6 @@ def word_causes(case: Case) -> Iterator[Cause]:
         yield unknown_choice(case, words[place], choices)
     for form in choices.get(words[place].text if place and len(words) > place else "", []):
         yield from newer_words(case, form)
-    yield from comment_behind(case)
     yield from count_causes(case, forms, choices, place)
     form = form_for(case.line.texts())
     if form:
@@ -258,9 +258,9 @@ def newer(case: Case, word: Word) -> Cause:
     return at(word, f"`{word.text}` is a word of version 2: write `trestle 2` in line {where}")
 
 
-def comment_behind(case: Case) -> Iterator[Cause]:
+def comment_behind(case: Case, forms: List[Form]) -> Iterator[Cause]:
     """A comment behind the words of a line."""
-    for word in case.words()[1:]:
+    for word in fixed_words(case.words(), forms)[1:]:
         if word.text.startswith("#") or word.text.startswith("//"):
             says = "a comment behind a line: it takes a line of its own, which begins with #"
             yield Cause(says, word.column, len(case.line.rest(word)))
