@@ -87,6 +87,7 @@ fn clip_of(words: &EdgeWords) -> Result<Rect, Code>
 }
 
 /// The words of a line of a leaf's actor: the leaf's name without its @, what is done, and its values.
+#[derive(Drop)]
 pub struct ActLine<'a> {
     pub leaf: &'a str,
     pub act: &'a str,

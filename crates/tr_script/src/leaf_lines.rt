@@ -27,6 +27,7 @@ const WORDS_BEFORE_TEXT: usize = 9;
 
 /// The words of a line that declares a leaf, behind its first: those before the widget's, the widget's and
 /// its values.
+#[derive(Drop)]
 struct LeafLine<'a> {
     head: LeafWords<'a>,
     widget: &'a str,
