@@ -11,6 +11,3 @@ mod places;
 pub use codes::{Code, LineRefused, ReadRefused};
 pub use meanings::Meaning;
 pub use places::Place;
-
-#[cfg(test)]
-mod tests;

@@ -1,4 +1,5 @@
-//! Tests of the stage by whole runs. Nothing but tests is in here: they cross all crates below.
+//! Tests of the stage: random runs against a slow model, and calls that no script makes. Nothing but tests is in
+//! here: what steps make of the screen, and what they send, is tried by scripts.
 #![tactic(auto)]
 
 #[cfg(test)]
@@ -17,8 +18,6 @@ mod played;
 mod reads;
 #[cfg(test)]
 mod runs;
-#[cfg(test)]
-mod screens;
 #[cfg(test)]
 mod slow;
 #[cfg(test)]
