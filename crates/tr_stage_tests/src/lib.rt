@@ -9,13 +9,13 @@ mod calls;
 #[cfg(test)]
 mod draws;
 #[cfg(test)]
-mod events;
-#[cfg(test)]
 mod openings;
 #[cfg(test)]
 mod played;
 #[cfg(test)]
 mod reads;
+#[cfg(test)]
+mod reserved;
 #[cfg(test)]
 mod runs;
 #[cfg(test)]

@@ -5,7 +5,7 @@ use super::played::Played;
 use super::runs::*;
 use std::process::Abort;
 use std::test::Fail;
-use tr_base::{Click, Event, Point, Size};
+use tr_base::Size;
 use tr_forest::{EditRefused, NodeKind};
 
 /// The stage of two windows of two points each, side by side, on a screen of one row. What they leave is the
@@ -19,30 +19,6 @@ fn two_beside<P: Played>(rt: &(impl Abort + AllocGlobal), wide: u16) -> Result<P
         Part::Put(2, 0, 0, 0),
     ];
     P::start(rt, Size { wide, high: 1 }, &parts)
-}
-
-/// What a window is told of a button.
-pub fn clicked(time: u32, click: Click, button: u8, h: i32) -> Event {
-    let at = Point { h, v: 0 };
-    Event::Mouse {
-        time,
-        click,
-        button,
-        at,
-    }
-}
-
-/// The stage of a window with a text, and of another one east of it.
-pub fn label_and_solid<P: Played>(rt: &(impl Abort + AllocGlobal)) -> Result<P, EditRefused> {
-    let parts = [
-        Part::Glyph,
-        Part::Node(NodeKind::H, 0),
-        Part::Leaf([1; 3], [1; 3], Shown::Label),
-        Part::Leaf([1; 3], [1; 3], Shown::Solid(2)),
-        Part::Put(1, 0, 0, 0),
-        Part::Put(2, 0, 0, 0),
-    ];
-    P::start(rt, Size { wide: 2, high: 1 }, &parts)
 }
 
 /// Three steps answer the same, with room reserved and without, and then a fourth one.
