@@ -10,6 +10,3 @@ mod streams;
 
 pub use calls::{Outcome, serial_call};
 pub use statuses::Status;
-
-#[cfg(test)]
-mod tests;
