@@ -111,7 +111,7 @@ class Canvas(Content):
             return f"the canvas has its {FIGURES} figures already"
         self.count += 1
         west, east, north, south = (int(word) for word in words[:4])
-        return None if west < east and north < south else "the figure has no point: W is below E, and N below S"
+        return None if west < east and north < south else "the figure has no point: W has to be below E, and N below S"
 
     do_swap = do_exchange = do_rect
 
@@ -143,7 +143,7 @@ class Meter(Content):
         """Another height."""
         bar = f"bar {words[0]}"
         if bar not in self.values:
-            return f"the meter has {len(self.values)} bars, counted from 0, and no {bar}"
+            return f"the meter has no {bar}: its bars are 0 to {len(self.values) - 1}"
         before, self.values[bar] = self.values[bar], words[1]
         return f"{bar} has this height already" if before == words[1] else None
 

@@ -2,7 +2,7 @@
 
 import argparse
 from pathlib import Path
-from typing import Iterator, List, NamedTuple, Optional
+from typing import List, NamedTuple, Optional
 
 from . import FINE, FOUND, parser, write
 from ..comparison import plural, report
@@ -78,14 +78,14 @@ def scripts_of(name: str) -> List[Path]:
     return [path]
 
 
-def stored_beside(script: Path, asked: argparse.Namespace) -> Iterator[Stored]:
+def stored_beside(script: Path, asked: argparse.Namespace) -> List[Stored]:
     """The outputs that are stored for a script, or are to be; without any the one that is missing."""
-    there = [Stored(script.with_suffix(ending), "serial") for ending in SERIAL_ENDINGS]
-    there = [stored for stored in there if stored.path.exists()]
+    serial = [Stored(script.with_suffix(ending), "serial") for ending in SERIAL_ENDINGS]
     check = Stored(script.with_suffix(CHECK_ENDING), "check")
-    if check.path.exists() or asked.check:
-        there.append(check)
-    return iter(there or [Stored(script.with_suffix(SERIAL_ENDINGS[0]), "serial")])
+    there = [stored for stored in serial if stored.path.exists()]
+    if not there and (asked.check or not check.path.exists()):
+        there = serial[:1]
+    return there + [check] * (asked.check or check.path.exists())
 
 
 def settled(script: Path, stored: Stored, asked: argparse.Namespace) -> bool:
