@@ -1,5 +1,5 @@
 use Rattle.std.proofs.Common.{◌≡◌, take}
-use Rattle.w_lines.proofs.typescripts.same_lines.Given as goal
+use Rattle.tr_client.proofs.lines.same_lines.Given as goal
 
 -- the lines so far are the same
 abbrev pub invariant-loop-i : goal.invariant-loop-i

@@ -4,7 +4,7 @@ use Rattle.std.proofs.lemmas.Int.{ints}
 use Rattle.tr_base.specs.Rects.{InReach, rect_of, empty_rect}
 use Rattle.tr_base.proofs.RectLemmas.{cast-rect}
 use Rattle.tr_paint.specs.Paints.{IsNear, IsNearRect}
-use Rattle.w_lines.proofs.places.area_of.Goals as goal
+use Rattle.tr_client.proofs.lines.area_of.Goals as goal
 
 -- the rectangle of edges that are near is near
 near-rect : (w e n s : ℤ) → IsNear w → IsNear e → IsNear n → IsNear s → IsNearRect (rect_of w e n s)
