@@ -1,4 +1,6 @@
 //! What is known of the points of a window, and what paint commands make of it.
+ghost use Rattle.tr_paint.specs.Paints.{IsNearPaint};
+
 use crate::pictures::{earlier, text_bit};
 use std::alloc::Global;
 use tr_base::{Env, NoMemory, Op, Pair, Point, Size, eff, tile_bit, whole};
@@ -81,7 +83,9 @@ fn chosen(ops: Pair, bit: bool) -> Op {
 }
 
 /// What is known after one command.
-fn after_one(alloc: Global, env: &Env, paint: &Paint, now: &Grid) -> Result<Grid, NoMemory> {
+fn after_one(alloc: Global, env: &Env, paint: &Paint, now: &Grid) -> Result<Grid, NoMemory>
+    requires { IsNearPaint paint.now }
+{
     let size = now.size;
     let area = paint.area();
     let mut next = Grid::unknown(alloc, size)?;
