@@ -81,7 +81,7 @@ class Play:
             self.down.pop(words[3], None)
             return
         if not self.down and not entry.events:
-            yield "the press goes to nobody: the cursor is at a frame or off the screen; a `motion` to a leaf comes before"
+            yield "the press goes to nobody: the cursor is at a frame or off the screen; put a `motion` before it"
         self.down[words[3]] = line
 
     def sent(self, line: Line, event: str) -> Iterator[str]:
@@ -169,7 +169,8 @@ def in_one(dumps: List[Finding]) -> List[Finding]:
         return []
     more = ", ".join(str(it.line.number) for it in dumps[1:])
     before = f" (so also before the dump{'s' * (len(dumps) > 2)} of line {more})" if more else ""
-    return [Finding(dumps[0].line, dumps[0].says + before + ": put `peek` before it, or paint by `@LEAF flush` and `sync`")]
+    remedy = ": put `peek` before it, or paint by `@LEAF flush` and `sync`"
+    return [Finding(dumps[0].line, dumps[0].says + before + remedy)]
 
 
 def lag_of(waiting: int, stale: int) -> Optional[str]:
