@@ -29,8 +29,9 @@ def colours_of(png: bytes) -> list:
     while at < len(png):
         length, name = struct.unpack(">I4s", png[at : at + 8])
         chunks[name] = png[at + 8 : at + 8 + length]
-        assert zlib.crc32(png[at + 4 : at + 8 + length]) == struct.unpack(">I", png[at + 8 + length : at + 12 + length])[0]
-        at += 12 + length
+        end = at + 8 + length
+        assert zlib.crc32(png[at + 4 : end]) == struct.unpack(">I", png[end : end + 4])[0]
+        at = end + 4
     width, height = struct.unpack(">II", chunks[b"IHDR"][:8])
     rows = zlib.decompress(chunks[b"IDAT"])
     assert len(rows) == height * (width + 1)
@@ -115,7 +116,8 @@ class Snap(Folder):
         self.change("tint 46", "tnit 46")
         ended = call("snap", ["--update", "lamp.txt"], self.folder)
         self.assertEqual(1, ended.status)
-        self.assertIn("ends with status 3 (refused: line 8 B1; ./why says why), where 0 is stored: not stored", ended.text)
+        refusal = "ends with status 3 (refused: line 8 B1; ./why says why), where 0 is stored: not stored"
+        self.assertIn(refusal, ended.text)
         self.assertEqual(before, (self.folder / "lamp.serial").read_bytes())
         self.assertEqual(1, call("snap", ["--update", "--status", "2", "lamp.txt"], self.folder).status)
         self.assertEqual(0, call("snap", ["--update", "--status", "3", "lamp.txt"], self.folder).status)

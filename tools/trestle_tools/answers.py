@@ -48,13 +48,16 @@ def no_parent(words: List[str], windows: Windows, _numbers: List[str]) -> str:
 
 def below_itself(words: List[str], _windows: Windows, _numbers: List[str]) -> str:
     """N2: a window would be below itself."""
-    return f"{words[2]} is in {words[1]}, which would so be below itself" if words[1] != words[2] else "it would be in itself"
+    if words[1] == words[2]:
+        return f"{words[1]} would be in itself"
+    return f"{words[2]} is in {words[1]}, which would so be below itself"
 
 
 def second_child(words: List[str], windows: Windows, _numbers: List[str]) -> str:
     """N3: a filter has its child."""
     parent = windows.names[words[2]]
-    return f"{parent.title()} for one child, and has {parent.children[0].name}: `detach {parent.children[0].name}` first"
+    child = parent.children[0].name
+    return f"{parent.title()} for one child, and has {child}: `detach {child}` first"
 
 
 def has_parent(words: List[str], windows: Windows, _numbers: List[str]) -> str:
@@ -73,7 +76,7 @@ def too_deep(words: List[str], _windows: Windows, _numbers: List[str]) -> str:
 def time_goes_back(words: List[str], _windows: Windows, numbers: List[str]) -> str:
     """N7: a time that has passed by."""
     now = numbers[0]
-    return f"the time {words[1]} goes back, since the devices are at {now} already; nothing happened: write {now} or more"
+    return f"the time {words[1]} goes back, since the devices are at {now}; nothing happened: write {now} or more"
 
 
 def is_down(words: List[str], _windows: Windows, _numbers: List[str]) -> str:
@@ -94,7 +97,7 @@ def wrong_time(words: List[str], _windows: Windows, numbers: List[str]) -> str:
         return f"{leaf} has had no mouse or key event yet: a press in it, or a key for it, comes before"
     if now == last:
         return f"the last event of {leaf} is of {now}, and so are the devices: write `{words[0]} own {words[2]} {now}`"
-    return f"the last event of {leaf} is of {last}, and the devices are at {now}: a leaf owns by an event of this moment"
+    return f"the last event of {leaf} is of {last}, and the devices are at {now}: own at the moment of an event"
 
 
 def no_owner(words: List[str], _windows: Windows, _numbers: List[str]) -> str:

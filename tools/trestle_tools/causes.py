@@ -52,6 +52,14 @@ CODES = {
 }
 
 
+# How a line begins whose form hangs on a later word.
+BEGINNINGS = {
+    "node": "node NAME KIND TINT ..",
+    "leaf": "leaf NAME LO PREF HI LO PREF HI WIDGET ..",
+    "@": "@LEAF STEP ..",
+}
+
+
 class Cause(NamedTuple):
     """A cause in a sentence that says what to do, and the columns of the line at which it lies, if any."""
 
@@ -159,16 +167,18 @@ def word_causes(case: Case) -> Iterator[Cause]:
     yield from empty_words(case, forms)
     if words[0].text == "@":
         yield at(words[0], "behind the @ stands the name of a leaf, without a blank between")
+    place = forms[0].place
+    if len(words) <= place:
+        yield Cause(f"too few words: the line is `{BEGINNINGS[forms[0].first]}`", len(case.line.text))
+        return
     choices = choices_of(forms)
-    place = max(form.place for form in forms)
-    if place and len(words) > place and words[place].text not in choices:
+    fitting = choices.get(words[place].text if place else "", [])
+    if not fitting:
         yield unknown_choice(case, words[place], choices)
-    for form in choices.get(words[place].text if place and len(words) > place else "", []):
-        yield from newer_words(case, form)
-    yield from count_causes(case, forms, choices, place)
-    form = form_for(case.line.texts())
-    if form:
-        yield from unknown_options(case, form)
+        return
+    yield from newer_words(case, fitting[0])
+    yield from count_causes(case, fitting)
+    yield from unknown_options(case)
 
 
 def front_causes(text: str) -> Iterator[Cause]:
@@ -266,40 +276,32 @@ def comment_behind(case: Case, forms: List[Form]) -> Iterator[Cause]:
             yield Cause(says, word.column, len(case.line.rest(word)))
 
 
-def count_causes(case: Case, forms: List[Form], choices: Dict[str, List[Form]], place: int) -> Iterator[Cause]:
+def count_causes(case: Case, fitting: List[Form]) -> Iterator[Cause]:
     """Words too many or too few."""
     words = case.words()
-    if place and len(words) <= place:
-        usages = forms if len(forms) < 3 else []
-        first = words[0].text if not words[0].text.startswith("@") else "@LEAF"
-        general = {"node": "node NAME KIND TINT ..", "leaf": "leaf NAME LO PREF HI LO PREF HI WIDGET .."}
-        usage = general.get(first, usages[0].usage() if usages else "@LEAF STEP ..")
-        yield Cause(f"too few words: the line is `{usage}`", len(case.line.text), 1)
-        return
-    fitting = choices.get(words[place].text if place else "", [])
-    if not fitting or any(form.takes(len(words)) for form in fitting):
+    if any(form.takes(len(words)) for form in fitting):
         return
     usage = quoted(form.usage() for form in fitting)
     most = max(len(form.slots) for form in fitting)
     if len(words) > most:
-        yield Cause(
-            f"{len(words)} words, and the line is {usage}", words[most].column, len(case.line.rest(words[most]))
-        )
+        rest = case.line.rest(words[most])
+        yield Cause(f"{len(words)} words, and the line is {usage}", words[most].column, len(rest))
     else:
-        yield Cause(f"{len(words)} words only, and the line is {usage}", len(case.line.text), 1)
+        yield Cause(f"{len(words)} words only, and the line is {usage}", len(case.line.text))
 
 
-def unknown_options(case: Case, form: Form) -> Iterator[Cause]:
+def unknown_options(case: Case) -> Iterator[Cause]:
     """A word that should be one of some."""
-    for slot, word in zip(form.slots, case.words()):
-        if slot.sort != "word" or word.text in slot.options and word.text not in slot.newer:
+    form = form_for(case.line.texts())
+    for slot, word in zip(form.slots if form else (), case.words()):
+        known = [it for it in slot.options if case.version() > 1 or it not in slot.newer]
+        if slot.sort != "word" or word.text in known:
             continue
         if word.text in slot.newer:
-            if case.version() == 1:
-                yield newer(case, word)
-            continue
-        known = [it for it in slot.options if case.version() > 1 or it not in slot.newer]
-        yield at(word, f"`{word.text}` isn't known here: {slot.name} is {quoted(known)}")
+            yield newer(case, word)
+        near = nearly(word.text, known)
+        hint = f"; perhaps `{near}` is meant" if near else ""
+        yield at(word, f"`{word.text}` isn't known here: {slot.name} is {quoted(known)}{hint}")
 
 
 # ---- B5: places
@@ -451,8 +453,10 @@ def missing_name(case: Case, name: str, slot: Slot, leaf_step: bool) -> str:
     known = [window.name for window in windows if window.is_leaf or slot.sort == "name"]
     later = declared_later(case, name)
     near = nearly(name.lstrip("@"), known)
+    if not name and leaf_step:
+        return "the leaf's name stands behind the @, without a blank between"
     if not name:
-        return "a blank at the end of the line: take it away" if not leaf_step else "the leaf's name stands behind the @"
+        return "a blank at the end of the line: take it away"
     if later:
         return f"{name} is declared only in line {later}: that line comes before this one"
     if near:

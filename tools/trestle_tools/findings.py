@@ -23,14 +23,6 @@ class Finding(NamedTuple):
     says: str
 
 
-class Press(NamedTuple):
-    """A press that a leaf was sent."""
-
-    line: Line
-    leaf: Window
-    event: str
-
-
 class Play:
     """A script as it is played: its windows, what they hold, which buttons are down, and what nobody has seen."""
 
@@ -41,7 +33,8 @@ class Play:
         leaves = [window for window in self.windows.names.values() if window.is_leaf]
         self.contents: Dict[str, Content] = {leaf.name: WIDGETS[leaf.kind](leaf.initial) for leaf in leaves}
         self.down: Dict[str, Line] = {}
-        self.presses: List[Press] = []
+        # The presses that each leaf was sent, by the event's words, and of which no output tells yet.
+        self.presses: Dict[str, Dict[str, Line]] = {}
 
     # ---- Steps
 
@@ -88,7 +81,7 @@ class Play:
             self.down.pop(words[3], None)
             return
         if not self.down and not entry.events:
-            yield "the press goes to nobody: the cursor is at a frame or off the screen; a `motion` to a leaf comes before"
+            yield "the press goes to nobody: the cursor is at a frame or off the screen; put a `motion` before it"
         self.down[words[3]] = line
 
     def sent(self, line: Line, event: str) -> Iterator[str]:
@@ -97,21 +90,21 @@ class Play:
         if words.startswith("dropped "):
             yield f"the event for {name} was dropped: 64 wait for it already, and `@{name} take` takes one"
         elif words.startswith("mouse ") and words.split(" ")[2] == "firstdown":
-            self.presses.append(Press(line, self.windows.names[name], words))
+            self.presses.setdefault(name, {})[words] = line
 
     # ---- What tells of a press
 
     def taken(self, leaf: Window, event: str) -> None:
         """A leaf takes an event; where it answers a press, the picture tells."""
         if leaf.kind in PRESSED:
-            self.presses = [it for it in self.presses if it.leaf is not leaf or it.event != event]
+            self.presses.get(leaf.name, {}).pop(event, None)
 
     def report(self, words: List[str]) -> None:
         """A report: a journal tells of all presses, an inbox of those of a leaf."""
         if words[0] == "journal":
-            self.presses = []
+            self.presses.clear()
         elif words[0] == "inbox":
-            self.presses = [it for it in self.presses if it.leaf.name != words[1]]
+            self.presses.pop(words[1], None)
 
     # ---- The end
 
@@ -119,21 +112,20 @@ class Play:
         """What is hardly meant when all is over."""
         for button, line in self.down.items():
             yield Finding(line, f"button {button} is still down at the end: `mouse T up {button}` is missing")
-        for press in self.presses:
-            yield Finding(press.line, unseen(press))
+        for name, presses in self.presses.items():
+            for line in presses.values():
+                yield Finding(line, unseen(self.windows.names[name]))
         declared = {line.number: line for line in body.opening}
         for window in self.windows.names.values():
             if window.name not in self.windows.placed:
                 yield Finding(declared[window.line], unplaced(window))
 
 
-def unseen(press: Press) -> str:
+def unseen(leaf: Window) -> str:
     """That no output hangs on a press."""
-    name = press.leaf.name
-    why = f"{name} doesn't take it"
-    if press.leaf.kind not in PRESSED:
-        why = f"{press.leaf.title()}, and answers no press"
-    return f"no output tells whether the press reached {name}: {why}; put `inbox {name}` or `journal` behind it"
+    why = f"{leaf.name} doesn't take it" if leaf.kind in PRESSED else f"{leaf.title()}, and answers no press"
+    says = f"no output tells whether the press reached {leaf.name}: {why}"
+    return says + f"; put `inbox {leaf.name}` or `journal` behind it"
 
 
 def unplaced(window: Window) -> str:
@@ -153,9 +145,11 @@ def findings_of(lines: List[Line], body: Body) -> List[Finding]:
             found += [Finding(line, says) for says in play.step(line, next(entries))]
         else:
             play.report(line.texts())
-    found += [*play.end(body), *lagging_dumps(body)]
+    found += play.end(body)
     meant = {line.number + 1 for line in lines if line.text.startswith(MEANT)}
-    return sorted((it for it in found if it.line.number not in meant), key=lambda it: it.line.number)
+    found = [it for it in found if it.line.number not in meant]
+    found += in_one([it for it in lagging_dumps(body) if it.line.number not in meant])
+    return sorted(found, key=lambda it: it.line.number)
 
 
 def lagging_dumps(body: Body) -> Iterator[Finding]:
@@ -166,8 +160,17 @@ def lagging_dumps(body: Body) -> Iterator[Finding]:
     for place, peek in sorted(peeks(body, places).items()) if places else ():
         lag = lag_of(peek.waiting, peek.stale)
         if lag:
-            says = f"before this dump {lag}, which it shows as painted"
-            yield Finding(items[place], says + ": put `peek` before it, or paint by `@LEAF flush` and `sync`")
+            yield Finding(items[place], f"before this dump {lag}, which it shows as painted")
+
+
+def in_one(dumps: List[Finding]) -> List[Finding]:
+    """The first of these dumps, with the lines of the others: what is to be done is the same for all."""
+    if not dumps:
+        return []
+    more = ", ".join(str(it.line.number) for it in dumps[1:])
+    before = f" (so also before the dump{'s' * (len(dumps) > 2)} of line {more})" if more else ""
+    remedy = ": put `peek` before it, or paint by `@LEAF flush` and `sync`"
+    return [Finding(dumps[0].line, dumps[0].says + before + remedy)]
 
 
 def lag_of(waiting: int, stale: int) -> Optional[str]:

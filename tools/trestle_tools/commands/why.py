@@ -48,7 +48,9 @@ def explained(name: str, script: bytes, number: int, code: str) -> List[str]:
     """The lines that explain a refusal."""
     case = case_of(script, number)
     cause = cause_of(code, case)
-    said = [f"{name}, line {number}: {code}, {CODES.get(code, 'a code of a later version')}"]
+    where = f"line {number}" if number else "the whole text"
+    file = "standard input" if name == "-" else name
+    said = [f"{file}, {where}: {code}, {CODES.get(code, 'a code of a later version')}"]
     if 0 < number <= len(case.lines):
         text, carets = shown_with_caret(case.line.text, cause.column if cause else 0, cause.length if cause else 0)
         said.append(f"    {text}")
