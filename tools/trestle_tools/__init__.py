@@ -12,5 +12,7 @@ Python 3.8 and its standard library. Each module begins with what it is for:
     contents     what a widget holds, as far as is needed to see that a command changes nothing
     causes       why a line is refused
     instruments  copies of a script that play as it does, with reports of their own
+    answers      what an answer of the journal means, and what to do
+    findings     what is legal in a script and yet hardly meant
     commands     one module for each command at the top of the repository
 """

@@ -86,8 +86,8 @@ class Case(NamedTuple):
 
 
 def at(word: Word, says: str) -> Cause:
-    """A cause that lies in a word."""
-    return Cause(says, word.column, len(word.text))
+    """A cause that lies in a word; that of an empty word is the blank before it."""
+    return Cause(says, word.column, len(word.text)) if word.text else Cause(says, max(0, word.column - 1))
 
 
 def cause_of(code: str, case: Case) -> Optional[Cause]:
@@ -339,6 +339,7 @@ def value_causes(case: Case) -> Iterator[Cause]:
     form = form_for(case.line.texts())
     if not form:
         return
+    yield from comment_behind(case, [form])
     words = case.words()
     for place, slot in enumerate(form.slots[: len(words)]):
         if slot.sort == "text":
@@ -438,6 +439,7 @@ def twice_causes(case: Case) -> Iterator[Cause]:
 def name_causes(case: Case) -> Iterator[Cause]:
     """Names that aren't declared, or aren't those of leaves."""
     form = form_for(case.line.texts())
+    yield from comment_behind(case, [form] if form else [])
     for slot, word in zip(form.slots if form else (), case.words()):
         leaf_step = word.column == 0 and word.text.startswith("@")
         name = word.text[1:] if leaf_step else word.text

@@ -4,27 +4,30 @@
 import argparse
 import os
 import sys
-from typing import Callable, List
+from typing import Callable, List, NoReturn
 
 from ..program import Trouble
 
 FINE, FOUND, TROUBLE = range(3)
 
 
-def parser(name: str, what: str, example: str) -> argparse.ArgumentParser:
+class Parser(argparse.ArgumentParser):
     """A reader of a command's words. Its help ends with an example; a wrong word is told in one line, with 2."""
-    made = argparse.ArgumentParser(
-        prog=name,
-        description=what,
-        epilog="for example:\n" + "".join(f"  {line}\n" for line in example.strip().split("\n")),
-        formatter_class=argparse.RawDescriptionHelpFormatter,
-        allow_abbrev=False,
-    )
-    made.error = lambda message: stop(f"{name}: {message}; {name} --help")  # type: ignore[assignment]
-    return made
+
+    def __init__(self, name: str, what: str, example: str):
+        super().__init__(
+            prog=name,
+            description=what,
+            epilog="for example:\n" + "".join(f"  {line}\n" for line in example.strip().split("\n")),
+            formatter_class=argparse.RawDescriptionHelpFormatter,
+            allow_abbrev=False,
+        )
+
+    def error(self, message: str) -> NoReturn:
+        stop(f"{self.prog}: {message}; {self.prog} --help")
 
 
-def stop(message: str) -> None:
+def stop(message: str) -> NoReturn:
     """Ends the command, since its words are wrong."""
     print(message, file=sys.stderr)
     sys.exit(TROUBLE)

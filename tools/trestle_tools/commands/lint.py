@@ -1,9 +1,8 @@
 """lint: names what is legal in a script and yet hardly meant."""
 
-import argparse
 from typing import Dict, List, Tuple
 
-from . import FINE, FOUND, parser, write
+from . import FINE, FOUND, Parser, write
 from ..findings import findings_of
 from ..instruments import Body, body_of, is_step, lags, peeks
 from ..program import PLAYED, REFUSED, Trouble, play, read_bytes
@@ -23,9 +22,9 @@ EXAMPLE = """\
 ./lint --steps button.txt               # first the script, with what `check` says after each step"""
 
 
-def words() -> argparse.ArgumentParser:
+def words() -> Parser:
     """The words that lint takes."""
-    taken = parser("lint", WHAT, EXAMPLE)
+    taken = Parser("lint", WHAT, EXAMPLE)
     taken.add_argument("file", metavar="FILE", help="a script; - is standard input")
     taken.add_argument(
         "--steps", action="store_true", help="print each line with the bad points, waiting commands and stale points"

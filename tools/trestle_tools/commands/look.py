@@ -6,7 +6,7 @@ from itertools import islice
 from pathlib import Path
 from typing import List, Sequence
 
-from . import FINE, FOUND, TROUBLE, parser, write
+from . import FINE, FOUND, TROUBLE, Parser, write
 from ..comparison import differing_dumps, panels, report
 from ..outputs import Output, take_apart
 from ..pictures import FORMATS, Picture, beside, picture_of, scaled, terminal_lines
@@ -26,9 +26,9 @@ EXAMPLE = """\
 GREATEST_SCALE = 64
 
 
-def words() -> argparse.ArgumentParser:
+def words() -> Parser:
     """The words that look takes."""
-    taken = parser("look", WHAT, EXAMPLE)
+    taken = Parser("look", WHAT, EXAMPLE)
     taken.add_argument("file", nargs="?", default="-", metavar="FILE", help="an output; without it standard input")
     taken.add_argument(
         "-o", dest="into", metavar="NAME", help="write pictures: NAME.png or NAME.ppm, of several NAME-1.png and so on"

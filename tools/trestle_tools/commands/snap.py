@@ -4,7 +4,7 @@ import argparse
 from pathlib import Path
 from typing import List, NamedTuple, Optional
 
-from . import FINE, FOUND, parser, write
+from . import FINE, FOUND, Parser, write
 from ..comparison import plural, report
 from ..outputs import take_apart
 from ..program import PLAYED, READ_FAULT, REFUSED, Played, Trouble, due_status, play, read_bytes
@@ -37,9 +37,9 @@ class Stored(NamedTuple):
         return read_bytes(str(self.path)).decode("latin-1") if self.path.exists() else None
 
 
-def words() -> argparse.ArgumentParser:
+def words() -> Parser:
     """The words that snap takes."""
-    taken = parser("snap", WHAT, EXAMPLE)
+    taken = Parser("snap", WHAT, EXAMPLE)
     taken.add_argument("files", nargs="+", metavar="FILE", help="a script, or a folder with scripts NAME.txt")
     taken.add_argument("--update", action="store_true", help="store what differs or isn't stored yet")
     taken.add_argument("--check", action="store_true", help="with --update: store what `check` writes, too")

@@ -1,9 +1,8 @@
 """why: says why a script is refused."""
 
-import argparse
 from typing import List
 
-from . import FINE, FOUND, parser, write
+from . import FINE, FOUND, Parser, write
 from ..causes import CODES, Case, cause_of
 from ..outputs import REFUSAL
 from ..program import PLAYED, REFUSED, Trouble, play, read_bytes
@@ -21,9 +20,9 @@ EXAMPLE = """\
 ./why --check demos/lag.txt             # as `check` plays it, which has limits of its own"""
 
 
-def words() -> argparse.ArgumentParser:
+def words() -> Parser:
     """The words that why takes."""
-    taken = parser("why", WHAT, EXAMPLE)
+    taken = Parser("why", WHAT, EXAMPLE)
     taken.add_argument("file", metavar="FILE", help="a script; - is standard input")
     taken.add_argument("--check", action="store_true", help="play it by `check`")
     return taken
