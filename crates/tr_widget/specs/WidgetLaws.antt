@@ -2,8 +2,10 @@
 use Rattle.std.proofs.Common.{◌≡◌, [], true, Option, Some, None, refl}
 use Rattle.std.specs.Prelude.{IfSome}
 use Rattle.std.specs.Option.{option_map}
+use Rattle.tr_base.specs.declared.Point.{Point}
 use Rattle.tr_base.specs.declared.Size.{Size}
 use Rattle.tr_base.specs.declared.Event.{Event}
+use Rattle.tr_base.specs.Ops.{IsPixel}
 use Rattle.tr_paint.specs.Traces.{Look}
 use Rattle.tr_paint.specs.Patches.{IsPatch}
 use Rattle.tr_paint.proofs.PatchLemmas.{no_patch}
@@ -14,12 +16,12 @@ use Rattle.w_plain.specs.Labels.{IsLabelCmd, label_answer}
 use Rattle.w_lines.specs.Lines.{IsLinesCmd, lines_answer}
 use Rattle.w_canvas.specs.Canvases.{IsCanvasCmd, canvas_answer}
 use Rattle.w_meter.specs.Meters.{IsMeterCmd, meter_answer}
-use Rattle.w_plain.specs.SolidLaws.{solid_contents, solid_answers, solid_patches, solid_empty_patches, solid_keeping}
-use Rattle.w_plain.specs.BoardLaws.{board_contents, board_answers, board_patches, board_empty_patches, board_keeping}
-use Rattle.w_plain.specs.LabelLaws.{label_contents, label_answers, label_patches, label_empty_patches, label_keeping}
-use Rattle.w_lines.specs.LinesLaws.{lines_contents, lines_answers, lines_patches, lines_empty_patches, lines_keeping}
-use Rattle.w_canvas.specs.CanvasLaws.{canvas_contents, canvas_answers, canvas_patches, canvas_empty_patches, canvas_keeping}
-use Rattle.w_meter.specs.MeterLaws.{meter_contents, meter_answers, meter_patches, meter_empty_patches, meter_keeping}
+use Rattle.w_plain.specs.SolidLaws.{solid_contents, solid_answers, solid_patches, solid_empty_patches, solid_keeping, solid_kinds}
+use Rattle.w_plain.specs.BoardLaws.{board_contents, board_answers, board_patches, board_empty_patches, board_keeping, board_kinds}
+use Rattle.w_plain.specs.LabelLaws.{label_contents, label_answers, label_patches, label_empty_patches, label_keeping, label_kinds}
+use Rattle.w_lines.specs.LinesLaws.{lines_contents, lines_answers, lines_patches, lines_empty_patches, lines_keeping, lines_kinds}
+use Rattle.w_canvas.specs.CanvasLaws.{canvas_contents, canvas_answers, canvas_patches, canvas_empty_patches, canvas_keeping, canvas_kinds}
+use Rattle.w_meter.specs.MeterLaws.{meter_contents, meter_answers, meter_patches, meter_empty_patches, meter_keeping, meter_kinds}
 use Rattle.tr_widget.specs.declared.widgets.Widget.{Widget}
 use Rattle.tr_widget.specs.declared.widgets.Widget.TheVariants.{Solid, Board, Label, Lines, Canvas, Meter}
 use Rattle.tr_widget.specs.declared.commands.WidgetCmd.{WidgetCmd}
@@ -77,3 +79,11 @@ widget_keeping look from to (Label x) valid small small' = label_keeping look fr
 widget_keeping look from to (Lines x) valid small small' = lines_keeping look from to x valid small small'
 widget_keeping look from to (Canvas x) valid small small' = canvas_keeping look from to x valid small small'
 widget_keeping look from to (Meter x) valid small small' = meter_keeping look from to x valid small small'
+
+pub widget_kinds : (look : Look) (size : Size) (x : Widget) (p : Point) → IsWidget x → IsWindowSize size → IsPixel look.kind (widget_pic look size x p)
+widget_kinds look size (Solid x) p valid small = solid_kinds look size x p valid small
+widget_kinds look size (Board x) p valid small = board_kinds look size x p valid small
+widget_kinds look size (Label x) p valid small = label_kinds look size x p valid small
+widget_kinds look size (Lines x) p valid small = lines_kinds look size x p valid small
+widget_kinds look size (Canvas x) p valid small = canvas_kinds look size x p valid small
+widget_kinds look size (Meter x) p valid small = meter_kinds look size x p valid small

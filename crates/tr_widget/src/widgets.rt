@@ -51,7 +51,7 @@ impl Widget {
 
 impl Client for Widget {
     ghost use Rattle.tr_widget.specs.Widgets.{IsWidget, widget_pic, widget_next, widget_patch, widget_answer, widget_value, widget_keeps};
-    ghost use Rattle.tr_widget.specs.WidgetLaws.{widget_contents, widget_answers, widget_patches, widget_empty_patches, widget_keeping};
+    ghost use Rattle.tr_widget.specs.WidgetLaws.{widget_contents, widget_answers, widget_patches, widget_empty_patches, widget_keeping, widget_kinds};
 
     type Cmd = WidgetCmd;
 
@@ -188,4 +188,6 @@ impl Client for Widget {
     ghost empty_patches = { widget_empty_patches };
 
     ghost keeping = { widget_keeping };
+
+    ghost kinds = { widget_kinds };
 }
