@@ -14,7 +14,6 @@ ghost use Rattle.tr_exec.specs.Strokes.{IsCorner, IsInCells};
 
 use super::draws::Draw;
 use std::alloc::Global;
-use std::process::Abort;
 use std::test::Fail;
 use tr_base::{Env, Font, Line, NoMemory, Op, Pair, Point, eff, is_set, moved, tile_bit, whole};
 use tr_exec::execute;
@@ -199,8 +198,8 @@ fn cell_bit(font: &Font, text: &Line, from: Point) -> bool
     is_set(font.glyph_of(text.bytes()[h / 8])[v], (h % 8) as u8)
 }
 
-/// A random batch leaves what the trace tells, and nothing else changes.
-fn leaves_what_is_traced(rt: &impl Abort, alloc: Global, draw: &mut Draw) -> Result<(), NoMemory> {
+/// Whether a random batch leaves what the trace tells, and nothing else changes.
+fn leaves_what_is_traced(alloc: Global, draw: &mut Draw) -> Result<bool, NoMemory> {
     let font = draw.font(alloc)?;
     let env = Env {
         kind: draw.kind(),
@@ -221,19 +220,14 @@ fn leaves_what_is_traced(rt: &impl Abort, alloc: Global, draw: &mut Draw) -> Res
     let mut bad = again.region(alloc, size)?;
     let mut screen = again.screen(alloc, size, env.kind)?;
     execute(alloc, &batch, &env, origin, &visible, &mut screen, &mut bad)?;
-    assert_eq!(rt;
-        ground.first_difference(&batch, &screen, &bad),
-        None,
-        "after {batch:?}"
-    );
-    Ok(())
+    Ok(ground.first_difference(&batch, &screen, &bad).is_none())
 }
 
 #[test]
 fn random_batches_are_traced(rt: HostRuntime) -> Result<(), Fail> {
     let mut draw = Draw::new(7);
-    for done in 0..20_000 {
-        leaves_what_is_traced(&rt, rt.alloc(), &mut draw)?;
+    for count in 0..20_000 {
+        assert!(rt; leaves_what_is_traced(rt.alloc(), &mut draw)?, "batch {count}");
     }
     Ok(())
 }

@@ -19,7 +19,7 @@ fn a_cage_holds_positions(rt: HostRuntime) {
     let far = Point { h: -70_000, v: 9 };
     let inside = Point { h: 3, v: -1 };
     let beside = Point { h: 4, v: -1 };
-    for (cage, at, is_gone, want) in [
+    for (i, (cage, at, is_gone, want)) in [
         (Cage::Everywhere, far, false, true),
         (Cage::Everywhere, far, true, true),
         (only(true, false), inside, false, true),
@@ -33,7 +33,10 @@ fn a_cage_holds_positions(rt: HostRuntime) {
         (only(true, true), beside, true, false),
         (nowhere(), Point { h: 0, v: 0 }, false, false),
         (nowhere(), Point { h: 0, v: 0 }, true, false),
-    ] {
-        assert!(rt; holds(&cage, at, is_gone) == want, "{cage:?} at {at:?}, gone {is_gone}");
+    ]
+    .iter()
+    .enumerate()
+    {
+        assert!(rt; holds(cage, *at, *is_gone) == *want, "row {i}");
     }
 }

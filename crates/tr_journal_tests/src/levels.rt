@@ -49,14 +49,17 @@ fn held_levels_rise(rt: HostRuntime) {
     let painter = mu.with(SHARE);
     let all = painter.with(WINDOW);
     let window = Held::none().with(WINDOW);
-    for (held, has, admits) in [
+    for (i, (held, has, admits)) in [
         (nothing, [false, false, false], [true, true, true]),
         (mu, [true, false, false], [false, true, true]),
         (painter, [true, true, false], [false, false, true]),
         (all, [true, true, true], [false, false, false]),
         (window, [false, false, true], [false, false, false]),
-    ] {
-        assert!(rt; holds(&held, has, admits), "{held:?}");
+    ]
+    .iter()
+    .enumerate()
+    {
+        assert!(rt; holds(held, *has, *admits), "row {i}");
     }
     assert!(rt; nothing.same(&Held::none()) && !all.has(Level::Share(LeafId(0))));
     assert!(rt; !all.same(&painter) && all.parts() == (true, Some(LeafId(2)), Some(LeafId(0))));

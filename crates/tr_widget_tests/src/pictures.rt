@@ -61,10 +61,11 @@ fn bar_bit(heights: &[u8], size: Size, q: Point) -> bool {
 }
 
 /// A widget in a window, which is looked at in some way.
-pub struct Seen<'a> {
-    pub widget: &'a Widget,
-    pub env: &'a Env<'a>,
-    pub size: Size,
+#[derive(Clone, Copy)]
+struct Seen<'a> {
+    widget: &'a Widget,
+    env: &'a Env<'a>,
+    size: Size,
 }
 
 impl Seen<'_> {
