@@ -5,7 +5,8 @@ use Rattle.std.proofs.lemmas.List.Elements.{All-head, All-tail, All-map, All-pus
 use Rattle.tr_inbox.specs.declared.deliveries.Delivery.{Delivery}
 use Rattle.tr_journal.specs.declared.entries.Entry.{Entry}
 use Rattle.tr_journal.specs.Journals.{JournalLine}
-use Rattle.tr_dump.specs.Names.{Names, HasLeaf, IsNamedEntry, IsNamedLine}
+use Rattle.tr_journal.specs.Names.{Names, HasLeaf}
+use Rattle.tr_dump.specs.Names.{IsNamedEntry, IsNamedLine}
 
 -- what holds of each element holds of the one at a place
 pub all_at : {X : Type 0} (P : X → Type 0) (xs : List X) (k : ℕ) (x : X) → All P xs → slice_get xs k ≡ Some x → P x

@@ -1,14 +1,11 @@
--- The names of nodes and leaves, and which of them a text needs.
-use Rattle.std.specs.Prelude.{ℕ, ◌<◌, ⊤, List, [], length, slice_get, unwrap_or, All}
-use Rattle.tr_base.specs.declared.ids.NodeId.{NodeId}
-use Rattle.tr_base.specs.declared.ids.LeafId.{LeafId}
+-- Which names of nodes and leaves a text needs.
+use Rattle.std.specs.Prelude.{⊤, All}
 use Rattle.tr_base.specs.declared.spots.Spot.{Spot}
 use Rattle.tr_base.specs.declared.spots.Spot.TheVariants as spots
 use Rattle.tr_forest.specs.declared.edits.Edit.{Edit}
 use Rattle.tr_forest.specs.declared.edits.Edit.TheVariants as edits
 use Rattle.tr_levels.specs.declared.levels.Level.{Level}
 use Rattle.tr_levels.specs.declared.levels.Level.TheVariants as levels
-use Rattle.tr_journal.specs.declared.names.NameOf.{Ghosts}
 use Rattle.tr_journal.specs.declared.steps.Actor.{Actor}
 use Rattle.tr_journal.specs.declared.steps.Actor.TheVariants as actors
 use Rattle.tr_journal.specs.declared.steps.Query.{Query}
@@ -17,31 +14,7 @@ use Rattle.tr_journal.specs.declared.steps.Step.{Step}
 use Rattle.tr_journal.specs.declared.steps.Step.TheVariants as steps
 use Rattle.tr_journal.specs.declared.entries.Entry.{Entry}
 use Rattle.tr_journal.specs.Journals.{JournalLine}
-
--- the names of the nodes and of the leaves, by their numbers
-pub record Names : Type 0 where
-  pub nodes : List (List ℕ)
-  pub leaves : List (List ℕ)
-
--- the names that someone has
-abbrev pub names_of : {N : Type 0} → Ghosts N → N → Names
-names_of has names = record { nodes = has.node_names names; leaves = has.leaf_names names }
-
--- the name of a node
-abbrev pub node_name : Names → NodeId → List ℕ
-node_name names node = unwrap_or (slice_get names.nodes node.0) []
-
--- the name of a leaf
-abbrev pub leaf_name : Names → LeafId → List ℕ
-leaf_name names leaf = unwrap_or (slice_get names.leaves leaf.0) []
-
--- the node has a name
-pub record HasNode (names : Names) (node : NodeId) : Type 0 where
-  pub within : node.0 < length names.nodes
-
--- the leaf has a name
-pub record HasLeaf (names : Names) (leaf : LeafId) : Type 0 where
-  pub within : leaf.0 < length names.leaves
+use Rattle.tr_journal.specs.Names.{Names, HasNode, HasLeaf}
 
 -- what a point belongs to has a name
 abbrev pub IsNamedSpot : Names → Spot → Type 0

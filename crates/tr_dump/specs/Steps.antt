@@ -24,7 +24,7 @@ use Rattle.tr_journal.specs.declared.answers.Answer.TheVariants as answers
 use Rattle.tr_journal.specs.declared.entries.Entry.{Entry}
 use Rattle.tr_journal.specs.Steps.{is_leaf}
 use Rattle.tr_dump.specs.Values.{spaced, kind_word, selection_word, point_words, size_words, rect_words, shape_words, event_text}
-use Rattle.tr_dump.specs.Names.{Names, node_name, leaf_name}
+use Rattle.tr_journal.specs.Names.{Names, node_name, leaf_name}
 
 -- who makes a step
 abbrev pub actor_text : Names → Actor → List ℕ

@@ -1,6 +1,7 @@
 ghost use Rattle.std.specs.Prelude.{◌≡◌, ◌++◌, OnOk, OnErr};
 ghost use Rattle.tr_dump.specs.Begins.{Begins};
-ghost use Rattle.tr_dump.specs.Names.{IsNamedEdit, names_of};
+ghost use Rattle.tr_journal.specs.Names.{names_of};
+ghost use Rattle.tr_dump.specs.Names.{IsNamedEdit};
 ghost use Rattle.tr_dump.specs.Steps.{edit_text};
 
 use crate::names::node_name;

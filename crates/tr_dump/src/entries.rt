@@ -1,6 +1,7 @@
 ghost use Rattle.std.specs.Prelude.{◌≡◌, ◌++◌, All, codes, OnOk, OnErr};
 ghost use Rattle.tr_dump.specs.Begins.{Begins};
-ghost use Rattle.tr_dump.specs.Names.{IsNamedActor, IsNamedEntry, IsNamedLevel, names_of};
+ghost use Rattle.tr_journal.specs.Names.{names_of};
+ghost use Rattle.tr_dump.specs.Names.{IsNamedActor, IsNamedEntry, IsNamedLevel};
 ghost use Rattle.tr_dump.specs.Steps.{actor_text, entry_text, levels_text};
 
 use crate::answers::append_answer;

@@ -1,7 +1,8 @@
 ghost use Rattle.std.specs.Prelude.{◌≡◌, ◌+◌, ◌<◌, ◌^◌, [], ◌∷◌, ◌++◌, All, codes, decimal, length, OnOk, OnErr};
 ghost use Rattle.std.specs.List.{enumerate_from, flat_map};
 ghost use Rattle.tr_dump.specs.Begins.{Begins};
-ghost use Rattle.tr_dump.specs.Names.{HasLeaf, IsNamedEntry, IsNamedLine, names_of};
+ghost use Rattle.tr_journal.specs.Names.{HasLeaf, names_of};
+ghost use Rattle.tr_dump.specs.Names.{IsNamedEntry, IsNamedLine};
 ghost use Rattle.tr_dump.specs.Values.{spaced};
 ghost use Rattle.tr_dump.specs.Steps.{entry_text};
 ghost use Rattle.tr_dump.specs.Reports as spec;

@@ -1,6 +1,6 @@
 ghost use Rattle.std.specs.Prelude.{◌≡◌};
-ghost use Rattle.tr_dump.specs.Names.{HasLeaf, HasNode, names_of};
-ghost use Rattle.tr_dump.specs.Names as spec;
+ghost use Rattle.tr_journal.specs.Names.{HasLeaf, HasNode, names_of};
+ghost use Rattle.tr_journal.specs.Names as spec;
 
 use tr_base::{LeafId, NodeId};
 use tr_journal::NameOf;

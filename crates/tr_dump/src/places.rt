@@ -1,7 +1,8 @@
 ghost use Rattle.std.specs.Prelude.{◌≡◌, ◌++◌, OnOk, OnErr};
 ghost use Rattle.std.specs.List.{flat_map};
 ghost use Rattle.tr_dump.specs.Begins.{Begins};
-ghost use Rattle.tr_dump.specs.Names.{HasLeaf, IsNamedSpot, names_of};
+ghost use Rattle.tr_journal.specs.Names.{HasLeaf, names_of};
+ghost use Rattle.tr_dump.specs.Names.{IsNamedSpot};
 ghost use Rattle.tr_dump.specs.Reports as spec;
 
 use crate::names::{leaf_name, node_name};

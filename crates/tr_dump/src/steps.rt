@@ -1,6 +1,7 @@
 ghost use Rattle.std.specs.Prelude.{◌≡◌, ◌∷◌, ◌++◌, All, codes, OnOk, OnErr};
 ghost use Rattle.tr_dump.specs.Begins.{Begins};
-ghost use Rattle.tr_dump.specs.Names.{HasLeaf, IsNamedActor, IsNamedLevel, IsNamedQuery, IsNamedStep, names_of};
+ghost use Rattle.tr_journal.specs.Names.{HasLeaf, names_of};
+ghost use Rattle.tr_dump.specs.Names.{IsNamedActor, IsNamedLevel, IsNamedQuery, IsNamedStep};
 ghost use Rattle.tr_dump.specs.Values.{rect_words, spaced};
 ghost use Rattle.tr_dump.specs.Steps as spec;
 ghost use Rattle.tr_dump.specs.Words.{mu_text};

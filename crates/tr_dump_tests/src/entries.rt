@@ -1,6 +1,7 @@
 //! The text of an entry.
 ghost use Rattle.std.specs.Prelude.{◌≡◌, IfOk};
-ghost use Rattle.tr_dump.specs.Names.{IsNamedActor, IsNamedEntry, IsNamedStep, names_of};
+ghost use Rattle.tr_journal.specs.Names.{names_of};
+ghost use Rattle.tr_dump.specs.Names.{IsNamedActor, IsNamedEntry, IsNamedStep};
 
 use super::letters::Letter;
 use super::names::{Three, is_named_actor, is_named_step};

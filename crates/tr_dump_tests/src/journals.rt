@@ -1,7 +1,8 @@
 //! A journal.
 ghost use Rattle.std.specs.Prelude.{◌<◌, ◌^◌, All, length, OnOk};
 ghost use Rattle.std.specs.List.{AllByRecursion};
-ghost use Rattle.tr_dump.specs.Names.{HasLeaf, IsNamedActor, IsNamedLevel, IsNamedLine, IsNamedStep, names_of};
+ghost use Rattle.tr_journal.specs.Names.{HasLeaf, names_of};
+ghost use Rattle.tr_dump.specs.Names.{IsNamedActor, IsNamedLevel, IsNamedLine, IsNamedStep};
 
 use super::letters::Letter;
 use super::names::{A, B, Three};

@@ -1,6 +1,7 @@
 //! Names for tests, and whether what a text names has one.
 ghost use Rattle.std.specs.Prelude.{IsTrue};
-ghost use Rattle.tr_dump.specs.Names.{HasLeaf, HasNode, IsNamedActor, IsNamedEdit, IsNamedQuery, IsNamedSpot, IsNamedStep, names_of};
+ghost use Rattle.tr_journal.specs.Names.{HasLeaf, HasNode, names_of};
+ghost use Rattle.tr_dump.specs.Names.{IsNamedActor, IsNamedEdit, IsNamedQuery, IsNamedSpot, IsNamedStep};
 
 use tr_base::{LeafId, NodeId, Spot};
 use tr_forest::Edit;

@@ -13,14 +13,14 @@ use Rattle.tr_widget.specs.declared.Widget.TheVariants as widgets
 use Rattle.tr_widget.specs.declared.WidgetCmd.{WidgetCmd}
 use Rattle.tr_grammar.specs.declared.places.Place.{Place}
 use Rattle.tr_grammar.specs.declared.places.Place.TheVariants as places
-use Rattle.tr_grammar.specs.Names.{Named}
-use Rattle.tr_grammar.specs.States.{Stretch, SoFar, empty_part}
+use Rattle.tr_journal.specs.Names.{Names}
+use Rattle.tr_grammar.specs.States.{Part, SoFar, empty_part}
 use Rattle.tr_grammar.specs.Faults.{step_line, allows, has_ended, reports_so_far}
 
 -- ---- what the opening says
 
 -- the names of the nodes and of the leaves, in the order of their lines
-abbrev pub names : Named
+abbrev pub names : Names
 names = record {
   nodes = codes "z" ∷ codes "b" ∷ codes "t" ∷ codes "k" ∷ codes "m" ∷ codes "s" ∷ [];
   leaves = codes "t" ∷ codes "k" ∷ codes "m" ∷ codes "s" ∷ [];
@@ -59,8 +59,8 @@ opening_items =
 -- where the next line stands, the parts that a sync has ended, and the one that goes on
 pub record Playing : Type 0 where
   pub place : Place
-  pub ended : List Stretch
-  pub part : Stretch
+  pub ended : List Part
+  pub part : Part
 
 -- the whole script so far
 abbrev pub state : Playing → SoFar

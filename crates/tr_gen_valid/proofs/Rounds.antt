@@ -9,7 +9,7 @@ use Rattle.tr_gen.specs.Scripts.{round_lines, rounds_lines}
 use Rattle.tr_grammar.specs.declared.places.Place.TheVariants as places
 use Rattle.tr_grammar.specs.Texts.{is_plain}
 use Rattle.tr_grammar.specs.Forms.{Sync}
-use Rattle.tr_grammar.specs.States.{Stretch}
+use Rattle.tr_grammar.specs.States.{Part}
 use Rattle.tr_grammar.specs.Faults.{reports_so_far}
 use Rattle.tr_gen_valid.proofs.Passing.{IsOfForm, HaveNoFault, Pass, none_pass, one_passes, both_pass}
 use Rattle.tr_gen_valid.proofs.Playing.{Playing, state, at_begin, synced, IsPlaying}
@@ -47,7 +47,7 @@ sync_passes rounds x n h hundredth =
     } in
     let syncs : 100 * length (x.ended ++ x.part ∷ []) ≤ rounds + 1 = omega (arith, length-append x.ended (x.part ∷ []), playing.syncs) in
     let reports : reports_so_far (state (synced x)) ≡ 0 =
-    omega (arith, sum_by-append (λ (p : Stretch). length p.reports) x.ended (x.part ∷ []), playing.reports)
+    omega (arith, sum_by-append (λ (p : Part). length p.reports) x.ended (x.part ∷ []), playing.reports)
     in
     (record { placed = refl; early = refl; syncs = syncs; reports = reports }, one_passes (n + 1) line right (omega (arith, h.early)))
 

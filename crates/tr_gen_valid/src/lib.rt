@@ -1,5 +1,5 @@
-//! The text that `tr_gen` draws from a number is a script, whatever the number: none of its lines has a
-//! fault. A function that reads such a text so knows that it isn't refused.
+//! Each text that `tr_gen` draws is a script, whatever the number that it is drawn from: none of its lines
+//! has a fault, and it isn't too long. So a function that reads such a text knows that it isn't refused.
 #![tactic(auto)]
 
 ghost use Rattle.std.specs.Prelude.{◌≡◌, ℕ, None, length};

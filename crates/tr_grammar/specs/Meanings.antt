@@ -36,7 +36,8 @@ use Rattle.w_meter.specs.declared.MeterCmd.TheVariants as meter
 use Rattle.tr_grammar.specs.declared.meanings.Meaning.{Meaning}
 use Rattle.tr_grammar.specs.declared.meanings.Meaning.TheVariants as meanings
 use Rattle.tr_grammar.specs.Words.{word_at, rest_after, nat_of, int_of, hex_of, byte_of}
-use Rattle.tr_grammar.specs.Names.{Named, numbered}
+use Rattle.tr_journal.specs.Names.{Names}
+use Rattle.tr_grammar.specs.Names.{numbered}
 use Rattle.tr_grammar.specs.Forms.{Form, Version, Screen, Glyph, Split, Page, Border, Rigid, Translate, Pack, Solid, Board, Label, Lines, Canvas, Meter, Put, PutAt, Root, Begin, Mouse, Motion, Key, Attach, AttachAt, Detach, Tint, Widen, Offset, Fix, Move, Lift, Show, Turn, Reshape, Resize, Rescreen, Mark, Flush, Force, Take, Enclose, Free, Own, Disown, Read, Sync, Dump, Peek, Journal, Where, Inbox, End, SetTint, SetTile, SetShift, SetText, AddLine, Clear, AddRect, AddSwap, AddExchange, Undo, SetBar}
 
 -- ---- values of one word or of words in a row, of which the first has so many before it
@@ -122,7 +123,7 @@ altering edit = meanings.Step actors.Desk (steps.Alter edit)
 abbrev pub on : Query → Meaning
 on query = meanings.Report query
 
-module _ (names : Named) (ws : List (List ℕ)) where
+module _ (names : Names) (ws : List (List ℕ)) where
   -- the node that the word names
   abbrev pub node_at : ℕ → NodeId
   node_at i = record { 0 = numbered names.nodes (word_at ws i) }

@@ -1,14 +1,10 @@
--- Names, and the numbers that they stand for.
+-- The numbers that names stand for. The names of nodes and leaves stand in the order of the lines that declare them.
 use Rattle.std.specs.Prelude.{ℕ, ◌+◌, List, [], ◌∷◌, Option, Some, None, bytes_eq, if◌then◌else◌}
 use Rattle.std.specs.Option.{option_map, unwrap_or}
+use Rattle.tr_journal.specs.Names.{Names}
 
--- the names of the nodes, leaves among them, and those of the leaves, each in the order of their lines
-pub record Named : Type 0 where
-  pub nodes : List (List ℕ)
-  pub leaves : List (List ℕ)
-
--- nobody has a name
-abbrev pub no_names : Named
+-- nothing has a name
+abbrev pub no_names : Names
 no_names = record { nodes = []; leaves = [] }
 
 -- the number of a name, where it is one of these: how many stand before it

@@ -1,11 +1,13 @@
 -- Scripts: the first fault of a text, and what a text without a fault says.
-use Rattle.std.specs.Prelude.{◌≡◌, ℕ, ◌+◌, nat_lt, ⊤, true, List, All, [], ◌∷◌, ◌++◌, length, Option, Some, None, is_some, if◌then◌else◌}
+use Rattle.std.specs.Prelude.{◌≡◌, ℕ, ◌+◌, nat_lt, ⊤, Bool, true, false, List, All, [], ◌∷◌, ◌++◌, length, Option, Some, None, is_some, if◌then◌else◌}
 use Rattle.tr_forest.specs.Nodes.{Nodes, leaf_count}
 use Rattle.tr_journal.specs.declared.Actor.{Actor}
+use Rattle.tr_journal.specs.declared.Actor.TheVariants as actors
 use Rattle.tr_journal.specs.declared.Step.{Step}
 use Rattle.tr_journal.specs.declared.Item.{Item}
 use Rattle.tr_journal.specs.declared.Item.TheVariants as items
 use Rattle.tr_journal.specs.Openings.{tree_of}
+use Rattle.tr_journal.specs.Reports.{is_report}
 use Rattle.tr_journal.specs.Steps.{may, IsStep, IsQuery}
 use Rattle.tr_widget.specs.declared.Widget.{Widget}
 use Rattle.tr_widget.specs.declared.WidgetCmd.{WidgetCmd}
@@ -19,16 +21,16 @@ use Rattle.tr_grammar.specs.declared.meanings.Meaning.{Meaning}
 use Rattle.tr_grammar.specs.declared.meanings.Meaning.TheVariants as meanings
 use Rattle.tr_grammar.specs.Texts.{is_silent, lines_of}
 use Rattle.tr_grammar.specs.Words.{words_of, word_at}
-use Rattle.tr_grammar.specs.Names.{Named}
+use Rattle.tr_journal.specs.Names.{Names}
 use Rattle.tr_grammar.specs.Forms.{Form, form_of}
 use Rattle.tr_grammar.specs.Meanings.{meaning_of}
-use Rattle.tr_grammar.specs.States.{Stretch, SoFar, empty_part, nothing_yet}
+use Rattle.tr_grammar.specs.States.{Part, SoFar, empty_part, nothing_yet}
 use Rattle.tr_grammar.specs.Faults.{has_ended, fault_of}
 
 -- ---- what a line adds
 
 -- the names with that of a node, which w is
-abbrev pub with_name : List ℕ → Item Widget → Named → Named
+abbrev pub with_name : List ℕ → Item Widget → Names → Names
 with_name w (items.Node kind tint) names = record names { nodes = names.nodes ++ w ∷ [] }
 with_name w (items.Leaf shapes content) names =
     record { nodes = names.nodes ++ w ∷ []; leaves = names.leaves ++ w ∷ [] }
@@ -107,8 +109,8 @@ refusal_of bytes =
 -- what a contract sees of a script: what its opening has, the names, and its parts
 pub record Script : Type 0 where
   pub opening : List (Item Widget)
-  pub names : Named
-  pub parts : List Stretch
+  pub names : Names
+  pub parts : List Part
 
 -- the script so far as a whole one: its last part ends
 abbrev pub whole : SoFar → Script
@@ -118,13 +120,21 @@ whole c = record { opening = c.items; names = c.names; parts = c.ended ++ c.part
 unfoldable pub script_of : List ℕ → Script
 script_of bytes = whole (after_all nothing_yet (lines_of bytes))
 
--- a step can be played: whoever makes it may, and its numbers are those of nodes and leaves
+-- the lines of a script between its syncs are made by the desk, or by a leaf
+abbrev pub is_maker : Actor → Bool
+is_maker actors.Desk = true
+is_maker (actors.Leaf leaf) = true
+is_maker actor = false
+
+-- a step can be played: the desk or a leaf makes it, which may, and it is no report; its numbers are those of nodes and leaves
 pub record IsPlayable (t : Nodes) (made : Actor × Step WidgetCmd) : Type 0 where
+  pub maker : is_maker made.0 ≡ true
   pub may : may made.0 made.1 ≡ true
+  pub other : is_report made.1 ≡ false
   pub values : IsStep t made.1
 
 -- all of a part can be reported and played
-pub record IsPlayablePart (t : Nodes) (part : Stretch) : Type 0 where
+pub record IsPlayablePart (t : Nodes) (part : Part) : Type 0 where
   pub reports : All (IsQuery t) part.reports
   pub steps : All (IsPlayable t) part.steps
 

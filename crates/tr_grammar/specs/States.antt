@@ -8,10 +8,11 @@ use Rattle.tr_widget.specs.declared.Widget.{Widget}
 use Rattle.tr_widget.specs.declared.WidgetCmd.{WidgetCmd}
 use Rattle.tr_grammar.specs.declared.places.Place.{Place}
 use Rattle.tr_grammar.specs.declared.places.Place.TheVariants.{Start}
-use Rattle.tr_grammar.specs.Names.{Named, no_names}
+use Rattle.tr_journal.specs.Names.{Names}
+use Rattle.tr_grammar.specs.Names.{no_names}
 
 -- what a contract sees of a part of a script: its reports, and then its steps, each with who makes it
-pub record Stretch : Type 0 where
+pub record Part : Type 0 where
   pub reports : List Query
   pub steps : List (Actor × Step WidgetCmd)
 
@@ -20,14 +21,14 @@ pub record Stretch : Type 0 where
 pub record SoFar : Type 0 where
   pub version : ℕ
   pub place : Place
-  pub names : Named
+  pub names : Names
   pub items : List (Item Widget)
   pub glyphs : List ℕ
-  pub ended : List Stretch
-  pub part : Stretch
+  pub ended : List Part
+  pub part : Part
 
 -- a part without a line
-abbrev pub empty_part : Stretch
+abbrev pub empty_part : Part
 empty_part = record { reports = []; steps = [] }
 
 -- before the first line

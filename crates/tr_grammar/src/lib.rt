@@ -5,10 +5,12 @@
 #![tactic(auto)]
 
 mod codes;
+mod limits;
 mod meanings;
 mod places;
 
 pub use codes::{Code, LineRefused, ReadRefused};
+pub use limits::LONGEST_SCRIPT;
 pub use meanings::Meaning;
 pub use places::Place;
 

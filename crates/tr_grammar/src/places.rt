@@ -1,5 +1,5 @@
 /// Where the next line of a script stands.
-#[derive(Clone, Copy, Debug, PartialEq, Eq)]
+#[derive(Clone, Copy)]
 pub enum Place {
     /// Before the version line.
     Start,

@@ -1,4 +1,5 @@
 pub mod Steps
+pub mod Reports
 pub mod Journals
 pub mod Names
 pub mod Openings

@@ -1,8 +1,8 @@
 -- The limits of a check, as the loops try them.
 use Rattle.std.proofs.Common.{ℕ, List, take}
-use Rattle.tr_grammar.specs.States.{Stretch}
+use Rattle.tr_grammar.specs.States.{Part}
 use Rattle.tr_player.specs.Checks.{step_count}
 
 -- the steps of the first parts
-abbrev pub steps_before : ℕ → List Stretch → ℕ
+abbrev pub steps_before : ℕ → List Part → ℕ
 steps_before i parts = step_count (take i parts)

@@ -10,7 +10,7 @@ use Rattle.tr_journal.specs.declared.Step.{Step}
 use Rattle.tr_journal.specs.declared.Step.TheVariants as steps
 use Rattle.tr_widget.specs.declared.WidgetCmd.{WidgetCmd}
 use Rattle.tr_grammar.specs.declared.Code.TheVariants.{B7}
-use Rattle.tr_grammar.specs.States.{Stretch}
+use Rattle.tr_grammar.specs.States.{Part}
 use Rattle.tr_grammar.specs.Scripts.{Refusal, Script, refused_at}
 
 -- a screen of at most 65,536 pixels
@@ -28,11 +28,11 @@ is_small_step (actor, steps.Alter edit) = is_small_edit edit
 is_small_step made = true
 
 -- a part whose steps don't
-abbrev pub is_small_part : Stretch → Bool
+abbrev pub is_small_part : Part → Bool
 is_small_part part = list_all is_small_step part.steps
 
 -- how many steps there are
-abbrev pub step_count : List Stretch → ℕ
+abbrev pub step_count : List Part → ℕ
 step_count parts = sum_by (λ part. length part.steps) parts
 
 -- at most 2,000 steps, and no screen of more than 65,536 pixels

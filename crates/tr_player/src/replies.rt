@@ -1,7 +1,6 @@
 ghost use Rattle.std.specs.Prelude.{◌≡◌, ◌≤◌, None, Some, IfOk};
 ghost use Rattle.tr_grammar.specs.Scripts.{IsPlayableScript};
 ghost use Rattle.tr_arguments.specs.Commands.{texts_of};
-ghost use Rattle.tr_serial.specs.Outputs.{HasOnlySteps};
 ghost use Rattle.tr_player.specs.Answers.{Due, IsDue, IsDueOfBytes, IsStageOf, ReadsNone, asked_by, reads, refused, status_of, text_of};
 ghost use Rattle.tr_player.specs.Replies.{IsDueOfText, IsReply, due_of_script, reading};
 
@@ -140,7 +139,6 @@ fn reply_to_bytes(alloc: Global, checks: bool, bytes: &[u8]) -> Result<Reply, No
 /// The reply to a script: it is played, unless a check of it is beyond the limits.
 fn reply_to_script(alloc: Global, checks: bool, script: Script) -> Result<Reply, NoMemory>
     requires playable { IsPlayableScript script }
-    requires steps { HasOnlySteps script }
     ensures { IfOk result (λ reply. IsReply (due_of_script (reading checks) script) reply) }
 {
     if !checks {

@@ -21,8 +21,9 @@ use Rattle.tr_grammar.specs.declared.Place.{Place}
 use Rattle.tr_grammar.specs.declared.Place.TheVariants as places
 use Rattle.tr_grammar.specs.declared.Meaning.{Meaning}
 use Rattle.tr_grammar.specs.declared.Meaning.TheVariants as meanings
-use Rattle.tr_grammar.specs.Names.{Named, number_of}
-use Rattle.tr_grammar.specs.States.{SoFar, Stretch, empty_part, nothing_yet}
+use Rattle.tr_journal.specs.Names.{Names}
+use Rattle.tr_grammar.specs.Names.{number_of}
+use Rattle.tr_grammar.specs.States.{SoFar, Part, empty_part, nothing_yet}
 use Rattle.tr_grammar.specs.Faults.{version_line, screen_line, opening_line, step_line, report_line, allows, is_refused, nodes_so_far, reports_so_far, has_ended}
 use Rattle.tr_grammar.specs.Scripts.{after, with_name, with_glyph, whole, IsPlayable, IsPlayablePart, IsPlayableScript}
 use Rattle.tr_reader.proofs.NameLemmas.{none_before, none_after}
@@ -77,14 +78,14 @@ before_report places.Ended c a h = cc
 -- ---- what a line keeps
 
 -- a name that isn't a node's isn't a leaf's
-abbrev IsShared : Named → Type 0
+abbrev IsShared : Names → Type 0
 IsShared names = (q : List ℕ) → number_of names.nodes q ≡ None → number_of names.leaves q ≡ None
 
 -- a name more of a node, and of a leaf
-shared_node : (names : Named) (w : List ℕ) → IsShared names → number_of names.nodes w ≡ None → IsShared (record names { nodes = names.nodes ++ w ∷ [] })
+shared_node : (names : Names) (w : List ℕ) → IsShared names → number_of names.nodes w ≡ None → IsShared (record names { nodes = names.nodes ++ w ∷ [] })
 shared_node names w shared new q none = shared q (none_before names.nodes w q new none).1
 
-shared_leaf : (names : Named) (w : List ℕ) → IsShared names → number_of names.nodes w ≡ None →
+shared_leaf : (names : Names) (w : List ℕ) → IsShared names → number_of names.nodes w ≡ None →
     IsShared (record { nodes = names.nodes ++ w ∷ []; leaves = names.leaves ++ w ∷ [] })
 shared_leaf names w shared new q none =
     let before = none_before names.nodes w q new none in
@@ -206,10 +207,10 @@ reports_in m = 0
 one_report : (sum : ℕ) (qs : List Query) (query : Query) → sum + length (qs ++ query ∷ []) ≡ sum + length qs + 1
 one_report sum qs query = let more = length-append qs (query ∷ []) in omega arith
 
-ended_reports : (ended : List Stretch) (part : Stretch) →
+ended_reports : (ended : List Part) (part : Part) →
     sum_by (λ p. length p.reports) (ended ++ part ∷ []) + 0 ≡ sum_by (λ p. length p.reports) ended + length part.reports + 0
 ended_reports ended part =
-    let both = sum_by-append (λ (p : Stretch). length p.reports) ended (part ∷ []) in
+    let both = sum_by-append (λ (p : Part). length p.reports) ended (part ∷ []) in
     omega arith
 
 more_reports : (c : SoFar) (w : List ℕ) (m : Meaning) → reports_so_far (after c w m) ≡ reports_so_far c + reports_in m
@@ -244,7 +245,7 @@ place_is places.Steps a = cc
 place_is places.Ended a = cc
 
 -- the script that the fields say, with these in place of theirs
-abbrev seen : Inside → Place → Named → List (Item Widget) → List ℕ → SoFar
+abbrev seen : Inside → Place → Names → List (Item Widget) → List ℕ → SoFar
 seen r p names items glyphs = record {
   version = r.version;
   place = p;
@@ -273,7 +274,7 @@ made_item r d new w item more here =
     more.opening ∙ ap (λ (o : Option Declared). items_in o ++ item ∷ []) (sym more.before) in
     let gs = r.glyphs.items in
     ap (λ (p : Place). seen r p (names_in (Some new)) new.opening gs) here
-    ∙ ap (λ (n : Named). seen r places.Opening n new.opening gs) names
+    ∙ ap (λ (n : Names). seen r places.Opening n new.opening gs) names
     ∙ ap (λ (xs : List (Item Widget)). seen r places.Opening (with_name w item (names_in r.declared)) xs gs) items
     ∙ ap (λ (bs : List ℕ). seen r places.Opening (with_name w item (names_in r.declared)) (items_in r.declared ++ item ∷ []) bs) (sym more.glyphs)
 
@@ -304,7 +305,7 @@ pub leaf_is_new : (r : Inside) (c : SoFar) (d : Declared) (w : List ℕ) → so_
 leaf_is_new r c d w is kept at new =
     let none = (subst (λ (s : SoFar). IsSoFar s) is kept.law).shared w new in
     let names : c.names ≡ names_in (Some d) = ap (λ (s : SoFar). s.names) (sym is) ∙ ap (λ (o : Option Declared). names_in o) at in
-    ap (λ (n : Named). number_of n.leaves w) (sym names) ∙ none
+    ap (λ (n : Names). number_of n.leaves w) (sym names) ∙ none
 
 -- ---- the end
 

@@ -2,7 +2,8 @@
 use Rattle.std.specs.Prelude.{◌≡◌, List, [], Option, Some, None}
 use Rattle.tr_journal.specs.declared.Item.{Item}
 use Rattle.tr_widget.specs.declared.Widget.{Widget}
-use Rattle.tr_grammar.specs.Names.{Named, no_names}
+use Rattle.tr_journal.specs.Names.{Names}
+use Rattle.tr_grammar.specs.Names.{no_names}
 use Rattle.tr_grammar.specs.States.{SoFar}
 use Rattle.tr_grammar.specs.Faults.{reports_so_far}
 use Rattle.tr_reader.specs.declared.readers.Declared.{Declared}
@@ -15,7 +16,7 @@ items_in None = []
 items_in (Some d) = d.opening
 
 -- the names of its nodes and leaves
-abbrev pub names_in : Option Declared → Named
+abbrev pub names_in : Option Declared → Names
 names_in None = no_names
 names_in (Some d) = record { nodes = d.nodes; leaves = d.leaves }
 

@@ -17,9 +17,9 @@ pub struct Names {
 
 impl Model for Names {
     ghost use Rattle.std.specs.Prelude.{map};
-    ghost use Rattle.tr_grammar.specs.Names.{Named};
+    ghost use Rattle.tr_journal.specs.Names.{Names as Seen};
 
-    ghost Value = { Named };
+    ghost Value = { Seen };
 
     ghost view = { λ n. record {
       nodes = map (λ v. v.items) n.nodes.items;

@@ -15,9 +15,9 @@ pub struct Part {
 }
 
 impl Model for Part {
-    ghost use Rattle.tr_grammar.specs.States.{Stretch};
+    ghost use Rattle.tr_grammar.specs.States.{Part as Seen};
 
-    ghost Value = { Stretch };
+    ghost Value = { Seen };
 
     ghost view = { λ p. record { reports = p.reports.items; steps = p.steps.items } };
 }

@@ -43,10 +43,10 @@ use Rattle.tr_machine.specs.Machines.{Outcome, asked_of, edited, obeyed, taken, 
 use Rattle.tr_machine.specs.Replays.{IsLegal, IsLegalFrom, IsLegalLine, line_of, next, replay, replay_from}
 use Rattle.tr_machine.proofs.JournalLemmas.{replay-append}
 use Rattle.tr_machine.proofs.KeptLemmas.{AreAsMany, IsKept, as_many, kept_next, step_along}
-use Rattle.tr_dump.specs.Names.{HasLeaf, HasNode, IsNamedActor, IsNamedEdit, IsNamedLevel, IsNamedLine, IsNamedQuery, IsNamedStep, Names}
+use Rattle.tr_journal.specs.Names.{HasLeaf, HasNode, Names}
+use Rattle.tr_dump.specs.Names.{IsNamedActor, IsNamedEdit, IsNamedLevel, IsNamedLine, IsNamedQuery, IsNamedStep}
 use Rattle.tr_stage.specs.Stages.{IsOf, IsPainters, StageView, state}
 use Rattle.tr_stage.specs.Standings.{Stands}
-use Rattle.tr_run.specs.Texts.{is_report}
 use Rattle.tr_run.specs.Views.{AreNamed, IsKnowing, IsNamed}
 use Rattle.tr_run.proofs.RunLemmas.{state_made}
 use Rattle.tr_run.proofs.MailLemmas.{IsBelow, IsSending, caged-knows, disowned-knows, edited-knows, keyed-knows, moused-knows, moved-knows, owned-knows, taken-knows}

@@ -13,17 +13,18 @@ use Rattle.tr_journal.specs.declared.steps.Query.TheVariants as queries
 use Rattle.tr_journal.specs.declared.steps.Step.{Step}
 use Rattle.tr_journal.specs.declared.steps.Step.TheVariants as steps
 use Rattle.tr_journal.specs.Journals.{JournalLine}
+use Rattle.tr_journal.specs.Reports.{is_report}
 use Rattle.tr_journal.specs.Steps.{stated}
 use Rattle.tr_machine.specs.States.{State}
 use Rattle.tr_machine.specs.Replays.{line_of, next, replay, replay_from}
 use Rattle.tr_machine.specs.Settling.{after_steps, lines_of, settling_lines}
 use Rattle.tr_machine.proofs.JournalLemmas.{lines_of-take, replay-append, replay-more, replay_from-append, replay_from-lines_of}
-use Rattle.tr_dump.specs.Names.{Names}
+use Rattle.tr_journal.specs.Names.{Names}
 use Rattle.tr_stage.specs.Stages.{StageView, is_note, state}
 use Rattle.tr_run.specs.declared.modes.Mode.{Mode}
 use Rattle.tr_run.specs.declared.modes.Mode.TheVariants.{Serial, Check, Gen}
 use Rattle.tr_run.specs.Runs.{Cue, makes, settles, cue_lines, reporting, run_lines}
-use Rattle.tr_run.specs.Texts.{is_check, is_report, lag_line, report_text, told_text, sum_after, sum_from, texts_from, written}
+use Rattle.tr_run.specs.Texts.{is_check, lag_line, report_text, told_text, sum_after, sum_from, texts_from, written}
 use Rattle.tr_run.specs.Views.{Adds, Does, RunView}
 
 module _ {C M : Type 0} (client : Ghosts C M) where

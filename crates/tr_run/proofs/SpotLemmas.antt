@@ -16,7 +16,8 @@ use Rattle.tr_tree.specs.Trees.{Seen}
 use Rattle.tr_tree.specs.Places.{domain}
 use Rattle.tr_spot.specs.Spots.{followed, owner, owner_within, spot, spot_below, spot_on}
 use Rattle.tr_spot.proofs.NodeLemmas.{child_below, find_among}
-use Rattle.tr_dump.specs.Names.{IsNamedSpot, Names}
+use Rattle.tr_journal.specs.Names.{Names}
+use Rattle.tr_dump.specs.Names.{IsNamedSpot}
 use Rattle.tr_run.specs.Views.{AreNamed}
 
 -- the spot is that of a leaf or a node of the tree, or off the screen

@@ -20,7 +20,7 @@ use Rattle.tr_machine.specs.Replays.{next}
 use Rattle.tr_stage.specs.Stages.{is_note}
 use Rattle.tr_dump.specs.declared.Peek3.{Peek3}
 use Rattle.tr_dump.specs.Values.{line_text}
-use Rattle.tr_dump.specs.Names.{Names}
+use Rattle.tr_journal.specs.Names.{Names}
 use Rattle.tr_dump.specs.Reports.{dump_text, peek_text, journal_text, place_text, inbox_text}
 use Rattle.tr_run.specs.declared.modes.Mode.{Mode}
 use Rattle.tr_run.specs.declared.modes.Mode.TheVariants.{Serial, Check, Gen}
@@ -28,11 +28,6 @@ use Rattle.tr_run.specs.declared.modes.Mode.TheVariants.{Serial, Check, Gen}
 -- the sum of all pixels of a picture
 abbrev pub pixel_sum : Picture → ℕ
 pixel_sum p = sum_by (λ row. sum_by (λ pixel. pixel) row) p.rows
-
--- a report
-abbrev pub is_report : {M : Type 0} → Step M → Bool
-is_report (steps.Report query) = true
-is_report step = false
 
 -- the screen's lag is written after each step
 abbrev pub is_check : Mode → Bool

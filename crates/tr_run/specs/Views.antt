@@ -6,7 +6,8 @@ use Rattle.tr_desk.specs.Desks.{IsKnown}
 use Rattle.tr_mail.specs.Mails.{Mails}
 use Rattle.tr_journal.specs.Journals.{JournalLine}
 use Rattle.tr_journal.specs.Openings.{tree_of}
-use Rattle.tr_dump.specs.Names.{IsNamedLine, Names}
+use Rattle.tr_journal.specs.Names.{Names}
+use Rattle.tr_dump.specs.Names.{IsNamedLine}
 use Rattle.tr_stage.specs.Stages.{StageView, state}
 use Rattle.tr_run.specs.declared.modes.Mode.{Mode}
 use Rattle.tr_run.specs.Runs.{Cue, run_lines}

@@ -4,14 +4,15 @@ ghost use Rattle.tr_journal.specs.declared.Actor.TheVariants.{Painter, Player};
 ghost use Rattle.tr_journal.specs.declared.Query.TheVariants.{Dump};
 ghost use Rattle.tr_journal.specs.declared.Step.TheVariants.{Report};
 ghost use Rattle.tr_journal.specs.Openings.{tree_of};
+ghost use Rattle.tr_journal.specs.Reports.{is_report};
 ghost use Rattle.tr_journal.specs.Steps.{IsQuery, IsStep, may, stated};
 ghost use Rattle.tr_machine.specs.Pictures.{render};
 ghost use Rattle.tr_machine.specs.Replays.{line_of};
 ghost use Rattle.tr_machine.specs.Settling.{lines_of, settling_lines};
-ghost use Rattle.tr_dump.specs.Names.{names_of};
+ghost use Rattle.tr_journal.specs.Names.{names_of};
 ghost use Rattle.tr_stage.specs.Stages.{IsPainters, is_note, state};
 ghost use Rattle.tr_run.specs.Runs.{makes, reporting};
-ghost use Rattle.tr_run.specs.Texts.{is_check, is_report, sum_after, written};
+ghost use Rattle.tr_run.specs.Texts.{is_check, sum_after, written};
 ghost use Rattle.tr_run.specs.Views.{AreNamed, IsNamed, Adds, Does};
 
 use crate::levels::levels_of;
@@ -39,7 +40,7 @@ pub struct Run<'a, C: Client, N: NameOf> {
 }
 
 impl<'a, C: Client, N: NameOf> Model for Run<'a, C, N> {
-    ghost use Rattle.tr_dump.specs.Names.{names_of};
+    ghost use Rattle.tr_journal.specs.Names.{names_of};
     ghost use Rattle.tr_run.specs.Views.{IsNamed, RunView};
 
     ghost Value = { RunView C C.Cmd };
@@ -274,7 +275,7 @@ pub struct Paused<'a, N: NameOf> {
 }
 
 impl<'a, N: NameOf> Model for Paused<'a, N> {
-    ghost use Rattle.tr_dump.specs.Names.{names_of};
+    ghost use Rattle.tr_journal.specs.Names.{names_of};
     ghost use Rattle.tr_run.specs.Views.{PausedView};
 
     ghost Value = { PausedView };

@@ -1,18 +1,23 @@
 -- What the readers of lines answer. Contracts of the crate's own functions alone cite this file.
 use Rattle.std.specs.Prelude.{◌≡◌, ℕ, List, [], ◌∷◌, ◌++◌, Bool, true, false, not, ◌||◌, codes, Option, Some, None, Result, Ok, Err, ⊤}
 use Rattle.tr_grammar.specs.declared.Code.{Code}
-use Rattle.tr_grammar.specs.declared.Code.TheVariants.{B1, B2}
+use Rattle.tr_grammar.specs.declared.Code.TheVariants.{B1, B2, B3, B4, B5}
 use Rattle.tr_grammar.specs.declared.LineRefused.{LineRefused}
 use Rattle.tr_grammar.specs.declared.LineRefused.TheVariants as refused
 use Rattle.tr_grammar.specs.declared.Meaning.{Meaning}
-use Rattle.tr_grammar.specs.Words.{word_at, int_of, is_signed}
-use Rattle.tr_grammar.specs.Forms.{Form, Version, Screen, Glyph, Put, PutAt, Root, Begin, Mouse, Motion, Key, Attach, AttachAt, Detach, Tint, Widen, Offset, Fix, Move, Lift, Show, Turn, Reshape, Resize, Rescreen, Sync, Dump, Peek, Journal, Where, Inbox, End, among}
+use Rattle.tr_grammar.specs.Words.{word_at, nat_of, int_of, is_name, is_shape, is_signed}
+use Rattle.tr_grammar.specs.Forms.{Form, Version, Screen, Glyph, Put, PutAt, Root, Begin, Mouse, Motion, Key, Attach, AttachAt, Detach, Tint, Widen, Offset, Fix, Move, Lift, Show, Turn, Reshape, Resize, Rescreen, Sync, Dump, Peek, Journal, Where, Inbox, End, SetTint, SetTile, SetShift, SetText, AddLine, Clear, AddRect, AddSwap, AddExchange, Undo, SetBar, among}
 use Rattle.tr_grammar.specs.Meanings.{meaning_of}
 use Rattle.tr_grammar.specs.States.{SoFar}
 use Rattle.tr_grammar.specs.Faults.{first_of, word_faults}
+use Rattle.tr_base.specs.declared.Shapes.{Shapes}
+use Rattle.tr_base.specs.Shapes.{Lengths}
 use Rattle.tr_base.specs.Rects.{Edges, rect_of}
+use Rattle.tr_words.specs.Answers.{texts}
 use Rattle.tr_words.specs.declared.LeafWords.{LeafWords}
-use Rattle.tr_script.specs.declared.widget_lines.EdgeWords.{EdgeWords}
+use Rattle.tr_words.specs.declared.ShapeWords.{ShapeWords}
+use Rattle.tr_script.specs.declared.act_lines.EdgeWords.{EdgeWords}
+use Rattle.tr_script.specs.declared.act_lines.ActLine.{ActLine}
 use Rattle.tr_reader.specs.Adding.{IsSoundMeaning}
 
 -- the first fault that the words show, where their form is this one
@@ -35,6 +40,28 @@ ReadsAs c form ws (Err (refused.Fault e)) = word_fault c form ws ≡ Some e
 abbrev pub Reads : SoFar → List Form → List (List ℕ) → Result Meaning LineRefused → Type 0
 Reads c fs ws answer = ReadsAs c (among c.version fs ws) ws answer
 
+-- nothing of this is so
+abbrev pub AreFalse : List Bool → Type 0
+AreFalse [] = ⊤
+AreFalse (b ∷ bs) = (b ≡ false) × AreFalse bs
+
+-- one of the first is so, or the last
+abbrev pub any_or : List Bool → Bool → Bool
+any_or [] last = last
+any_or (b ∷ bs) last = b || any_or bs last
+
+-- a value with this property where the line may stand there and none of its first values is misspelled, and else the fault, whatever comes behind them
+abbrev pub Begins : {X : Type 0} → Bool → List Bool → (X → Type 0) → Result X Code → Type 0
+Begins misplaced misspelled P (Ok x) = (misplaced ≡ false) × AreFalse misspelled × P x
+Begins misplaced misspelled P (Err e) =
+    (later : Bool) (others : List (Code × Bool)) → first_of ((B5, misplaced) ∷ (B2, any_or misspelled later) ∷ others) ≡ Some e
+
+-- the same of a line without values, whose one name wasn't declared where that is so
+abbrev pub BeginsPlain : {X : Type 0} → Bool → Bool → (X → Type 0) → Result X Code → Type 0
+BeginsPlain misplaced undeclared P (Ok x) = (misplaced ≡ false) × (undeclared ≡ false) × P x
+BeginsPlain misplaced undeclared P (Err e) =
+    first_of ((B5, misplaced) ∷ (B2, false) ∷ (B4, false) ∷ (B3, undeclared || false) ∷ []) ≡ Some e
+
 -- the forms of the desk's steps
 abbrev pub desk_forms : List Form
 desk_forms =
@@ -46,6 +73,31 @@ abbrev pub plain_forms : List Form
 plain_forms =
     (Version ∷ Screen ∷ Glyph ∷ Put ∷ PutAt ∷ Root ∷ Begin ∷ []) ++ desk_forms
     ++ (Sync ∷ Dump ∷ Peek ∷ Journal ∷ Where ∷ Inbox ∷ End ∷ [])
+
+-- the forms of the commands for widgets
+abbrev pub command_forms : List Form
+command_forms =
+    SetTint ∷ SetTile ∷ SetShift ∷ SetText ∷ AddLine ∷ Clear ∷ AddRect ∷ AddSwap ∷ AddExchange ∷ Undo ∷ SetBar ∷ []
+
+-- the words of a line of a leaf's actor
+abbrev pub act_line : ActLine → List (List ℕ)
+act_line h = (64 ∷ h.leaf.now) ∷ h.act.now ∷ texts h.values.now
+
+-- the words of a shape are none
+abbrev pub is_no_shape : ShapeWords → Bool
+is_no_shape ws = not (is_shape ws.lo.now ws.pref.now ws.hi.now)
+
+-- which of the words of a leaf are misspelled: its name, and its shapes
+abbrev pub head_faults : LeafWords → List Bool
+head_faults h = not (is_name h.name.now) ∷ is_no_shape h.across ∷ is_no_shape h.down ∷ []
+
+-- the lengths that the words of a shape spell
+abbrev pub lengths_in : ShapeWords → Lengths
+lengths_in ws = record { lo = nat_of ws.lo.now; pref = nat_of ws.pref.now; hi = nat_of ws.hi.now }
+
+-- the shapes that the words of a leaf spell
+abbrev pub shapes_in : LeafWords → Shapes
+shapes_in h = record { across = lengths_in h.across; down = lengths_in h.down }
 
 -- the words of a line that declares a leaf: those before the widget's, the widget's, and its values
 abbrev pub leaf_line : LeafWords → List ℕ → List (List ℕ) → List (List ℕ)

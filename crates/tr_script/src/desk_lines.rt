@@ -7,16 +7,15 @@ ghost use Rattle.tr_words.specs.Answers.{Chooses, texts};
 ghost use Rattle.tr_script.specs.Reading.{Reads, desk_forms};
 
 use crate::names::node_of;
+use crate::opening_lines::ORIGIN;
+use crate::refusals::NO_FORM;
 use tr_base::{Point, Shapes, Size};
 use tr_forest::Edit;
-use tr_grammar::{Code, LineRefused, Meaning};
+use tr_grammar::{LineRefused, Meaning};
 use tr_journal::{Actor, Step};
 use tr_reader::Reader;
 use tr_widget::WidgetCmd;
 use tr_words::{ShapeWords, byte, extent, offset, place, shape, side, small, time};
-
-/// Where a child stands that no point is given for.
-const ORIGIN: Point = Point { h: 0, v: 0 };
 
 /// A step of the desk.
 fn on_desk(step: Step<WidgetCmd>) -> Meaning
@@ -67,7 +66,7 @@ pub fn read_desk(reader: &Reader, first: &str, words: &[&str]) -> Result<Meaning
         "shapes" => read_reshape(reader, words),
         "resize" => read_resize(reader, words),
         "rescreen" => read_rescreen(reader, words),
-        _ => Err(LineRefused::Fault(Code::B1)),
+        _ => Err(NO_FORM),
     }
 }
 
@@ -75,10 +74,10 @@ fn read_mouse(reader: &Reader, words: &[&str]) -> Result<Meaning, LineRefused>
     ensures { Reads reader.now (Mouse ∷ []) (codes "mouse" ∷ texts words.now) result }
 {
     let [at, way, button] = words else {
-        return Err(LineRefused::Fault(Code::B1));
+        return Err(NO_FORM);
     };
     let Some(down) = is_down(way) else {
-        return Err(LineRefused::Fault(Code::B1));
+        return Err(NO_FORM);
     };
     reader.in_steps()?;
     let time = time(at)?;
@@ -90,7 +89,7 @@ fn read_motion(reader: &Reader, words: &[&str]) -> Result<Meaning, LineRefused>
     ensures { Reads reader.now (Motion ∷ []) (codes "motion" ∷ texts words.now) result }
 {
     let [at, h, v] = words else {
-        return Err(LineRefused::Fault(Code::B1));
+        return Err(NO_FORM);
     };
     reader.in_steps()?;
     let time = time(at)?;
@@ -104,7 +103,7 @@ fn read_key(reader: &Reader, words: &[&str]) -> Result<Meaning, LineRefused>
     ensures { Reads reader.now (Key ∷ []) (codes "key" ∷ texts words.now) result }
 {
     let [at, code] = words else {
-        return Err(LineRefused::Fault(Code::B1));
+        return Err(NO_FORM);
     };
     reader.in_steps()?;
     let time = time(at)?;
@@ -137,7 +136,7 @@ fn read_attach_at(reader: &Reader, words: &[&str]) -> Result<Meaning, LineRefuse
     ensures { Reads reader.now (AttachAt ∷ []) (codes "attach" ∷ texts words.now) result }
 {
     let [child, parent, h, v] = words else {
-        return Err(LineRefused::Fault(Code::B1));
+        return Err(NO_FORM);
     };
     reader.in_steps()?;
     let h = offset(h)?;
@@ -152,7 +151,7 @@ fn read_detach(reader: &Reader, words: &[&str]) -> Result<Meaning, LineRefused>
     ensures { Reads reader.now (Detach ∷ []) (codes "detach" ∷ texts words.now) result }
 {
     let [child] = words else {
-        return Err(LineRefused::Fault(Code::B1));
+        return Err(NO_FORM);
     };
     reader.in_steps()?;
     let child = node_of(reader, child)?;
@@ -163,7 +162,7 @@ fn read_tint(reader: &Reader, words: &[&str]) -> Result<Meaning, LineRefused>
     ensures { Reads reader.now (Tint ∷ []) (codes "tint" ∷ texts words.now) result }
 {
     let [node, tint] = words else {
-        return Err(LineRefused::Fault(Code::B1));
+        return Err(NO_FORM);
     };
     reader.in_steps()?;
     let tint = byte(tint)?;
@@ -175,7 +174,7 @@ fn read_widen(reader: &Reader, words: &[&str]) -> Result<Meaning, LineRefused>
     ensures { Reads reader.now (Widen ∷ []) (codes "border" ∷ texts words.now) result }
 {
     let [node, width] = words else {
-        return Err(LineRefused::Fault(Code::B1));
+        return Err(NO_FORM);
     };
     reader.in_steps()?;
     let width = byte(width)?;
@@ -187,7 +186,7 @@ fn read_offset(reader: &Reader, words: &[&str]) -> Result<Meaning, LineRefused>
     ensures { Reads reader.now (Offset ∷ []) (codes "offset" ∷ texts words.now) result }
 {
     let [node, h, v] = words else {
-        return Err(LineRefused::Fault(Code::B1));
+        return Err(NO_FORM);
     };
     reader.in_steps()?;
     let h = offset(h)?;
@@ -201,7 +200,7 @@ fn read_fix(reader: &Reader, words: &[&str]) -> Result<Meaning, LineRefused>
     ensures { Reads reader.now (Fix ∷ []) (codes "fix" ∷ texts words.now) result }
 {
     let [node, wide, high] = words else {
-        return Err(LineRefused::Fault(Code::B1));
+        return Err(NO_FORM);
     };
     reader.in_steps()?;
     let wide = extent(wide)?;
@@ -215,7 +214,7 @@ fn read_move(reader: &Reader, words: &[&str]) -> Result<Meaning, LineRefused>
     ensures { Reads reader.now (Move ∷ []) (codes "move" ∷ texts words.now) result }
 {
     let [child, h, v] = words else {
-        return Err(LineRefused::Fault(Code::B1));
+        return Err(NO_FORM);
     };
     reader.in_steps()?;
     let h = offset(h)?;
@@ -229,7 +228,7 @@ fn read_lift(reader: &Reader, words: &[&str]) -> Result<Meaning, LineRefused>
     ensures { Reads reader.now (Lift ∷ []) (codes "lift" ∷ texts words.now) result }
 {
     let [child] = words else {
-        return Err(LineRefused::Fault(Code::B1));
+        return Err(NO_FORM);
     };
     reader.in_steps()?;
     let child = node_of(reader, child)?;
@@ -240,7 +239,7 @@ fn read_show(reader: &Reader, words: &[&str]) -> Result<Meaning, LineRefused>
     ensures { Reads reader.now (Show ∷ []) (codes "show" ∷ texts words.now) result }
 {
     let [node, child] = words else {
-        return Err(LineRefused::Fault(Code::B1));
+        return Err(NO_FORM);
     };
     reader.in_steps()?;
     let node = node_of(reader, node)?;
@@ -252,7 +251,7 @@ fn read_turn(reader: &Reader, words: &[&str]) -> Result<Meaning, LineRefused>
     ensures { Reads reader.now (Turn ∷ []) (codes "turn" ∷ texts words.now) result }
 {
     let [node, page] = words else {
-        return Err(LineRefused::Fault(Code::B1));
+        return Err(NO_FORM);
     };
     reader.in_steps()?;
     let page = byte(page)?;
@@ -264,7 +263,7 @@ fn read_reshape(reader: &Reader, words: &[&str]) -> Result<Meaning, LineRefused>
     ensures { Reads reader.now (Reshape ∷ []) (codes "shapes" ∷ texts words.now) result }
 {
     let [node, lo, pref, hi, lo_down, pref_down, hi_down] = words else {
-        return Err(LineRefused::Fault(Code::B1));
+        return Err(NO_FORM);
     };
     reader.in_steps()?;
     let across = shape(&ShapeWords { lo, pref, hi })?;
@@ -282,7 +281,7 @@ fn read_resize(reader: &Reader, words: &[&str]) -> Result<Meaning, LineRefused>
     ensures { Reads reader.now (Resize ∷ []) (codes "resize" ∷ texts words.now) result }
 {
     let [wide, high] = words else {
-        return Err(LineRefused::Fault(Code::B1));
+        return Err(NO_FORM);
     };
     reader.in_steps()?;
     let wide = side(wide)?;
@@ -295,7 +294,7 @@ fn read_rescreen(reader: &Reader, words: &[&str]) -> Result<Meaning, LineRefused
     ensures { Reads reader.now (Rescreen ∷ []) (codes "rescreen" ∷ texts words.now) result }
 {
     let [kind] = words else {
-        return Err(LineRefused::Fault(Code::B1));
+        return Err(NO_FORM);
     };
     let kind = reader.kind(kind)?;
     reader.in_steps()?;

@@ -1,13 +1,15 @@
 //! The readers of the lines that declare leaves. Each tests for its faults in the order of their codes.
-ghost use Rattle.std.specs.Prelude.{◌≡◌, [], ◌∷◌, codes};
+ghost use Rattle.std.specs.Prelude.{◌≡◌, [], ◌∷◌, codes, not};
 ghost use Rattle.std.specs.List.{AllPass};
 ghost use Rattle.tr_base.specs.Lines.{is_printable};
 ghost use Rattle.tr_grammar.specs.Words.{words_of};
 ghost use Rattle.tr_grammar.specs.Forms.{leaf_forms};
 ghost use Rattle.tr_grammar.specs.Forms as form;
+ghost use Rattle.tr_grammar.specs.Faults.{allows, opening_line};
 ghost use Rattle.tr_words.specs.Answers.{texts};
-ghost use Rattle.tr_script.specs.Reading.{Reads, leaf_line};
+ghost use Rattle.tr_script.specs.Reading.{Begins, Reads, head_faults, leaf_line, shapes_in};
 
+use crate::refusals::NO_FORM;
 use std::alloc::Global;
 use tr_base::{Point, Shapes, Tile};
 use tr_grammar::{Code, LineRefused, Meaning};
@@ -23,6 +25,14 @@ use w_plain::{Board, Label, Solid};
 /// How many words stand before the text of a label.
 const WORDS_BEFORE_TEXT: usize = 9;
 
+/// The words of a line that declares a leaf, behind its first: those before the widget's, the widget's and
+/// its values.
+struct LeafLine<'a> {
+    head: LeafWords<'a>,
+    widget: &'a str,
+    values: &'a [&'a str],
+}
+
 /// A line that declares a leaf: its words after the first, and the line itself.
 pub fn read_leaf(
     alloc: Global,
@@ -35,7 +45,7 @@ pub fn read_leaf(
     ensures { Reads reader.now leaf_forms (codes "leaf" ∷ texts words.now) result }
 {
     let [
-        new,
+        name,
         lo,
         pref,
         hi,
@@ -46,26 +56,57 @@ pub fn read_leaf(
         values @ ..,
     ] = words
     else {
-        return Err(LineRefused::Fault(Code::B1));
+        return Err(NO_FORM);
     };
-    let head = LeafWords {
-        name: new,
-        across: ShapeWords { lo, pref, hi },
-        down: ShapeWords {
-            lo: lo_down,
-            pref: pref_down,
-            hi: hi_down,
-        },
+    let across = ShapeWords { lo, pref, hi };
+    let down = ShapeWords {
+        lo: lo_down,
+        pref: pref_down,
+        hi: hi_down,
     };
-    match *widget {
-        "solid" => read_solid(reader, &head, values),
-        "board" => read_board(reader, &head, values),
-        "label" => read_label(reader, &head, values, line),
-        "lines" => read_typescript(alloc, reader, &head, values),
-        "canvas" => read_canvas(alloc, reader, &head, values),
-        "meter" => read_meter(alloc, reader, &head, values),
-        _ => Err(LineRefused::Fault(Code::B1)),
+    let head = LeafWords { name, across, down };
+    let words = LeafLine {
+        head,
+        widget,
+        values,
+    };
+    read_widget(alloc, reader, &words, line)
+}
+
+/// The same, by the widget's word.
+fn read_widget(
+    alloc: Global,
+    reader: &Reader,
+    words: &LeafLine,
+    line: &str,
+) -> Result<Meaning, LineRefused>
+    requires line { words_of line.now ≡ leaf_line words.now.head words.now.widget.now (texts words.now.values.now) }
+    requires printable { AllPass is_printable line.now }
+    ensures { Reads reader.now leaf_forms
+        (leaf_line words.now.head words.now.widget.now (texts words.now.values.now)) result }
+{
+    let head = &words.head;
+    match words.widget {
+        "solid" => read_solid(reader, head, words.values),
+        "board" => read_board(reader, head, words.values),
+        "label" => read_label(reader, head, words.values, line),
+        "lines" => read_typescript(alloc, reader, head, words.values),
+        "canvas" => read_canvas(alloc, reader, head, words.values),
+        "meter" => read_meter(alloc, reader, head, words.values),
+        _ => Err(NO_FORM),
     }
+}
+
+/// The shapes of a leaf, of a line that may stand there.
+fn shapes_of(reader: &Reader, head: &LeafWords) -> Result<Shapes, Code>
+    ensures { Begins (not (allows reader.now.place opening_line)) (head_faults head.now)
+        (λ s. s ≡ shapes_in head.now) result }
+{
+    reader.in_opening()?;
+    name(head.name)?;
+    let across = shape(&head.across)?;
+    let down = shape(&head.down)?;
+    Ok(Shapes { across, down })
 }
 
 fn read_solid(reader: &Reader, head: &LeafWords, values: &[&str]) -> Result<Meaning, LineRefused>
@@ -73,15 +114,11 @@ fn read_solid(reader: &Reader, head: &LeafWords, values: &[&str]) -> Result<Mean
         (codes "solid") (texts values.now)) result }
 {
     let [tint] = values else {
-        return Err(LineRefused::Fault(Code::B1));
+        return Err(NO_FORM);
     };
-    reader.in_opening()?;
-    name(head.name)?;
-    let across = shape(&head.across)?;
-    let down = shape(&head.down)?;
+    let shapes = shapes_of(reader, head)?;
     let tint = byte(tint)?;
     reader.is_new(head.name)?;
-    let shapes = Shapes { across, down };
     let content = Widget::Solid(Solid::new(tint));
     Ok(Meaning::Item(Item::Leaf { shapes, content }))
 }
@@ -91,17 +128,13 @@ fn read_board(reader: &Reader, head: &LeafWords, values: &[&str]) -> Result<Mean
         (codes "board") (texts values.now)) result }
 {
     let [tile, h, v] = values else {
-        return Err(LineRefused::Fault(Code::B1));
+        return Err(NO_FORM);
     };
-    reader.in_opening()?;
-    name(head.name)?;
-    let across = shape(&head.across)?;
-    let down = shape(&head.down)?;
+    let shapes = shapes_of(reader, head)?;
     let tile = Tile { rows: rows(tile)? };
     let h = shift(h)?;
     let v = shift(v)?;
     reader.is_new(head.name)?;
-    let shapes = Shapes { across, down };
     let content = Widget::Board(Board::new(tile, Point { h, v }));
     Ok(Meaning::Item(Item::Leaf { shapes, content }))
 }
@@ -117,13 +150,9 @@ fn read_label(
     ensures { Reads reader.now (form.Label ∷ []) (leaf_line head.now
         (codes "label") (texts _values.now)) result }
 {
-    reader.in_opening()?;
-    name(head.name)?;
-    let across = shape(&head.across)?;
-    let down = shape(&head.down)?;
+    let shapes = shapes_of(reader, head)?;
     let text = text(rest_after(line, WORDS_BEFORE_TEXT))?;
     reader.is_new(head.name)?;
-    let shapes = Shapes { across, down };
     let content = Widget::Label(Label::new(text)?);
     Ok(Meaning::Item(Item::Leaf { shapes, content }))
 }
@@ -138,14 +167,10 @@ fn read_typescript(
         (codes "lines") (texts values.now)) result }
 {
     let [] = values else {
-        return Err(LineRefused::Fault(Code::B1));
+        return Err(NO_FORM);
     };
-    reader.in_opening()?;
-    name(head.name)?;
-    let across = shape(&head.across)?;
-    let down = shape(&head.down)?;
+    let shapes = shapes_of(reader, head)?;
     reader.is_new(head.name)?;
-    let shapes = Shapes { across, down };
     let content = Widget::Lines(Lines::new(alloc)?);
     Ok(Meaning::Item(Item::Leaf { shapes, content }))
 }
@@ -160,14 +185,10 @@ fn read_canvas(
         (codes "canvas") (texts values.now)) result }
 {
     let [] = values else {
-        return Err(LineRefused::Fault(Code::B1));
+        return Err(NO_FORM);
     };
-    reader.in_opening()?;
-    name(head.name)?;
-    let across = shape(&head.across)?;
-    let down = shape(&head.down)?;
+    let shapes = shapes_of(reader, head)?;
     reader.is_new(head.name)?;
-    let shapes = Shapes { across, down };
     let content = Widget::Canvas(Canvas::new(alloc)?);
     Ok(Meaning::Item(Item::Leaf { shapes, content }))
 }
@@ -182,15 +203,11 @@ fn read_meter(
         (codes "meter") (texts values.now)) result }
 {
     let [bars] = values else {
-        return Err(LineRefused::Fault(Code::B1));
+        return Err(NO_FORM);
     };
-    reader.in_opening()?;
-    name(head.name)?;
-    let across = shape(&head.across)?;
-    let down = shape(&head.down)?;
+    let shapes = shapes_of(reader, head)?;
     let bars = small(bars, 1, 32)?;
     reader.is_new(head.name)?;
-    let shapes = Shapes { across, down };
     let content = Widget::Meter(Meter::new(alloc, bars)?);
     Ok(Meaning::Item(Item::Leaf { shapes, content }))
 }

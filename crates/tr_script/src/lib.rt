@@ -5,11 +5,13 @@
 //! its names, and by what the lines before it declared.
 #![tactic(auto)]
 
+mod act_lines;
 mod desk_lines;
 mod leaf_lines;
 mod lines;
 mod names;
 mod opening_lines;
+mod refusals;
 mod report_lines;
 mod scripts;
 mod widget_lines;

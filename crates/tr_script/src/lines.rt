@@ -10,15 +10,16 @@ ghost use Rattle.tr_words.specs.Answers.{texts};
 ghost use Rattle.tr_reader.specs.Adding.{IsFault, IsSoundMeaning};
 ghost use Rattle.tr_script.specs.Reading.{Reads, plain_forms};
 
+use crate::act_lines::read_at;
 use crate::desk_lines::read_desk;
 use crate::leaf_lines::read_leaf;
 use crate::opening_lines::{
     read_begin, read_glyph, read_node, read_put, read_root, read_screen, read_version,
 };
+use crate::refusals::NO_FORM;
 use crate::report_lines::{
     read_dump, read_end, read_inbox, read_journal, read_peek, read_sync, read_where,
 };
-use crate::widget_lines::read_at;
 use std::alloc::Global;
 use tr_grammar::{Code, LineRefused, Meaning};
 use tr_reader::Reader;
@@ -46,7 +47,7 @@ fn read_words(
     ensures { Reads reader.now forms (texts words.now) result }
 {
     match words {
-        [] => Err(LineRefused::Fault(Code::B1)),
+        [] => Err(NO_FORM),
         [first, rest @ ..] => read_first(alloc, reader, first, rest, line),
     }
 }

@@ -1,12 +1,15 @@
 //! The readers of the lines of the opening. Each tests for its faults in the order of their codes.
-ghost use Rattle.std.specs.Prelude.{[], ◌∷◌, bytes_eq, codes};
+ghost use Rattle.std.specs.Prelude.{◌≡◌, [], ◌∷◌, bytes_eq, codes, not};
+ghost use Rattle.tr_grammar.specs.Words.{is_name, is_number, nat_of};
 ghost use Rattle.tr_grammar.specs.Forms.{node_forms, split_words, way_words, Version, Screen, Glyph};
 ghost use Rattle.tr_grammar.specs.Forms.{Split, Page, Border, Rigid, Translate, Pack, Put, PutAt, Root, Begin};
 ghost use Rattle.tr_grammar.specs.Meanings.{split_of};
+ghost use Rattle.tr_grammar.specs.Faults.{allows, opening_line};
 ghost use Rattle.tr_words.specs.Answers.{Chooses, texts};
-ghost use Rattle.tr_script.specs.Reading.{Reads};
+ghost use Rattle.tr_script.specs.Reading.{Begins, Reads};
 
 use crate::names::node_of;
+use crate::refusals::NO_FORM;
 use tr_base::{Point, Size};
 use tr_forest::NodeKind;
 use tr_grammar::{Code, LineRefused, Meaning};
@@ -15,7 +18,7 @@ use tr_reader::Reader;
 use tr_words::{byte, extent, glyph_byte, name, offset, rows, side, small};
 
 /// Where a child stands that no point is given for.
-const ORIGIN: Point = Point { h: 0, v: 0 };
+pub const ORIGIN: Point = Point { h: 0, v: 0 };
 
 /// A split that has a tint alone.
 fn split_of(word: &str) -> Option<NodeKind>
@@ -45,7 +48,7 @@ pub fn read_version(reader: &Reader, words: &[&str]) -> Result<Meaning, LineRefu
     ensures { Reads reader.now (Version ∷ []) (codes "trestle" ∷ texts words.now) result }
 {
     let [version] = words else {
-        return Err(LineRefused::Fault(Code::B1));
+        return Err(NO_FORM);
     };
     reader.in_start()?;
     let version = small(version, 1, 2)?;
@@ -56,7 +59,7 @@ pub fn read_screen(reader: &Reader, words: &[&str]) -> Result<Meaning, LineRefus
     ensures { Reads reader.now (Screen ∷ []) (codes "screen" ∷ texts words.now) result }
 {
     let [wide, high, kind] = words else {
-        return Err(LineRefused::Fault(Code::B1));
+        return Err(NO_FORM);
     };
     let kind = reader.kind(kind)?;
     reader.in_head()?;
@@ -70,7 +73,7 @@ pub fn read_glyph(reader: &Reader, words: &[&str]) -> Result<Meaning, LineRefuse
     ensures { Reads reader.now (Glyph ∷ []) (codes "glyph" ∷ texts words.now) result }
 {
     let [byte, rows_word] = words else {
-        return Err(LineRefused::Fault(Code::B1));
+        return Err(NO_FORM);
     };
     reader.in_opening()?;
     let byte = glyph_byte(byte)?;
@@ -83,7 +86,7 @@ pub fn read_node(reader: &Reader, words: &[&str]) -> Result<Meaning, LineRefused
     ensures { Reads reader.now node_forms (codes "node" ∷ texts words.now) result }
 {
     let [new, kind, values @ ..] = words else {
-        return Err(LineRefused::Fault(Code::B1));
+        return Err(NO_FORM);
     };
     match *kind {
         "page" => read_page(reader, new, values),
@@ -93,6 +96,16 @@ pub fn read_node(reader: &Reader, words: &[&str]) -> Result<Meaning, LineRefused
         "pack" => read_pack(reader, new, values),
         _ => read_split(reader, new, kind, values),
     }
+}
+
+/// The tint of a node that isn't a leaf, of a line that may stand there.
+fn tint_of(reader: &Reader, new: &str, tint: &str) -> Result<u8, Code>
+    ensures { Begins (not (allows reader.now.place opening_line))
+        (not (is_name new.now) ∷ not (is_number 0 255 tint.now) ∷ []) (λ n. n ≡ nat_of tint.now) result }
+{
+    reader.in_opening()?;
+    name(new)?;
+    byte(tint)
 }
 
 fn read_split(
@@ -105,14 +118,12 @@ fn read_split(
         (codes "node" ∷ new.now ∷ kind.now ∷ texts values.now) result }
 {
     let [tint] = values else {
-        return Err(LineRefused::Fault(Code::B1));
+        return Err(NO_FORM);
     };
     let Some(kind) = split_of(kind) else {
-        return Err(LineRefused::Fault(Code::B1));
+        return Err(NO_FORM);
     };
-    reader.in_opening()?;
-    name(new)?;
-    let tint = byte(tint)?;
+    let tint = tint_of(reader, new, tint)?;
     reader.is_new(new)?;
     Ok(Meaning::Item(Item::Node { kind, tint }))
 }
@@ -122,11 +133,9 @@ fn read_page(reader: &Reader, new: &str, values: &[&str]) -> Result<Meaning, Lin
         (codes "node" ∷ new.now ∷ codes "page" ∷ texts values.now) result }
 {
     let [tint, per] = values else {
-        return Err(LineRefused::Fault(Code::B1));
+        return Err(NO_FORM);
     };
-    reader.in_opening()?;
-    name(new)?;
-    let tint = byte(tint)?;
+    let tint = tint_of(reader, new, tint)?;
     let per = small(per, 1, 16)?;
     reader.is_new(new)?;
     let kind = NodeKind::Page { per, page: 0 };
@@ -138,11 +147,9 @@ fn read_border(reader: &Reader, new: &str, values: &[&str]) -> Result<Meaning, L
         (codes "node" ∷ new.now ∷ codes "border" ∷ texts values.now) result }
 {
     let [tint, width] = values else {
-        return Err(LineRefused::Fault(Code::B1));
+        return Err(NO_FORM);
     };
-    reader.in_opening()?;
-    name(new)?;
-    let tint = byte(tint)?;
+    let tint = tint_of(reader, new, tint)?;
     let width = byte(width)?;
     reader.is_new(new)?;
     let kind = NodeKind::Border { width };
@@ -154,11 +161,9 @@ fn read_rigid(reader: &Reader, new: &str, values: &[&str]) -> Result<Meaning, Li
         (codes "node" ∷ new.now ∷ codes "rigid" ∷ texts values.now) result }
 {
     let [tint, wide, high] = values else {
-        return Err(LineRefused::Fault(Code::B1));
+        return Err(NO_FORM);
     };
-    reader.in_opening()?;
-    name(new)?;
-    let tint = byte(tint)?;
+    let tint = tint_of(reader, new, tint)?;
     let wide = extent(wide)?;
     let high = extent(high)?;
     reader.is_new(new)?;
@@ -173,11 +178,9 @@ fn read_translate(reader: &Reader, new: &str, values: &[&str]) -> Result<Meaning
         (codes "node" ∷ new.now ∷ codes "translate" ∷ texts values.now) result }
 {
     let [tint, h, v] = values else {
-        return Err(LineRefused::Fault(Code::B1));
+        return Err(NO_FORM);
     };
-    reader.in_opening()?;
-    name(new)?;
-    let tint = byte(tint)?;
+    let tint = tint_of(reader, new, tint)?;
     let h = offset(h)?;
     let v = offset(v)?;
     reader.is_new(new)?;
@@ -190,17 +193,15 @@ fn read_pack(reader: &Reader, new: &str, values: &[&str]) -> Result<Meaning, Lin
         (codes "node" ∷ new.now ∷ codes "pack" ∷ texts values.now) result }
 {
     let [tint, way, gap] = values else {
-        return Err(LineRefused::Fault(Code::B1));
+        return Err(NO_FORM);
     };
     let Some(down) = is_down(way) else {
-        return Err(LineRefused::Fault(Code::B1));
+        return Err(NO_FORM);
     };
     if !reader.is_second() {
-        return Err(LineRefused::Fault(Code::B1));
+        return Err(NO_FORM);
     }
-    reader.in_opening()?;
-    name(new)?;
-    let tint = byte(tint)?;
+    let tint = tint_of(reader, new, tint)?;
     let gap = small(gap, 0, 64)?;
     reader.is_new(new)?;
     let kind = NodeKind::Pack { down, gap };
@@ -230,7 +231,7 @@ fn read_put_at(reader: &Reader, words: &[&str]) -> Result<Meaning, LineRefused>
     ensures { Reads reader.now (PutAt ∷ []) (codes "put" ∷ texts words.now) result }
 {
     let [child, parent, h, v] = words else {
-        return Err(LineRefused::Fault(Code::B1));
+        return Err(NO_FORM);
     };
     reader.in_opening()?;
     let h = offset(h)?;
@@ -245,7 +246,7 @@ pub fn read_root(reader: &Reader, words: &[&str]) -> Result<Meaning, LineRefused
     ensures { Reads reader.now (Root ∷ []) (codes "root" ∷ texts words.now) result }
 {
     let [node] = words else {
-        return Err(LineRefused::Fault(Code::B1));
+        return Err(NO_FORM);
     };
     reader.in_opening()?;
     let node = node_of(reader, node)?;
@@ -256,7 +257,7 @@ pub fn read_begin(reader: &Reader, words: &[&str]) -> Result<Meaning, LineRefuse
     ensures { Reads reader.now (Begin ∷ []) (codes "begin" ∷ texts words.now) result }
 {
     let [] = words else {
-        return Err(LineRefused::Fault(Code::B1));
+        return Err(NO_FORM);
     };
     reader.in_opening()?;
     Ok(Meaning::Begin)

@@ -5,8 +5,9 @@ ghost use Rattle.tr_words.specs.Answers.{texts};
 ghost use Rattle.tr_script.specs.Reading.{Reads};
 
 use crate::names::leaf_of;
+use crate::refusals::NO_FORM;
 use tr_base::Point;
-use tr_grammar::{Code, LineRefused, Meaning};
+use tr_grammar::{LineRefused, Meaning};
 use tr_journal::Query;
 use tr_reader::Reader;
 use tr_words::place;
@@ -15,7 +16,7 @@ pub fn read_sync(reader: &Reader, words: &[&str]) -> Result<Meaning, LineRefused
     ensures { Reads reader.now (Sync ∷ []) (codes "sync" ∷ texts words.now) result }
 {
     let [] = words else {
-        return Err(LineRefused::Fault(Code::B1));
+        return Err(NO_FORM);
     };
     reader.in_steps()?;
     Ok(Meaning::Sync)
@@ -25,7 +26,7 @@ pub fn read_dump(reader: &Reader, words: &[&str]) -> Result<Meaning, LineRefused
     ensures { Reads reader.now (Dump ∷ []) (codes "dump" ∷ texts words.now) result }
 {
     let [] = words else {
-        return Err(LineRefused::Fault(Code::B1));
+        return Err(NO_FORM);
     };
     reader.in_gap()?;
     Ok(Meaning::Report(Query::Dump))
@@ -35,7 +36,7 @@ pub fn read_peek(reader: &Reader, words: &[&str]) -> Result<Meaning, LineRefused
     ensures { Reads reader.now (Peek ∷ []) (codes "peek" ∷ texts words.now) result }
 {
     let [] = words else {
-        return Err(LineRefused::Fault(Code::B1));
+        return Err(NO_FORM);
     };
     reader.in_gap()?;
     Ok(Meaning::Report(Query::Peek))
@@ -45,7 +46,7 @@ pub fn read_journal(reader: &Reader, words: &[&str]) -> Result<Meaning, LineRefu
     ensures { Reads reader.now (Journal ∷ []) (codes "journal" ∷ texts words.now) result }
 {
     let [] = words else {
-        return Err(LineRefused::Fault(Code::B1));
+        return Err(NO_FORM);
     };
     reader.in_gap()?;
     Ok(Meaning::Report(Query::Journal))
@@ -55,7 +56,7 @@ pub fn read_where(reader: &Reader, words: &[&str]) -> Result<Meaning, LineRefuse
     ensures { Reads reader.now (Where ∷ []) (codes "where" ∷ texts words.now) result }
 {
     let [h, v] = words else {
-        return Err(LineRefused::Fault(Code::B1));
+        return Err(NO_FORM);
     };
     reader.in_gap()?;
     let h = place(h)?;
@@ -67,7 +68,7 @@ pub fn read_inbox(reader: &Reader, words: &[&str]) -> Result<Meaning, LineRefuse
     ensures { Reads reader.now (Inbox ∷ []) (codes "inbox" ∷ texts words.now) result }
 {
     let [leaf] = words else {
-        return Err(LineRefused::Fault(Code::B1));
+        return Err(NO_FORM);
     };
     reader.in_gap()?;
     let leaf = leaf_of(reader, leaf)?;
@@ -78,7 +79,7 @@ pub fn read_end(reader: &Reader, words: &[&str]) -> Result<Meaning, LineRefused>
     ensures { Reads reader.now (End ∷ []) (codes "end" ∷ texts words.now) result }
 {
     let [] = words else {
-        return Err(LineRefused::Fault(Code::B1));
+        return Err(NO_FORM);
     };
     reader.in_gap()?;
     Ok(Meaning::End)

@@ -8,12 +8,9 @@ ghost use Rattle.tr_words.specs.Answers.{texts};
 
 use crate::lines::take;
 use std::alloc::Global;
-use tr_grammar::{Code, LineRefused, ReadRefused};
+use tr_grammar::{Code, LONGEST_SCRIPT, LineRefused, ReadRefused};
 use tr_reader::{Reader, Script};
 use tr_words::lines_of;
-
-/// How many bytes a text may have.
-const MOST_BYTES: usize = 4_194_304;
 
 /// The refusal of a line.
 fn refused_at(line: usize, code: Code) -> ReadRefused
@@ -57,7 +54,7 @@ pub fn read_script(alloc: Global, bytes: &[u8]) -> Result<Script, ReadRefused>
     ensures playable { IfOk result (λ s. IsPlayableScript s) }
     ensures cause { IfErr result (λ e. IsCause (refusal_of bytes.now) e) }
 {
-    if bytes.len() > MOST_BYTES {
+    if bytes.len() > LONGEST_SCRIPT {
         return Err(refused_at(0, Code::B7));
     }
     let lines = lines_of(alloc, bytes)?;

@@ -1,2 +1,1 @@
 pub mod CueLemmas
-pub mod StepLemmas

@@ -1,5 +1,5 @@
 -- What a script does on one thread, the journal that this makes, and the texts that are written.
-use Rattle.std.specs.Prelude.{◌≡◌, ℕ, false, All, List, [], ◌∷◌, ◌++◌, length, map, codes, decimal}
+use Rattle.std.specs.Prelude.{ℕ, List, [], ◌∷◌, ◌++◌, length, map, codes, decimal}
 use Rattle.std.specs.List.{flat_map}
 use Rattle.tr_client.specs.declared.Client.{Ghosts}
 use Rattle.tr_journal.specs.declared.Actor.TheVariants.{Player}
@@ -9,17 +9,15 @@ use Rattle.tr_machine.specs.States.{start}
 use Rattle.tr_widget.specs.declared.Widget.{Widget}
 use Rattle.tr_widget.specs.declared.WidgetCmd.{WidgetCmd}
 use Rattle.tr_widget.specs.Widgets.{IsWidget, widget_pic, widget_next, widget_patch, widget_answer, widget_value, widget_keeps, widget_words}
-use Rattle.tr_grammar.specs.States.{Stretch}
-use Rattle.tr_grammar.specs.Names.{Named}
+use Rattle.tr_grammar.specs.States.{Part}
 use Rattle.tr_grammar.specs.Texts.{lines_of}
 use Rattle.tr_grammar.specs.Scripts.{Script, script_of}
 use Rattle.tr_dump.specs.Values.{line_text}
-use Rattle.tr_dump.specs.Names.{Names}
 use Rattle.tr_gen.specs.Scripts as gen
 use Rattle.tr_run.specs.declared.Mode.{Mode}
 use Rattle.tr_run.specs.declared.Mode.TheVariants.{Serial, Check, Gen}
 use Rattle.tr_run.specs.Runs.{Cue, makes, reporting, run_lines}
-use Rattle.tr_run.specs.Texts.{is_report, texts_from, sum_from}
+use Rattle.tr_run.specs.Texts.{texts_from, sum_from}
 
 -- the widgets, as what is shown in the windows of a script
 abbrev pub widgets : Ghosts Widget WidgetCmd
@@ -33,26 +31,18 @@ widgets = record {
   keeps = widget_keeps;
 }
 
--- the names of a script, as the texts of reports have them
-abbrev pub names_in : Named → Names
-names_in names = record { nodes = names.nodes; leaves = names.leaves }
-
 -- what a part has done: its reports, and then its steps
-abbrev pub part_cues : Stretch → List (Cue WidgetCmd)
+abbrev pub part_cues : Part → List (Cue WidgetCmd)
 part_cues part = flat_map reporting part.reports ++ map (λ made. makes made.0 made.1) part.steps
 
 -- a later part begins with a sync
-abbrev pub later_cues : Stretch → List (Cue WidgetCmd)
+abbrev pub later_cues : Part → List (Cue WidgetCmd)
 later_cues part = makes Player steps.Sync ∷ part_cues part
 
 -- what all parts have done
-abbrev pub cues : List Stretch → List (Cue WidgetCmd)
+abbrev pub cues : List Part → List (Cue WidgetCmd)
 cues [] = []
 cues (part ∷ parts) = part_cues part ++ flat_map later_cues parts
-
--- no step of a part is a report: the reports stand before the steps
-abbrev pub HasOnlySteps : Script → Type 0
-HasOnlySteps s = All (λ part. All (λ made. is_report made.1 ≡ false) part.steps) s.parts
 
 -- the journal of a script that is played on one thread
 abbrev pub serial_journal : Script → List (JournalLine WidgetCmd)
@@ -60,7 +50,7 @@ serial_journal s = run_lines widgets (start s.opening) (cues s.parts)
 
 -- what is written while a script is played
 abbrev pub played_text : Mode → Script → List ℕ
-played_text mode s = texts_from widgets widget_words (names_in s.names) mode [] (start s.opening) (serial_journal s)
+played_text mode s = texts_from widgets widget_words s.names mode [] (start s.opening) (serial_journal s)
 
 -- the sum of the last dump's pixels, in the mode that adds them up, and else 0
 abbrev pub played_sum : Mode → Script → ℕ

@@ -16,7 +16,6 @@ use tr_script::read_script;
 fn drawn(alloc: Global, number: u32) -> Result<Script, NoMemory>
     ensures script { IfOk result (λ script. script ≡ spec.drawn number) }
     ensures playable { IfOk result (λ script. IsPlayableScript script) }
-    ensures steps { IfOk result (λ script. spec.HasOnlySteps script) }
 {
     let text = script_of(alloc, number)?;
     match read_script(alloc, &text) {

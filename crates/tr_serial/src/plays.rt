@@ -3,11 +3,11 @@ ghost use Rattle.std.specs.List.{flat_map};
 ghost use Rattle.tr_journal.specs.declared.Actor.TheVariants.{Player};
 ghost use Rattle.tr_journal.specs.declared.Step.TheVariants.{Sync};
 ghost use Rattle.tr_journal.specs.Openings.{tree_of};
+ghost use Rattle.tr_journal.specs.Reports.{is_report};
 ghost use Rattle.tr_journal.specs.Steps.{IsQuery, IsStep, may};
 ghost use Rattle.tr_widget.specs.Widgets.{widget_words};
 ghost use Rattle.tr_grammar.specs.Scripts.{IsPlayablePart, IsPlayableScript};
 ghost use Rattle.tr_run.specs.Runs.{makes, reporting};
-ghost use Rattle.tr_run.specs.Texts.{is_report};
 ghost use Rattle.tr_run.specs.Views.{Does};
 ghost use Rattle.tr_serial.specs.Outputs as spec;
 
@@ -32,7 +32,6 @@ pub struct Played {
 /// Plays a script, and writes its reports.
 pub fn serial(alloc: Global, script: Script) -> Result<Played, NoMemory>
     requires playable { IsPlayableScript script }
-    requires steps { spec.HasOnlySteps script }
     ensures text { IfOk result (λ played. played.text.items ≡ spec.out_text script) }
     ensures journal { IfOk result (λ played. played.stage.journal ≡ spec.serial_journal script) }
     ensures opening { IfOk result (λ played. played.stage.opening ≡ script.opening) }
@@ -45,7 +44,6 @@ pub fn serial(alloc: Global, script: Script) -> Result<Played, NoMemory>
 /// how many points lag behind what the windows are to show.
 pub fn check(alloc: Global, script: Script) -> Result<Played, NoMemory>
     requires playable { IsPlayableScript script }
-    requires steps { spec.HasOnlySteps script }
     ensures text { IfOk result (λ played. played.text.items ≡ spec.check_text script) }
     ensures journal { IfOk result (λ played. played.stage.journal ≡ spec.serial_journal script) }
     ensures opening { IfOk result (λ played. played.stage.opening ≡ script.opening) }
@@ -57,7 +55,6 @@ pub fn check(alloc: Global, script: Script) -> Result<Played, NoMemory>
 /// Plays a script in one of the modes.
 pub(crate) fn play(alloc: Global, script: Script, mode: Mode) -> Result<Finished<Widget>, NoMemory>
     requires playable { IsPlayableScript script }
-    requires steps { spec.HasOnlySteps script }
     ensures text { IfOk result (λ end. end.text.items ≡ spec.played_text mode script) }
     ensures sum { IfOk result (λ end. end.sum ≡ spec.played_sum mode script) }
     ensures journal { IfOk result (λ end. end.stage.journal ≡ spec.serial_journal script) }
@@ -79,7 +76,6 @@ fn play_parts<C: Client<Cmd = WidgetCmd>, N: NameOf>(
     parts: Vec<Part>,
 ) -> Result<(), NoMemory>
     requires playable { All (IsPlayablePart (tree_of run.old.stage.opening).nodes) parts.items }
-    requires other { All (λ part. All (λ made. is_report made.1 ≡ false) part.steps) parts.items }
     ensures { OnOk result (Does C.Client widget_words run.old run.new (spec.cues parts.items)) }
 {
     let mut is_later = false;
@@ -97,7 +93,6 @@ fn play_part<C: Client<Cmd = WidgetCmd>, N: NameOf>(
     part: Part,
 ) -> Result<(), NoMemory>
     requires playable { IsPlayablePart (tree_of run.old.stage.opening).nodes part }
-    requires other { All (λ made. is_report made.1 ≡ false) part.steps }
     ensures { OnOk result (Does C.Client widget_words run.old run.new
         ((if is_later then makes Player Sync ∷ [] else []) ++ spec.part_cues part)) }
 {

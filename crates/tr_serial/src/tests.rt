@@ -1,6 +1,5 @@
 ghost use Rattle.std.specs.Prelude.{IfOk};
 ghost use Rattle.tr_grammar.specs.Scripts.{IsPlayableScript};
-ghost use Rattle.tr_serial.specs.Outputs.{HasOnlySteps};
 
 use super::*;
 use std::alloc::Global;
@@ -66,7 +65,6 @@ where 5 0 off
 /// The script of a text.
 fn script_in(alloc: Global, text: &[u8]) -> Result<Script, ReadRefused>
     ensures playable { IfOk result (λ script. IsPlayableScript script) }
-    ensures steps { IfOk result (λ script. HasOnlySteps script) }
 {
     read_script(alloc, text)
 }

@@ -3,7 +3,7 @@ use Rattle.std.specs.Prelude.{codes, decimal}
 use Rattle.std.specs.List.{enumerate_from, flat_map}
 use Rattle.std.proofs.lemmas.List.{take_all}
 use Rattle.std.proofs.lemmas.List.FromFn.{length-enumerate_from}
-use Rattle.tr_dump.specs.Names.{names_of}
+use Rattle.tr_journal.specs.Names.{names_of}
 use Rattle.tr_dump.specs.Values.{spaced}
 use Rattle.tr_dump.specs.Steps.{entry_text}
 use Rattle.tr_dump.specs.Reports.{delivery_text, journal_line}

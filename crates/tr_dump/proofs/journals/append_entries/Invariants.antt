@@ -1,6 +1,6 @@
 use Rattle.std.proofs.Common.{◌≡◌, ◌++◌, take}
 use Rattle.std.specs.List.{enumerate_from, flat_map}
-use Rattle.tr_dump.specs.Names.{names_of}
+use Rattle.tr_journal.specs.Names.{names_of}
 use Rattle.tr_dump.specs.Reports.{journal_line}
 use Rattle.tr_dump.proofs.journals.append_entries.Given as goal
 

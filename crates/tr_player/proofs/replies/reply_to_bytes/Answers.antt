@@ -1,18 +1,12 @@
-use Rattle.std.proofs.Common.{◌≡◌, sym, subst}
+use Rattle.std.proofs.Common.{◌≡◌}
 use Rattle.std.specs.Prelude.{Some}
 use Rattle.std.proofs.lemmas.Result.{IfOk-weaker}
-use Rattle.tr_grammar.specs.Scripts.{Refusal, Script, refusal_of}
-use Rattle.tr_serial.specs.Outputs.{HasOnlySteps}
-use Rattle.tr_serial.proofs.StepLemmas.{only_steps}
+use Rattle.tr_grammar.specs.Scripts.{Refusal, refusal_of}
 use Rattle.tr_player.specs.declared.replies.Reply.{Reply}
 use Rattle.tr_player.specs.Answers.{Due, refused}
 use Rattle.tr_player.specs.Replies.{IsDueOfText, IsReply, due_of_script, reading}
 use Rattle.tr_player.proofs.ReplyLemmas.{due_of_valid, due_refused}
 use Rattle.tr_player.proofs.replies.reply_to_bytes.Goals as goal
-
-pub reply_to_script-requires-clause-steps : goal.reply_to_script-requires-clause-steps
-reply_to_script-requires-clause-steps c =
-    subst (λ (s : Script). HasOnlySteps s) (sym c.in-Ok.ensures.script) (only_steps c.args.bytes.now)
 
 pub returns-in-Ok : goal.returns-in-Ok
 returns-in-Ok c =

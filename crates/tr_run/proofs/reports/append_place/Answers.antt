@@ -1,7 +1,7 @@
 use Rattle.std.proofs.Common.{length, sym, ap, subst, ◌∙◌}
 use Rattle.tr_forest.specs.Nodes.{leaf_count}
 use Rattle.tr_journal.specs.Openings.{tree_of}
-use Rattle.tr_dump.specs.Names.{names_of}
+use Rattle.tr_journal.specs.Names.{names_of}
 use Rattle.tr_run.proofs.SpotLemmas.{IsWithin, spot_named, spot_within}
 use Rattle.tr_run.proofs.reports.append_place.Goals as goal
 

@@ -3,10 +3,8 @@ use Rattle.std.proofs.lemmas.Option.{none-some}
 use Rattle.tr_gen.specs.Scripts as gen
 use Rattle.tr_grammar.specs.declared.ReadRefused.{ReadRefused}
 use Rattle.tr_grammar.specs.declared.ReadRefused.TheVariants as refused
-use Rattle.tr_grammar.specs.Scripts.{Script, refusal_of, IsCause}
+use Rattle.tr_grammar.specs.Scripts.{refusal_of, IsCause}
 use Rattle.tr_gen_valid.proofs.DrawnLemmas.{is_a_script}
-use Rattle.tr_serial.specs.Outputs.{HasOnlySteps}
-use Rattle.tr_serial.proofs.StepLemmas.{only_steps}
 use Rattle.tr_serial.proofs.drawn.drawn.Goals as goal
 
 -- a text that is drawn isn't refused
@@ -21,7 +19,3 @@ unreachable-requires c =
     let text = c.deref.ensures.value ∙ c.in_ok-text.ensures.text in
     let P : ReadRefused → Type 0 = λ e. IsCause (refusal_of c.deref.result.now) e in
     not_refused c.args.number c.deref.result.now _ _ text (subst P c.in-Err-Refused.field-0-is c.in-Err-Refused.ensures.cause)
-
-pub returns-in-Ok-clause-steps : goal.returns-in-Ok-clause-steps
-returns-in-Ok-clause-steps c =
-    let P : Script → Type 0 = λ s. HasOnlySteps s in subst P (sym c.in-Ok.ensures.script) (only_steps _)

@@ -7,9 +7,9 @@ use Rattle.tr_journal.specs.declared.Actor.{Actor}
 use Rattle.tr_journal.specs.declared.Item.{Item}
 use Rattle.tr_journal.specs.declared.Step.{Step}
 use Rattle.tr_journal.specs.Openings.{tree_of}
+use Rattle.tr_journal.specs.Reports.{is_report}
 use Rattle.tr_journal.specs.Steps.{IsStep, may}
 use Rattle.tr_run.specs.Runs.{makes}
-use Rattle.tr_run.specs.Texts.{is_report}
 use Rattle.tr_serial.proofs.CueLemmas.{goes_on, map_next}
 use Rattle.tr_serial.proofs.plays.make_all.Goals as goal
 

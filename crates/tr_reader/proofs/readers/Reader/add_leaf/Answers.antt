@@ -5,11 +5,11 @@ use Rattle.tr_reader.proofs.readers.Reader.add_leaf.Goals as goal
 
 pub declare-requires-2-clause-new : goal.declare-requires-2-clause-new
 declare-requires-2-clause-new c =
-    leaf_is_new c.self.inside c.args.self.now c.in-Some.declared c.args.name.now c.self.view_is c.self.invariant
-    (sym c.take.ensures.value ∙ c.in-Some.is) c.requires.sound.value
+    leaf_is_new c.self.inside c.args.self.now c.in_ok-declared.declared c.args.name.now c.self.view_is c.self.invariant
+    (sym c.take.ensures.value ∙ c.in_ok-declared.ensures) c.requires.sound.value
 
 pub invariant_of-self-2 : goal.invariant_of-self-2
 invariant_of-self-2 c =
-    kept_item c.self.inside c.args.self.now c.in-Some.declared _ c.args.name.now (items.Leaf c.args.shapes c.args.content) c.self.view_is c.self.invariant
-    (record { before = sym c.take.ensures.value ∙ c.in-Some.is; opening = c.in_ok-leaf.ensures.ok; names = rw (c.in_ok-declare.ensures, c.in_ok-declare-2.ensures) refl; glyphs = refl; sort = refl; reports = refl })
+    kept_item c.self.inside c.args.self.now c.in_ok-declared.declared _ c.args.name.now (items.Leaf c.args.shapes c.args.content) c.self.view_is c.self.invariant
+    (record { before = sym c.take.ensures.value ∙ c.in_ok-declared.ensures; opening = c.in_ok-leaf.ensures.ok; names = rw (c.in_ok-declare.ensures, c.in_ok-declare-2.ensures) refl; glyphs = refl; sort = refl; reports = refl })
     c.requires.sound.place c.requires.sound.value refl

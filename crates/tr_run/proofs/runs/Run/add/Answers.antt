@@ -3,7 +3,7 @@ use Rattle.tr_levels.specs.declared.Level.{Level}
 use Rattle.tr_journal.specs.Openings.{tree_of}
 use Rattle.tr_journal.specs.Steps.{IsStep}
 use Rattle.tr_machine.specs.Replays.{line_of}
-use Rattle.tr_dump.specs.Names.{names_of}
+use Rattle.tr_journal.specs.Names.{names_of}
 use Rattle.tr_stage.specs.Stages.{state}
 use Rattle.tr_run.specs.Views.{RunView}
 use Rattle.tr_run.proofs.LineLemmas.{named_next}

@@ -2,7 +2,7 @@ use Rattle.std.proofs.Common.{refl}
 use Rattle.tr_base.proofs.RectLemmas.{cast-rect}
 use Rattle.tr_journal.specs.Steps.{IsEdge}
 use Rattle.tr_script.proofs.EdgeLemmas.{reach-edge, clip-rect_of}
-use Rattle.tr_script.proofs.widget_lines.clip_of.Goals as goal
+use Rattle.tr_script.proofs.act_lines.clip_of.Goals as goal
 
 pub returns-clause-range : goal.returns-clause-range
 returns-clause-range c =
