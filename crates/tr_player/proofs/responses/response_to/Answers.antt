@@ -3,9 +3,9 @@ use Rattle.std.specs.Prelude.{Some}
 use Rattle.tr_serial.specs.Outputs.{gen_text, drawn}
 use Rattle.tr_arguments.specs.declared.Command.TheVariants.{Gen}
 use Rattle.tr_arguments.specs.Commands.{command_of, texts_of}
-use Rattle.tr_player.specs.Answers.{Asked, asked_by, played, task_of}
-use Rattle.tr_player.proofs.ReplyLemmas.{due_for_number}
-use Rattle.tr_player.proofs.replies.reply_to.Goals as goal
+use Rattle.tr_player.specs.Answers.{asked_by, of_one_thread, played, source_change}
+use Rattle.tr_player.proofs.ResponseLemmas.{due_for_number}
+use Rattle.tr_player.proofs.responses.response_to.Goals as goal
 
 pub returns-in_ok-summary-in-Some-Gen-clause-due : goal.returns-in_ok-summary-in-Some-Gen-clause-due
 returns-in_ok-summary-in-Some-Gen-clause-due g c =
@@ -13,14 +13,8 @@ returns-in_ok-summary-in-Some-Gen-clause-due g c =
     let made = c.in_ok-summary-in-Some-Gen.ensures in
     let found : command_of (texts_of c.args.words.now) ≡ Some (Gen number) =
     cc (c.in_ok-command_of.ensures, c.in-Some-Gen.is, c.in-Some-Gen.field-0-is) in
-    let a : Asked = record {
-      task = asked_by (texts_of c.args.words.now);
-      left = g.S.Source.left c.args.source.now;
-      left_new = g.S.Source.left c.args.source.now;
-      faults = g.S.Source.faults c.args.source.now;
-      faults_new = g.S.Source.faults c.args.source.now;
-    } in (
+    let from = source_change g.S.Source c.args.source.now c.args.source.now in (
       played (drawn number) (gen_text number),
-      due_for_number number a (ap task_of found) (record { left = refl; faults = refl }),
       (made.text, record { opening = made.opening; journal = made.journal }),
+      due_for_number number (asked_by (texts_of c.args.words.now)) from (ap of_one_thread found) (record { left = refl; faults = refl }),
     )

@@ -1,6 +1,6 @@
 use Rattle.std.proofs.Common.{ℕ, Vec, Global, ap, ◌∙◌}
-use Rattle.tr_player.proofs.ReplyLemmas.{refusal_text}
-use Rattle.tr_player.proofs.replies.refusal.Goals as goal
+use Rattle.tr_player.proofs.ResponseLemmas.{refusal_text}
+use Rattle.tr_player.proofs.responses.refusal.Goals as goal
 
 pub returns : goal.returns
 returns c =
