@@ -4,7 +4,7 @@
 mod calls;
 mod checks;
 mod errors;
-mod replies;
+mod responses;
 mod statuses;
 mod streams;
 

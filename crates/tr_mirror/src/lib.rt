@@ -1,0 +1,15 @@
+//! A stream of updates to a screen: its writer, and a reader that has the screen at each cut.
+#![tactic(auto)]
+
+mod begun;
+mod boards;
+mod canvases;
+mod faults;
+mod headers;
+mod mirrors;
+mod readers;
+mod updates;
+
+pub use faults::MirrorFault;
+pub use mirrors::Mirror;
+pub use updates::{has_its_pixels, reads_what_was_written, update};
