@@ -21,13 +21,16 @@ same_screen : (a b c d k : ℕ) → a ≡ c → b ≡ d → Screen a b k ≡ Scr
 same_screen a b c d k e f = ap (λ x. Screen x b k) e ∙ ap (λ x. Screen c x k) f
 
 same_span : (s : Span) (a b c : ℕ) → a ≡ s.west → b ≡ s.v → c ≡ s.count → record { west = a; v = b; count = c } ≡ s
-same_span s a b c e f g = ap (λ x. record { west = x; v = b; count = c }) e ∙ ap (λ x. record { west = s.west; v = x; count = c }) f ∙ ap (λ x. record { west = s.west; v = s.v; count = x }) g
+same_span s a b c e f g = ap (λ x. record { west = x; v = b; count = c }) e ∙ ap (λ x. record { west = s.west; v = x; count = c }) f
+    ∙ ap (λ x. record { west = s.west; v = s.v; count = x }) g
 
 pub header_again : (h : Header) (rest : List ℕ) → Fits h → header_of (header_bytes h ++ rest) ≡ h
 unfolding header_of header_bytes short_at long_at
 header_again (Screen wide high kind) rest f = same_screen _ _ wide high kind (from_be_bytes-to_be_bytes_2 wide f.0) (from_be_bytes-to_be_bytes_2 high f.1)
-header_again (Run s) rest f = ap (λ x. Run x) (same_span s _ _ _ (from_be_bytes-to_be_bytes_2 s.west f.west) (from_be_bytes-to_be_bytes_2 s.v f.v) (from_be_bytes-to_be_bytes_2 s.count f.count))
-header_again (Fill s) rest f = ap (λ x. Fill x) (same_span s _ _ _ (from_be_bytes-to_be_bytes_2 s.west f.west) (from_be_bytes-to_be_bytes_2 s.v f.v) (from_be_bytes-to_be_bytes_2 s.count f.count))
+header_again (Run s) rest f = ap (λ x. Run x) (same_span s _ _ _ (from_be_bytes-to_be_bytes_2 s.west f.west) (from_be_bytes-to_be_bytes_2 s.v f.v)
+    (from_be_bytes-to_be_bytes_2 s.count f.count))
+header_again (Fill s) rest f = ap (λ x. Fill x) (same_span s _ _ _ (from_be_bytes-to_be_bytes_2 s.west f.west) (from_be_bytes-to_be_bytes_2 s.v f.v)
+    (from_be_bytes-to_be_bytes_2 s.count f.count))
 header_again (Cut number) rest f = ap (λ x. Cut x) (from_be_bytes-to_be_bytes_4 number f)
 
 pub length-header_bytes : (h : Header) → length (header_bytes h) ≡ len_of h
@@ -65,9 +68,11 @@ gathers_shown m (b ∷ c ∷ rest) free some reach =
     let ih = gathers_shown n (c ∷ rest) free (omega arith) (omega (arith, length-append a one, q.next)) in
     ap (λ x. cut_between m.standing x.standing ++ shown_from x (c ∷ rest)) step
     ∙ ap (λ l. l ++ shown_from n (c ∷ rest)) (no_cut m.standing m.standing refl)
-    ∙ ih ∙ ap (λ x. cut_between m.standing x.standing) (tried_again m (a ++ one) ((a ++ one) ++ (c ∷ rest)) ∙ ap (λ l. tried m l) (append_assoc a one (c ∷ rest)))
+    ∙ ih ∙ ap (λ x. cut_between m.standing x.standing) (tried_again m (a ++ one) ((a ++ one) ++ (c ∷ rest))
+    ∙ ap (λ l. tried m l) (append_assoc a one (c ∷ rest)))
 
-Reads-front : (m : Reading) (front : List ℕ) → m.fault ≡ None → 0 < length front → length m.begun + length front ≤ try_len m.begun → Reads m front (tried m (m.begun ++ front))
+Reads-front : (m : Reading) (front : List ℕ) → m.fault ≡ None → 0 < length front → length m.begun + length front ≤ try_len m.begun →
+    Reads m front (tried m (m.begun ++ front))
 Reads-front m front free some reach = record { read = gathers m front free some reach; shown = gathers_shown m front free some reach }
 
 Reads-then : (m n o : Reading) (xs ys : List ℕ) → Reads m xs n → n.standing ≡ m.standing → Reads n ys o → Reads m (xs ++ ys) o
@@ -88,11 +93,16 @@ fault_header : (s : Standing) (bytes : List ℕ) → 1 < length bytes → length
 unfolding fault_of
 fault_header s bytes long whole = rw (ne_eqb (length bytes) 1 (λ e. omega arith), eq-eqb (length bytes) (header_len bytes) whole) refl
 
-fault_pixels : (s : Standing) (bytes : List ℕ) → header_len bytes < length bytes → length bytes ≡ record_len bytes → fault_of s bytes ≡ pixel_fault s (drop (header_len bytes) bytes)
+fault_pixels : (s : Standing) (bytes : List ℕ) → header_len bytes < length bytes → length bytes ≡ record_len bytes →
+    fault_of s bytes ≡ pixel_fault s (drop (header_len bytes) bytes)
 unfolding fault_of
 fault_pixels s bytes long whole =
     let least = (header_len_range bytes).0 in
-    rw (ne_eqb (length bytes) 1 (λ e. omega arith), ne_eqb (length bytes) (header_len bytes) (λ e. omega arith), eq-eqb (length bytes) (record_len bytes) whole) refl
+    rw (
+      ne_eqb (length bytes) 1 (λ e. omega arith),
+      ne_eqb (length bytes) (header_len bytes) (λ e. omega arith),
+      eq-eqb (length bytes) (record_len bytes) whole,
+    ) refl
 
 takes : (m : Reading) (bytes : List ℕ) → fault_of m.standing bytes ≡ None → length bytes ≡ record_len bytes → tried m bytes ≡ taken m bytes
 unfolding tried
@@ -127,8 +137,10 @@ module _ (s : Standing) (fed : ℕ) (r : Record) (k : IsSound s r) where
       let whole : a ++ b ≡ hb = take-append-drop 1 hb in
       let same : header_len a ≡ header_len hb = sym (ap (λ l. header_len l) (sym whole) ∙ header_len-append a b (omega arith)) in
       let quiet = fault_first s a one (known r.header) in
-      let first : Reads m a (waiting m a) = subst (λ n. Reads m a n) (waits_for m a quiet (λ e. omega arith)) (Reads-front m a refl (omega arith) (omega arith)) in
-      let second : Reads (waiting m a) b (tried (waiting m a) (a ++ b)) = Reads-front (waiting m a) b refl (omega arith) (omega (arith, try_header a (omega arith) (omega arith))) in
+      let first : Reads m a (waiting m a) = subst (λ n. Reads m a n) (waits_for m a quiet (λ e. omega arith))
+      (Reads-front m a refl (omega arith) (omega arith)) in
+      let second : Reads (waiting m a) b (tried (waiting m a) (a ++ b)) =
+      Reads-front (waiting m a) b refl (omega arith) (omega (arith, try_header a (omega arith) (omega arith))) in
       let second_is : Reads (waiting m a) b (tried m hb) = subst (λ n. Reads (waiting m a) b n) (tried_again m a (a ++ b) ∙ ap (λ l. tried m l) whole) second in
       subst (λ l. Reads m l (tried m hb)) whole (Reads-then m (waiting m a) (tried m hb) a b first refl second_is)
 
@@ -158,7 +170,8 @@ module _ (s : Standing) (fed : ℕ) (r : Record) (k : IsSound s r) where
             let len : header_len all ≡ length hb = header_len-append hb px (omega arith) ∙ sym long in
             let whole = length-append hb px in
             let first : Reads m hb (waiting m hb) = subst (λ x. Reads m hb x) (waits_for m hb sound (λ e. omega arith)) to_header in
-            let second : Reads (waiting m hb) px (tried (waiting m hb) all) = Reads-front (waiting m hb) px refl (omega arith) (omega (arith, try_record hb (omega arith) (omega arith))) in
+            let second : Reads (waiting m hb) px (tried (waiting m hb) all) =
+            Reads-front (waiting m hb) px refl (omega arith) (omega (arith, try_record hb (omega arith) (omega arith))) in
             let second_is : Reads (waiting m hb) px (tried m all) = subst (λ x. Reads (waiting m hb) px x) (tried_again m hb all) second in
             let left : drop (header_len all) all ≡ px = drop_at hb px (header_len all) (sym len) in
             record {
@@ -190,7 +203,8 @@ abbrev pub shown_by : Standing → List Record → List Picture
 shown_by s [] = []
 shown_by s (r ∷ rs) = cut_between s (after s r.header r.pixels) ++ shown_by (after s r.header r.pixels) rs
 
-pub reads_all : (s : Standing) (fed : ℕ) (rs : List Record) → AreSound s rs → read (ready s fed) (spelled rs) ≡ ready (after_all s rs) (fed + length (spelled rs))
+pub reads_all : (s : Standing) (fed : ℕ) (rs : List Record) → AreSound s rs →
+    read (ready s fed) (spelled rs) ≡ ready (after_all s rs) (fed + length (spelled rs))
 reads_all s fed [] k = ap (λ n. ready s n) (omega arith)
 reads_all s fed (r ∷ rs) k =
     let t : Standing = after s r.header r.pixels in

@@ -127,7 +127,8 @@ no_cut s t same = rw (eq-eqb s.cuts t.cuts same) refl
 same_list : (before xs : List Picture) → xs ≡ [] → before ++ xs ≡ before
 same_list before xs none = rw none (append-nil before)
 
-span_facts : (o : Option Picture) (span : Span) → is_on o span ≡ true → ((p : Picture) → o ≡ Some p → IsScreenSize p.size) → (span.v < 1024) × (span.count ≤ 1024)
+span_facts : (o : Option Picture) (span : Span) → is_on o span ≡ true → ((p : Picture) → o ≡ Some p → IsScreenSize p.size) → (span.v < 1024)
+    × (span.count ≤ 1024)
 span_facts None span h sized = absurd (cc)
 span_facts (Some p) span h sized =
     let a = and_parts (nat_lt span.v p.size.high) (nat_lt 0 span.count && nat_le (span.west + span.count) p.size.wide) h in
@@ -137,7 +138,8 @@ span_facts (Some p) span h sized =
     let within = leb-true (span.west + span.count) p.size.wide b.1 in
     (omega (arith, k.high), omega (arith, k.wide))
 
-spent_row : (b : Bool) (cuts south v fed n : ℕ) → fed ≤ 1055755 * cuts + (if b then 6 + 1031 * south else 0) → south ≤ v → n ≤ 1031 → fed + n ≤ 1055755 * cuts + (6 + 1031 * (v + 1))
+spent_row : (b : Bool) (cuts south v fed n : ℕ) → fed ≤ 1055755 * cuts + (if b then 6 + 1031 * south else 0) → south ≤ v → n ≤ 1031 →
+    fed + n ≤ 1055755 * cuts + (6 + 1031 * (v + 1))
 spent_row true cuts south v fed n a b c = omega arith
 spent_row false cuts south v fed n a b c = omega arith
 
@@ -149,7 +151,8 @@ spent_none : (b : Bool) (cuts south fed : ℕ) → fed ≤ 1055755 * cuts + (if 
 spent_none true cuts south fed a b = absurd (cc)
 spent_none false cuts south fed a b = omega arith
 
-cut_listed : (o : Option Picture) (before : List Picture) → is_none o ≡ false → (length (before ++ listed o) ≡ length before + 1) × (last_of (before ++ listed o) ≡ o)
+cut_listed : (o : Option Picture) (before : List Picture) → is_none o ≡ false → (length (before ++ listed o) ≡ length before + 1)
+    × (last_of (before ++ listed o) ≡ o)
 cut_listed None before h = absurd (cc)
 cut_listed (Some p) before h = (length-append before (p ∷ []), last_of-push before p)
 
@@ -184,10 +187,12 @@ module _ (s : Standing) (fed : ℕ) (before : List Picture) (k : IsAccount s fed
   IsAccount-after (Run span) pixels sound =
       let f = no_fault s (Run span) sound in
       let on = not-false (is_on s.screen span) f.2 in
-      row_put span (after s (Run span) pixels) (7 + span.count) on (or_parts (is_none s.screen) (nat_lt span.v s.south) f.1).1 (omega (arith, (span_facts s.screen span on sized).1)) refl refl refl
+      row_put span (after s (Run span) pixels) (7 + span.count) on (or_parts (is_none s.screen) (nat_lt span.v s.south) f.1).1
+      (omega (arith, (span_facts s.screen span on sized).1)) refl refl refl
   IsAccount-after (Fill span) pixels sound =
       let f = no_fault s (Fill span) sound in
-      row_put span (after s (Fill span) pixels) 8 (not-false (is_on s.screen span) f.2) (or_parts (is_none s.screen) (nat_lt span.v s.south) f.1).1 (omega arith) refl refl refl
+      row_put span (after s (Fill span) pixels) 8 (not-false (is_on s.screen span) f.2) (or_parts (is_none s.screen) (nat_lt span.v s.south) f.1).1
+      (omega arith) refl refl refl
   IsAccount-after (Cut number) pixels sound =
       let t : Standing = after s (Cut number) pixels in
       let some = (or_parts (is_none s.screen) (not (number == s.cuts + 1)) (no_fault s (Cut number) sound).1).0 in

@@ -1,9 +1,10 @@
-ghost use Rattle.std.specs.Prelude.{◌≡◌, ◌≢◌, ◌+◌, ◌<◌, ◌≤◌, ◌++◌, ◌↔◌, List, ℕ, length, take, Some, None, IsSome, IsTrue};
-ghost use Rattle.std.specs.Prelude.{IfOk, IfErr, OnOk, OnErr};
+ghost use Rattle.std.specs.Prelude.{◌≡◌, ◌≢◌, ◌+◌, ◌<◌, ◌≤◌, ◌++◌, ◌↔◌, List, ℕ, length, take};
+ghost use Rattle.std.specs.Prelude.{Some, None, IsSome, IsTrue, IfOk, IfErr, OnOk, OnErr};
 ghost use Rattle.tr_mirror.specs.declared.faults.MirrorFault.{MirrorFault};
 ghost use Rattle.tr_mirror.specs.Faults.{IsBytes, IsFirstFault, IsReadAs};
 ghost use Rattle.tr_mirror.specs.Readings as spec;
-ghost use Rattle.tr_mirror.specs.Readings.{fresh, read, reading_of, cut_between, shown_from, shown, last_of, outcome_of, limit};
+ghost use Rattle.tr_mirror.specs.Readings.{fresh, read, reading_of, cut_between, shown_from};
+ghost use Rattle.tr_mirror.specs.Readings.{shown, last_of, outcome_of, limit};
 
 use crate::faults::MirrorFault;
 use crate::readers::Reader;
@@ -54,7 +55,8 @@ impl Mirror {
             self.new ≡ reading_of (stream ++ piece.now) }
 
         // The fault is the first one of the bytes so far, by the table.
-        ensures table { (stream : List ℕ) (fault : MirrorFault) → IsBytes stream → self.old ≡ reading_of stream →
+        ensures table { (stream : List ℕ) (fault : MirrorFault) →
+            IsBytes stream → self.old ≡ reading_of stream →
             (result ≡ Err fault) ↔ IsFirstFault (stream ++ piece.now) fault }
         ensures records { (stream : List ℕ) → IsBytes stream → self.old ≡ reading_of stream →
             OnOk result (IsReadAs (stream ++ piece.now) self.new) }
@@ -122,7 +124,8 @@ impl Mirror {
     /// How many whole groups were read.
     pub fn cuts(&self) -> u32
         ensures value { result ≡ self.now.standing.cuts }
-        ensures stream { (stream : List ℕ) → self.now ≡ reading_of stream → result ≡ length (shown stream) }
+        ensures stream { (stream : List ℕ) → self.now ≡ reading_of stream →
+            result ≡ length (shown stream) }
     {
         self.reader.board().cuts()
     }
@@ -138,7 +141,8 @@ impl Mirror {
     pub fn screen(&self) -> Result<Screen, NoMemory>
         requires { IsSome self.now.standing.screen }
         ensures value { IfOk result (λ s. self.now.standing.screen ≡ Some s) }
-        ensures stream { (stream : List ℕ) → self.now ≡ reading_of stream → IsTrue (spec.is_between self.now) →
+        ensures stream { (stream : List ℕ) → self.now ≡ reading_of stream →
+            IsTrue (spec.is_between self.now) →
             IfOk result (λ s. last_of (shown stream) ≡ Some s) }
     {
         self.reader.board().screen()

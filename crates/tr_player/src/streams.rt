@@ -11,11 +11,7 @@ use tr_io::{Failed, Sink, Source};
 const PIECE: usize = 64 * 1024;
 
 /// The bytes that a source has left, or the first `most` of them.
-pub fn read_all<S: Source>(
-    alloc: Global,
-    source: &mut S,
-    most: usize,
-) -> Result<Vec<u8>, ReadError>
+pub fn read_all<S: Source>(alloc: Global, source: &mut S, most: usize) -> Result<Vec<u8>, ReadError>
     ensures bytes { IfOk result (λ v. OfFirst most (S.left source.old) (λ bytes. v.items ≡ bytes)) }
     ensures through { OnOk result (IsReadUpTo most (S.left source.old) (S.left source.new)) }
     ensures failed { result ≡ Err ReadError.Failed → HasFault (S.faults source.old) (S.faults source.new) }
