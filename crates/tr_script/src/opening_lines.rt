@@ -12,7 +12,7 @@ use crate::names::node_of;
 use crate::refusals::NO_FORM;
 use tr_base::{Point, Size};
 use tr_forest::NodeKind;
-use tr_grammar::{LineRefused, Meaning};
+use tr_grammar::{Code, LineRefused, Meaning};
 use tr_journal::Item;
 use tr_reader::Reader;
 use tr_words::{byte, extent, glyph_byte, name, offset, rows, side, small};
