@@ -139,7 +139,8 @@ pub fn leaf_in_steps(reader: &Reader, leaf: &str) -> Result<LeafId, Code>
     ensures within { IfOk result (λ l. IsLeaf (nodes_so_far reader.now) l) }
 {
     reader.in_steps()?;
-    leaf_of(reader, leaf)
+    let leaf = leaf_of(reader, leaf)?;
+    Ok(leaf)
 }
 
 fn read_mark(reader: &Reader, leaf: &str, values: &[&str]) -> Result<Meaning, LineRefused>
