@@ -3,7 +3,7 @@
 ghost use Rattle.std.specs.Prelude.{◌≡◌, ◌<◌, ◌≤◌, ◌+◌, true};
 ghost use Rattle.tr_forest.specs.Nodes.{leaf_count};
 ghost use Rattle.tr_journal.specs.Openings.{tree_of};
-ghost use Rattle.tr_journal.specs.Steps.{IsStep, may, covers};
+ghost use Rattle.tr_journal.specs.Steps.{AreLevels, IsStep, may, covers};
 ghost use Rattle.tr_stage.specs.Stages as spec;
 
 use super::acts::By;
@@ -13,7 +13,7 @@ use std::process::Abort;
 use tr_base::{Event, LeafId, Line, NoMemory, Point, Selection, Size, whole};
 use tr_client::Client;
 use tr_forest::EditRefused;
-use tr_journal::{Delivery, Entry, Opening, Reply, Step, covers, is_step, may};
+use tr_journal::{Delivery, Entry, Opening, Reply, Step, are_levels, covers, is_step, may};
 use tr_paint::Batch;
 use tr_stage::{Peek, Stage, is_reservable};
 
@@ -21,10 +21,12 @@ use tr_stage::{Peek, Stage, is_reservable};
 fn allow<C: Client>(rt: &impl Abort, stage: &Stage<C>, by: &By, step: &Step<C::Cmd>)
     ensures may { may by.now.actor step.now ≡ true }
     ensures covers { covers by.now.level step.now ≡ true }
+    ensures levels { AreLevels (tree_of stage.now.opening).nodes by.now.level }
     ensures values { IsStep (tree_of stage.now.opening).nodes step.now }
 {
     assert!(rt; may(by.actor, step) && covers(by.level, step));
-    assert!(rt; is_step(stage.opening().tree(), step));
+    let tree = stage.opening().tree();
+    assert!(rt; are_levels(tree, &by.level) && is_step(tree, step));
 }
 
 /// Ends the test where room may not be reserved for the step.
