@@ -5,6 +5,7 @@ use std::test::Fail;
 use tr_base::{Env, Event, Font, Kind, Line, NoMemory, Point, Size, Tile};
 use tr_client::Client;
 use w_canvas::{Area, Canvas, CanvasCmd};
+use w_edit::{Editor, EditorCmd};
 use w_lines::{Lines, LinesCmd};
 use w_meter::{BarNumber, Meter, MeterCmd};
 use w_plain::{Board, BoardCmd, Label, LabelCmd, Solid, SolidCmd};
@@ -43,13 +44,14 @@ fn plain_ones_obey(alloc: Global) -> Result<bool, NoMemory> {
     )
 }
 
-/// Whether those of lines, of figures and of bars do.
+/// Whether those of lines, of figures, of bars and of an edited text do.
 fn other_ones_obey(alloc: Global) -> Result<bool, NoMemory> {
     let line = LinesCmd::Line(Line::of(b"a")?);
     let figure = CanvasCmd::Rect {
         area: Area::edges(0, 9, 0, 9),
         tint: 3,
     };
+    let inserted = EditorCmd::Insert(Line::of(b"a")?);
     let bar = MeterCmd::Bar {
         bar: BarNumber::of(1),
         height: 3,

@@ -8,6 +8,7 @@ use tr_client::{Client, Prepared};
 use tr_paint::Paint;
 use tr_widget::{Widget, WidgetCmd};
 use w_canvas::{Area, Canvas, CanvasCmd};
+use w_edit::{Editor, EditorCmd};
 use w_lines::{Lines, LinesCmd};
 use w_meter::{BarNumber, Meter, MeterCmd};
 use w_plain::{Board, BoardCmd, Label, LabelCmd, Solid, SolidCmd};
@@ -27,6 +28,7 @@ pub fn contents(alloc: Global) -> Result<Vec<Widget>, NoMemory> {
     contents.push(Widget::Lines(Lines::new(alloc)?))?;
     contents.push(Widget::Canvas(Canvas::new(alloc)?))?;
     contents.push(Widget::Meter(Meter::new(alloc, 2)?))?;
+    contents.push(Widget::Editor(Editor::new(alloc)?))?;
     Ok(contents)
 }
 
@@ -45,6 +47,7 @@ pub fn commands(alloc: Global) -> Result<Vec<WidgetCmd>, NoMemory> {
         bar: BarNumber::of(1),
         height: 3,
     }))?;
+    commands.push(WidgetCmd::Editor(EditorCmd::Insert(Line::of(b"a")?)))?;
     Ok(commands)
 }
 
