@@ -11,9 +11,11 @@ use super::openings::{Part, Sample, opening_of};
 use super::traces::same_commands;
 use std::process::Abort;
 use tr_base::{Event, LeafId, Line, NoMemory, Point, Selection, Size, whole};
+use tr_book::Book;
 use tr_client::Client;
 use tr_forest::EditRefused;
 use tr_journal::{Delivery, Entry, Opening, Reply, Step, are_levels, covers, is_step, may};
+use tr_levels::{Held, Level};
 use tr_paint::Batch;
 use tr_stage::{Peek, Stage, is_reservable};
 
@@ -112,6 +114,33 @@ pub fn make_three_reserved<C: Client>(
     let second = reserved(rt, stage, by, second);
     let third = reserved(rt, stage, by, third);
     Ok([first, second, third])
+}
+
+/// Hands a command over that was posted while the tree's lock was held.
+pub fn hand_over<C: Client>(
+    rt: &(impl Abort + AllocGlobal),
+    stage: &mut Stage<C>,
+    leaf: LeafId,
+    cmd: C::Cmd,
+) -> Result<(), NoMemory> {
+    allow_leaf(rt, stage, leaf);
+    let content = stage.content(leaf).copy(rt.alloc())?;
+    let (size, kind) = (stage.leaf_size(leaf), stage.tree().kind());
+    let mut book = Book::fresh(rt.alloc(), content, stage.font(), size, kind)?;
+    book.post(Held::none().with(Level::Mu), cmd)?;
+    stage.take_over(leaf, book.prepared(), book.levels())
+}
+
+/// Paints a leaf's bad points apart from the screen, and puts them there.
+pub fn repaint_apart<C: Client>(
+    rt: &impl Abort,
+    stage: &mut Stage<C>,
+    leaf: LeafId,
+) -> Result<(), NoMemory> {
+    allow_leaf(rt, stage, leaf);
+    assert!(rt; stage.batch(leaf).is_empty());
+    let painted = stage.paint_bad(leaf)?;
+    stage.put_painted(painted)
 }
 
 pub fn settle<C: Client>(stage: &mut Stage<C>) -> Result<(), NoMemory> {
