@@ -271,7 +271,10 @@ fn answers_are_those_of_the_points(rt: HostRuntime) -> Result<(), Fail> {
     let threes = unions(rt.alloc(), &twos, &ones)?;
     assert!(rt; twos.len() == 2_126 && threes.len() == 14_712);
     for first in &twos {
-        assert!(rt; agrees_with_all(&regions, *first, &threes)?, "at {first:#06x}");
+        assert!(rt;
+            agrees_with_all(&regions, *first, &threes)?,
+            "at {first:#06x}"
+        );
     }
     Ok(())
 }

@@ -45,8 +45,14 @@ fn bands_are_met_from_both_ends(rt: HostRuntime) -> Result<(), Fail> {
         (4, 8, (4, 5, 2), (6, 8, 1)),
         (5, 7, (6, 7, 1), (6, 7, 1)),
     ] {
-        assert!(rt; is_band(&region.first_band(north, south), first), "first in {north} to {south}");
-        assert!(rt; is_band(&region.last_band(north, south), last), "last in {north} to {south}");
+        assert!(rt;
+            is_band(&region.first_band(north, south), first),
+            "first in {north} to {south}"
+        );
+        assert!(rt;
+            is_band(&region.last_band(north, south), last),
+            "last in {north} to {south}"
+        );
     }
     assert!(rt; is_band(&region.first_band(12, 20), (20, 20, 0)));
     assert!(rt; is_band(&region.last_band(0, 2), (0, 0, 0)));

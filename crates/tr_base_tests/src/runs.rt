@@ -1,5 +1,5 @@
 //! Runs and rows of screens that are moved.
-ghost use Rattle.std.specs.Prelude.{◌≤◌};
+ghost use Rattle.std.specs.Prelude.{◌≡◌, ◌≤◌, IfOk};
 
 use super::screens::shows;
 use std::alloc::Global;
@@ -39,14 +39,26 @@ fn are_moved(alloc: Global) -> Result<bool, NoMemory> {
     Ok(is_lent && is_west && is_east && is_south)
 }
 
+/// A screen of seven rows, each of pixels that are its number.
+fn numbered(alloc: Global, wide: u16) -> Result<Screen, NoMemory>
+    requires { 1 ≤ wide × (wide ≤ 1024) }
+    ensures { IfOk result (λ s. s.size ≡ record { wide = wide; high = 7 }) }
+{
+    let mut screen = Screen::blank(alloc, Size { wide, high: 7 }, Kind::Map8)?;
+    screen.row_mut(1).fill(1);
+    screen.row_mut(2).fill(2);
+    screen.row_mut(3).fill(3);
+    screen.row_mut(4).fill(4);
+    screen.row_mut(5).fill(5);
+    screen.row_mut(6).fill(6);
+    Ok(screen)
+}
+
 /// Whether rows of this width are moved to the south and to the north.
 fn are_rows_moved(alloc: Global, wide: u16) -> Result<bool, NoMemory>
     requires { 1 ≤ wide × (wide ≤ 1024) }
 {
-    let mut screen = Screen::blank(alloc, Size { wide, high: 7 }, Kind::Map8)?;
-    for v in 1..7u8 {
-        screen.row_mut(u16::from(v)).fill(v);
-    }
+    let mut screen = numbered(alloc, wide)?;
     screen.move_rows(1, 6, Point { h: 0, v: 1 });
     let is_south = has_column(&screen, &[0, 0, 1, 2, 3, 4, 6]);
     screen.move_rows(0, 5, Point { h: 0, v: -2 });

@@ -62,11 +62,13 @@ fn are_kept(alloc: Global) -> Result<bool, NoMemory> {
     higher.row_mut(1).copy_from_slice(&[6, 7, 8]);
     let narrow = higher.resized(Size { wide: 2, high: 3 }, Kind::Map8)?;
     let least = higher.resized(Size { wide: 1, high: 1 }, Kind::Map8)?;
-    Ok(shows(&screen, 2, 1, &[5, 0])
-        && shows(&wider, 3, 1, &[5, 0, 0])
-        && shows(&higher, 3, 2, &[5, 0, 0, 6, 7, 8])
-        && shows(&narrow, 2, 3, &[5, 0, 6, 7, 0, 0])
-        && shows(&least, 1, 1, &[5]))
+    Ok(
+        shows(&screen, 2, 1, &[5, 0])
+            && shows(&wider, 3, 1, &[5, 0, 0])
+            && shows(&higher, 3, 2, &[5, 0, 0, 6, 7, 8])
+            && shows(&narrow, 2, 3, &[5, 0, 6, 7, 0, 0])
+            && shows(&least, 1, 1, &[5]),
+    )
 }
 
 /// Whether a filled screen of one kind has these pixels as one of another kind.
@@ -91,7 +93,10 @@ fn screens_have_their_pixels(rt: HostRuntime) -> Result<(), Fail> {
         (Kind::Map8, Kind::Map8, 1),
         (Kind::Map8, Kind::Mono, 0),
     ] {
-        assert!(rt; becomes(rt.alloc(), from, to, &[pixel; 2])?, "{from:?} to {to:?}");
+        assert!(rt;
+            becomes(rt.alloc(), from, to, &[pixel; 2])?,
+            "{from:?} to {to:?}"
+        );
     }
     Ok(())
 }

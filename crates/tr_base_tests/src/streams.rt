@@ -35,7 +35,10 @@ fn fails_at_planned_reads(alloc: Global) -> Result<bool, NoMemory> {
         (Err(Failed), b"gef", b""),
         (Ok(0), b"gef", b""),
     ] {
-        if read_piece(&mut source, &mut buf) != want || buf.as_slice() != read || source.left() != left {
+        if read_piece(&mut source, &mut buf) != want
+            || buf.as_slice() != read
+            || source.left() != left
+        {
             return Ok(false);
         }
     }
@@ -68,7 +71,12 @@ fn are_steady(alloc: Global) -> Result<bool, NoMemory> {
     let has_read = read_piece(&mut source, &mut buf) == Ok(3) && buf == *b"abc";
     let mut sink = SteadySink::new(alloc);
     let has_written = answers(&mut sink, &buf, Ok(3))?;
-    Ok(has_read && source.left() == b"d".as_slice() && has_written && sink.written() == b"abc".as_slice())
+    Ok(
+        has_read
+            && source.left() == b"d".as_slice()
+            && has_written
+            && sink.written() == b"abc".as_slice(),
+    )
 }
 
 #[test]

@@ -176,7 +176,10 @@ fn a_row_is_painted(rt: HostRuntime) -> Result<(), Fail> {
         ),
     ];
     for (before, bad, batch, want) in cases {
-        assert!(rt; leaves(alloc, before, bad, &batch, want)?, "{want:?} of {before:?}");
+        assert!(rt;
+            leaves(alloc, before, bad, &batch, want)?,
+            "{want:?} of {before:?}"
+        );
     }
     Ok(())
 }

@@ -227,7 +227,10 @@ fn leaves_what_is_traced(alloc: Global, draw: &mut Draw) -> Result<bool, NoMemor
 fn random_batches_are_traced(rt: HostRuntime) -> Result<(), Fail> {
     let mut draw = Draw::new(7);
     for count in 0..20_000 {
-        assert!(rt; leaves_what_is_traced(rt.alloc(), &mut draw)?, "batch {count}");
+        assert!(rt;
+            leaves_what_is_traced(rt.alloc(), &mut draw)?,
+            "batch {count}"
+        );
     }
     Ok(())
 }

@@ -42,7 +42,13 @@ fn keeps_its_commands(alloc: Global) -> Result<bool, NoMemory> {
     book.refit(Solid::new(1), &font, OTHER, Kind::Mono)?;
     let is_refitted = has(&book, &[mu, Held::none()], 0) && leads(&book, 1, 8, &commands);
     let prepared = book.prepared();
-    Ok(is_fresh && is_posted && is_refitted && prepared.size == OTHER && prepared.kind == Kind::Mono)
+    Ok(
+        is_fresh
+            && is_posted
+            && is_refitted
+            && prepared.size == OTHER
+            && prepared.kind == Kind::Mono,
+    )
 }
 
 /// What waits is handed over, and the next commands are prepared over what it leaves. False where too much was

@@ -62,7 +62,10 @@ fn a_journal_keeps_what_was_sent(rt: HostRuntime) -> Result<(), Fail> {
     for (place, time, start, end) in [(0, 1, 0, 0), (1, 2, 0, 2), (2, 3, 2, 2), (3, 4, 2, 3)] {
         let sent = &sent[start..end];
         assert!(rt; has_entry(&journal, place, time, sent), "entry {place}");
-        assert!(rt; has_entry(&copied, place, time, sent), "entry {place} of the copy");
+        assert!(rt;
+            has_entry(&copied, place, time, sent),
+            "entry {place} of the copy"
+        );
     }
     Ok(())
 }

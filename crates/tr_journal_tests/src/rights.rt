@@ -87,7 +87,11 @@ fn each_step_has_its_makers_and_levels(rt: HostRuntime) {
         Held::none().with(Level::Share(A)),
         Held::none().with(Level::Share(B)),
     ];
-    for ((i, step), (makers, covered)) in steps().iter().enumerate().zip(MAKERS.iter().zip(&COVERS)) {
+    for ((i, step), (makers, covered)) in steps()
+        .iter()
+        .enumerate()
+        .zip(MAKERS.iter().zip(&COVERS))
+    {
         assert!(rt; has_makers(step, makers), "who makes step {i}");
         assert!(rt; has_levels(step, &levels, covered), "what covers step {i}");
     }

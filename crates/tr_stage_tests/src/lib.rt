@@ -19,6 +19,8 @@ mod reserved;
 #[cfg(test)]
 mod runs;
 #[cfg(test)]
+mod shares;
+#[cfg(test)]
 mod slow;
 #[cfg(test)]
 mod traces;

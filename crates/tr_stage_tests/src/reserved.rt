@@ -10,7 +10,7 @@ use tr_forest::{EditRefused, NodeKind};
 
 /// The stage of two windows of two points each, side by side, on a screen of one row. What they leave is the
 /// frame of node 0.
-fn two_beside<P: Played>(rt: &(impl Abort + AllocGlobal), wide: u16) -> Result<P, EditRefused> {
+pub fn two_beside<P: Played>(rt: &(impl Abort + AllocGlobal), wide: u16) -> Result<P, EditRefused> {
     let parts = [
         Part::Node(NodeKind::H, 0),
         Part::Leaf([2; 3], [1; 3], Shown::Solid(1)),

@@ -9,6 +9,7 @@ use tr_base::{Font, Kind, Line, NoMemory, Point, Rect, Size, Tile};
 use tr_testing::Numbers;
 use tr_widget::WidgetCmd;
 use w_canvas::{Area, CanvasCmd};
+use w_edit::EditorCmd;
 use w_lines::LinesCmd;
 use w_meter::{BarNumber, MeterCmd};
 use w_plain::{BoardCmd, LabelCmd, Shift, SolidCmd};
@@ -118,7 +119,7 @@ impl Draw {
 
     /// Puts a command of any widget behind the others.
     fn add_command(&mut self, commands: &mut Vec<WidgetCmd>) -> Result<(), NoMemory> {
-        commands.push(match self.byte() % 16 {
+        commands.push(match self.byte() % 20 {
             0 => WidgetCmd::Solid(SolidCmd::Tint(self.byte())),
             1 => WidgetCmd::Board(BoardCmd::Tile(self.tile())),
             2 => WidgetCmd::Board(BoardCmd::Shift(Shift::by(self.point()))),
@@ -135,10 +136,13 @@ impl Draw {
                 b: self.byte() % 20,
             }),
             13 => WidgetCmd::Canvas(CanvasCmd::Undo),
-            _ => WidgetCmd::Meter(MeterCmd::Bar {
+            14 | 15 => WidgetCmd::Meter(MeterCmd::Bar {
                 bar: BarNumber::of(self.byte() % 5),
                 height: self.byte() % 32,
             }),
+            16 | 17 => WidgetCmd::Editor(EditorCmd::Insert(self.line()?)),
+            18 => WidgetCmd::Editor(EditorCmd::Split),
+            _ => WidgetCmd::Editor(EditorCmd::Erase),
         })?;
         Ok(())
     }

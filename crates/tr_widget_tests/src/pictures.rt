@@ -5,6 +5,7 @@ use tr_base::{Env, Font, Kind, Line, NoMemory, Op, Point, Rect, Size, eff, tile_
 use tr_testing::{Grid, painted, patched, text_bit};
 use tr_widget::{Widget, WidgetCmd};
 use w_canvas::Figure;
+use w_edit::Editor;
 
 /// The colour that a widget's picture has at a point.
 fn colour(widget: &Widget, env: &Env, size: Size, q: Point) -> u8 {
@@ -18,24 +19,37 @@ fn colour(widget: &Widget, env: &Env, size: Size, q: Point) -> u8 {
         Widget::Lines(x) => u8::from(typescript_bit(env.font, x.lines(), size, q)),
         Widget::Canvas(x) => drawn_colour(x.figures(), env.kind, q),
         Widget::Meter(x) => u8::from(bar_bit(x.heights(), size, q)),
+        Widget::Editor(x) => u8::from(editor_bit(env.font, x, size, q)),
     }
 }
 
 /// The bit of the last lines of a typescript, as many as a window has room for.
 fn typescript_bit(font: &Font, lines: &[Line], size: Size, q: Point) -> bool {
-    if q.v < 0 {
-        return false;
-    }
-    let above = (q.v / 8) as usize;
     let room = usize::from(size.high / 8);
-    let gone = lines.len().saturating_sub(room);
-    if above >= room {
+    shown_bit(font, lines, room, lines.len().saturating_sub(room), q)
+}
+
+/// The bit of lines of which the one of the number `top` is the first that is shown, and so many at most.
+fn shown_bit(font: &Font, lines: &[Line], room: usize, top: usize, q: Point) -> bool {
+    if q.v < 0 || (q.v / 8) as usize >= room {
         return false;
     }
-    match lines.get(gone + above) {
+    match lines.get(top.saturating_add((q.v / 8) as usize)) {
         Some(line) => text_bit(font, line.bytes(), Point { h: q.h, v: q.v % 8 }),
         None => false,
     }
+}
+
+/// The bit of an editor's text, which is turned where its caret stands.
+fn editor_bit(font: &Font, editor: &Editor, size: Size, q: Point) -> bool {
+    if q.h < 0 || q.v < 0 || size.high < 8 {
+        return false;
+    }
+    let room = usize::from(size.high / 8);
+    let top = (editor.row() + 1).saturating_sub(room);
+    let row = top.saturating_add((q.v / 8) as usize);
+    let is_caret = row == editor.row() && (q.h / 8) as usize == editor.column();
+    shown_bit(font, editor.lines(), room, top, q) != is_caret
 }
 
 /// The colour that figures give a point, one over the other.

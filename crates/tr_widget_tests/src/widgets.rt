@@ -8,18 +8,19 @@ use tr_client::{Client, Prepared};
 use tr_paint::Paint;
 use tr_widget::{Widget, WidgetCmd};
 use w_canvas::{Area, Canvas, CanvasCmd};
+use w_edit::{Editor, EditorCmd};
 use w_lines::{Lines, LinesCmd};
 use w_meter::{BarNumber, Meter, MeterCmd};
 use w_plain::{Board, BoardCmd, Label, LabelCmd, Solid, SolidCmd};
 
-const SQUARE: Size = Size { wide: 16, high: 16 };
+pub const SQUARE: Size = Size { wide: 16, high: 16 };
 
-const TILE: Tile = Tile {
+pub const TILE: Tile = Tile {
     rows: [0x80, 0x40, 0x20, 0x10, 8, 4, 2, 1],
 };
 
 /// A content of each widget.
-fn contents(alloc: Global) -> Result<Vec<Widget>, NoMemory> {
+pub fn contents(alloc: Global) -> Result<Vec<Widget>, NoMemory> {
     let mut contents = Vec::new(alloc);
     contents.push(Widget::Solid(Solid::new(5)))?;
     contents.push(Widget::Board(Board::new(TILE, Point { h: 1, v: 0 })))?;
@@ -27,11 +28,12 @@ fn contents(alloc: Global) -> Result<Vec<Widget>, NoMemory> {
     contents.push(Widget::Lines(Lines::new(alloc)?))?;
     contents.push(Widget::Canvas(Canvas::new(alloc)?))?;
     contents.push(Widget::Meter(Meter::new(alloc, 2)?))?;
+    contents.push(Widget::Editor(Editor::new(alloc)?))?;
     Ok(contents)
 }
 
 /// A command for each of them that changes it, in the same order.
-fn commands(alloc: Global) -> Result<Vec<WidgetCmd>, NoMemory> {
+pub fn commands(alloc: Global) -> Result<Vec<WidgetCmd>, NoMemory> {
     let mut commands = Vec::new(alloc);
     commands.push(WidgetCmd::Solid(SolidCmd::Tint(7)))?;
     commands.push(WidgetCmd::Board(BoardCmd::Tile(Tile { rows: [0; 8] })))?;
@@ -45,6 +47,7 @@ fn commands(alloc: Global) -> Result<Vec<WidgetCmd>, NoMemory> {
         bar: BarNumber::of(1),
         height: 3,
     }))?;
+    commands.push(WidgetCmd::Editor(EditorCmd::Insert(Line::of(b"a")?)))?;
     Ok(commands)
 }
 
@@ -95,7 +98,10 @@ fn a_command_of_another_widget_does_nothing(rt: HostRuntime) -> Result<(), Fail>
     let contents = contents(rt.alloc())?;
     let commands = commands(rt.alloc())?;
     for (i, content) in contents.iter().enumerate() {
-        assert!(rt; hears_its_own(rt.alloc(), i, content, &contents, &commands)?, "content {i}");
+        assert!(rt;
+            hears_its_own(rt.alloc(), i, content, &contents, &commands)?,
+            "content {i}"
+        );
     }
     for (i, cmd) in commands.iter().enumerate() {
         assert!(rt; is_alone(rt.alloc(), i, cmd, &commands)?, "command {i}");
@@ -149,7 +155,10 @@ fn has_its_pictures(alloc: Global, first: Widget, draw: &mut Draw) -> Result<boo
 fn each_widget_holds_to_its_picture(rt: HostRuntime) -> Result<(), Fail> {
     let mut draw = Draw::new(1);
     for (i, content) in contents(rt.alloc())?.into_iter().enumerate() {
-        assert!(rt; has_its_pictures(rt.alloc(), content, &mut draw)?, "content {i}");
+        assert!(rt;
+            has_its_pictures(rt.alloc(), content, &mut draw)?,
+            "content {i}"
+        );
     }
     Ok(())
 }
