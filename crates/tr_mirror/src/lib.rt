@@ -10,6 +10,7 @@ mod mirrors;
 mod readers;
 mod updates;
 
+pub use boards::MOST_GROUPS;
 pub use faults::MirrorFault;
-pub use mirrors::Mirror;
+pub use mirrors::{LONGEST_STREAM, Mirror};
 pub use updates::{has_its_pixels, reads_what_was_written, update};

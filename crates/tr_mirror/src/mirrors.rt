@@ -4,7 +4,7 @@ ghost use Rattle.tr_mirror.specs.declared.faults.MirrorFault.{MirrorFault};
 ghost use Rattle.tr_mirror.specs.Faults.{IsBytes, IsFirstFault, IsReadAs};
 ghost use Rattle.tr_mirror.specs.Readings as spec;
 ghost use Rattle.tr_mirror.specs.Readings.{fresh, read, reading_of, cut_between, shown_from};
-ghost use Rattle.tr_mirror.specs.Readings.{shown, last_of, outcome_of, limit};
+ghost use Rattle.tr_mirror.specs.Readings.{shown, last_of, outcome_of, longest_stream};
 
 use crate::faults::MirrorFault;
 use crate::readers::Reader;
@@ -12,6 +12,9 @@ use std::alloc::Global;
 use std::marker::Model;
 use tr_base::NoMemory;
 use tr_screen::Screen;
+
+/// The most bytes that a stream has.
+pub const LONGEST_STREAM: u64 = 75_497_472;
 
 /// A reader of a stream. It has the screen at each cut.
 #[derive(Debug, Drop)]
@@ -42,7 +45,7 @@ impl Mirror {
     /// Reads the next piece of a stream. After a fault each later piece has the same answer, and
     /// changes nothing.
     pub fn feed(&mut self, piece: &[u8]) -> Result<(), MirrorFault>
-        requires { self.old.fed + length self.old.begun + length piece.now ≤ limit }
+        requires { self.old.fed + length self.old.begun + length piece.now ≤ longest_stream }
         ensures read { self.new ≡ read self.old piece.now }
         ensures outcome { result ≡ outcome_of self.new.fault }
 
@@ -74,7 +77,7 @@ impl Mirror {
     /// Reads the next piece of a stream as far as its first cut, and to its end where it has none. Answers how
     /// many bytes were read. After a fault each later piece has the same answer, and changes nothing.
     pub fn feed_to_cut(&mut self, piece: &[u8]) -> Result<usize, MirrorFault>
-        requires { self.old.fed + length self.old.begun + length piece.now ≤ limit }
+        requires { self.old.fed + length self.old.begun + length piece.now ≤ longest_stream }
         ensures count { IfOk result (λ n. n ≤ length piece.now) }
         ensures some { 0 < length piece.now → IfOk result (λ n. 0 < n) }
         ensures read { IfOk result (λ n. self.new ≡ read self.old (take n piece.now)) }

@@ -2,7 +2,7 @@ ghost use Rattle.std.specs.Prelude.{◌≡◌, ◌+◌, ◌≤◌, ◌<◌, ◌=
 ghost use Rattle.tr_mirror.specs.Boards.{header_fault};
 ghost use Rattle.tr_mirror.specs.Headers.{header_len, header_of, record_len};
 ghost use Rattle.tr_mirror.specs.Readings as spec;
-ghost use Rattle.tr_mirror.specs.Readings.{IsWaiting, fresh, failed, taken, tried, read, limit};
+ghost use Rattle.tr_mirror.specs.Readings.{IsWaiting, fresh, failed, taken, tried, read, longest_stream};
 ghost use Rattle.tr_mirror.specs.Pieces.{TakesFront};
 
 use crate::begun::Begun;
@@ -133,7 +133,7 @@ impl Reader {
         requires some { 0 < length piece.now }
         requires free { self.old.fault ≡ None }
         requires waiting { IsWaiting self.old }
-        requires limit { self.old.fed + length self.old.begun + length piece.now ≤ limit }
+        requires limit { self.old.fed + length self.old.begun + length piece.now ≤ longest_stream }
         ensures read { read self.new result.now ≡ read self.old piece.now }
         ensures front { TakesFront self.old self.new piece.now result.now }
         ensures shorter { length result.now < length piece.now }
@@ -154,7 +154,7 @@ impl Reader {
         requires some { 0 < length front.now }
         requires reach { length self.old.begun + length front.now ≤ spec.try_len self.old.begun }
         requires waiting { IsWaiting self.old }
-        requires limit { self.old.fed + length self.old.begun + length front.now ≤ limit }
+        requires limit { self.old.fed + length self.old.begun + length front.now ≤ longest_stream }
         ensures { self.new ≡ tried self.old (self.old.begun ++ front.now) }
     {
         self.begun.push_all(front);
@@ -183,7 +183,7 @@ impl Reader {
         requires some { 0 < length self.old.begun }
         requires whole { length self.old.begun ≡ record_len self.old.begun }
         requires sound { header_fault self.old.standing (header_of self.old.begun) ≡ None }
-        requires limit { self.old.fed + length self.old.begun ≤ limit }
+        requires limit { self.old.fed + length self.old.begun ≤ longest_stream }
         ensures { self.new ≡ taken self.old self.old.begun }
     {
         let bytes = self.begun.as_slice();
