@@ -2,7 +2,7 @@
 use Rattle.std.proofs.Common.{◌≡◌, ℕ, ◌+◌, ◌<◌, ◌-◌, ◌==◌, List, [], ◌++◌, length, take, refl, sym, ap, ◌∙◌, arith, if◌then◌else◌, append_assoc, length-append, is_some, true, ◌≢◌, ◌⊎◌, inl, inr, None, IsSome}
 use Rattle.std.proofs.lemmas.Bool.{cases_eq}
 use Rattle.std.proofs.Math.Seq.{take-append_seam}
-use Rattle.tr_mirror.specs.Boards.{Standing}
+use Rattle.tr_mirror.specs.Standings.{Standing}
 use Rattle.tr_mirror.specs.Readings.{Reading, read, listed, cut_between, shown_from}
 use Rattle.tr_mirror.specs.Pieces.{TakesFront}
 use Rattle.tr_mirror.proofs.ReadingLemmas.{read-append, read_failed, read_none}

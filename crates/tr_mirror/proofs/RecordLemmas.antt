@@ -4,12 +4,12 @@ use Rattle.std.proofs.lemmas.Bool.{ne_eqb, eq-eqb, cases_eq}
 use Rattle.std.proofs.lemmas.List.{append-nil, drop_at, take-append-drop, length-take-le, length-drop}
 use Rattle.std.proofs.lemmas.Nat.{from_be_bytes-to_be_bytes_2, from_be_bytes-to_be_bytes_4}
 use Rattle.tr_screen.specs.Pictures.{Picture}
-use Rattle.tr_mirror.specs.declared.headers.Span.{Span}
+use Rattle.tr_mirror.specs.declared.headers.Segment.{Segment}
 use Rattle.tr_mirror.specs.declared.headers.Header.{Header}
 use Rattle.tr_mirror.specs.declared.headers.Header.TheVariants.{Screen, Run, Fill, Cut}
 use Rattle.tr_mirror.specs.Headers.{header_len, header_of, header_bytes, record_len, pixel_count, short_at, long_at}
-use Rattle.tr_mirror.specs.Boards.{Standing, after, header_fault, pixel_fault}
-use Rattle.tr_mirror.specs.Readings.{Reading, fault_of, is_unknown, taken, waiting, tried, next, read, try_len, cut_between, shown_from}
+use Rattle.tr_mirror.specs.Standings.{Standing, after, header_fault, pixel_fault}
+use Rattle.tr_mirror.specs.Readings.{Reading, fault_of, is_unknown, taken, unfinished, tried, next, read, try_len, cut_between, shown_from}
 use Rattle.tr_mirror.specs.Streams.{Record, record_bytes, spelled}
 use Rattle.tr_mirror.specs.Faults.{Fits, IsSound, after_all, AreSound}
 use Rattle.tr_mirror.proofs.ReadingLemmas.{header_len_range, header_len-append, waits, gathers, next_free, read-append, IsQuiet, IsQuiet-append, try_first, try_header, try_record, tried_again}
@@ -20,31 +20,31 @@ use Rattle.tr_mirror.proofs.ShownLemmas.{len_of, header_len-is, no_cut, shown_fr
 same_screen : (a b c d k : ℕ) → a ≡ c → b ≡ d → Screen a b k ≡ Screen c d k
 same_screen a b c d k e f = ap (λ x. Screen x b k) e ∙ ap (λ x. Screen c x k) f
 
-same_span : (s : Span) (a b c : ℕ) → a ≡ s.west → b ≡ s.v → c ≡ s.count → record { west = a; v = b; count = c } ≡ s
-same_span s a b c e f g = ap (λ x. record { west = x; v = b; count = c }) e ∙ ap (λ x. record { west = s.west; v = x; count = c }) f
+same_segment : (s : Segment) (a b c : ℕ) → a ≡ s.west → b ≡ s.v → c ≡ s.count → record { west = a; v = b; count = c } ≡ s
+same_segment s a b c e f g = ap (λ x. record { west = x; v = b; count = c }) e ∙ ap (λ x. record { west = s.west; v = x; count = c }) f
     ∙ ap (λ x. record { west = s.west; v = s.v; count = x }) g
 
 pub header_again : (h : Header) (rest : List ℕ) → Fits h → header_of (header_bytes h ++ rest) ≡ h
 unfolding header_of header_bytes short_at long_at
 header_again (Screen wide high kind) rest f = same_screen _ _ wide high kind (from_be_bytes-to_be_bytes_2 wide f.0) (from_be_bytes-to_be_bytes_2 high f.1)
-header_again (Run s) rest f = ap (λ x. Run x) (same_span s _ _ _ (from_be_bytes-to_be_bytes_2 s.west f.west) (from_be_bytes-to_be_bytes_2 s.v f.v)
+header_again (Run s) rest f = ap (λ x. Run x) (same_segment s _ _ _ (from_be_bytes-to_be_bytes_2 s.west f.west) (from_be_bytes-to_be_bytes_2 s.v f.v)
     (from_be_bytes-to_be_bytes_2 s.count f.count))
-header_again (Fill s) rest f = ap (λ x. Fill x) (same_span s _ _ _ (from_be_bytes-to_be_bytes_2 s.west f.west) (from_be_bytes-to_be_bytes_2 s.v f.v)
+header_again (Fill s) rest f = ap (λ x. Fill x) (same_segment s _ _ _ (from_be_bytes-to_be_bytes_2 s.west f.west) (from_be_bytes-to_be_bytes_2 s.v f.v)
     (from_be_bytes-to_be_bytes_2 s.count f.count))
 header_again (Cut number) rest f = ap (λ x. Cut x) (from_be_bytes-to_be_bytes_4 number f)
 
 pub length-header_bytes : (h : Header) → length (header_bytes h) ≡ len_of h
 unfolding header_bytes
 length-header_bytes (Screen wide high kind) = refl
-length-header_bytes (Run span) = refl
-length-header_bytes (Fill span) = refl
+length-header_bytes (Run segment) = refl
+length-header_bytes (Fill segment) = refl
 length-header_bytes (Cut number) = refl
 
 known : (h : Header) → is_unknown (take 1 (header_bytes h)) ≡ false
 unfolding header_bytes
 known (Screen wide high kind) = refl
-known (Run span) = refl
-known (Fill span) = refl
+known (Run segment) = refl
+known (Fill segment) = refl
 known (Cut number) = refl
 
 -- ---- bytes that are read, of which at most the last ends a record
@@ -63,7 +63,7 @@ gathers_shown m (b ∷ c ∷ rest) free some reach =
     let one : List ℕ = b ∷ [] in
     let begins : 0 < length a = elim (cases_eq (length a) 0) as (λ _. 0 < length a) [ inl e ↦ absurd (omega (arith, try_first a e)) | inr n ↦ omega arith ] in
     let q : IsQuiet a one = IsQuiet-append a one begins (omega arith) (omega arith) in
-    let n : Reading = waiting m (a ++ one) in
+    let n : Reading = unfinished m (a ++ one) in
     let step : next m b ≡ n = next_free m b free ∙ waits m (a ++ one) q.long q.no_header q.no_record in
     let ih = gathers_shown n (c ∷ rest) free (omega arith) (omega (arith, length-append a one, q.next)) in
     ap (λ x. cut_between m.standing x.standing ++ shown_from x (c ∷ rest)) step
@@ -108,7 +108,7 @@ takes : (m : Reading) (bytes : List ℕ) → fault_of m.standing bytes ≡ None 
 unfolding tried
 takes m bytes none whole = rw (none, eq-eqb (length bytes) (record_len bytes) whole) refl
 
-waits_for : (m : Reading) (bytes : List ℕ) → fault_of m.standing bytes ≡ None → (length bytes ≡ record_len bytes → ⊥) → tried m bytes ≡ waiting m bytes
+waits_for : (m : Reading) (bytes : List ℕ) → fault_of m.standing bytes ≡ None → (length bytes ≡ record_len bytes → ⊥) → tried m bytes ≡ unfinished m bytes
 unfolding tried
 waits_for m bytes none part = rw (none, ne_eqb (length bytes) (record_len bytes) part) refl
 
@@ -137,12 +137,13 @@ module _ (s : Standing) (fed : ℕ) (r : Record) (k : IsSound s r) where
       let whole : a ++ b ≡ hb = take-append-drop 1 hb in
       let same : header_len a ≡ header_len hb = sym (ap (λ l. header_len l) (sym whole) ∙ header_len-append a b (omega arith)) in
       let quiet = fault_first s a one (known r.header) in
-      let first : Reads m a (waiting m a) = subst (λ n. Reads m a n) (waits_for m a quiet (λ e. omega arith))
+      let first : Reads m a (unfinished m a) = subst (λ n. Reads m a n) (waits_for m a quiet (λ e. omega arith))
       (Reads-front m a refl (omega arith) (omega arith)) in
-      let second : Reads (waiting m a) b (tried (waiting m a) (a ++ b)) =
-      Reads-front (waiting m a) b refl (omega arith) (omega (arith, try_header a (omega arith) (omega arith))) in
-      let second_is : Reads (waiting m a) b (tried m hb) = subst (λ n. Reads (waiting m a) b n) (tried_again m a (a ++ b) ∙ ap (λ l. tried m l) whole) second in
-      subst (λ l. Reads m l (tried m hb)) whole (Reads-then m (waiting m a) (tried m hb) a b first refl second_is)
+      let second : Reads (unfinished m a) b (tried (unfinished m a) (a ++ b)) =
+      Reads-front (unfinished m a) b refl (omega arith) (omega (arith, try_header a (omega arith) (omega arith))) in
+      let second_is : Reads (unfinished m a) b (tried m hb) =
+      subst (λ n. Reads (unfinished m a) b n) (tried_again m a (a ++ b) ∙ ap (λ l. tried m l) whole) second in
+      subst (λ l. Reads m l (tried m hb)) whole (Reads-then m (unfinished m a) (tried m hb) a b first refl second_is)
 
   -- what is known of its bytes
   record IsWhole : Type 0 where
@@ -169,13 +170,13 @@ module _ (s : Standing) (fed : ℕ) (r : Record) (k : IsSound s r) where
             let again' : header_of all ≡ h = header_again h px k.fits in
             let len : header_len all ≡ length hb = header_len-append hb px (omega arith) ∙ sym long in
             let whole = length-append hb px in
-            let first : Reads m hb (waiting m hb) = subst (λ x. Reads m hb x) (waits_for m hb sound (λ e. omega arith)) to_header in
-            let second : Reads (waiting m hb) px (tried (waiting m hb) all) =
-            Reads-front (waiting m hb) px refl (omega arith) (omega (arith, try_record hb (omega arith) (omega arith))) in
-            let second_is : Reads (waiting m hb) px (tried m all) = subst (λ x. Reads (waiting m hb) px x) (tried_again m hb all) second in
+            let first : Reads m hb (unfinished m hb) = subst (λ x. Reads m hb x) (waits_for m hb sound (λ e. omega arith)) to_header in
+            let second : Reads (unfinished m hb) px (tried (unfinished m hb) all) =
+            Reads-front (unfinished m hb) px refl (omega arith) (omega (arith, try_record hb (omega arith) (omega arith))) in
+            let second_is : Reads (unfinished m hb) px (tried m all) = subst (λ x. Reads (unfinished m hb) px x) (tried_again m hb all) second in
             let left : drop (header_len all) all ≡ px = drop_at hb px (header_len all) (sym len) in
             record {
-              tried = Reads-then m (waiting m hb) (tried m all) hb px first refl second_is;
+              tried = Reads-then m (unfinished m hb) (tried m all) hb px first refl second_is;
               clean = fault_pixels s all (omega arith) (omega (arith, ap (λ x. pixel_count x) again', k.count)) ∙ ap (λ l. pixel_fault s l) left ∙ k.pixels;
             }
       ]

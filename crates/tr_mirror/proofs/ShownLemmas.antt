@@ -3,30 +3,30 @@ use Rattle.std.proofs.Common.{◌≡◌, ℕ, ◌+◌, ◌*◌, ◌<◌, ◌≤�
 use Rattle.std.proofs.lemmas.Bool.{true≢false, ne_eqb, eq-eqb, cases_eq, ltb-false, ltb-true, not-false, and_parts, or_parts, leb-true}
 use Rattle.std.proofs.lemmas.List.{append-nil}
 use Rattle.tr_screen.specs.Pictures.{Picture, IsScreenSize}
-use Rattle.tr_mirror.specs.declared.headers.Span.{Span}
+use Rattle.tr_mirror.specs.declared.headers.Segment.{Segment}
 use Rattle.tr_mirror.specs.declared.headers.Header.{Header}
 use Rattle.tr_mirror.specs.declared.headers.Header.TheVariants.{Screen, Run, Fill, Cut}
 use Rattle.tr_mirror.specs.Headers.{tag_of, header_len, header_of, record_len, pixel_count}
-use Rattle.tr_mirror.specs.Boards.{Standing, after, header_fault, is_on}
-use Rattle.tr_mirror.specs.Readings.{Reading, fresh, fault_of, failed, judged, tried, next, read, try_len, IsWaiting, listed, cut_between, shown_from, shown, reading_of, last_of}
-use Rattle.tr_mirror.proofs.BoardLemmas.{no_fault}
-use Rattle.tr_mirror.proofs.ReadingLemmas.{IsClean, IsClean-append, IsWaiting-tried, next_free}
+use Rattle.tr_mirror.specs.Standings.{Standing, after, header_fault, is_on}
+use Rattle.tr_mirror.specs.Readings.{Reading, at_first, fault_of, failed, judged, tried, next, read, try_len, IsReading, listed, cut_between, shown_from, shown, reading_of, last_of}
+use Rattle.tr_mirror.proofs.HeaderLemmas.{no_fault}
+use Rattle.tr_mirror.proofs.ReadingLemmas.{IsClean, IsClean-append, IsReading-tried, next_free}
 
 -- ---- one byte puts one record on, or none
 
 -- how many bytes a header has
 abbrev pub len_of : Header → ℕ
 len_of (Screen wide high kind) = 6
-len_of (Run span) = 7
-len_of (Fill span) = 7
+len_of (Run segment) = 7
+len_of (Fill segment) = 7
 len_of (Cut number) = 5
 
-len_by_tag : (t u v : Bool) (wide high kind number : ℕ) (span : Span) →
-    (if t then 6 else if u || v then 7 else 5) ≡ len_of (if t then Screen wide high kind else if u then Run span else if v then Fill span else Cut number)
-len_by_tag true u v wide high kind number span = refl
-len_by_tag false true v wide high kind number span = refl
-len_by_tag false false true wide high kind number span = refl
-len_by_tag false false false wide high kind number span = refl
+len_by_tag : (t u v : Bool) (wide high kind number : ℕ) (segment : Segment) →
+    (if t then 6 else if u || v then 7 else 5) ≡ len_of (if t then Screen wide high kind else if u then Run segment else if v then Fill segment else Cut number)
+len_by_tag true u v wide high kind number segment = refl
+len_by_tag false true v wide high kind number segment = refl
+len_by_tag false false true wide high kind number segment = refl
+len_by_tag false false false wide high kind number segment = refl
 
 pub header_len-is : (bytes : List ℕ) → header_len bytes ≡ len_of (header_of bytes)
 unfolding header_of
@@ -56,7 +56,7 @@ moves_judged m bytes None clean = elim (cases_eq (length bytes) (record_len byte
   | inr n ↦ rw (ne_eqb (length bytes) (record_len bytes) n) (inl (record { standing = refl; fed = refl }))
 ]
 
-moves_tried : (m : Reading) (front : List ℕ) → IsWaiting m → 0 < length front → length m.begun + length front ≤ try_len m.begun →
+moves_tried : (m : Reading) (front : List ℕ) → IsReading m → 0 < length front → length m.begun + length front ≤ try_len m.begun →
     IsStill m (tried m (m.begun ++ front)) ⊎ IsPut m (tried m (m.begun ++ front))
 unfolding tried
 moves_tried m front w some reach = moves_judged m (m.begun ++ front) (fault_of m.standing (m.begun ++ front)) (λ none. IsClean-append m front w some reach none)
@@ -66,8 +66,8 @@ cut_screen : (s : Standing) (header : Header) (pixels : List ℕ) → header_fau
     (after s header pixels).cuts ≢ s.cuts → IsSome (after s header pixels).screen
 unfolding after
 cut_screen s (Screen wide high kind) pixels sound more = absurd (more refl)
-cut_screen s (Run span) pixels sound more = absurd (more refl)
-cut_screen s (Fill span) pixels sound more = absurd (more refl)
+cut_screen s (Run segment) pixels sound more = absurd (more refl)
+cut_screen s (Fill segment) pixels sound more = absurd (more refl)
 cut_screen s (Cut number) pixels sound more =
     some_of s.screen (or_parts (is_none s.screen) (not (number == s.cuts + 1)) (no_fault s (Cut number) sound).1).0
   where
@@ -76,7 +76,7 @@ cut_screen s (Cut number) pixels sound more =
     some_of (Some p) h = refl
 
 -- bytes that count a cut leave a screen
-pub screen_at_cut : (m : Reading) (front : List ℕ) → IsWaiting m → 0 < length front → length m.begun + length front ≤ try_len m.begun →
+pub screen_at_cut : (m : Reading) (front : List ℕ) → IsReading m → 0 < length front → length m.begun + length front ≤ try_len m.begun →
     (tried m (m.begun ++ front)).standing.cuts ≢ m.standing.cuts → IsSome (tried m (m.begun ++ front)).standing.screen
 screen_at_cut m front w some reach more =
     let n : Reading = tried m (m.begun ++ front) in
@@ -90,17 +90,17 @@ screen_at_cut m front w some reach more =
 -- what a byte does where it is read
 pub record IsStep (m n : Reading) : Type 0 where
   pub moves : IsStill m n ⊎ IsPut m n
-  pub waiting : IsWaiting n
+  pub reading : IsReading n
 
-step_by : (m : Reading) (b : ℕ) (o : Option _) → m.fault ≡ o → IsWaiting m → IsStep m (next m b)
+step_by : (m : Reading) (b : ℕ) (o : Option _) → m.fault ≡ o → IsReading m → IsStep m (next m b)
 step_by m b None free w =
     let fits : length m.begun + 1 ≤ try_len m.begun = omega (arith, w.short) in
-    rw (next_free m b free) (record { moves = moves_tried m (b ∷ []) w (omega arith) fits; waiting = IsWaiting-tried m (b ∷ []) w (omega arith) fits })
+    rw (next_free m b free) (record { moves = moves_tried m (b ∷ []) w (omega arith) fits; reading = IsReading-tried m (b ∷ []) w (omega arith) fits })
 step_by m b (Some fault) failed w =
     let same : next m b ≡ m = ap (λ o. if is_some o then m else tried m (m.begun ++ b ∷ [])) failed in
-    rw same (record { moves = inl (record { standing = refl; fed = refl }); waiting = w })
+    rw same (record { moves = inl (record { standing = refl; fed = refl }); reading = w })
 
-pub IsStep-next : (m : Reading) (b : ℕ) → IsWaiting m → IsStep m (next m b)
+pub IsStep-next : (m : Reading) (b : ℕ) → IsReading m → IsStep m (next m b)
 IsStep-next m b w = step_by m b m.fault refl w
 
 -- ---- what is kept byte by byte
@@ -127,15 +127,15 @@ no_cut s t same = rw (eq-eqb s.cuts t.cuts same) refl
 same_list : (before xs : List Picture) → xs ≡ [] → before ++ xs ≡ before
 same_list before xs none = rw none (append-nil before)
 
-span_facts : (o : Option Picture) (span : Span) → is_on o span ≡ true → ((p : Picture) → o ≡ Some p → IsScreenSize p.size) → (span.v < 1024)
-    × (span.count ≤ 1024)
-span_facts None span h sized = absurd (cc)
-span_facts (Some p) span h sized =
-    let a = and_parts (nat_lt span.v p.size.high) (nat_lt 0 span.count && nat_le (span.west + span.count) p.size.wide) h in
-    let b = and_parts (nat_lt 0 span.count) (nat_le (span.west + span.count) p.size.wide) a.1 in
+segment_facts : (o : Option Picture) (segment : Segment) → is_on o segment ≡ true → ((p : Picture) → o ≡ Some p → IsScreenSize p.size) → (segment.v < 1024)
+    × (segment.count ≤ 1024)
+segment_facts None segment h sized = absurd (cc)
+segment_facts (Some p) segment h sized =
+    let a = and_parts (nat_lt segment.v p.size.high) (nat_lt 0 segment.count && nat_le (segment.west + segment.count) p.size.wide) h in
+    let b = and_parts (nat_lt 0 segment.count) (nat_le (segment.west + segment.count) p.size.wide) a.1 in
     let k = sized p refl in
-    let below = ltb-true span.v p.size.high a.0 in
-    let within = leb-true (span.west + span.count) p.size.wide b.1 in
+    let below = ltb-true segment.v p.size.high a.0 in
+    let within = leb-true (segment.west + segment.count) p.size.wide b.1 in
     (omega (arith, k.high), omega (arith, k.wide))
 
 spent_row : (b : Bool) (cuts south v fed n : ℕ) → fed ≤ 1055755 * cuts + (if b then 6 + 1031 * south else 0) → south ≤ v → n ≤ 1031 →
@@ -157,11 +157,11 @@ cut_listed None before h = absurd (cc)
 cut_listed (Some p) before h = (length-append before (p ∷ []), last_of-push before p)
 
 module _ (s : Standing) (fed : ℕ) (before : List Picture) (k : IsAccount s fed before) (sized : (p : Picture) → s.screen ≡ Some p → IsScreenSize p.size) where
-  row_put : (span : Span) (t : Standing) (n : ℕ) → is_on s.screen span ≡ true → nat_lt span.v s.south ≡ false → n ≤ 1031 →
-      t.cuts ≡ s.cuts → t.within ≡ true → t.south ≡ span.v + 1 → IsAccount t (fed + n) (before ++ cut_between s t)
-  row_put span t n on rises few cuts within south =
-      let facts = span_facts s.screen span on sized in
-      let row = spent_row s.within s.cuts s.south span.v fed n k.spent (ltb-false span.v s.south rises) few in
+  row_put : (segment : Segment) (t : Standing) (n : ℕ) → is_on s.screen segment ≡ true → nat_lt segment.v s.south ≡ false → n ≤ 1031 →
+      t.cuts ≡ s.cuts → t.within ≡ true → t.south ≡ segment.v + 1 → IsAccount t (fed + n) (before ++ cut_between s t)
+  row_put segment t n on rises few cuts within south =
+      let facts = segment_facts s.screen segment on sized in
+      let row = spent_row s.within s.cuts s.south segment.v fed n k.spent (ltb-false segment.v s.south rises) few in
       record {
         cuts = rw (same_list before (cut_between s t) (no_cut s t (sym cuts))) (k.cuts ∙ sym cuts);
         last = λ between. absurd (true≢false (sym within ∙ between));
@@ -184,14 +184,14 @@ module _ (s : Standing) (fed : ℕ) (before : List Picture) (k : IsAccount s fed
         south = omega arith;
         rested = λ _. refl;
       }
-  IsAccount-after (Run span) pixels sound =
-      let f = no_fault s (Run span) sound in
-      let on = not-false (is_on s.screen span) f.2 in
-      row_put span (after s (Run span) pixels) (7 + span.count) on (or_parts (is_none s.screen) (nat_lt span.v s.south) f.1).1
-      (omega (arith, (span_facts s.screen span on sized).1)) refl refl refl
-  IsAccount-after (Fill span) pixels sound =
-      let f = no_fault s (Fill span) sound in
-      row_put span (after s (Fill span) pixels) 8 (not-false (is_on s.screen span) f.2) (or_parts (is_none s.screen) (nat_lt span.v s.south) f.1).1
+  IsAccount-after (Run segment) pixels sound =
+      let f = no_fault s (Run segment) sound in
+      let on = not-false (is_on s.screen segment) f.2 in
+      row_put segment (after s (Run segment) pixels) (7 + segment.count) on (or_parts (is_none s.screen) (nat_lt segment.v s.south) f.1).1
+      (omega (arith, (segment_facts s.screen segment on sized).1)) refl refl refl
+  IsAccount-after (Fill segment) pixels sound =
+      let f = no_fault s (Fill segment) sound in
+      row_put segment (after s (Fill segment) pixels) 8 (not-false (is_on s.screen segment) f.2) (or_parts (is_none s.screen) (nat_lt segment.v s.south) f.1).1
       (omega arith) refl refl refl
   IsAccount-after (Cut number) pixels sound =
       let t : Standing = after s (Cut number) pixels in
@@ -207,7 +207,7 @@ module _ (s : Standing) (fed : ℕ) (before : List Picture) (k : IsAccount s fed
       }
 
 -- one byte more
-account_step : (m n : Reading) (before : List Picture) → IsWaiting m → IsAccount m.standing m.fed before → IsStep m n →
+account_step : (m n : Reading) (before : List Picture) → IsReading m → IsAccount m.standing m.fed before → IsStep m n →
     IsAccount n.standing n.fed (before ++ cut_between m.standing n.standing)
 account_step m n before w k step = elim step.moves [
   | inl still ↦ rw (still.standing, still.fed, no_cut m.standing m.standing refl, append-nil before) k
@@ -215,22 +215,22 @@ account_step m n before w k step = elim step.moves [
 ]
 
 pub record IsKept (m : Reading) (before : List Picture) : Type 0 where
-  pub waiting : IsWaiting m
+  pub reading : IsReading m
   pub account : IsAccount m.standing m.fed before
 
 pub IsKept-read : (m : Reading) (before : List Picture) (xs : List ℕ) → IsKept m before → IsKept (read m xs) (before ++ shown_from m xs)
 IsKept-read m before [] k = rw (append-nil before) k
 IsKept-read m before (x ∷ xs) k =
     let n : Reading = next m x in
-    let step = IsStep-next m x k.waiting in
+    let step = IsStep-next m x k.reading in
     let now : List Picture = before ++ cut_between m.standing n.standing in
-    let more = IsKept-read n now xs (record { waiting = step.waiting; account = account_step m n before k.waiting k.account step }) in
+    let more = IsKept-read n now xs (record { reading = step.reading; account = account_step m n before k.reading k.account step }) in
     subst (λ l. IsKept (read n xs) l) (append_assoc before (cut_between m.standing n.standing) (shown_from n xs)) more
 
 -- what every stream's reading has
 pub IsKept-reading_of : (stream : List ℕ) → IsKept (reading_of stream) (shown stream)
-IsKept-reading_of stream = IsKept-read fresh [] stream (record {
-  waiting = record { short = omega arith; sound = λ some. absurd (omega arith); sized = λ p h. absurd (cc) };
+IsKept-reading_of stream = IsKept-read at_first [] stream (record {
+  reading = record { short = omega arith; sound = λ some. absurd (omega arith); sized = λ p h. absurd (cc) };
   account = record { cuts = refl; last = λ _. refl; spent = omega arith; south = omega arith; rested = λ _. refl };
 })
 

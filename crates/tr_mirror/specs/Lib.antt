@@ -1,5 +1,5 @@
 pub mod Headers
-pub mod Boards
+pub mod Standings
 pub mod Readings
 pub mod Streams
 pub mod Updates

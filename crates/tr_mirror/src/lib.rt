@@ -2,14 +2,15 @@
 #![tactic(auto)]
 
 mod begun;
-mod boards;
-mod canvases;
 mod faults;
 mod headers;
 mod mirrors;
+mod pixels;
 mod readers;
+mod replicas;
 mod updates;
 
 pub use faults::MirrorFault;
-pub use mirrors::Mirror;
+pub use mirrors::{LONGEST_STREAM, Mirror};
+pub use replicas::MOST_GROUPS;
 pub use updates::{has_its_pixels, reads_what_was_written, update};

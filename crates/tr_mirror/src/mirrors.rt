@@ -1,10 +1,10 @@
 ghost use Rattle.std.specs.Prelude.{◌≡◌, ◌≢◌, ◌+◌, ◌<◌, ◌≤◌, ◌++◌, ◌↔◌, List, ℕ, length, take};
 ghost use Rattle.std.specs.Prelude.{Some, None, IsSome, IsTrue, IfOk, IfErr, OnOk, OnErr};
 ghost use Rattle.tr_mirror.specs.declared.faults.MirrorFault.{MirrorFault};
-ghost use Rattle.tr_mirror.specs.Faults.{IsBytes, IsFirstFault, IsReadAs};
+ghost use Rattle.tr_mirror.specs.Faults.{IsBytes, IsFirstFault, IsFailedAs, IsReadAs};
 ghost use Rattle.tr_mirror.specs.Readings as spec;
-ghost use Rattle.tr_mirror.specs.Readings.{fresh, read, reading_of, cut_between, shown_from};
-ghost use Rattle.tr_mirror.specs.Readings.{shown, last_of, outcome_of, limit};
+ghost use Rattle.tr_mirror.specs.Readings.{at_first, read, reading_of, cut_between, shown_from};
+ghost use Rattle.tr_mirror.specs.Readings.{shown, last_of, outcome_of, longest_stream};
 
 use crate::faults::MirrorFault;
 use crate::readers::Reader;
@@ -13,6 +13,9 @@ use std::marker::Model;
 use tr_base::NoMemory;
 use tr_screen::Screen;
 
+/// The most bytes that a stream has.
+pub const LONGEST_STREAM: u64 = 75_497_472;
+
 /// A reader of a stream. It has the screen at each cut.
 #[derive(Debug, Drop)]
 pub struct Mirror {
@@ -20,19 +23,19 @@ pub struct Mirror {
 }
 
 impl Model for Mirror {
-    ghost use Rattle.tr_mirror.specs.Readings.{Reading, IsWaiting};
+    ghost use Rattle.tr_mirror.specs.Readings.{Reading, IsReading};
 
     ghost Value = { Reading };
 
     ghost view = { λ m. m.reader };
 
-    ghost invariant = { λ m. IsWaiting m.reader };
+    ghost invariant = { λ m. IsReading m.reader };
 }
 
 impl Mirror {
     /// A mirror that was fed nothing. It takes all memory.
     pub fn new(alloc: Global) -> Result<Mirror, NoMemory>
-        ensures { IfOk result (λ m. m ≡ fresh) }
+        ensures { IfOk result (λ m. m ≡ at_first) }
     {
         Ok(Mirror {
             reader: Reader::new(alloc)?,
@@ -42,7 +45,7 @@ impl Mirror {
     /// Reads the next piece of a stream. After a fault each later piece has the same answer, and
     /// changes nothing.
     pub fn feed(&mut self, piece: &[u8]) -> Result<(), MirrorFault>
-        requires { self.old.fed + length self.old.begun + length piece.now ≤ limit }
+        requires { self.old.fed + length self.old.begun + length piece.now ≤ longest_stream }
         ensures read { self.new ≡ read self.old piece.now }
         ensures outcome { result ≡ outcome_of self.new.fault }
 
@@ -60,6 +63,10 @@ impl Mirror {
             (result ≡ Err fault) ↔ IsFirstFault (stream ++ piece.now) fault }
         ensures records { (stream : List ℕ) → IsBytes stream → self.old ≡ reading_of stream →
             OnOk result (IsReadAs (stream ++ piece.now) self.new) }
+
+        // After a fault the mirror stands as after the whole records before it.
+        ensures failed { (stream : List ℕ) → IsBytes stream → self.old ≡ reading_of stream →
+            IfErr result (IsFailedAs (stream ++ piece.now) self.new) }
     {
         let mut rest = piece;
         while !rest.is_empty() && self.reader.fault().is_none() {
@@ -74,7 +81,7 @@ impl Mirror {
     /// Reads the next piece of a stream as far as its first cut, and to its end where it has none. Answers how
     /// many bytes were read. After a fault each later piece has the same answer, and changes nothing.
     pub fn feed_to_cut(&mut self, piece: &[u8]) -> Result<usize, MirrorFault>
-        requires { self.old.fed + length self.old.begun + length piece.now ≤ limit }
+        requires { self.old.fed + length self.old.begun + length piece.now ≤ longest_stream }
         ensures count { IfOk result (λ n. n ≤ length piece.now) }
         ensures some { 0 < length piece.now → IfOk result (λ n. 0 < n) }
         ensures read { IfOk result (λ n. self.new ≡ read self.old (take n piece.now)) }
@@ -96,7 +103,7 @@ impl Mirror {
         ensures fault { IfErr result (λ fault. self.new.fault ≡ Some fault) }
         ensures err { OnErr result (self.new ≡ read self.old piece.now) }
     {
-        let cuts = self.reader.board().cuts();
+        let cuts = self.reader.replica().cuts();
         let mut rest = piece;
         while !rest.is_empty() && self.reader.goes_on(cuts) {
             rest = self.reader.take_front(rest);
@@ -127,14 +134,14 @@ impl Mirror {
         ensures stream { (stream : List ℕ) → self.now ≡ reading_of stream →
             result ≡ length (shown stream) }
     {
-        self.reader.board().cuts()
+        self.reader.replica().cuts()
     }
 
     /// Whether a Screen came.
     pub fn has_screen(&self) -> bool
         ensures { IsTrue result ↔ IsSome self.now.standing.screen }
     {
-        self.reader.board().has_screen()
+        self.reader.replica().has_screen()
     }
 
     /// The screen of the last cut. Within a group, the whole records of the group are put on it.
@@ -145,6 +152,6 @@ impl Mirror {
             IsTrue (spec.is_between self.now) →
             IfOk result (λ s. last_of (shown stream) ≡ Some s) }
     {
-        self.reader.board().screen()
+        self.reader.replica().screen()
     }
 }

@@ -1,14 +1,14 @@
 ghost use Rattle.std.specs.Prelude.{◌≡◌, ◌+◌, ◌≤◌, ◌<◌, ◌==◌, ◌++◌, ◌↔◌, length, drop, None, IfOk, IsTrue};
-ghost use Rattle.tr_mirror.specs.Boards.{header_fault};
+ghost use Rattle.tr_mirror.specs.Standings.{header_fault};
 ghost use Rattle.tr_mirror.specs.Headers.{header_len, header_of, record_len};
 ghost use Rattle.tr_mirror.specs.Readings as spec;
-ghost use Rattle.tr_mirror.specs.Readings.{IsWaiting, fresh, failed, taken, tried, read, limit};
+ghost use Rattle.tr_mirror.specs.Readings.{IsReading, at_first, failed, taken, tried, read, longest_stream};
 ghost use Rattle.tr_mirror.specs.Pieces.{TakesFront};
 
 use crate::begun::Begun;
-use crate::boards::Board;
 use crate::faults::MirrorFault;
 use crate::headers::{header_len, header_of, pixel_count};
+use crate::replicas::Replica;
 use std::alloc::Global;
 use std::marker::Model;
 use tr_base::NoMemory;
@@ -16,7 +16,7 @@ use tr_base::NoMemory;
 /// How far a stream is read.
 #[derive(Debug, Drop)]
 pub struct Reader {
-    board: Board,
+    replica: Replica,
     begun: Begun,
     fed: u64,
     fault: Option<MirrorFault>,
@@ -27,7 +27,7 @@ impl Model for Reader {
 
     ghost Value = { Reading };
 
-    ghost view = { λ r. record { standing = r.board; begun = r.begun; fed = r.fed; fault = r.fault } };
+    ghost view = { λ r. record { standing = r.replica; begun = r.begun; fed = r.fed; fault = r.fault } };
 }
 
 /// How many bytes the record has that begins with these.
@@ -62,9 +62,9 @@ fn is_whole(bytes: &[u8]) -> bool
 
 /// The code of the fault that the last of a record's bytes so far shows.
 #[tactic(auto, unfolding(crate::specs::Readings::fault_of))]
-fn fault_of(board: &Board, bytes: &[u8]) -> Option<u8>
+fn fault_of(replica: &Replica, bytes: &[u8]) -> Option<u8>
     requires { 0 < length bytes.now }
-    ensures { result ≡ spec.fault_of board.now bytes.now }
+    ensures { result ≡ spec.fault_of replica.now bytes.now }
 {
     let header = header_len(bytes);
     if bytes.len() == 1 {
@@ -74,9 +74,9 @@ fn fault_of(board: &Board, bytes: &[u8]) -> Option<u8>
             Some(1)
         }
     } else if bytes.len() == header {
-        board.header_fault(header_of(bytes))
+        replica.header_fault(header_of(bytes))
     } else if is_whole(bytes) {
-        board.pixel_fault(&bytes[header..])
+        replica.pixel_fault(&bytes[header..])
     } else {
         None
     }
@@ -85,20 +85,20 @@ fn fault_of(board: &Board, bytes: &[u8]) -> Option<u8>
 impl Reader {
     /// The reading of no bytes. It takes all memory that reading needs.
     pub fn new(alloc: Global) -> Result<Reader, NoMemory>
-        ensures { IfOk result (λ r. r ≡ fresh) }
+        ensures { IfOk result (λ r. r ≡ at_first) }
     {
         Ok(Reader {
-            board: Board::new(alloc)?,
+            replica: Replica::new(alloc)?,
             begun: Begun::new(alloc)?,
             fed: 0,
             fault: None,
         })
     }
 
-    pub fn board(&self) -> &Board
+    pub fn replica(&self) -> &Replica
         ensures { result.now ≡ self.now.standing }
     {
-        &self.board
+        &self.replica
     }
 
     pub fn fed(&self) -> u64
@@ -117,14 +117,14 @@ impl Reader {
     pub fn is_between(&self) -> bool
         ensures { result ≡ spec.is_between self.now }
     {
-        !self.board.is_within() && self.begun.as_slice().is_empty()
+        !self.replica.is_within() && self.begun.as_slice().is_empty()
     }
 
     /// Whether there was no fault, and so many cuts.
     pub fn goes_on(&self, cuts: u32) -> bool
         ensures { IsTrue result ↔ ((self.now.fault ≡ None) × (self.now.standing.cuts ≡ cuts)) }
     {
-        self.fault.is_none() && self.board.cuts() == cuts
+        self.fault.is_none() && self.replica.cuts() == cuts
     }
 
     /// Takes bytes from the front of a piece, up to the next place where faults are tried. It gives
@@ -132,12 +132,12 @@ impl Reader {
     pub fn take_front<'a>(&mut self, piece: &'a [u8]) -> &'a [u8]
         requires some { 0 < length piece.now }
         requires free { self.old.fault ≡ None }
-        requires waiting { IsWaiting self.old }
-        requires limit { self.old.fed + length self.old.begun + length piece.now ≤ limit }
+        requires reading { IsReading self.old }
+        requires limit { self.old.fed + length self.old.begun + length piece.now ≤ longest_stream }
         ensures read { read self.new result.now ≡ read self.old piece.now }
         ensures front { TakesFront self.old self.new piece.now result.now }
         ensures shorter { length result.now < length piece.now }
-        ensures waiting { IsWaiting self.new }
+        ensures reading { IsReading self.new }
         ensures count { self.new.fed + length self.new.begun + length result.now
             ≤ self.old.fed + length self.old.begun + length piece.now }
     {
@@ -153,12 +153,12 @@ impl Reader {
     fn gather(&mut self, front: &[u8])
         requires some { 0 < length front.now }
         requires reach { length self.old.begun + length front.now ≤ spec.try_len self.old.begun }
-        requires waiting { IsWaiting self.old }
-        requires limit { self.old.fed + length self.old.begun + length front.now ≤ limit }
+        requires reading { IsReading self.old }
+        requires limit { self.old.fed + length self.old.begun + length front.now ≤ longest_stream }
         ensures { self.new ≡ tried self.old (self.old.begun ++ front.now) }
     {
         self.begun.push_all(front);
-        match fault_of(&self.board, self.begun.as_slice()) {
+        match fault_of(&self.replica, self.begun.as_slice()) {
             Some(code) => self.fail(code),
             None => {
                 if is_whole(self.begun.as_slice()) {
@@ -183,11 +183,11 @@ impl Reader {
         requires some { 0 < length self.old.begun }
         requires whole { length self.old.begun ≡ record_len self.old.begun }
         requires sound { header_fault self.old.standing (header_of self.old.begun) ≡ None }
-        requires limit { self.old.fed + length self.old.begun ≤ limit }
+        requires limit { self.old.fed + length self.old.begun ≤ longest_stream }
         ensures { self.new ≡ taken self.old self.old.begun }
     {
         let bytes = self.begun.as_slice();
-        self.board
+        self.replica
             .put(header_of(bytes), &bytes[header_len(bytes)..]);
         self.fed += bytes.len() as u64;
         self.begun.clear();

@@ -9,7 +9,7 @@ loop-self-preserved c =
     let t = c.take_front-rest.ensures in
     let on = c.goes_on.ensures.0 c.if-goes_on.true in
     record {
-      waiting = t.waiting;
+      reading = t.reading;
       count = omega (arith, t.count, i.count);
       read = HasRead-more c.args.self.now c.loop-self.self-inside.reader c.take_front-rest.new.self c.args.piece.now c.loop-self.rest.now
           c.take_front-rest.result.now (on.1 ∙ i.cuts) i.read t.front;
