@@ -3,6 +3,7 @@
 ghost use Rattle.std.specs.Prelude.{◌≡◌, [], ◌∷◌, codes, true};
 ghost use Rattle.std.specs.List.{AllPass};
 ghost use Rattle.tr_base.specs.Lines.{is_printable};
+ghost use Rattle.tr_journal.specs.declared.Actor.TheVariants as actors;
 ghost use Rattle.tr_grammar.specs.Words.{words_of};
 ghost use Rattle.tr_grammar.specs.Forms.{is_second, InsertText, EraseByte, SplitLine, GoTo, CopyText};
 ghost use Rattle.tr_grammar.specs.Forms.{PasteClip};
@@ -15,7 +16,7 @@ use crate::refusals::NO_FORM;
 use crate::widget_lines::{WORDS_BEFORE_TEXT, acting};
 use tr_base::LeafId;
 use tr_grammar::{LineRefused, Meaning};
-use tr_journal::{Actor, Step};
+use tr_journal::Step;
 use tr_reader::Reader;
 use tr_widget::WidgetCmd;
 use tr_words::{rest_after, small, text};
@@ -29,7 +30,7 @@ const LAST_COLUMN: u8 = 80;
 
 /// A command for a leaf's editor.
 fn editing(leaf: LeafId, cmd: EditorCmd) -> Meaning
-    ensures { result ≡ Meaning.Step (Actor.Leaf leaf) (Step.Act leaf (WidgetCmd.Editor cmd)) }
+    ensures { result ≡ Meaning.Step (actors.Leaf leaf) (Step.Act leaf (WidgetCmd.Editor cmd)) }
 {
     acting(leaf, WidgetCmd::Editor(cmd))
 }
