@@ -24,7 +24,7 @@ use Rattle.tr_spot.specs.Spots.{spot, is_in_leaf}
 use Rattle.tr_spot.specs.Leaves.{in_leaf, leaf_corner, leaf_size}
 use Rattle.tr_spot.proofs.WayLemmas.{equal_numbers, equal_test}
 use Rattle.tr_surface.specs.Surfaces.{Shown, IsShown, is_on}
-use Rattle.tr_surface.specs.Puts.{place_in}
+use Rattle.tr_region.specs.Places.{place_in}
 use Rattle.tr_journal.specs.declared.answers.Answer.TheVariants as answers
 use Rattle.tr_journal.specs.declared.steps.Step.TheVariants as steps
 use Rattle.tr_machine.specs.Windows.{Window, content, updated}

@@ -50,7 +50,7 @@ impl<C: Client> Stage<C> {
         let part = self.surface.bad_of(leaf)?;
         let mut wanted = Screen::blank(self.alloc, screen.size(), screen.kind())?;
         self.paint_part(leaf, &part, &mut wanted)?;
-        let pixels = pixels_at(self.alloc, &wanted, &part)?;
+        let pixels = pixels_at(&wanted, &part)?;
         Ok(Painted { leaf, part, pixels })
     }
 

@@ -14,7 +14,7 @@ use Rattle.tr_tree.specs.Trees.{Seen, size_after, edited_tree}
 use Rattle.tr_spot.specs.Spots.{HasRoot}
 use Rattle.std.specs.Prelude.{IfSome, IsSome}
 use Rattle.tr_surface.specs.TreeSteps.{child_of, if_placed, moved_child}
-use Rattle.tr_surface.specs.Shares.{IsLike}
+use Rattle.tr_surface.specs.Survivors.{IsLike}
 use Rattle.tr_surface.proofs.PixelLemmas.{IsMove}
 
 pub like_edited : (was : Seen) (edit : Edit) → IsForest was.nodes → IsEdit was.nodes edit → refusal was.nodes edit ≡ None → IsLike was (edited_tree was edit)

@@ -5,6 +5,7 @@ use Rattle.tr_forest.specs.Edits.{IsCause, refusal}
 use Rattle.tr_tree.specs.Trees.{Seen}
 use Rattle.tr_journal.specs.declared.steps.Step.TheVariants.{Alter}
 use Rattle.tr_machine.specs.Replays.{replay}
+use Rattle.tr_machine.proofs.AlterLemmas.{window_size}
 use Rattle.tr_stage.specs.Stages.{Parts}
 use Rattle.tr_stage.proofs.PartLemmas.{inboxes_count, leaves_count, seen_for, windows_count}
 use Rattle.tr_stage.proofs.AlterLemmas.{IsEdited, altered_stage, edited_line, edited_next, leaves_after, refused_line, refused_next}
@@ -49,8 +50,8 @@ invariant_of-self-in-Ok g c =
       after = c.tree-is.result.now;
       before_is = c.in-Ok.ensures.was;
       after_is = c.tree-is.ensures.value;
-      old_sizes = c.sizes_are_small.ensures;
-      new_sizes = c.sizes_are_small-in-Ok.ensures;
+      old_sizes = window_size c.in-Ok.was c.domains_are_small.ensures;
+      new_sizes = window_size c.tree-is.result.now c.domains_are_small-in-Ok.ensures;
       windows = c.refit.ensures;
       sent = c.edited-sent.result;
       sending = c.edited-sent.ensures.sent;

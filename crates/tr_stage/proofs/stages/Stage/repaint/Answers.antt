@@ -66,7 +66,7 @@ invariant_of-self-2 g c =
       tree = c.tree-tree.result.now;
       same = c.tree-tree.ensures.value;
       bad = c.in_ok-bad.bad;
-      has_bad = c.in_ok-bad.ensures;
+      has_bad = c.in_ok-bad.ensures.all;
       repaints = rw (c.kind.ensures, c.leaf_size-size.ensures.value) at c.in_ok-batch.ensures;
     }))
 
