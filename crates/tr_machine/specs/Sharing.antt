@@ -3,9 +3,10 @@ use Rattle.std.specs.Prelude.{◌≡◌, ℕ, zero, suc, ◌==◌, Bool, true, n
 use Rattle.tr_base.specs.declared.Point.{Point}
 use Rattle.tr_base.specs.declared.LeafId.{LeafId}
 use Rattle.tr_base.specs.Rects.{Edges}
+use Rattle.tr_region.specs.Areas.{total_area}
+use Rattle.tr_region.specs.Places.{place_in}
 use Rattle.tr_region.specs.Points.{holds}
 use Rattle.tr_client.specs.declared.clients.Client.{Ghosts}
-use Rattle.tr_surface.specs.Puts.{count_of, place_in}
 use Rattle.tr_surface.specs.Counts.{any_on}
 use Rattle.tr_levels.specs.declared.Level.{Level}
 use Rattle.tr_levels.specs.declared.Level.TheVariants.{Mu, Share}
@@ -22,7 +23,7 @@ use Rattle.tr_machine.specs.Settling.{frame_steps}
 -- the region has the leaf's bad visible points, and each of the pixels is the one that its point is to have
 pub record IsPaintedOf {C M : Type 0} (client : Ghosts C M) (m : State C M) (leaf : LeafId) (part : List Edges) (pixels : List ℕ) : Type 0 where
   pub points : (p : Point) → holds part p ≡ (m.bad p && is_visible m leaf p)
-  pub many : length pixels ≡ count_of part
+  pub many : length pixels ≡ total_area part
   pub colours : (p : Point) → holds part p ≡ true → slice_index pixels (place_in part p) ≡ want client m p
 
 -- a visible point of the leaf is bad
