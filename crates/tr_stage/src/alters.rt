@@ -1,7 +1,8 @@
-ghost use Rattle.std.specs.Prelude.{◌≡◌, ◌++◌, ◌∷◌, [], true, false, IfOk, OnOk, OnErr};
+ghost use Rattle.std.specs.Prelude.{◌≡◌, [], false, IfOk};
 ghost use Rattle.tr_journal.specs.Openings.{tree_of};
-ghost use Rattle.tr_journal.specs.Steps.{IsStep, may, covers};
-ghost use Rattle.tr_stage.specs.Stages.{line, paints};
+ghost use Rattle.tr_journal.specs.Steps.{IsFor};
+ghost use Rattle.tr_stage.specs.Making.{Makes};
+ghost use Rattle.tr_stage.specs.Stages.{paints};
 
 use crate::lines::{By, write};
 use crate::stages::Stage;
@@ -14,17 +15,10 @@ impl<C: Client> Stage<C> {
     /// The tree of windows is edited, if that is not refused: what shows what it is to show stays
     /// good, and the windows are told.
     pub(crate) fn alter(&mut self, by: &By, edit: Edit) -> Result<Reply, NoMemory>
-        requires may { may {M = C.Cmd} by.now.actor (Step.Alter edit) ≡ true }
-        requires covers { covers {M = C.Cmd} by.now.level (Step.Alter edit) ≡ true }
-        requires values { IsStep {M = C.Cmd} (tree_of self.old.opening).nodes (Step.Alter edit) }
-        ensures opening { self.new.opening ≡ self.old.opening }
-        ensures ok { let made = Step.Alter edit in
-            OnOk result (self.new.journal ≡
-            self.old.journal ++ line C.Client self.old by.now.actor by.now.level made ∷ []) }
-        ensures reply { let made = Step.Alter edit in
-            IfOk result (λ r. r ≡ (line C.Client self.old by.now.actor by.now.level made).entry.reply) }
-        ensures err_journal { OnErr result (self.new.journal ≡ self.old.journal) }
-        ensures err_screen { OnErr result (self.new.screen ≡ self.old.screen) }
+        requires allowed { let t = (tree_of self.old.opening).nodes in
+            IsFor {M = C.Cmd} t by.now.actor by.now.level (Step.Alter edit) }
+        ensures made { Makes C.Client self.old self.new by.now.actor by.now.level
+            (Step.Alter edit) result }
         ensures screen { let made = Step.Alter edit in
             IfOk result (λ r. paints {M = C.Cmd} made r.answer ≡ false → self.new.screen ≡ self.old.screen) }
     {

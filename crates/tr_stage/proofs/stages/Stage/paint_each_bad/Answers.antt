@@ -1,5 +1,4 @@
-use Rattle.std.proofs.Common.{◌≡◌, length, sym, subst, ◌∙◌, arith}
-use Rattle.tr_base.specs.declared.LeafId.{LeafId}
+use Rattle.std.proofs.Common.{◌≡◌, length, sym, ◌∙◌, arith}
 use Rattle.tr_stage.specs.Stages.{state}
 use Rattle.tr_stage.proofs.SettleLemmas.{windows_of}
 use Rattle.tr_stage.proofs.SharedLemmas.{painted_done, painted_less, painted_more}
@@ -8,13 +7,21 @@ use Rattle.tr_stage.proofs.stages.Stage.paint_each_bad.Goals as goal
 
 pub has_bad-requires-after_bounds : goal.has_bad-requires-after_bounds
 has_bad-requires-after_bounds g c κs within =
-    omega (arith, c.count-n-end.ensures.count, c.loop-n-test.true,
-      windows_of g.C.Client c.args.self.now c.self.invariant (record { spare = c.self.inside.journal.spare; is = c.self.view_is }))
+    omega (
+      arith,
+      c.count-n-end.ensures.count,
+      c.loop-n-test.true,
+      windows_of g.C.Client c.args.self.now c.self.invariant (record { spare = c.self.inside.journal.spare; is = c.self.view_is }),
+    )
 
 pub paint_bad-requires-clause-leaf : goal.paint_bad-requires-clause-leaf
 paint_bad-requires-clause-leaf g c κs within =
-    omega (arith, c.count-n-end.ensures.count, c.loop-n-test.true,
-      windows_of g.C.Client c.args.self.now c.self.invariant (record { spare = c.self.inside.journal.spare; is = c.self.view_is }))
+    omega (
+      arith,
+      c.count-n-end.ensures.count,
+      c.loop-n-test.true,
+      windows_of g.C.Client c.args.self.now c.self.invariant (record { spare = c.self.inside.journal.spare; is = c.self.view_is }),
+    )
 
 pub loop-n-preserved : goal.loop-n-preserved
 loop-n-preserved g c =

@@ -1,13 +1,13 @@
-use Rattle.std.proofs.Common.{◌≡◌, ◌<◌, All, List, Option, Some, sym, ap, subst, ◌∙◌}
-use Rattle.tr_base.specs.declared.Size.{Size}
-use Rattle.tr_client.specs.Runs as runs
+use Rattle.std.proofs.Common.{◌≡◌, ◌<◌, ◌++◌, Some, sym, ap, subst, ◌∙◌}
 use Rattle.tr_forest.specs.Nodes.{leaf_count}
 use Rattle.tr_spot.specs.Leaves.{leaf_size}
 use Rattle.tr_journal.specs.Openings.{tree_of}
-use Rattle.tr_journal.specs.Steps.{IsLeaf}
-use Rattle.tr_paint.specs.Traces.{Look, look_of}
+use Rattle.tr_paint.specs.Traces.{look_of}
 use Rattle.tr_paint.specs.Patches.{IsPatch}
+use Rattle.tr_journal.specs.Journals.{silent}
 use Rattle.tr_machine.specs.States.{content_of}
+use Rattle.tr_machine.specs.Handing.{act_entries}
+use Rattle.tr_machine.proofs.HandingLemmas.{handed_lines}
 use Rattle.tr_stage.specs.Stages.{StageView, state}
 use Rattle.tr_stage.proofs.PartLemmas.{has_window}
 use Rattle.tr_stage.proofs.HandingLemmas.{entries_quiet, ready_at, takes_over}
@@ -18,8 +18,8 @@ take_over-requires-clause-leaf g c κs within =
     has_window g.C.Client c.self.invariant
     (subst (λ (u : StageView _ _). c.args.leaf.0 < leaf_count (tree_of u.opening).nodes) (sym c.self.view_is) c.requires.leaf)
 
-pub write_silent-requires-clause-quiet : goal.write_silent-requires-clause-quiet
-write_silent-requires-clause-quiet g c κs within = rw c.in_ok-entries.ensures (entries_quiet c.args.leaf _ _)
+pub extend-requires : goal.extend-requires
+extend-requires g c = record { silent = rw c.in_ok-entries.ensures (entries_quiet c.args.leaf _ _) }
 
 pub invariant_of-self-2 : goal.invariant_of-self-2
 invariant_of-self-2 g c =
@@ -36,11 +36,23 @@ invariant_of-self-2 g c =
     let to = c.in_ok-content.content in
     let copied : to ≡ p.to = c.in_ok-content.ensures.copy in
     let ready = ready_at g.C.Client n leaf p.commands.items p.from to p.batch p.kind p.font p.size
-        (subst (λ (u : StageView _ _). content_of g.C.Client (state g.C.Client u) leaf ≡ Some p.from) back c.requires.from)
-        (subst (λ (u : StageView _ _). p.kind ≡ (state g.C.Client u).tree.kind) back c.requires.kind)
-        (subst (λ (u : StageView _ _). p.font ≡ (state g.C.Client u).font) back c.requires.font)
-        (subst (λ (u : StageView _ _). p.size ≡ leaf_size (state g.C.Client u).tree leaf) back c.requires.size)
-        (copied ∙ p.contents) p.patches
-        (subst (λ x. IsPatch (look_of p.kind p.font) p.size p.batch (g.C.Client.pic (look_of p.kind p.font) p.size p.from) (g.C.Client.pic (look_of p.kind p.font) p.size x)) (sym copied) p.patch) in
-    rw (c.write_silent.ensures, c.in_ok-reserve.ensures.lines, c.in_ok-entries.ensures, c.deref.ensures.value)
-    (takes_over g.C.Client p.commands.items c.args.levels.now c.self.invariant (record { within = within }) ready c.requires.counts c.in_ok-take_over.ensures.ok)
+    (subst (λ (u : StageView _ _). content_of g.C.Client (state g.C.Client u) leaf ≡ Some p.from) back c.requires.from)
+    (subst (λ (u : StageView _ _). p.kind ≡ (state g.C.Client u).tree.kind) back c.requires.kind)
+    (subst (λ (u : StageView _ _). p.font ≡ (state g.C.Client u).font) back c.requires.font)
+    (subst (λ (u : StageView _ _). p.size ≡ leaf_size (state g.C.Client u).tree leaf) back c.requires.size)
+    (copied ∙ p.contents) p.patches
+    (subst (λ x. IsPatch (look_of p.kind p.font) p.size p.batch
+    (g.C.Client.pic (look_of p.kind p.font) p.size p.from) (g.C.Client.pic (look_of p.kind p.font) p.size x)) (sym copied) p.patch) in
+    let added = rw c.unwrap.ensures at c.extend.ensures.ok in
+    rw (added, c.reserve_silent.ensures.lines, c.in_ok-entries.ensures, c.deref.ensures.value, ← handed_lines g.C.Client n leaf p.commands.items c.args.levels.now)
+    (takes_over g.C.Client p.commands.items c.args.levels.now c.self.invariant (record { within = within }) ready
+    c.requires.levels c.in_ok-take_over.ensures.ok)
+
+pub returns-clause-ok : goal.returns-clause-ok
+returns-clause-ok g c =
+    let p = c.args.prepared.now in
+    let added = rw (c.reserve_silent.ensures.lines, c.in_ok-entries.ensures, c.deref.ensures.value) at (rw c.unwrap.ensures at c.extend.ensures.ok) in
+    added
+    ∙ ap (λ (v : StageView _ _). v.journal ++ silent (act_entries c.args.leaf p.commands.items c.args.levels.now)) c.self.view_is
+    ∙ ap (λ ls. c.args.self.now.journal ++ ls)
+    (sym (handed_lines g.C.Client (state g.C.Client c.args.self.now) c.args.leaf p.commands.items c.args.levels.now))

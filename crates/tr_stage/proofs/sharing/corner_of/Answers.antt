@@ -1,7 +1,7 @@
 use Rattle.std.proofs.Common.{arith}
 use Rattle.std.proofs.lemmas.Int.{ints}
 use Rattle.tr_base.proofs.LayoutLemmas.{ordered}
-use Rattle.tr_stage.proofs.peeks.corner_of.Goals as goal
+use Rattle.tr_stage.proofs.sharing.corner_of.Goals as goal
 
 pub returns-clause-origin : goal.returns-clause-origin
 returns-clause-origin c =
