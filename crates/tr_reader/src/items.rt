@@ -1,5 +1,5 @@
 //! The items of an opening.
-ghost use Rattle.std.specs.Prelude.{◌≡◌, ◌≤◌, ◌++◌, ◌∷◌, [], true, false, None, Some, Option, IfErr, IfOk, OnOk, OnErr};
+ghost use Rattle.std.specs.Prelude.{◌≡◌, ◌≤◌, ◌++◌, ◌∷◌, [], true, false, None, Option, IfErr, OnOk, OnErr};
 ghost use Rattle.tr_forest.specs.declared.NodeFault.{NodeFault};
 ghost use Rattle.tr_forest.specs.Nodes.{IsNode};
 ghost use Rattle.tr_forest.specs.Edits.{IsCause, IsEdit, IsScreenSize, refusal};
@@ -18,6 +18,10 @@ use tr_grammar::{Code, LineRefused, Meaning, Place};
 use tr_journal::{Item, Opening};
 use tr_widget::Widget;
 
+/// What is answered where the opening is gone: a call before wanted memory, and lost it. It never comes to
+/// this in a reader that is dropped after the first `Err`.
+const LOST: NoMemory = NoMemory;
+
 /// What a refused edit says of a line.
 fn refused(e: EditRefused) -> LineRefused
     ensures { (fault : Option NodeFault) → IsCause fault e → IsRefusal fault result }
@@ -26,15 +30,6 @@ fn refused(e: EditRefused) -> LineRefused
         EditRefused::NoMemory => LineRefused::NoMemory,
         EditRefused::Fault(_) => LineRefused::Fault(Code::B6),
     }
-}
-
-/// The opening and its names. Behind the screen line there are none only where a call before wanted
-/// memory, and lost them: that is answered again. It never comes to this in a reader that is dropped
-/// after the first `Err`.
-fn present(found: Option<Declared>) -> Result<Declared, NoMemory>
-    ensures { IfOk result (λ declared. found ≡ Some declared) }
-{
-    found.ok_or(NoMemory)
 }
 
 /// A node becomes a child of another.
@@ -96,7 +91,9 @@ impl<'a> Reader<'a> {
         requires last { byte ≤ 126 }
         ensures { OnOk result (self.new ≡ after self.old [] (Meaning.Item (Item.Glyph byte rows))) }
     {
-        let mut declared = present(self.declared.take())?;
+        let Some(mut declared) = self.declared.take() else {
+            return Err(LOST);
+        };
         declared.opening.glyph(byte, rows)?;
         self.declared = Some(declared);
         push(&mut self.glyphs, byte)
@@ -108,7 +105,9 @@ impl<'a> Reader<'a> {
         requires room { is_one_too_many self.old (Meaning.Item (Item.Node kind tint)) ≡ false }
         ensures { OnOk result (self.new ≡ after self.old name.now (Meaning.Item (Item.Node kind tint))) }
     {
-        let mut declared = present(self.declared.take())?;
+        let Some(mut declared) = self.declared.take() else {
+            return Err(LOST);
+        };
         declared.opening.node(kind, tint)?;
         declared.nodes.declare(name)?;
         self.declared = Some(declared);
@@ -121,7 +120,9 @@ impl<'a> Reader<'a> {
         requires room { is_one_too_many self.old (Meaning.Item (Item.Leaf shapes content)) ≡ false }
         ensures { OnOk result (self.new ≡ after self.old name.now (Meaning.Item (Item.Leaf shapes content))) }
     {
-        let mut declared = present(self.declared.take())?;
+        let Some(mut declared) = self.declared.take() else {
+            return Err(LOST);
+        };
         declared.opening.leaf(shapes, content)?;
         declared.nodes.declare(name)?;
         declared.leaves.declare(name)?;
@@ -135,7 +136,9 @@ impl<'a> Reader<'a> {
         requires edit { IsEdit (nodes_so_far self.old) (Edit.Attach child parent at) }
         ensures { Adds self.old [] (Meaning.Item (Item.Put child parent at)) self.new result }
     {
-        let mut declared = present(self.declared.take())?;
+        let Some(mut declared) = self.declared.take() else {
+            return Err(LOST.into());
+        };
         put(&mut declared.opening, child, parent, at)?;
         self.declared = Some(declared);
         Ok(())
@@ -147,7 +150,9 @@ impl<'a> Reader<'a> {
         requires node { IsNode (nodes_so_far self.old) node }
         ensures { Adds self.old [] (Meaning.Item (Item.Root node)) self.new result }
     {
-        let mut declared = present(self.declared.take())?;
+        let Some(mut declared) = self.declared.take() else {
+            return Err(LOST.into());
+        };
         set_root(&mut declared.opening, node)?;
         self.declared = Some(declared);
         Ok(())

@@ -87,6 +87,7 @@ fn clip_of(words: &EdgeWords) -> Result<Rect, Code>
 }
 
 /// The words of a line of a leaf's actor: the leaf's name without its @, what is done, and its values.
+#[derive(Drop)]
 pub struct ActLine<'a> {
     pub leaf: &'a str,
     pub act: &'a str,
@@ -138,7 +139,8 @@ pub fn leaf_in_steps(reader: &Reader, leaf: &str) -> Result<LeafId, Code>
     ensures within { IfOk result (λ l. IsLeaf (nodes_so_far reader.now) l) }
 {
     reader.in_steps()?;
-    leaf_of(reader, leaf)
+    let leaf = leaf_of(reader, leaf)?;
+    Ok(leaf)
 }
 
 fn read_mark(reader: &Reader, leaf: &str, values: &[&str]) -> Result<Meaning, LineRefused>

@@ -105,7 +105,8 @@ fn tint_of(reader: &Reader, new: &str, tint: &str) -> Result<u8, Code>
 {
     reader.in_opening()?;
     name(new)?;
-    byte(tint)
+    let tint = byte(tint)?;
+    Ok(tint)
 }
 
 fn read_split(

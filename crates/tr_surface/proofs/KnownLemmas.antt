@@ -1,15 +1,13 @@
 -- Which points are known after a tree step, and which pixels they have.
-use Rattle.std.proofs.Common.{◌≡◌, ℕ, zero, suc, ◌+◌, ◌<◌, add-one, Bool, true, false, cond, not, ◌&&◌, ◌||◌, ◌==◌, List, [], Option, Some, None, length, get_or, inl, inr, ◌⊎◌, refl, sym, ap, ◌∙◌, subst, arith}
+use Rattle.std.proofs.Common.{◌≡◌, ℕ, zero, suc, ◌+◌, ◌<◌, add-one, Bool, true, false, cond, not, ◌&&◌, ◌||◌, ◌==◌, List, [], Option, Some, None, length, get_or, inl, inr, ◌⊎◌, refl, sym, ap, ◌∙◌, arith}
 use Rattle.std.specs.Prelude.{IsSome}
 use Rattle.std.proofs.lemmas.Bool.{cases_eq}
-use Rattle.std.proofs.lemmas.Option.{none-some}
 use Rattle.tr_base.specs.declared.Point.{Point}
 use Rattle.tr_base.specs.declared.Kind.{Kind}
 use Rattle.tr_base.specs.declared.NodeId.{NodeId}
-use Rattle.tr_base.specs.declared.LeafId.{LeafId}
 use Rattle.tr_base.specs.declared.Spot.{Spot}
 use Rattle.tr_base.specs.declared.Spot.TheVariants as spots
-use Rattle.tr_base.specs.Rects.{Edges, has_point, whole_of}
+use Rattle.tr_base.specs.Rects.{Edges, whole_of}
 use Rattle.tr_region.specs.Points.{holds}
 use Rattle.tr_forest.specs.declared.NodeKind.{NodeKind}
 use Rattle.tr_forest.specs.declared.NodeKind.TheVariants as kinds
@@ -21,7 +19,7 @@ use Rattle.tr_spot.specs.Spots.{CoverOnce, HasRoot, owner, spot, spot_on, spot_b
 use Rattle.tr_spot.specs.Leaves.{same_kind, same_size}
 use Rattle.tr_surface.specs.Surfaces.{AreRegions, is_on}
 use Rattle.tr_surface.specs.TreeSteps.{Keeping, is_below, is_kept, same_point, source_by, survives}
-use Rattle.tr_surface.specs.Survivors.{AreSides, change, good_by, in_first, in_moved, is_below_moved}
+use Rattle.tr_surface.specs.Survivors.{AreSides, change, good_by, in_first, in_moved}
 use Rattle.tr_surface.proofs.TreeChangeLemmas.{below_is}
 
 false-true : {X : Type 0} → false ≡ true → X

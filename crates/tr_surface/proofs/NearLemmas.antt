@@ -1,5 +1,5 @@
 -- Corners that are moved, and points that can be.
-use Rattle.std.proofs.Common.{◌≡◌, ◌≤◌, ℕ, pos, neg_ℤ, ◌≤ℤ◌, true, ℤ, ◌-ℤ◌, refl, sym, ap, ◌∙◌, arith, nat_eq, w32, to_z, of_z, SFits, rules}
+use Rattle.std.proofs.Common.{◌≡◌, ◌≤◌, ℕ, pos, neg_ℤ, ◌≤ℤ◌, true, ℤ, ◌-ℤ◌, sym, ap, ◌∙◌, arith, nat_eq, w32, to_z, of_z, SFits, rules}
 use Rattle.std.specs.Ordering.{int_eq}
 use Rattle.std.proofs.lemmas.Int.{ints, to_z-of_z}
 use Rattle.std.proofs.lemmas.Bool.Decides.{Decides-int_eq, Decides-eqb, same_from_decides, Decides-like}

@@ -1,19 +1,18 @@
 -- Which pixels the good points have after a tree step.
 use Rattle.std.proofs.Common.{◌≡◌, Bool, true, false, cond, ◌&&◌, Option, Some, None, refl, sym, ap, ◌∙◌}
-use Rattle.std.proofs.lemmas.Option.{none-some}
 use Rattle.tr_base.specs.declared.Point.{Point}
 use Rattle.tr_base.specs.declared.Size.{Size}
 use Rattle.tr_base.specs.declared.NodeId.{NodeId}
 use Rattle.tr_base.specs.Rects.{before_shift, has_point, whole_of}
 use Rattle.tr_screen.specs.Pictures.{Picture, pixel_of}
-use Rattle.tr_screen.specs.Runs.{IsOn, Repaints}
+use Rattle.tr_screen.specs.Runs.{Repaints}
 use Rattle.tr_repair.specs.Moves.{MovesOn}
 use Rattle.tr_tree.specs.Trees.{Seen}
 use Rattle.tr_spot.specs.Spots.{HasRoot, spot}
 use Rattle.tr_spot.specs.Leaves.{same_kind}
 use Rattle.tr_surface.specs.Surfaces.{is_on}
 use Rattle.tr_surface.specs.TreeSteps.{Keeping, is_below, source_by, way_of}
-use Rattle.tr_surface.specs.Survivors.{IsFitted, change, follows_by, good_by, is_below_moved, unmoved, way_of_moved}
+use Rattle.tr_surface.specs.Survivors.{IsFitted, change, follows_by, good_by, is_below_moved, way_of_moved}
 use Rattle.tr_surface.proofs.KnownLemmas.{IsGood, good_parts, none_good}
 
 -- what follows the child that is moved: the size of the screen stays where one is

@@ -1,8 +1,8 @@
 -- What survives of the points of one node.
-use Rattle.std.proofs.Common.{◌≡◌, ℕ, ℤ, ◌-ℤ◌, pos, Bool, true, false, cond, not, ◌&&◌, ◌||◌, ◌==◌, Option, Some, None, refl, sym, ap, ◌∙◌, arith}
+use Rattle.std.proofs.Common.{◌≡◌, ℕ, ℤ, ◌-ℤ◌, Bool, true, false, cond, not, ◌&&◌, ◌||◌, ◌==◌, Option, Some, None, refl, sym, ap, ◌∙◌, arith}
 use Rattle.std.specs.Ordering.{int_eq}
 use Rattle.std.proofs.lemmas.Int.{ints}
-use Rattle.std.proofs.lemmas.Bool.Decides.{Decides-int_eq, same_from_decides, Decides-like, nat_tests}
+use Rattle.std.proofs.lemmas.Bool.Decides.{Decides-int_eq, same_from_decides, Decides-like}
 use Rattle.std.proofs.lemmas.Option.{none-some, same_Some}
 use Rattle.tr_base.specs.declared.Point.{Point}
 use Rattle.tr_base.specs.declared.Size.{Size}
@@ -12,24 +12,22 @@ use Rattle.tr_base.specs.declared.NodeId.{NodeId}
 use Rattle.tr_base.specs.declared.LeafId.{LeafId}
 use Rattle.tr_base.specs.declared.Spot.{Spot}
 use Rattle.tr_base.specs.declared.Spot.TheVariants as spots
-use Rattle.tr_base.specs.Rects.{Edges, before_shift, has_point, whole_of}
-use Rattle.tr_region.specs.Points.{holds}
+use Rattle.tr_base.specs.Rects.{before_shift, has_point, whole_of}
 use Rattle.tr_forest.specs.declared.NodeKind.{NodeKind}
 use Rattle.tr_forest.specs.declared.NodeKind.TheVariants as kinds
-use Rattle.tr_forest.specs.Nodes.{node, IsNode, leaf_of, is_leaf}
+use Rattle.tr_forest.specs.Nodes.{node, leaf_of, is_leaf}
 use Rattle.tr_forest.specs.Forests.{IsForest}
 use Rattle.tr_tree.specs.Trees.{Seen}
 use Rattle.tr_tree.specs.Places.{domain}
-use Rattle.tr_spot.specs.Spots.{owner, spot, spot_on, spot_below, is_in_leaf, is_on_frame, is_spot_as, is_spot_of, from_corner, size_of, region_of}
-use Rattle.tr_spot.specs.Ways.{is_it, ends_at, owns}
+use Rattle.tr_spot.specs.Spots.{spot, spot_on, spot_below, is_in_leaf, is_on_frame, is_spot_of, from_corner}
+use Rattle.tr_spot.specs.Ways.{ends_at, owns}
 use Rattle.tr_spot.specs.Leaves.{same_size, same_kind}
 use Rattle.tr_spot.proofs.WayLemmas.{and_left, and_right, equal_numbers, equal_test, it_is}
 use Rattle.tr_spot.proofs.SpotLemmas.{spot_is, leaf_spot, frame_spot}
-use Rattle.tr_surface.specs.declared.survivors.Survivors.{Survivors}
 use Rattle.tr_surface.specs.declared.survivors.Survivors.TheVariants as variants
-use Rattle.tr_surface.specs.Surfaces.{AreRegions, is_on}
-use Rattle.tr_surface.specs.TreeSteps.{Keeping, is_kept, same_point, same_spot, kept_spot, survives}
-use Rattle.tr_surface.specs.Survivors.{AreSides, corner, side, leaf_survivors, survivors_by, survivors_from, has_survivor}
+use Rattle.tr_surface.specs.Surfaces.{is_on}
+use Rattle.tr_surface.specs.TreeSteps.{Keeping, is_kept, same_point, survives}
+use Rattle.tr_surface.specs.Survivors.{corner, side, leaf_survivors, survivors_by, has_survivor}
 
 -- ---- tests
 

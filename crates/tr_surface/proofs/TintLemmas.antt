@@ -1,16 +1,14 @@
 -- A new tint moves no node: the regions stay, and the frame alone shows something else.
-use Rattle.std.proofs.Common.{◌≡◌, ℕ, zero, suc, Bool, true, false, cond, not, ◌&&◌, ◌||◌, ◌==◌, List, [], ◌∷◌, Option, Some, None, length, refl, sym, ap, ◌∙◌, arith}
+use Rattle.std.proofs.Common.{◌≡◌, ℕ, zero, suc, Bool, true, false, cond, not, ◌&&◌, ◌||◌, ◌==◌, List, [], ◌∷◌, Option, Some, None, refl, sym, ap, ◌∙◌, arith}
 use Rattle.std.specs.Prelude.{IsSome}
 use Rattle.std.specs.List.{find}
 use Rattle.std.proofs.lemmas.Bool.Decides.{nat_tests}
-use Rattle.std.specs.Ordering.{int_eq}
 use Rattle.tr_base.specs.declared.Point.{Point}
 use Rattle.tr_base.specs.declared.Size.{Size}
 use Rattle.tr_base.specs.declared.NodeId.{NodeId}
 use Rattle.tr_base.specs.declared.LeafId.{LeafId}
 use Rattle.tr_base.specs.Rects.{Edges, before_shift, has_point, whole_of}
 use Rattle.tr_region.specs.Points.{holds}
-use Rattle.tr_forest.specs.declared.Edit.{Edit}
 use Rattle.tr_forest.specs.declared.Edit.TheVariants as edits
 use Rattle.tr_forest.specs.declared.NodeKind.{NodeKind}
 use Rattle.tr_forest.specs.declared.NodeKind.TheVariants as kinds

@@ -1,5 +1,5 @@
 -- Which points are bad when a tree step has seen to the nodes one after the other.
-use Rattle.std.proofs.Common.{◌≡◌, ℕ, ℤ, zero, suc, ◌+◌, ◌<◌, ◌-ℤ◌, pos, add-one, Bool, true, false, cond, not, ◌&&◌, ◌||◌, ◌==◌, List, [], Option, Some, None, length, get_or, inl, inr, ◌⊎◌, refl, sym, ap, ◌∙◌, arith}
+use Rattle.std.proofs.Common.{◌≡◌, ℕ, ℤ, ◌+◌, ◌-ℤ◌, pos, add-one, Bool, true, false, cond, not, ◌&&◌, ◌||◌, List, [], Option, Some, None, get_or, refl, sym, ap, ◌∙◌, arith}
 use Rattle.std.proofs.lemmas.Int.{ints}
 use Rattle.tr_base.specs.declared.Point.{Point}
 use Rattle.tr_base.specs.declared.NodeId.{NodeId}
@@ -7,21 +7,20 @@ use Rattle.tr_base.specs.declared.LeafId.{LeafId}
 use Rattle.tr_base.specs.declared.Spot.{Spot}
 use Rattle.tr_base.specs.Rects.{Edges, before_shift}
 use Rattle.tr_region.specs.Points.{holds}
-use Rattle.tr_forest.specs.declared.NodeKind.{NodeKind}
 use Rattle.tr_forest.specs.Nodes.{node, node_of, IsNode, leaf_of}
 use Rattle.tr_forest.specs.Families.{is_under}
 use Rattle.tr_forest.specs.Forests.{IsForest}
 use Rattle.tr_forest.proofs.LeafLemmas.{leaf_is_node_of}
 use Rattle.tr_tree.specs.Trees.{Seen}
 use Rattle.tr_tree.specs.Places.{domain}
-use Rattle.tr_spot.specs.Spots.{spot, spot_on, is_spot_of, from_corner, region_of}
+use Rattle.tr_spot.specs.Spots.{spot, spot_on, from_corner, region_of}
 use Rattle.tr_spot.proofs.NodeLemmas.{by_number}
 use Rattle.tr_surface.specs.declared.survivors.Survivors.{Survivors}
 use Rattle.tr_surface.specs.declared.survivors.Survivors.TheVariants as variants
 use Rattle.tr_surface.specs.Surfaces.{is_on}
 use Rattle.tr_surface.specs.TreeSteps.{Keeping, is_below, source_by, survives, way_of}
 use Rattle.tr_surface.specs.Survivors.{AreSides, IsAlike, bad_below, bad_so_far, change, good_by, has_survivor, in_first, stays_good, survivors_from, unmoved, way_from}
-use Rattle.tr_surface.proofs.SurvivorLemmas.{AreForests, IsOf, Owns, owns_point, leaf_on, frame_on, there, apart}
+use Rattle.tr_surface.proofs.SurvivorLemmas.{AreForests, IsOf, owns_point, leaf_on, frame_on, there, apart}
 
 -- ---- where the points of a node come from
 

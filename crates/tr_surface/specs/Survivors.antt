@@ -12,7 +12,7 @@ use Rattle.tr_forest.specs.Nodes.{Nodes, node, leaf_of}
 use Rattle.tr_forest.specs.Families.{is_under}
 use Rattle.tr_tree.specs.Trees.{Seen}
 use Rattle.tr_tree.specs.Places.{domain}
-use Rattle.tr_spot.specs.Spots.{spot, from_corner, region_of, size_of}
+use Rattle.tr_spot.specs.Spots.{spot, from_corner, size_of}
 use Rattle.tr_spot.specs.Leaves.{same_kind, same_size}
 use Rattle.tr_surface.specs.declared.survivors.Survivors.{Survivors}
 use Rattle.tr_surface.specs.declared.survivors.Survivors.TheVariants as variants

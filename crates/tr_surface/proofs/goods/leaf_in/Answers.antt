@@ -1,4 +1,4 @@
-use Rattle.std.proofs.Common.{sym, ap, ◌∙◌}
+use Rattle.std.proofs.Common.{sym, ap}
 use Rattle.tr_forest.specs.Nodes.{leaf_of}
 use Rattle.tr_surface.proofs.goods.leaf_in.Goals as goal
 

@@ -1,9 +1,7 @@
-use Rattle.std.proofs.Common.{List, ℕ, length, get_or, ap, subst, ◌∙◌}
+use Rattle.std.proofs.Common.{List, ℕ, length, get_or, ap, ◌∙◌}
 use Rattle.std.proofs.lemmas.Result.{IfOk-weaker}
 use Rattle.tr_base.specs.Rects.{Edges}
-use Rattle.tr_region.specs.Areas.{total_area}
 use Rattle.tr_region.specs.Places.{place_in}
-use Rattle.tr_region.specs.Points.{holds}
 use Rattle.tr_region.proofs.PlaceLemmas.{held_at}
 use Rattle.tr_screen.specs.Pictures.{pixel_of}
 use Rattle.tr_screen.specs.Readings.{rects_by}

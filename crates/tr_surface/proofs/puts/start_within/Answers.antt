@@ -1,5 +1,4 @@
-use Rattle.std.proofs.Common.{◌≡◌, ◌*◌, ◌+◌, arith, rules}
-use Rattle.tr_base.specs.Rects.{sides_of}
+use Rattle.std.proofs.Common.{◌≡◌, ◌*◌, ◌+◌, rules}
 use Rattle.tr_region.specs.Places.{place_within}
 use Rattle.tr_screen.specs.Runs.{point_in}
 use Rattle.tr_surface.proofs.PutLemmas.{run_fits}

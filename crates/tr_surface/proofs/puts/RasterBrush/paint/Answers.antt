@@ -1,7 +1,5 @@
-use Rattle.std.proofs.Common.{◌≡◌, ◌+◌, length, ap, sym, ◌∙◌, arith, rules}
+use Rattle.std.proofs.Common.{◌+◌, length, ap, sym, ◌∙◌, rules}
 use Rattle.std.specs.Prelude.{slice_index}
-use Rattle.tr_region.specs.Places.{place_within}
-use Rattle.tr_screen.specs.Runs.{point_in}
 use Rattle.tr_surface.proofs.PutLemmas.{part_is, place_later, run_west}
 use Rattle.tr_surface.proofs.puts.RasterBrush.paint.Goals as goal
 

@@ -1,9 +1,9 @@
-use Rattle.std.proofs.Common.{◌≡◌, ◌==◌, Bool, true, ◌&&◌, not, List, Option, Some, None, length, sym, ap, subst, ◌∙◌}
+use Rattle.std.proofs.Common.{◌≡◌, ◌==◌, true, not, List, Option, None, length, sym, ap, subst, ◌∙◌}
 use Rattle.tr_base.specs.declared.Point.{Point}
 use Rattle.tr_base.specs.declared.NodeId.{NodeId}
 use Rattle.tr_base.specs.Rects.{Edges, before_shift}
 use Rattle.tr_region.specs.Points.{holds}
-use Rattle.tr_screen.specs.Pictures.{Picture, pixel_of}
+use Rattle.tr_screen.specs.Pictures.{pixel_of}
 use Rattle.tr_screen.specs.Runs.{Repaints}
 use Rattle.tr_repair.specs.Moves.{MovesOn}
 use Rattle.tr_forest.specs.declared.Edit.{Edit}

@@ -1,9 +1,8 @@
-use Rattle.std.proofs.Common.{◌≡◌, Bool, ◌&&◌, ◌||◌, not, List, sym, ap, ◌∙◌}
+use Rattle.std.proofs.Common.{◌≡◌, Bool, ◌&&◌, ◌||◌, not, List, ap, ◌∙◌}
 use Rattle.tr_base.specs.declared.Point.{Point}
 use Rattle.tr_base.specs.Rects.{Edges}
 use Rattle.tr_region.specs.Points.{holds}
 use Rattle.tr_spot.specs.Spots.{region_of}
-use Rattle.tr_surface.specs.declared.survivors.Survivors.{Survivors}
 use Rattle.tr_surface.specs.Survivors.{IsAlike, bad_below, survivors_from, stays_good, way_from}
 use Rattle.tr_surface.specs.TreeChanges.{change_of}
 use Rattle.tr_surface.proofs.TreeChangeLemmas.{alike_more, anew_more}
