@@ -1,5 +1,6 @@
 -- A stage after a step of its input devices: only the mail and the journal change, or the journal alone.
-use Rattle.std.proofs.Common.{◌≡◌, ℕ, Bool, true, List, [], ◌∷◌, ◌++◌, Option, Some, None, length, refl, sym, ap, subst, ◌∙◌}
+use Rattle.std.proofs.Common.{◌≡◌, ℕ, Bool, List, [], ◌∷◌, ◌++◌, Option, Some, None, length, refl, sym, ap, subst, ◌∙◌}
+use Rattle.std.specs.Prelude.{Result, Ok, Err, IfErr, IfOk, OnErr, OnOk}
 use Rattle.tr_base.specs.declared.Point.{Point}
 use Rattle.tr_base.specs.declared.LeafId.{LeafId}
 use Rattle.tr_base.specs.declared.Selection.{Selection}
@@ -17,30 +18,25 @@ use Rattle.tr_levels.specs.declared.Level.{Level}
 use Rattle.tr_journal.specs.declared.items.Item.{Item}
 use Rattle.tr_journal.specs.declared.answers.Answer.{Answer}
 use Rattle.tr_journal.specs.declared.answers.Answer.TheVariants as answers
+use Rattle.tr_journal.specs.declared.answers.Reply.{Reply}
 use Rattle.tr_journal.specs.declared.steps.Actor.{Actor}
 use Rattle.tr_journal.specs.declared.steps.Step.{Step}
 use Rattle.tr_journal.specs.declared.steps.Step.TheVariants as steps
 use Rattle.tr_journal.specs.Journals.{JournalLine}
 use Rattle.tr_journal.specs.Openings.{tree_of}
-use Rattle.tr_journal.specs.Steps.{IsStep, may, covers, IsFor}
+use Rattle.tr_journal.specs.Steps.{IsFor}
 use Rattle.tr_machine.specs.States.{State}
 use Rattle.tr_machine.specs.Machines as machine
 use Rattle.tr_machine.specs.Machines.{Outcome, answered, delivered, unless}
 use Rattle.tr_machine.specs.Replays.{line_of, replay}
 use Rattle.tr_machine.proofs.SoundLemmas.{IsObedient}
 use Rattle.tr_machine.proofs.StillLemmas.{mail_shows}
-use Rattle.tr_stage.specs.Stages.{IsStage, Parts, StageView}
+use Rattle.tr_stage.specs.Making.{Makes, line_told, line_with}
+use Rattle.tr_stage.specs.Stages.{IsStage, Parts, StageView, line}
 use Rattle.tr_stage.proofs.StageLemmas.{IsHolding, holding, one_step}
 use Rattle.tr_stage.proofs.MailLemmas.{caged-count, disowned-count, keyed-count, moused-count, moved-count, owned-count}
 
 -- ---- making a step
-
--- the line of a step that answered this and sent that
-abbrev pub line_with : {M : Type 0} → Actor → List Level → Step M → Answer → List Delivery → JournalLine M
-line_with actor held step answer sent = record {
-  entry = record { actor = actor; level = held; step = step; reply = record { answer = answer; sent = length sent } };
-  sent = sent;
-}
 
 -- a stage before a step: its opening, the lines of its journal and its parts, and who makes the step, with which levels held
 pub record Before (C M : Type 0) : Type 0 where
@@ -128,6 +124,14 @@ pub record IsRefused {C : Type 0} (old : Parts C) (d : Device) : Type 0 where
   pub refused : d.fault old.mail ≡ Some fault
   pub same : mail ≡ old.mail
 
+-- what the desk makes of a step, as it is told
+pub record IsTold {C : Type 0} (old : Parts C) (d : Device) (tree : Seen) (mail : Mails) (told : Result (List Delivery) DeskFault) : Type 0 where
+  pub same : tree ≡ old.surface.tree
+  pub ok : IfOk told (λ sent. (let s : Sending = record { mail = mail; sent = sent } in s ≡ d.makes tree old.mail))
+  pub allowed : OnOk told (d.fault old.mail ≡ None)
+  pub fault : IfErr told (λ fault. d.fault old.mail ≡ Some fault)
+  pub err : OnErr told (mail ≡ old.mail)
+
 module _ {C M : Type 0} (client : Ghosts C M) where
   -- the machine makes the step so, and it leaves as many inboxes
   pub record IsDevice (step : Step M) (d : Device) : Type 0 where
@@ -135,18 +139,42 @@ module _ {C M : Type 0} (client : Ghosts C M) where
     pub obeys : (m : State C M) → IsObedient client m step
     pub inboxes : (t : Seen) (m : Mails) → length (d.makes t m).mail.inboxes ≡ length m.inboxes
 
+  -- what the desk makes of the parts' mail it makes of the state's
+  makes_now : (b : Before C M) (step : Step M) (d : Device) → IsMaking client b step → (x : IsSent b.parts d) →
+      d.makes (state_before client b).tree (state_before client b).mail ≡ record { mail = x.mail; sent = x.sent }
+  makes_now b step d making x =
+      sym (x.makes ∙ ap (λ (t : Seen). d.makes t b.parts.mail) (x.same ∙ making.is.kept.tree)
+      ∙ ap (λ (mails : Mails). d.makes (state_before client b).tree mails) making.is.kept.mail)
+
+  -- what becomes of a step that the desk doesn't refuse
+  sent_out : (b : Before C M) (step : Step M) (d : Device) → IsMaking client b step → IsDevice step d → (x : IsSent b.parts d) →
+      machine.step client (state_before client b) step ≡ delivered (state_before client b) (record { mail = x.mail; sent = x.sent })
+  sent_out b step d making is x =
+      is.made m
+      ∙ ap (λ (o : Option DeskFault). unless o m (d.makes m.tree m.mail)) (ap d.fault (sym making.is.kept.mail) ∙ x.allowed)
+      ∙ ap (λ (s : Sending). delivered m s) (makes_now b step d making x)
+    where
+      m : State C M
+      m = state_before client b
+
+  -- what becomes of a step that it refuses
+  refused_out : (b : Before C M) (step : Step M) (d : Device) → IsMaking client b step → IsDevice step d → (x : IsRefused b.parts d) →
+      machine.step client (state_before client b) step ≡ answered (answers.Desk x.fault) (state_before client b)
+  refused_out b step d making is x =
+      is.made m ∙ ap (λ (o : Option DeskFault). unless o m (d.makes m.tree m.mail)) (ap d.fault (sym making.is.kept.mail) ∙ x.refused)
+    where
+      m : State C M
+      m = state_before client b
+
   -- a step that the desk doesn't refuse
   pub device_sent : (b : Before C M) (step : Step M) (d : Device) → IsMaking client b step → IsDevice step d → (x : IsSent b.parts d) →
       IsAfter client b step answers.Done x.sent (with_mail b.parts x.mail)
   device_sent b step d making is x =
       made_step client b step (with_mail b.parts x.mail) making (record {
         obeys = is.obeys m;
-        out = delivered m sending;
-        is =
-            is.made m
-            ∙ ap (λ (o : Option DeskFault). unless o m (d.makes m.tree m.mail)) (ap d.fault (sym making.is.kept.mail) ∙ x.allowed)
-            ∙ ap (λ (s : Sending). delivered m s) makes_now;
-        inboxes = ap (λ (s : Sending). length s.mail.inboxes) (sym makes_now) ∙ is.inboxes m.tree m.mail;
+        out = delivered m (record { mail = x.mail; sent = x.sent });
+        is = sent_out b step d making is x;
+        inboxes = ap (λ (s : Sending). length s.mail.inboxes) (sym (makes_now b step d making x)) ∙ is.inboxes m.tree m.mail;
         holds = record {
           shows = mail_shows client m b.parts.surface x.mail (holding client m b.parts making.is.kept).shows;
           windows = making.is.kept.windows;
@@ -157,31 +185,54 @@ module _ {C M : Type 0} (client : Ghosts C M) where
       m : State C M
       m = state_before client b
 
-      sending : Sending
-      sending = record { mail = x.mail; sent = x.sent }
-
-      makes_now : d.makes m.tree m.mail ≡ sending
-      makes_now =
-          sym (x.makes ∙ ap (λ (t : Seen). d.makes t b.parts.mail) (x.same ∙ making.is.kept.tree)
-          ∙ ap (λ (mails : Mails). d.makes m.tree mails) making.is.kept.mail)
-
   -- a step that the desk refuses
-  pub device_refused : (b : Before C M) (step : Step M) (d : Device) → IsMaking client b step → IsDevice step d → (x : IsRefused b.parts d) →
+  device_refused : (b : Before C M) (step : Step M) (d : Device) → IsMaking client b step → IsDevice step d → (x : IsRefused b.parts d) →
       IsAfter client b step (answers.Desk x.fault) [] (with_mail b.parts x.mail)
   device_refused b step d making is x =
       let m : State C M = state_before client b in
       made_step client b step (with_mail b.parts x.mail) making (record {
         obeys = is.obeys m;
         out = answered (answers.Desk x.fault) m;
-        is =
-            is.made m
-            ∙ ap (λ (o : Option DeskFault). unless o m (d.makes m.tree m.mail)) (ap d.fault (sym making.is.kept.mail) ∙ x.refused);
+        is = refused_out b step d making is x;
         inboxes = refl;
         holds = record {
           shows = (holding client m b.parts making.is.kept).shows;
           windows = making.is.kept.windows;
           mail = x.same ∙ making.is.kept.mail;
         };
+      })
+
+  -- a step of which the desk tells that it is done, or refused
+  pub device_told : (b : Before C M) (step : Step M) (d : Device) (tree : Seen) (mail : Mails) (told : Result (List Delivery) DeskFault) →
+      IsMaking client b step → IsDevice step d → IsTold b.parts d tree mail told →
+      IsStage client b.opening (b.lines ++ line_told b.actor b.held step told ∷ []) (with_mail b.parts mail)
+  device_told b step d tree mail (Ok sent) making is x =
+      device_sent b step d making is (record { tree = tree; mail = mail; sent = sent; same = x.same; allowed = x.allowed; makes = x.ok })
+  device_told b step d tree mail (Err fault) making is x =
+      device_refused b step d making is (record { mail = mail; fault = fault; refused = x.fault; same = x.err })
+
+  -- the machine's line of it
+  pub device_line : (b : Before C M) (step : Step M) (d : Device) (tree : Seen) (mail : Mails) (told : Result (List Delivery) DeskFault) →
+      IsMaking client b step → IsDevice step d → IsTold b.parts d tree mail told →
+      line_of client (state_before client b) b.actor b.held step ≡ line_told b.actor b.held step told
+  device_line b step d tree mail (Ok sent) making is x =
+      ap (λ (o : Outcome C M). line_with b.actor b.held step o.answer o.sent)
+      (sent_out b step d making is (record { tree = tree; mail = mail; sent = sent; same = x.same; allowed = x.allowed; makes = x.ok }))
+  device_line b step d tree mail (Err fault) making is x =
+      ap (λ (o : Outcome C M). line_with b.actor b.held step o.answer o.sent)
+      (refused_out b step d making is (record { mail = mail; fault = fault; refused = x.fault; same = x.err }))
+
+  -- a stage that has the machine's line more, and nothing else of what is seen but its spare room
+  pub makes_line : {s v n : StageView C M} {actor : Actor} {held : List Level} {step : Step M} {r : Reply} (l : JournalLine M) → s ≡ v →
+      line client s actor held step ≡ l → n.opening ≡ s.opening → n.journal ≡ s.journal ++ l ∷ [] → r ≡ l.entry.reply →
+      Makes client v n actor held step (Ok r)
+  makes_line {s} {v} {n} {actor} {held} {step} {r} l same is opening journal reply =
+      subst (λ (u : StageView C M). Makes client u n actor held step (Ok r)) same (record {
+        opening = opening;
+        ok = journal ∙ ap (λ (k : JournalLine M). s.journal ++ k ∷ []) (sym is);
+        reply = reply ∙ ap (λ (k : JournalLine M). k.entry.reply) (sym is);
+        err_journal = tt;
+        err_screen = tt;
       })
 
 -- a button

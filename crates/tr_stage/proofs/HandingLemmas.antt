@@ -1,10 +1,8 @@
 -- Commands that are handed over.
-use Rattle.std.proofs.Common.{◌≡◌, ℕ, zero, suc, ◌+◌, ◌<◌, ◌==◌, Bool, true, false, List, [], ◌∷◌, ◌++◌, Option, Some, None, map, take, length, get_or, All, refl, sym, ap, ap₂, subst, ◌∙◌, arith, append-nil}
-use Rattle.std.specs.Prelude.{slice_get, unwrap_or, ◌||◌, ◌&&◌}
+use Rattle.std.proofs.Common.{◌≡◌, ℕ, zero, suc, ◌+◌, ◌<◌, List, [], ◌∷◌, ◌++◌, Option, Some, take, length, get_or, All, refl, sym, ap, ap₂, subst, ◌∙◌, arith, append-nil}
+use Rattle.std.specs.Prelude.{slice_get, unwrap_or}
 use Rattle.std.specs.Option.{option_map}
 use Rattle.std.proofs.Math.Path.{fun_ext}
-use Rattle.std.proofs.lemmas.Bool.Decides.{nat_tests}
-use Rattle.std.specs.List.{list_any}
 use Rattle.std.proofs.lemmas.List.{append_assoc}
 use Rattle.tr_base.specs.declared.Kind.{Kind}
 use Rattle.tr_base.specs.declared.Size.{Size}
@@ -16,22 +14,18 @@ use Rattle.tr_paint.proofs.PatchLemmas.{two_patches}
 use Rattle.tr_client.specs.declared.clients.Client.{Ghosts}
 use Rattle.tr_client.specs.Runs.{patches_of}
 use Rattle.tr_client.specs.Runs as runs
-use Rattle.tr_forest.specs.Nodes.{Nodes, leaf_count}
-use Rattle.tr_forest.specs.Forests.{IsForest}
 use Rattle.tr_spot.specs.Leaves.{leaf_size}
 use Rattle.tr_levels.specs.declared.Level.{Level}
 use Rattle.tr_levels.specs.declared.Level.TheVariants.{Win}
 use Rattle.tr_levels.specs.Levels.{HaveLevels}
 use Rattle.tr_journal.specs.declared.items.Item.{Item}
-use Rattle.tr_journal.specs.declared.entries.Entry.{Entry}
 use Rattle.tr_journal.specs.declared.steps.Actor.TheVariants.{Leaf}
 use Rattle.tr_journal.specs.declared.steps.Step.TheVariants.{Act}
 use Rattle.tr_journal.specs.Journals.{JournalLine}
 use Rattle.tr_journal.specs.Openings.{tree_of}
 use Rattle.tr_journal.specs.Steps.{IsLeaf}
-use Rattle.tr_machine.specs.Windows.{Window, Command, content, with_change, batch, paints_from}
-use Rattle.tr_machine.specs.Windows as windows
-use Rattle.tr_machine.specs.States.{State, changed_at, content_of, look, window_of, with_window}
+use Rattle.tr_machine.specs.Windows.{Window, Command, content, with_change, batch}
+use Rattle.tr_machine.specs.States.{State, changed_at, content_of, look, window_of}
 use Rattle.tr_machine.specs.Paintings.{acted}
 use Rattle.tr_machine.specs.Replays.{lines_by, replay}
 use Rattle.tr_machine.specs.Handing.{act_entries, act_entry, acts}
@@ -41,11 +35,10 @@ use Rattle.tr_machine.proofs.HandingLemmas.{commands_more, handed, handed_more, 
 use Rattle.tr_machine.proofs.ListLemmas.{changed_at-at, changed_at-twice, unchanged}
 use Rattle.tr_machine.proofs.SoundLemmas.{sound_changed}
 use Rattle.tr_machine.proofs.StillLemmas.{window_shows}
-use Rattle.tr_windows.specs.Presents.{Present, act_on, content_at, present, presents, taken_over}
+use Rattle.tr_windows.specs.Presents.{Present, act_on, present, presents, taken_over}
 use Rattle.tr_windows.proofs.PresentLemmas.{present-changed, presents-acted, presents-content}
 use Rattle.tr_stage.specs.Stages.{IsAt, IsOf, IsStage, Parts}
 use Rattle.tr_stage.proofs.StageLemmas.{holding}
-use Rattle.tr_stage.proofs.PartLemmas.{content_at_leaf}
 
 -- ---- entries
 

@@ -1,5 +1,5 @@
 -- What the parts of a stage tell of its state.
-use Rattle.std.proofs.Common.{◌≡◌, ℕ, ◌<◌, true, List, length, sym, ap, subst, ◌∙◌}
+use Rattle.std.proofs.Common.{◌≡◌, ℕ, ◌<◌, List, length, sym, ap, subst, ◌∙◌}
 use Rattle.tr_base.specs.declared.LeafId.{LeafId}
 use Rattle.tr_screen.specs.Pictures.{Picture}
 use Rattle.tr_client.specs.declared.clients.Client.{Ghosts}

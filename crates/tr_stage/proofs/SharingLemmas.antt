@@ -1,15 +1,12 @@
 -- A leaf's bad points that are painted apart from the screen, and put there.
-use Rattle.std.proofs.Common.{◌≡◌, ℕ, ◌<◌, Bool, true, false, cond, ◌&&◌, not, List, [], ◌∷◌, ◌++◌, Option, Some, None, length, refl, sym, ap, subst, ◌∙◌}
+use Rattle.std.proofs.Common.{◌≡◌, ℕ, Bool, true, false, cond, ◌&&◌, not, List, [], Option, Some, refl, sym, ap, ◌∙◌}
 use Rattle.std.specs.Prelude.{is_none, slice_index}
 use Rattle.std.specs.Option.{option_map}
 use Rattle.std.proofs.lemmas.Bool.{and_parts}
 use Rattle.tr_base.specs.declared.Point.{Point}
 use Rattle.tr_base.specs.declared.Size.{Size}
 use Rattle.tr_base.specs.declared.LeafId.{LeafId}
-use Rattle.tr_base.specs.declared.Spot.{Spot}
-use Rattle.tr_base.specs.declared.Spot.TheVariants as spots
 use Rattle.tr_base.specs.Rects.{Edges, has_point, whole_of}
-use Rattle.tr_base.proofs.RectLemmas.{false-true}
 use Rattle.tr_region.specs.Points.{holds}
 use Rattle.tr_screen.specs.Pictures.{Picture, pixel_of}
 use Rattle.tr_screen.specs.Runs.{Repaints}
@@ -21,21 +18,20 @@ use Rattle.tr_client.specs.declared.clients.Client.{Ghosts}
 use Rattle.tr_forest.specs.Forests.{IsForest}
 use Rattle.tr_tree.specs.Trees.{Seen}
 use Rattle.tr_spot.specs.Spots.{spot, is_in_leaf}
-use Rattle.tr_spot.specs.Leaves.{in_leaf, leaf_corner, leaf_size}
-use Rattle.tr_spot.proofs.WayLemmas.{equal_numbers, equal_test}
+use Rattle.tr_spot.specs.Leaves.{in_leaf, leaf_size}
 use Rattle.tr_surface.specs.Surfaces.{Shown, IsShown, is_on}
 use Rattle.tr_region.specs.Places.{place_in}
 use Rattle.tr_journal.specs.declared.answers.Answer.TheVariants as answers
 use Rattle.tr_journal.specs.declared.steps.Step.TheVariants as steps
-use Rattle.tr_machine.specs.Windows.{Window, content, updated}
-use Rattle.tr_machine.specs.States.{State, base, batch_of, changed_at, content_of, look, window_of}
+use Rattle.tr_machine.specs.Windows.{Window, updated}
+use Rattle.tr_machine.specs.States.{State, base, batch_of, changed_at, content_of, look}
 use Rattle.tr_machine.specs.Paintings.{is_visible, repainted}
 use Rattle.tr_machine.specs.Pictures.{colour_in, shown, shown_of, want}
 use Rattle.tr_machine.specs.Promises.{Fits}
 use Rattle.tr_machine.specs.Machines.{done}
 use Rattle.tr_machine.proofs.BaseLemmas.{leaf_on, placed-in_leaf}
 use Rattle.tr_machine.proofs.FlushLemmas.{apart, forest_of, now_shown}
-use Rattle.tr_machine.proofs.ListLemmas.{window_here, window_there}
+use Rattle.tr_machine.proofs.ListLemmas.{window_there}
 use Rattle.tr_machine.proofs.ShownLemmas.{IsShowing, colour_in_leaf, colour_same, untouched_colour}
 use Rattle.tr_machine.proofs.SoundLemmas.{fits}
 use Rattle.tr_windows.specs.Presents.{Present, cleared}

@@ -17,15 +17,14 @@ use Rattle.tr_paint.specs.Batches.{touches}
 use Rattle.tr_paint.specs.Paintings.{IsPainting}
 use Rattle.tr_paint.specs.Traces.{Base, Look}
 use Rattle.tr_region.specs.Points.{count_in_square, holds}
-use Rattle.tr_exec.specs.Executions.{base_of, colour_after, placed}
+use Rattle.tr_exec.specs.Executions.{colour_after}
 use Rattle.tr_client.specs.declared.clients.Client.{Ghosts}
 use Rattle.tr_forest.specs.Forests.{IsForest}
 use Rattle.tr_tree.specs.Trees.{Seen}
 use Rattle.tr_spot.specs.Spots.{spot, is_in_leaf}
 use Rattle.tr_spot.specs.Leaves.{in_leaf, leaf_corner, leaf_size}
-use Rattle.tr_spot.proofs.WayLemmas.{and_left, and_right, equal_numbers}
+use Rattle.tr_spot.proofs.WayLemmas.{and_left, and_right}
 use Rattle.tr_surface.specs.Counts.{count_on}
-use Rattle.tr_surface.specs.Surfaces.{IsShown}
 use Rattle.tr_journal.specs.declared.items.Item.{Item}
 use Rattle.tr_journal.specs.Journals.{JournalLine}
 use Rattle.tr_machine.specs.Windows.{Window}
@@ -34,7 +33,7 @@ use Rattle.tr_machine.specs.Paintings.{is_visible}
 use Rattle.tr_machine.specs.Pictures.{bad_count, colour_in, is_stale, shown, stale_count, waiting_count, want}
 use Rattle.tr_machine.specs.Promises.{Agrees, Fits, IsAwaited}
 use Rattle.tr_machine.specs.Replays.{replay}
-use Rattle.tr_machine.proofs.BaseLemmas.{leaf_on, leaf_within, placed-in_leaf}
+use Rattle.tr_machine.proofs.BaseLemmas.{leaf_on, leaf_within}
 use Rattle.tr_machine.proofs.CountLemmas.{bad_count_is}
 use Rattle.tr_machine.proofs.LagLemmas.{stale_waits}
 use Rattle.tr_machine.proofs.FlushLemmas.{one_leaf}

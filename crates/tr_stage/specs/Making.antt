@@ -1,12 +1,29 @@
 -- What a step makes of a stage. Contracts of the crate's own functions alone cite it.
-use Rattle.std.specs.Prelude.{◌≡◌, List, [], ◌∷◌, ◌++◌, Result, OnOk, OnErr, IfOk}
+use Rattle.std.specs.Prelude.{◌≡◌, List, [], ◌∷◌, ◌++◌, length, Result, Ok, Err, OnOk, OnErr, IfOk}
 use Rattle.tr_base.specs.declared.errors.NoMemory.{NoMemory}
 use Rattle.tr_client.specs.declared.clients.Client.{Ghosts}
+use Rattle.tr_inbox.specs.declared.Delivery.{Delivery}
+use Rattle.tr_desk.specs.declared.desks.DeskFault.{DeskFault}
 use Rattle.tr_levels.specs.declared.Level.{Level}
+use Rattle.tr_journal.specs.declared.answers.Answer.{Answer}
+use Rattle.tr_journal.specs.declared.answers.Answer.TheVariants.{Desk, Done}
 use Rattle.tr_journal.specs.declared.answers.Reply.{Reply}
 use Rattle.tr_journal.specs.declared.steps.Actor.{Actor}
 use Rattle.tr_journal.specs.declared.steps.Step.{Step}
+use Rattle.tr_journal.specs.Journals.{JournalLine}
 use Rattle.tr_stage.specs.Stages.{StageView, line}
+
+-- the line of a step that answered this and sent that
+abbrev pub line_with : {M : Type 0} → Actor → List Level → Step M → Answer → List Delivery → JournalLine M
+line_with actor held step answer sent = record {
+  entry = record { actor = actor; level = held; step = step; reply = record { answer = answer; sent = length sent } };
+  sent = sent;
+}
+
+-- the line of a step that the desk lets be done, with what it sent, or refuses
+abbrev pub line_told : {M : Type 0} → Actor → List Level → Step M → Result (List Delivery) DeskFault → JournalLine M
+line_told actor held step (Ok sent) = line_with actor held step Done sent
+line_told actor held step (Err fault) = line_with actor held step (Desk fault) []
 
 -- an actor made a step: the journal has the machine's line of it more, and its reply is answered; for want of memory the journal and the
 -- screen are as they were

@@ -3,7 +3,7 @@ ghost use Rattle.tr_journal.specs.Openings.{tree_of};
 ghost use Rattle.tr_journal.specs.Steps.{IsFor};
 ghost use Rattle.tr_stage.specs.Making.{Makes};
 
-use crate::lines::{By, write};
+use crate::lines::{By, write, write_told};
 use crate::stages::Stage;
 use tr_base::{LeafId, NoMemory, Point, Selection};
 use tr_cage::Cage;
@@ -21,17 +21,9 @@ impl<C: Client> Stage<C> {
         ensures screen { self.new.screen ≡ self.old.screen }
         ensures spare { self.old.spare ≤ self.new.spare + 1 }
     {
-        let made = self.mail.mouse(self.surface.tree(), time, button, down);
-        match made {
-            Ok(sent) => {
-                let entry = by.entry(Step::Mouse { time, button, down }, Answer::Done, sent.len());
-                write(&mut self.journal, entry, sent.as_slice())
-            }
-            Err(fault) => {
-                let entry = by.entry(Step::Mouse { time, button, down }, Answer::Desk(fault), 0);
-                write(&mut self.journal, entry, &[])
-            }
-        }
+        let told = self.mail.mouse(self.surface.tree(), time, button, down);
+        let step = Step::Mouse { time, button, down };
+        write_told(&mut self.journal, by, step, told)
     }
 
     /// The cursor moves.
@@ -44,17 +36,9 @@ impl<C: Client> Stage<C> {
         ensures screen { self.new.screen ≡ self.old.screen }
         ensures spare { self.old.spare ≤ self.new.spare + 1 }
     {
-        let made = self.mail.motion(self.surface.tree(), time, at);
-        match made {
-            Ok(sent) => {
-                let entry = by.entry(Step::Motion { time, at }, Answer::Done, sent.len());
-                write(&mut self.journal, entry, sent.as_slice())
-            }
-            Err(fault) => {
-                let entry = by.entry(Step::Motion { time, at }, Answer::Desk(fault), 0);
-                write(&mut self.journal, entry, &[])
-            }
-        }
+        let told = self.mail.motion(self.surface.tree(), time, at);
+        let step = Step::Motion { time, at };
+        write_told(&mut self.journal, by, step, told)
     }
 
     /// A key is struck.
@@ -69,17 +53,9 @@ impl<C: Client> Stage<C> {
     {
         // Called for what it tells the prover: that the nodes of the tree are a forest.
         let _ = self.surface.tree();
-        let made = self.mail.key(time, code);
-        match made {
-            Ok(sent) => {
-                let entry = by.entry(Step::Key { time, code }, Answer::Done, sent.len());
-                write(&mut self.journal, entry, sent.as_slice())
-            }
-            Err(fault) => {
-                let entry = by.entry(Step::Key { time, code }, Answer::Desk(fault), 0);
-                write(&mut self.journal, entry, &[])
-            }
-        }
+        let told = self.mail.key(time, code);
+        let step = Step::Key { time, code };
+        write_told(&mut self.journal, by, step, told)
     }
 
     /// A leaf asks for another cage.
@@ -116,32 +92,13 @@ impl<C: Client> Stage<C> {
         // Called for what it tells the prover: that the nodes of the tree are a forest.
         let _ = self.surface.tree();
         self.journal.reserve(1)?;
-        match self.mail.own(leaf, selection, time) {
-            Ok(sent) => {
-                let entry = by.entry(
-                    Step::Own {
-                        leaf,
-                        selection,
-                        time,
-                    },
-                    Answer::Done,
-                    sent.len(),
-                );
-                Ok(write(&mut self.journal, entry, sent.as_slice()))
-            }
-            Err(fault) => {
-                let entry = by.entry(
-                    Step::Own {
-                        leaf,
-                        selection,
-                        time,
-                    },
-                    Answer::Desk(fault),
-                    0,
-                );
-                Ok(write(&mut self.journal, entry, &[]))
-            }
-        }
+        let told = self.mail.own(leaf, selection, time);
+        let step = Step::Own {
+            leaf,
+            selection,
+            time,
+        };
+        Ok(write_told(&mut self.journal, by, step, told))
     }
 
     /// A leaf gives a selection up.
@@ -160,16 +117,9 @@ impl<C: Client> Stage<C> {
         // Called for what it tells the prover: that the nodes of the tree are a forest.
         let _ = self.surface.tree();
         self.journal.reserve(1)?;
-        match self.mail.disown(leaf, selection) {
-            Ok(sent) => {
-                let entry = by.entry(Step::Disown { leaf, selection }, Answer::Done, sent.len());
-                Ok(write(&mut self.journal, entry, sent.as_slice()))
-            }
-            Err(fault) => {
-                let entry = by.entry(Step::Disown { leaf, selection }, Answer::Desk(fault), 0);
-                Ok(write(&mut self.journal, entry, &[]))
-            }
-        }
+        let told = self.mail.disown(leaf, selection);
+        let step = Step::Disown { leaf, selection };
+        Ok(write_told(&mut self.journal, by, step, told))
     }
 }
 

@@ -1,8 +1,11 @@
-ghost use Rattle.std.specs.Prelude.{◌≡◌, ◌+◌, ◌*◌, ◌<◌, ◌≤◌, ◌++◌, ◌∷◌, [], length};
+ghost use Rattle.std.specs.Prelude.{◌≡◌, ◌+◌, ◌*◌, ◌<◌, ◌≤◌, ◌++◌, ◌∷◌, [], length, IfOk};
+ghost use Rattle.tr_stage.specs.Making.{line_told};
 
 use tr_base::Command;
+use tr_desk::DeskFault;
 use tr_journal::{Actor, Answer, Delivery, Entry, Journal, Reply, Step};
 use tr_levels::Held;
+use tr_mail::Outbox;
 
 /// Who makes a step, and which levels are held.
 #[derive(Clone, Copy)]
@@ -48,4 +51,31 @@ pub(crate) fn write<M: Command>(
     let reply = entry.reply;
     journal.push_reserved(entry, sent);
     reply
+}
+
+/// Adds the line of a step that the desk lets be done, with what it sent, or refuses. Room was reserved for
+/// it.
+pub(crate) fn write_told<M: Command>(
+    journal: &mut Journal<M>,
+    by: &By,
+    step: Step<M>,
+    told: Result<Outbox, DeskFault>,
+) -> Reply
+    requires spare { 0 < journal.old.spare }
+    requires few { IfOk told (λ sent. length sent ≤ 32) }
+    ensures reply { result ≡ (line_told by.now.actor by.now.level step told).entry.reply }
+    ensures lines { journal.new.lines ≡
+        journal.old.lines ++ line_told by.now.actor by.now.level step told ∷ [] }
+    ensures spare { journal.old.spare ≤ journal.new.spare + 1 }
+{
+    match told {
+        Ok(sent) => {
+            let entry = by.entry(step, Answer::Done, sent.len());
+            write(journal, entry, sent.as_slice())
+        }
+        Err(fault) => {
+            let entry = by.entry(step, Answer::Desk(fault), 0);
+            write(journal, entry, &[])
+        }
+    }
 }

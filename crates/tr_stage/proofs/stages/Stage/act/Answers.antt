@@ -1,5 +1,4 @@
 use Rattle.std.proofs.Common.{sym}
-use Rattle.tr_journal.specs.declared.steps.Step.TheVariants.{Act}
 use Rattle.tr_stage.proofs.PartLemmas.{has_window, seen_for}
 use Rattle.tr_stage.proofs.ActLemmas.{acts, env_at}
 use Rattle.tr_stage.proofs.stages.Stage.act.Goals as goal

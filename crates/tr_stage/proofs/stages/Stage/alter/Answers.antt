@@ -3,7 +3,6 @@ use Rattle.tr_forest.specs.declared.EditRefused.{EditRefused}
 use Rattle.tr_forest.specs.Nodes.{leaf_count}
 use Rattle.tr_forest.specs.Edits.{IsCause, refusal}
 use Rattle.tr_tree.specs.Trees.{Seen}
-use Rattle.tr_journal.specs.declared.steps.Step.TheVariants.{Alter}
 use Rattle.tr_machine.specs.Replays.{replay}
 use Rattle.tr_machine.proofs.AlterLemmas.{window_size}
 use Rattle.tr_stage.specs.Stages.{Parts}

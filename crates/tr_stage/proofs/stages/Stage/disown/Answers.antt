@@ -1,10 +1,11 @@
-use Rattle.std.proofs.Common.{ap}
+use Rattle.std.proofs.Common.{ap, refl}
 use Rattle.tr_journal.specs.declared.steps.Step.TheVariants.{Disown}
-use Rattle.tr_stage.proofs.DeviceLemmas.{Before, IsMaking, device_refused, device_sent, disowning, is_disowning}
+use Rattle.tr_stage.specs.Making.{line_told}
+use Rattle.tr_stage.proofs.DeviceLemmas.{Before, IsMaking, IsTold, device_line, device_told, disowning, is_disowning, makes_line}
 use Rattle.tr_stage.proofs.stages.Stage.disown.Goals as goal
 
-pub invariant_of-self-in-Ok : goal.invariant_of-self-in-Ok
-invariant_of-self-in-Ok g c =
+pub invariant_of-self-2 : goal.invariant_of-self-2
+invariant_of-self-2 g c =
     let s = c.self.inside in
     let b : Before g.row.C.Denot g.row.C-Cmd.Denot = record {
       opening = s.opening;
@@ -20,19 +21,19 @@ invariant_of-self-in-Ok g c =
       same = ap (λ v. v.opening) c.self.view_is;
       allowed = c.requires.allowed;
     } in
-    rw (c.write.ensures.lines, c.entry-entry.ensures, c.as_slice.ensures.deliveries, c.len.ensures.count, c.reserve.ensures.lines)
-    (device_sent g.C.Client b (Disown c.args.leaf c.args.selection) (disowning c.args.leaf c.args.selection) m
-    (is_disowning g.C.Client c.args.leaf c.args.selection) (record {
-      tree = c.tree.result.now;
-      mail = c.disown.new.self;
-      sent = c.in-Ok.sent;
+    let told : IsTold b.parts (disowning c.args.leaf c.args.selection) c.tree.result.now c.disown-told.new.self c.disown-told.result = record {
       same = c.tree.ensures.value;
-      allowed = c.in-Ok.ensures.allowed;
-      makes = c.in-Ok.ensures.ok;
-    }))
+      ok = c.disown-told.ensures.ok;
+      allowed = c.disown-told.ensures.allowed;
+      fault = c.disown-told.ensures.fault;
+      err = c.disown-told.ensures.err;
+    } in
+    rw (c.write_told.ensures.lines, c.in_ok-reserve.ensures.lines)
+    (device_told g.C.Client b (Disown c.args.leaf c.args.selection) (disowning c.args.leaf c.args.selection) c.tree.result.now c.disown-told.new.self c.disown-told.result m
+    (is_disowning g.C.Client c.args.leaf c.args.selection) told)
 
-pub invariant_of-self-in-Err : goal.invariant_of-self-in-Err
-invariant_of-self-in-Err g c =
+pub returns-clause-made : goal.returns-clause-made
+returns-clause-made g c =
     let s = c.self.inside in
     let b : Before g.row.C.Denot g.row.C-Cmd.Denot = record {
       opening = s.opening;
@@ -48,11 +49,14 @@ invariant_of-self-in-Err g c =
       same = ap (λ v. v.opening) c.self.view_is;
       allowed = c.requires.allowed;
     } in
-    rw (c.write-in-Err.ensures.lines, c.entry-entry-in-Err.ensures, c.reserve.ensures.lines)
-    (device_refused g.C.Client b (Disown c.args.leaf c.args.selection) (disowning c.args.leaf c.args.selection) m
-    (is_disowning g.C.Client c.args.leaf c.args.selection) (record {
-      mail = c.disown.new.self;
-      fault = c.in-Err.fault;
-      refused = c.in-Err.ensures.fault;
-      same = c.in-Err.ensures.err;
-    }))
+    let told : IsTold b.parts (disowning c.args.leaf c.args.selection) c.tree.result.now c.disown-told.new.self c.disown-told.result = record {
+      same = c.tree.ensures.value;
+      ok = c.disown-told.ensures.ok;
+      allowed = c.disown-told.ensures.allowed;
+      fault = c.disown-told.ensures.fault;
+      err = c.disown-told.ensures.err;
+    } in
+    makes_line g.C.Client (line_told b.actor b.held (Disown c.args.leaf c.args.selection) c.disown-told.result) c.self.view_is
+    (device_line g.C.Client b (Disown c.args.leaf c.args.selection) (disowning c.args.leaf c.args.selection) c.tree.result.now c.disown-told.new.self c.disown-told.result m
+    (is_disowning g.C.Client c.args.leaf c.args.selection) told)
+    refl (rw c.in_ok-reserve.ensures.lines at c.write_told.ensures.lines) c.write_told.ensures.reply

@@ -1,5 +1,4 @@
 use Rattle.std.proofs.Common.{sym}
-use Rattle.tr_journal.specs.declared.steps.Step.TheVariants.{Mark}
 use Rattle.tr_stage.proofs.PartLemmas.{has_window, seen_for}
 use Rattle.tr_stage.proofs.ActLemmas.{marks}
 use Rattle.tr_stage.proofs.stages.Stage.mark.Goals as goal

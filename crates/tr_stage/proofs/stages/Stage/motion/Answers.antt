@@ -1,6 +1,7 @@
-use Rattle.std.proofs.Common.{ap}
+use Rattle.std.proofs.Common.{ap, refl}
 use Rattle.tr_journal.specs.declared.steps.Step.TheVariants.{Motion}
-use Rattle.tr_stage.proofs.DeviceLemmas.{Before, IsMaking, device_refused, device_sent, motion, is_motion}
+use Rattle.tr_stage.specs.Making.{line_told}
+use Rattle.tr_stage.proofs.DeviceLemmas.{Before, IsMaking, IsTold, device_line, device_told, motion, is_motion, makes_line}
 use Rattle.tr_stage.proofs.stages.Stage.motion.Goals as goal
 
 pub invariant_of-self : goal.invariant_of-self
@@ -20,19 +21,19 @@ invariant_of-self g c =
       same = ap (λ v. v.opening) c.self.view_is;
       allowed = c.requires.allowed;
     } in
-    rw (c.write.ensures.lines, c.entry-entry.ensures, c.as_slice.ensures.deliveries, c.len.ensures.count)
-    (device_sent g.C.Client b (Motion c.args.time c.args.at) (motion c.args.time c.args.at) m
-    (is_motion g.C.Client c.args.time c.args.at) (record {
-      tree = c.tree.result.now;
-      mail = c.motion-made.new.self;
-      sent = c.in-Ok.sent;
+    let told : IsTold b.parts (motion c.args.time c.args.at) c.tree.result.now c.motion-told.new.self c.motion-told.result = record {
       same = c.tree.ensures.value;
-      allowed = c.in-Ok.ensures.allowed;
-      makes = c.in-Ok.ensures.ok;
-    }))
+      ok = c.motion-told.ensures.ok;
+      allowed = c.motion-told.ensures.allowed;
+      fault = c.motion-told.ensures.fault;
+      err = c.motion-told.ensures.err;
+    } in
+    rw (c.write_told.ensures.lines)
+    (device_told g.C.Client b (Motion c.args.time c.args.at) (motion c.args.time c.args.at) c.tree.result.now c.motion-told.new.self c.motion-told.result m
+    (is_motion g.C.Client c.args.time c.args.at) told)
 
-pub invariant_of-self-in-Err : goal.invariant_of-self-in-Err
-invariant_of-self-in-Err g c =
+pub returns-clause-made : goal.returns-clause-made
+returns-clause-made g c =
     let s = c.self.inside in
     let b : Before g.row.C.Denot g.row.C-Cmd.Denot = record {
       opening = s.opening;
@@ -48,11 +49,14 @@ invariant_of-self-in-Err g c =
       same = ap (λ v. v.opening) c.self.view_is;
       allowed = c.requires.allowed;
     } in
-    rw (c.write-in-Err.ensures.lines, c.entry-entry-in-Err.ensures)
-    (device_refused g.C.Client b (Motion c.args.time c.args.at) (motion c.args.time c.args.at) m
-    (is_motion g.C.Client c.args.time c.args.at) (record {
-      mail = c.motion-made.new.self;
-      fault = c.in-Err.fault;
-      refused = c.in-Err.ensures.fault;
-      same = c.in-Err.ensures.err;
-    }))
+    let told : IsTold b.parts (motion c.args.time c.args.at) c.tree.result.now c.motion-told.new.self c.motion-told.result = record {
+      same = c.tree.ensures.value;
+      ok = c.motion-told.ensures.ok;
+      allowed = c.motion-told.ensures.allowed;
+      fault = c.motion-told.ensures.fault;
+      err = c.motion-told.ensures.err;
+    } in
+    makes_line g.C.Client (line_told b.actor b.held (Motion c.args.time c.args.at) c.motion-told.result) c.self.view_is
+    (device_line g.C.Client b (Motion c.args.time c.args.at) (motion c.args.time c.args.at) c.tree.result.now c.motion-told.new.self c.motion-told.result m
+    (is_motion g.C.Client c.args.time c.args.at) told)
+    refl c.write_told.ensures.lines c.write_told.ensures.reply

@@ -1,10 +1,11 @@
-use Rattle.std.proofs.Common.{ap}
+use Rattle.std.proofs.Common.{ap, refl}
 use Rattle.tr_journal.specs.declared.steps.Step.TheVariants.{Own}
-use Rattle.tr_stage.proofs.DeviceLemmas.{Before, IsMaking, device_refused, device_sent, owning, is_owning}
+use Rattle.tr_stage.specs.Making.{line_told}
+use Rattle.tr_stage.proofs.DeviceLemmas.{Before, IsMaking, IsTold, device_line, device_told, owning, is_owning, makes_line}
 use Rattle.tr_stage.proofs.stages.Stage.own.Goals as goal
 
-pub invariant_of-self-in-Ok : goal.invariant_of-self-in-Ok
-invariant_of-self-in-Ok g c =
+pub invariant_of-self-2 : goal.invariant_of-self-2
+invariant_of-self-2 g c =
     let s = c.self.inside in
     let b : Before g.row.C.Denot g.row.C-Cmd.Denot = record {
       opening = s.opening;
@@ -20,19 +21,19 @@ invariant_of-self-in-Ok g c =
       same = ap (λ v. v.opening) c.self.view_is;
       allowed = c.requires.allowed;
     } in
-    rw (c.write.ensures.lines, c.entry-entry.ensures, c.as_slice.ensures.deliveries, c.len.ensures.count, c.reserve.ensures.lines)
-    (device_sent g.C.Client b (Own c.args.leaf c.args.selection c.args.time) (owning c.args.leaf c.args.selection c.args.time) m
-    (is_owning g.C.Client c.args.leaf c.args.selection c.args.time) (record {
-      tree = c.tree.result.now;
-      mail = c.own.new.self;
-      sent = c.in-Ok.sent;
+    let told : IsTold b.parts (owning c.args.leaf c.args.selection c.args.time) c.tree.result.now c.own-told.new.self c.own-told.result = record {
       same = c.tree.ensures.value;
-      allowed = c.in-Ok.ensures.allowed;
-      makes = c.in-Ok.ensures.ok;
-    }))
+      ok = c.own-told.ensures.ok;
+      allowed = c.own-told.ensures.allowed;
+      fault = c.own-told.ensures.fault;
+      err = c.own-told.ensures.err;
+    } in
+    rw (c.write_told.ensures.lines, c.in_ok-reserve.ensures.lines)
+    (device_told g.C.Client b (Own c.args.leaf c.args.selection c.args.time) (owning c.args.leaf c.args.selection c.args.time) c.tree.result.now c.own-told.new.self c.own-told.result m
+    (is_owning g.C.Client c.args.leaf c.args.selection c.args.time) told)
 
-pub invariant_of-self-in-Err : goal.invariant_of-self-in-Err
-invariant_of-self-in-Err g c =
+pub returns-clause-made : goal.returns-clause-made
+returns-clause-made g c =
     let s = c.self.inside in
     let b : Before g.row.C.Denot g.row.C-Cmd.Denot = record {
       opening = s.opening;
@@ -48,11 +49,14 @@ invariant_of-self-in-Err g c =
       same = ap (λ v. v.opening) c.self.view_is;
       allowed = c.requires.allowed;
     } in
-    rw (c.write-in-Err.ensures.lines, c.entry-entry-in-Err.ensures, c.reserve.ensures.lines)
-    (device_refused g.C.Client b (Own c.args.leaf c.args.selection c.args.time) (owning c.args.leaf c.args.selection c.args.time) m
-    (is_owning g.C.Client c.args.leaf c.args.selection c.args.time) (record {
-      mail = c.own.new.self;
-      fault = c.in-Err.fault;
-      refused = c.in-Err.ensures.fault;
-      same = c.in-Err.ensures.err;
-    }))
+    let told : IsTold b.parts (owning c.args.leaf c.args.selection c.args.time) c.tree.result.now c.own-told.new.self c.own-told.result = record {
+      same = c.tree.ensures.value;
+      ok = c.own-told.ensures.ok;
+      allowed = c.own-told.ensures.allowed;
+      fault = c.own-told.ensures.fault;
+      err = c.own-told.ensures.err;
+    } in
+    makes_line g.C.Client (line_told b.actor b.held (Own c.args.leaf c.args.selection c.args.time) c.own-told.result) c.self.view_is
+    (device_line g.C.Client b (Own c.args.leaf c.args.selection c.args.time) (owning c.args.leaf c.args.selection c.args.time) c.tree.result.now c.own-told.new.self c.own-told.result m
+    (is_owning g.C.Client c.args.leaf c.args.selection c.args.time) told)
+    refl (rw c.in_ok-reserve.ensures.lines at c.write_told.ensures.lines) c.write_told.ensures.reply

@@ -1,5 +1,4 @@
-use Rattle.std.proofs.Common.{◌≡◌, length, sym, subst, ◌∙◌, arith}
-use Rattle.tr_base.specs.declared.LeafId.{LeafId}
+use Rattle.std.proofs.Common.{◌≡◌, length, sym, ◌∙◌, arith}
 use Rattle.tr_stage.specs.Stages.{state}
 use Rattle.tr_stage.proofs.SettleLemmas.{windows_of}
 use Rattle.tr_stage.proofs.SharedLemmas.{painted_done, painted_less, painted_more}

@@ -9,7 +9,7 @@ use Rattle.tr_stage.proofs.StaleLemmas.{good_is}
 use Rattle.tr_stage.proofs.stages.Stage.paint_wanted.Goals as goal
 
 pub paint_part-requires-clause-part : goal.paint_part-requires-clause-part
-paint_part-requires-clause-part g c =
+paint_part-requires-clause-part g c κs within =
     let m = replay g.C.Client c.self.inside.opening c.self.inside.journal.lines in
     let leaf = c.args.leaf in
     let parts : Parts g.row.C.Denot = record { surface = c.self.inside.surface; windows = c.self.inside.windows; mail = c.self.inside.mail } in

@@ -1,4 +1,4 @@
-use Rattle.std.proofs.Common.{◌≡◌, ◌∙◌, [], sym, subst, ap, refl}
+use Rattle.std.proofs.Common.{◌≡◌, [], sym, subst, ap, refl}
 use Rattle.tr_journal.specs.declared.steps.Step.TheVariants.{Repaint}
 use Rattle.tr_machine.specs.States.{batch_of}
 use Rattle.tr_stage.specs.Stages.{Parts, StageView, state}

@@ -1,5 +1,4 @@
 use Rattle.std.proofs.Common.{sym}
-use Rattle.tr_journal.specs.declared.steps.Step.TheVariants.{Read}
 use Rattle.tr_stage.proofs.PartLemmas.{seen_for}
 use Rattle.tr_stage.proofs.ActLemmas.{reads}
 use Rattle.tr_stage.proofs.stages.Stage.read.Goals as goal

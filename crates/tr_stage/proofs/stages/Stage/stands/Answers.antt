@@ -4,7 +4,8 @@ use Rattle.tr_stage.proofs.SettleLemmas.{stands_is}
 use Rattle.tr_stage.proofs.stages.Stage.stands.Goals as goal
 
 pub returns : goal.returns
-returns g c =
-    stands_is g.C.Client c.args.self.now c.self.invariant c.tree-tree.ensures.invariant
-    (subst (λ picture. IsPicture picture) c.screen.ensures c.size-size.ensures.invariant)
-    (record { spare = c.self.inside.journal.spare; is = c.self.view_is })
+returns g c = record {
+  invariant = stands_is g.C.Client c.args.self.now c.self.invariant c.tree-tree.ensures.invariant
+      (subst (λ picture. IsPicture picture) c.screen.ensures c.size-size.ensures.invariant)
+      (record { spare = c.self.inside.journal.spare; is = c.self.view_is });
+}

@@ -1,5 +1,4 @@
 use Rattle.std.proofs.Common.{◌≡◌, length, sym, ◌∙◌, arith}
-use Rattle.tr_machine.specs.Sharing.{flushing}
 use Rattle.tr_stage.specs.Stages.{state}
 use Rattle.tr_stage.proofs.SettleLemmas.{windows_of}
 use Rattle.tr_machine.proofs.SharingLemmas.{flush_less, flush_more}

@@ -1,6 +1,5 @@
-use Rattle.std.proofs.Common.{◌≡◌, ◌∷◌, ◌++◌, [], cond, subst, sym, ap, ◌∙◌}
-use Rattle.tr_journal.specs.declared.steps.Step.TheVariants.{PaintFrame}
-use Rattle.tr_machine.specs.Settling.{frame_steps, is_frame_bad}
+use Rattle.std.proofs.Common.{◌≡◌, subst, sym, ◌∙◌}
+use Rattle.tr_machine.specs.Settling.{is_frame_bad}
 use Rattle.tr_stage.specs.Stages.{state}
 use Rattle.tr_stage.proofs.SettleLemmas.{frame_bad}
 use Rattle.tr_machine.proofs.SharingLemmas.{frame_more, frame_less}

@@ -1,5 +1,4 @@
 use Rattle.std.proofs.Common.{Option, sym, ap, ◌∙◌}
-use Rattle.tr_journal.specs.declared.steps.Step.TheVariants.{Take}
 use Rattle.tr_machine.specs.Machines.{asked_of}
 use Rattle.tr_stage.proofs.PartLemmas.{has_window, seen_for}
 use Rattle.tr_stage.proofs.ActLemmas.{env_at, takes, takes_nothing}

@@ -1,13 +1,13 @@
-use Rattle.std.proofs.Common.{◌≡◌, ◌<◌, All, List, Option, Some, sym, ap, subst, ◌∙◌}
-use Rattle.tr_base.specs.declared.Size.{Size}
-use Rattle.tr_client.specs.Runs as runs
+use Rattle.std.proofs.Common.{◌≡◌, ◌<◌, ◌++◌, Some, sym, ap, subst, ◌∙◌}
 use Rattle.tr_forest.specs.Nodes.{leaf_count}
 use Rattle.tr_spot.specs.Leaves.{leaf_size}
 use Rattle.tr_journal.specs.Openings.{tree_of}
-use Rattle.tr_journal.specs.Steps.{IsLeaf}
-use Rattle.tr_paint.specs.Traces.{Look, look_of}
+use Rattle.tr_paint.specs.Traces.{look_of}
 use Rattle.tr_paint.specs.Patches.{IsPatch}
+use Rattle.tr_journal.specs.Journals.{silent}
 use Rattle.tr_machine.specs.States.{content_of}
+use Rattle.tr_machine.specs.Handing.{act_entries}
+use Rattle.tr_machine.proofs.HandingLemmas.{handed_lines}
 use Rattle.tr_stage.specs.Stages.{StageView, state}
 use Rattle.tr_stage.proofs.PartLemmas.{has_window}
 use Rattle.tr_stage.proofs.HandingLemmas.{entries_quiet, ready_at, takes_over}
@@ -19,7 +19,7 @@ take_over-requires-clause-leaf g c κs within =
     (subst (λ (u : StageView _ _). c.args.leaf.0 < leaf_count (tree_of u.opening).nodes) (sym c.self.view_is) c.requires.leaf)
 
 pub extend-requires : goal.extend-requires
-extend-requires g c κs within = rw c.in_ok-entries.ensures (entries_quiet c.args.leaf _ _)
+extend-requires g c = record { silent = rw c.in_ok-entries.ensures (entries_quiet c.args.leaf _ _) }
 
 pub invariant_of-self-2 : goal.invariant_of-self-2
 invariant_of-self-2 g c =
@@ -43,6 +43,16 @@ invariant_of-self-2 g c =
     (copied ∙ p.contents) p.patches
     (subst (λ x. IsPatch (look_of p.kind p.font) p.size p.batch
     (g.C.Client.pic (look_of p.kind p.font) p.size p.from) (g.C.Client.pic (look_of p.kind p.font) p.size x)) (sym copied) p.patch) in
-    rw (c.in_ok-extend.ensures.ok, c.in_ok-reserve_silent.ensures.lines, c.in_ok-entries.ensures, c.deref.ensures.value)
+    let added = rw c.unwrap.ensures at c.extend.ensures.ok in
+    rw (added, c.reserve_silent.ensures.lines, c.in_ok-entries.ensures, c.deref.ensures.value, ← handed_lines g.C.Client n leaf p.commands.items c.args.levels.now)
     (takes_over g.C.Client p.commands.items c.args.levels.now c.self.invariant (record { within = within }) ready
     c.requires.levels c.in_ok-take_over.ensures.ok)
+
+pub returns-clause-ok : goal.returns-clause-ok
+returns-clause-ok g c =
+    let p = c.args.prepared.now in
+    let added = rw (c.reserve_silent.ensures.lines, c.in_ok-entries.ensures, c.deref.ensures.value) at (rw c.unwrap.ensures at c.extend.ensures.ok) in
+    added
+    ∙ ap (λ (v : StageView _ _). v.journal ++ silent (act_entries c.args.leaf p.commands.items c.args.levels.now)) c.self.view_is
+    ∙ ap (λ ls. c.args.self.now.journal ++ ls)
+    (sym (handed_lines g.C.Client (state g.C.Client c.args.self.now) c.args.leaf p.commands.items c.args.levels.now))
