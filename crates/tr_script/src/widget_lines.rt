@@ -2,6 +2,7 @@
 ghost use Rattle.std.specs.Prelude.{◌≡◌, [], ◌∷◌, codes, Some};
 ghost use Rattle.std.specs.List.{AllPass};
 ghost use Rattle.tr_base.specs.Lines.{is_printable};
+ghost use Rattle.tr_journal.specs.declared.Actor.TheVariants as actors;
 ghost use Rattle.tr_grammar.specs.Words.{words_of};
 ghost use Rattle.tr_grammar.specs.Forms.{SetTint, SetTile, SetShift, SetText, AddLine, Clear};
 ghost use Rattle.tr_grammar.specs.Forms.{AddRect, AddSwap, AddExchange, Undo, SetBar};
@@ -27,7 +28,7 @@ const WORDS_BEFORE_TEXT: usize = 2;
 
 /// A command for a leaf's widget.
 fn acting(leaf: LeafId, cmd: WidgetCmd) -> Meaning
-    ensures { result ≡ Meaning.Step (Actor.Leaf leaf) (Step.Act leaf cmd) }
+    ensures { result ≡ Meaning.Step (actors.Leaf leaf) (Step.Act leaf cmd) }
 {
     by_leaf(leaf, Step::Act { leaf, cmd })
 }
