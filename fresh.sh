@@ -9,11 +9,14 @@ set -f
 
 # What can be seen of all that the program is made of without reading it: for each file its size,
 # its inode, when it was last written and when it was last changed in any way, which no call sets
-# back, as `touch` does with the first. What rt makes lies in out/, and no program is made of the
-# edits that rt must refuse. (This ends the shell that it is called in; $crates is several words)
+# back, as `touch` does with the first. What rt makes lies in out/, and no program is made of proofs
+# or of edits that rt must refuse: what was proved once of these sources and definitions stays proved,
+# whatever becomes of the files that led there. (This ends the shell that it is called in; $crates is
+# several words)
 looks() {
     exec find -L "$rt" "$kit/KIT-ID" crates.txt HANDLES $crates \
         -path 'crates/*/out' ! -path 'crates/*/*/out' -prune -o \
+        -path 'crates/*/proofs' ! -path 'crates/*/*/proofs' -prune -o \
         -path 'crates/*/must-fail' ! -path 'crates/*/*/must-fail' -prune -o \
         -type f -printf '%s %i %T@ %C@ %p\0'
 }

@@ -1,5 +1,7 @@
-ghost use Rattle.std.specs.Prelude.{◌≤◌, IsTrue};
+ghost use Rattle.std.specs.Prelude.{◌≡◌, ◌≤◌, true, IsTrue};
 ghost use Rattle.tr_forest.specs.Nodes.{IsNode};
+ghost use Rattle.tr_journal.specs.Openings.{tree_of};
+ghost use Rattle.tr_journal.specs.Steps.{AreLevels, IsStep, may, covers};
 
 use crate::plans::{node_of, place_of};
 use std::alloc::Global;
@@ -7,8 +9,8 @@ use std::io;
 use tr_base::{Kind, LeafId, NoMemory, NodeId, Point, Shape, Shapes, Size};
 use tr_client::Client;
 use tr_forest::{Edit, EditRefused, NodeKind};
-use tr_journal::{Actor, Answer, Opening, Step, covers, is_edit, is_step, may};
-use tr_levels::{Held, Level};
+use tr_journal::{Actor, Answer, Opening, Step, are_levels, covers, is_edit, is_step, may, stated};
+use tr_levels::Held;
 use tr_stage::Stage;
 use tr_tree::Tree;
 
@@ -171,8 +173,8 @@ pub fn make_copies<C: Client>(
 /// Makes a step, which is done.
 pub fn make<C: Client>(stage: &mut Stage<C>, step: Step<C::Cmd>) -> Result<(), Stopped> {
     let actor = maker_of(&step);
-    let level = levels_of(&step);
-    if may(actor, &step) && covers(level, &step) && is_step(stage.opening().tree(), &step) {
+    let level = stated(&step);
+    if is_allowed(stage, actor, level, &step) {
         let reply = stage.step(actor, level, step)?;
         if reply.answer.same(&Answer::Done) {
             return Ok(());
@@ -190,14 +192,14 @@ fn maker_of<M>(step: &Step<M>) -> Actor {
     }
 }
 
-/// What is held when the step is made.
-fn levels_of<M>(step: &Step<M>) -> Held {
-    match *step {
-        Step::Act { leaf, .. } => win(leaf),
-        _ => Held::none().with(Level::Mu),
-    }
-}
-
-fn win(leaf: LeafId) -> Held {
-    Held::none().with(Level::Win(leaf))
+/// Whether the step may be made in this way.
+fn is_allowed<C: Client>(stage: &Stage<C>, actor: Actor, level: Held, step: &Step<C::Cmd>) -> bool
+    ensures may { IsTrue result → may actor step.now ≡ true }
+    ensures covers { IsTrue result → covers level step.now ≡ true }
+    ensures levels { IsTrue result → AreLevels (tree_of stage.now.opening).nodes level }
+    ensures values { IsTrue result → IsStep (tree_of stage.now.opening).nodes step.now }
+{
+    let tree = stage.opening().tree();
+    let is_made_so = may(actor, step) && covers(level, step);
+    is_made_so && are_levels(tree, &level) && is_step(tree, step)
 }

@@ -1,5 +1,5 @@
 -- A Counter obeys the laws of clients. These are proofs, which stand here since an impl cites nothing else of its crate; no contract cites them.
-use Rattle.std.proofs.Common.{◌≡◌, ℕ, ◌+◌, ◌≤◌, ◌==◌, ◌&&◌, min, ℤ, pos, Bool, true, false, cond, [], ◌∷◌, Some, None, refl, ap, ◌∙◌, arith}
+use Rattle.std.proofs.Common.{◌≡◌, ℕ, ◌+◌, ◌<◌, ◌≤◌, ◌^◌, ◌==◌, ◌&&◌, min, ℤ, pos, Bool, true, false, cond, [], ◌∷◌, Some, None, refl, ap, ◌∙◌, arith}
 use Rattle.std.specs.Prelude.{IfSome}
 use Rattle.std.proofs.lemmas.Int.{ints}
 use Rattle.tr_base.specs.declared.Point.{Point}
@@ -8,8 +8,10 @@ use Rattle.tr_base.specs.declared.Event.{Event}
 use Rattle.tr_base.specs.declared.Event.TheVariants.{Mouse, Key}
 use Rattle.tr_base.specs.declared.Click.{Click}
 use Rattle.tr_base.specs.declared.Click.TheVariants.{FirstDown}
+use Rattle.tr_base.specs.declared.Kind.{Kind}
 use Rattle.tr_base.specs.declared.Op.TheVariants.{Bg, Set}
-use Rattle.tr_base.specs.Ops.{eff}
+use Rattle.tr_base.specs.Ops.{eff, IsPixel}
+use Rattle.tr_base.proofs.OpLemmas.{pixel-bit, pixel-resolved}
 use Rattle.tr_base.specs.Rects.{Edges, between, has_point, rect_of, whole_of}
 use Rattle.tr_base.proofs.RectLemmas.{has_point-meet_of, has_point-rect_of}
 use Rattle.tr_paint.specs.declared.Paint.{Paint}
@@ -139,3 +141,11 @@ counter_empty_patches look size x (Add n) valid known small flat =
 pub counter_keeping : (look : Look) (from to : Size) (x : Counter) → IsCounter x → IsWindowSize from → IsWindowSize to →
     Survives (counter_keeps x from to) from to (counter_pic look from x) (counter_pic look to x)
 counter_keeping look from to x valid small small' = survives-meet from to (counter_pic look from x) (counter_pic look to x) (λ q h k. refl)
+
+-- each kind has a value for a byte that is set, and has background
+bar-kinds : (kind : Kind) (tint : ℕ) (bar : Bool) → tint < 2 ^ 8 → IsPixel kind (eff kind (cond bar (Set tint) Bg) 0)
+bar-kinds kind tint true byte = pixel-resolved kind tint byte
+bar-kinds kind tint false byte = pixel-bit kind 0 (omega arith)
+
+pub counter_kinds : (look : Look) (size : Size) (x : Counter) (p : Point) → IsCounter x → IsWindowSize size → IsPixel look.kind (counter_pic look size x p)
+counter_kinds look size x p valid small = bar-kinds look.kind x.tint (between (pos 0) (pos x.count) p.h) valid.tint

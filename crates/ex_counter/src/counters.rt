@@ -163,7 +163,7 @@ impl Command for CounterCmd {
 /// Each call tells that its content is valid: so it calls `count`, even where it wants no number.
 impl Client for Counter {
     ghost use Rattle.ex_counter.specs.Counters.{IsCounter, counter_pic, counter_next, counter_patch, counter_answer, counter_value, counter_keeps};
-    ghost use Rattle.ex_counter.specs.CounterLaws.{counter_contents, counter_answers, counter_patches, counter_empty_patches, counter_keeping};
+    ghost use Rattle.ex_counter.specs.CounterLaws.{counter_contents, counter_answers, counter_patches, counter_empty_patches, counter_keeping, counter_kinds};
 
     type Cmd = CounterCmd;
 
@@ -240,4 +240,6 @@ impl Client for Counter {
     ghost empty_patches = { counter_empty_patches };
 
     ghost keeping = { counter_keeping };
+
+    ghost kinds = { counter_kinds };
 }

@@ -5,6 +5,3 @@ mod commands;
 mod parsers;
 
 pub use commands::{Command, command_of};
-
-#[cfg(test)]
-mod tests;

@@ -1,6 +1,7 @@
 ghost use Rattle.std.specs.Prelude.{◌≡◌, ◌<◌, ◌+◌, ◌^◌, ◌++◌, ◌∷◌, [], length, IfOk, OnOk, OnErr};
 ghost use Rattle.tr_client.specs.Laws.{IsWindowSize};
-ghost use Rattle.tr_book.specs.Books.{HaveLevels, HoldsNoLeaf, view_of};
+ghost use Rattle.tr_levels.specs.Levels.{HaveLevels, HoldsNoLeaf};
+ghost use Rattle.tr_book.specs.Books.{view_of};
 
 use std::alloc::Global;
 use std::marker::Model;
@@ -19,7 +20,8 @@ pub struct Book<C: Client> {
 }
 
 impl<C: Client> Model for Book<C> {
-    ghost use Rattle.tr_book.specs.Books.{BookView, HaveLevels, view_of};
+    ghost use Rattle.tr_levels.specs.Levels.{HaveLevels};
+    ghost use Rattle.tr_book.specs.Books.{BookView, view_of};
 
     ghost Value = { BookView C C.Cmd };
 

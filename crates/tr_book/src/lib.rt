@@ -4,6 +4,3 @@
 mod books;
 
 pub use books::Book;
-
-#[cfg(test)]
-mod tests;

@@ -4,6 +4,3 @@
 mod cages;
 
 pub use cages::{Cage, holds};
-
-#[cfg(test)]
-mod tests;

@@ -1,13 +1,14 @@
 -- Texts and tiles in two colours.
-use Rattle.std.proofs.Common.{◌≡◌, ℕ, Bool, true, false, cond, List, length, refl, sym, ap, ◌∙◌}
+use Rattle.std.proofs.Common.{◌≡◌, ℕ, Bool, true, false, cond, List, length, refl, sym, ap, ◌∙◌, arith}
 use Rattle.tr_base.specs.declared.Point.{Point}
 use Rattle.tr_base.specs.declared.Kind.{Kind}
 use Rattle.tr_base.specs.declared.Tile.{Tile}
-use Rattle.tr_base.specs.Ops.{eff}
+use Rattle.tr_base.specs.Ops.{eff, IsPixel}
 use Rattle.tr_base.specs.Tiles.{tile_bit}
 use Rattle.std.specs.Prelude.{◌-ℤ◌}
 use Rattle.tr_base.specs.Rects.{Edges, has_point, meet_of}
 use Rattle.tr_base.proofs.RectLemmas.{has_point-meet_of}
+use Rattle.tr_base.proofs.OpLemmas.{pixel-bit}
 use Rattle.tr_paint.specs.declared.Paint.TheVariants.{Text, Texture}
 use Rattle.tr_paint.specs.Paints.{cells_of, text_bit, chosen}
 use Rattle.tr_paint.specs.Traces.{Look, Keep, Value, deed}
@@ -19,6 +20,16 @@ use Rattle.tr_client.proofs.KeepingLemmas.{both_hold}
 pub plain-colour : (kind : Kind) (bit : Bool) → eff kind (chosen plain bit) 0 ≡ colour_of bit
 plain-colour kind true = refl
 plain-colour kind false = refl
+
+-- each kind has the colour of a bit
+pub pixel-colour_of : (kind : Kind) (bit : Bool) → IsPixel kind (colour_of bit)
+pixel-colour_of kind true = pixel-bit kind 1 (omega arith)
+pixel-colour_of kind false = pixel-bit kind 0 (omega arith)
+
+-- and so it has that of a point by a text: in its cells the bit's, and beside them background
+pub pixel-text : (kind : Kind) (inside bit : Bool) → IsPixel kind (cond inside (colour_of bit) 0)
+pixel-text kind true bit = pixel-colour_of kind bit
+pixel-text kind false bit = pixel-bit kind 0 (omega arith)
 
 -- a tile gives each point the colour of its bit
 pub tile-gives : (look : Look) (part : Edges) (tile : Tile) (at : Point) (q : Point) → has_point part q ≡ true →

@@ -2,3 +2,4 @@ pub mod Laws
 pub mod Runs
 pub mod Plain
 pub mod Words
+pub mod Texts

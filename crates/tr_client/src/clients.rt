@@ -2,6 +2,7 @@ ghost use Rattle.std.specs.Prelude.{◌≡◌, ◌↔◌, ℕ, [], true, List, O
 ghost use Rattle.tr_base.specs.declared.points.Point.{Point};
 ghost use Rattle.tr_base.specs.declared.sizes.Size.{Size};
 ghost use Rattle.tr_base.specs.declared.events.Event.{Event};
+ghost use Rattle.tr_base.specs.Ops.{IsPixel};
 ghost use Rattle.tr_base.specs.Rects.{Edges, empty_rect, meet_of, whole_of};
 ghost use Rattle.tr_paint.specs.declared.paints.Paint.{Paint};
 ghost use Rattle.tr_paint.specs.Traces.{Look, look_of};
@@ -141,6 +142,14 @@ pub trait Client: Sized + Drop + Send + Sync {
             Survives (keeps self.now from to) from to (pic look from self.now) (pic look to self.now) }
     {}
 
+    /// Law of kinds: each colour is a value that a pixel of the look's kind can have. Nothing runs.
+    fn obeys_kinds(&self, env: &Env, size: Size)
+        requires size { IsWindowSize size }
+        requires valid { valid self.now }
+        ensures { let look = look_of env.now.kind env.now.font.now in
+            (p : Point) → IsPixel look.kind (pic look size self.now p) }
+    {}
+
     /// A command leaves a content.
     ghost contents: { (x : Self) (cmd : Self.Cmd) → valid x → Self.Cmd.valid cmd → valid (next x cmd) };
 
@@ -158,6 +167,10 @@ pub trait Client: Sized + Drop + Send + Sync {
     /// What is kept lies in both windows, and has the same colours in both.
     ghost keeping: { (look : Look) (from to : Size) (x : Self) → valid x → IsWindowSize from → IsWindowSize to →
         Survives (keeps x from to) from to (pic look from x) (pic look to x) };
+
+    /// Each colour is a value that a pixel of the look's kind can have.
+    ghost kinds: { (look : Look) (size : Size) (x : Self) (p : Point) → valid x → IsWindowSize size →
+        IsPixel look.kind (pic look size x p) };
 }
 
 /// Tells that the numbers of an event are those of their types. Nothing runs.

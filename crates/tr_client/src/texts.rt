@@ -1,9 +1,10 @@
-ghost use Rattle.std.specs.Prelude.{◌≡◌, ◌++◌, decimal, IfOk, OnOk, OnErr};
+ghost use Rattle.std.specs.Prelude.{◌≡◌, ◌≤◌, ◌+◌, ◌++◌, length, take, decimal, IfOk, OnOk, OnErr};
 ghost use Rattle.std.specs.List.{flat_map};
+ghost use Rattle.tr_base.specs.Lines.{IsLine};
 ghost use Rattle.tr_client.specs.Words.{with_text};
 
 use itoa::Buffer;
-use tr_base::{Line, NoMemory};
+use tr_base::{LINE, Line, NoMemory};
 
 /// Puts the texts at the end of `out`, all of them or none.
 pub fn append_all(out: &mut Vec<u8>, texts: &[&[u8]]) -> Result<(), NoMemory>
@@ -40,4 +41,29 @@ pub fn decimal_line(n: u8) -> Result<Line, NoMemory>
 {
     let mut buffer = Buffer::new();
     Line::of(buffer.format(n).as_bytes())
+}
+
+/// Two texts in a row, as one line.
+#[tactic(auto, using(crate::proofs::TextLemmas::line_in_a_row))]
+pub fn line_in_a_row(front: &[u8], back: &[u8]) -> Result<Line, NoMemory>
+    requires front { IsLine front.now }
+    requires back { IsLine back.now }
+    requires short { length front.now + length back.now ≤ LINE }
+    ensures { IfOk result (λ line. line ≡ front.now ++ back.now) }
+{
+    let all = both(front, back);
+    Line::of(&all[..front.len() + back.len()])
+}
+
+/// Two texts in a row, with zeros behind them.
+fn both(front: &[u8], back: &[u8]) -> [u8; LINE]
+    requires { length front.now + length back.now ≤ LINE }
+    ensures long { length result ≡ LINE }
+    ensures text { take (length front.now + length back.now) result ≡ front.now ++ back.now }
+{
+    let mut all = [0; LINE];
+    let (first, rest) = all.split_at_mut(front.len());
+    first.copy_from_slice(front);
+    rest[..back.len()].copy_from_slice(back);
+    all
 }

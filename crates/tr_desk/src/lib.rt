@@ -5,6 +5,3 @@
 mod desks;
 
 pub use desks::{Desk, DeskFault, LeafState};
-
-#[cfg(test)]
-mod tests;

@@ -11,7 +11,7 @@ use Rattle.tr_screen.specs.Pictures.{Picture}
 use Rattle.tr_inbox.specs.declared.deliveries.Delivery.{Delivery}
 use Rattle.tr_inbox.specs.Inboxes.{Contents}
 use Rattle.tr_journal.specs.Journals.{JournalLine}
-use Rattle.tr_dump.specs.declared.peeks.Peek3.{Peek3}
+use Rattle.tr_journal.specs.declared.peeks.Peek3.{Peek3}
 use Rattle.tr_dump.specs.Values.{spaced, line_text, kind_word, point_words, size_words, event_text}
 use Rattle.tr_journal.specs.Names.{Names, node_name, leaf_name}
 use Rattle.tr_dump.specs.Steps.{entry_text}

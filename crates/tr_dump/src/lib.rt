@@ -16,5 +16,6 @@ mod words;
 
 pub use dumps::dump;
 pub use journals::journal;
-pub use peeks::{Peek3, peek_line};
+pub use peeks::peek_line;
 pub use places::{inbox, place_line};
+pub use tr_journal::Peek3;

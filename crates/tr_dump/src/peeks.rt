@@ -4,17 +4,7 @@ ghost use Rattle.tr_dump.specs.Reports.{peek_text};
 use crate::words::Word::{Number, Text};
 use crate::words::{append_line, or_nothing};
 use tr_base::NoMemory;
-
-/// How far the screen is from what it is to show.
-#[derive(Clone, Copy, Debug, PartialEq, Eq)]
-pub struct Peek3 {
-    /// How many points of the screen are bad.
-    pub bad: u32,
-    /// How many commands of all leaves wait to be executed.
-    pub waiting: u64,
-    /// How many good points don't show the present content.
-    pub stale: u32,
-}
+use tr_journal::Peek3;
 
 /// Appends what is bad, what waits and what is stale, on a line.
 pub fn peek_line(peek: &Peek3, out: &mut Vec<u8>) -> Result<(), NoMemory>

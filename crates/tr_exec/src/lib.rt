@@ -12,12 +12,3 @@ mod walks;
 
 pub use execs::execute;
 pub use walks::{Brush, paint_within};
-
-#[cfg(test)]
-mod draws;
-#[cfg(test)]
-mod slow_tests;
-#[cfg(test)]
-mod tests;
-#[cfg(test)]
-mod walk_tests;

@@ -5,6 +5,3 @@
 mod filters;
 
 pub use filters::{border_place, border_shape, rigid_shape, translate_place, translate_shape};
-
-#[cfg(test)]
-mod tests;

@@ -14,6 +14,3 @@ mod walks;
 pub use edits::{Edit, EditRefused, NodeFault};
 pub use forests::Forest;
 pub use kinds::NodeKind;
-
-#[cfg(test)]
-mod tests;

@@ -8,6 +8,3 @@ mod scripts;
 mod writers;
 
 pub use scripts::script_of;
-
-#[cfg(test)]
-mod tests;

@@ -20,7 +20,7 @@ use Rattle.tr_grammar.specs.declared.meanings.Meaning.TheVariants as meanings
 use Rattle.tr_grammar.specs.Texts.{is_plain, is_silent}
 use Rattle.tr_grammar.specs.Words.{words_of, word_at, is_number, is_signed, is_shape, is_hex, is_glyph_byte, is_name, byte_of}
 use Rattle.tr_grammar.specs.Names.{number_of}
-use Rattle.tr_grammar.specs.Forms.{Field, new_name, a_node, a_leaf, at_leaf, number, signed, shape, glyph, rows, text, Form, Version, Screen, Glyph, Split, Page, Border, Rigid, Translate, Pack, Solid, Board, Label, Lines, Canvas, Meter, Put, PutAt, Root, Begin, Dump, Peek, Journal, Where, Inbox, End, fields, filled, form_of}
+use Rattle.tr_grammar.specs.Forms.{Field, new_name, a_node, a_leaf, at_leaf, number, signed, shape, glyph, rows, text, Form, Version, Screen, Glyph, Split, Page, Border, Rigid, Translate, Pack, Solid, Board, Label, Lines, Canvas, Meter, Editor, Put, PutAt, Root, Begin, Dump, Peek, Journal, Where, Inbox, End, fields, filled, form_of}
 use Rattle.tr_grammar.specs.Meanings.{meaning_of}
 use Rattle.tr_grammar.specs.States.{SoFar}
 
@@ -51,6 +51,7 @@ sort_of Label = opening_line
 sort_of Lines = opening_line
 sort_of Canvas = opening_line
 sort_of Meter = opening_line
+sort_of Editor = opening_line
 sort_of Put = opening_line
 sort_of PutAt = opening_line
 sort_of Root = opening_line
@@ -101,6 +102,7 @@ suits (commands.Label cmd) (widgets.Label x) = true
 suits (commands.Lines cmd) (widgets.Lines x) = true
 suits (commands.Canvas cmd) (widgets.Canvas x) = true
 suits (commands.Meter cmd) (widgets.Meter x) = true
+suits (commands.Editor cmd) (widgets.Editor x) = true
 suits cmd x = false
 
 -- the same of the widget of a leaf

@@ -36,6 +36,7 @@ pub data Form : Type 0 where
   Lines : Form
   Canvas : Form
   Meter : Form
+  Editor : Form
   Put : Form
   PutAt : Form
   Root : Form
@@ -84,6 +85,12 @@ pub data Form : Type 0 where
   AddExchange : Form
   Undo : Form
   SetBar : Form
+  InsertText : Form
+  EraseByte : Form
+  SplitLine : Form
+  GoTo : Form
+  CopyText : Form
+  PasteClip : Form
 
 -- ---- fields that stand in several lines
 
@@ -114,6 +121,14 @@ edge = signed 8192 8192
 -- a coordinate of the cursor
 abbrev pub place : Field
 place = signed 8192 8191
+
+-- a row of an editor's text
+abbrev pub text_row : Field
+text_row = number 0 199
+
+-- a column of it
+abbrev pub text_column : Field
+text_column = number 0 80
 
 -- a time of an input device
 abbrev pub time : Field
@@ -159,6 +174,7 @@ fields Label = word (codes "leaf") ∷ new_name ∷ shape ∷ shape ∷ word (co
 fields Lines = word (codes "leaf") ∷ new_name ∷ shape ∷ shape ∷ word (codes "lines") ∷ []
 fields Canvas = word (codes "leaf") ∷ new_name ∷ shape ∷ shape ∷ word (codes "canvas") ∷ []
 fields Meter = word (codes "leaf") ∷ new_name ∷ shape ∷ shape ∷ word (codes "meter") ∷ number 1 32 ∷ []
+fields Editor = word (codes "leaf") ∷ new_name ∷ shape ∷ shape ∷ word (codes "edit") ∷ []
 fields Put = word (codes "put") ∷ a_node ∷ a_node ∷ []
 fields PutAt = word (codes "put") ∷ a_node ∷ a_node ∷ offset ∷ offset ∷ []
 fields Root = word (codes "root") ∷ a_node ∷ []
@@ -207,6 +223,12 @@ fields AddSwap = at_leaf ∷ word (codes "swap") ∷ edge ∷ edge ∷ edge ∷ 
 fields AddExchange = at_leaf ∷ word (codes "exchange") ∷ edge ∷ edge ∷ edge ∷ edge ∷ byte ∷ byte ∷ []
 fields Undo = at_leaf ∷ word (codes "undo") ∷ []
 fields SetBar = at_leaf ∷ word (codes "bar") ∷ number 0 31 ∷ byte ∷ []
+fields InsertText = at_leaf ∷ word (codes "insert") ∷ text ∷ []
+fields EraseByte = at_leaf ∷ word (codes "erase") ∷ []
+fields SplitLine = at_leaf ∷ word (codes "split") ∷ []
+fields GoTo = at_leaf ∷ word (codes "goto") ∷ text_row ∷ text_column ∷ []
+fields CopyText = at_leaf ∷ word (codes "copy") ∷ text_column ∷ text_column ∷ []
+fields PasteClip = at_leaf ∷ word (codes "paste") ∷ []
 
 -- ---- what the version knows
 
@@ -223,6 +245,13 @@ pixel_words version =
 abbrev pub is_known : ℕ → Form → Bool
 is_known version Pack = is_second version
 is_known version AddExchange = is_second version
+is_known version Editor = is_second version
+is_known version InsertText = is_second version
+is_known version EraseByte = is_second version
+is_known version SplitLine = is_second version
+is_known version GoTo = is_second version
+is_known version CopyText = is_second version
+is_known version PasteClip = is_second version
 is_known version f = true
 
 -- ---- the form of a line
@@ -233,13 +262,13 @@ node_forms = Split ∷ Page ∷ Border ∷ Rigid ∷ Translate ∷ Pack ∷ []
 
 -- the forms of lines that declare a leaf
 abbrev pub leaf_forms : List Form
-leaf_forms = Solid ∷ Board ∷ Label ∷ Lines ∷ Canvas ∷ Meter ∷ []
+leaf_forms = Solid ∷ Board ∷ Label ∷ Lines ∷ Canvas ∷ Meter ∷ Editor ∷ []
 
 -- the forms of lines of a leaf's actor
 abbrev pub act_forms : List Form
 act_forms =
     Mark ∷ Flush ∷ Force ∷ Take ∷ Enclose ∷ Free ∷ Own ∷ Disown ∷ Read ∷ SetTint ∷ SetTile ∷ SetShift ∷ SetText ∷ AddLine ∷ Clear
-    ∷ AddRect ∷ AddSwap ∷ AddExchange ∷ Undo ∷ SetBar ∷ []
+    ∷ AddRect ∷ AddSwap ∷ AddExchange ∷ Undo ∷ SetBar ∷ InsertText ∷ EraseByte ∷ SplitLine ∷ GoTo ∷ CopyText ∷ PasteClip ∷ []
 
 -- all forms
 abbrev pub forms : List Form

@@ -33,12 +33,14 @@ use Rattle.w_plain.specs.declared.LabelCmd.TheVariants as label
 use Rattle.w_lines.specs.declared.LinesCmd.TheVariants as lines
 use Rattle.w_canvas.specs.declared.CanvasCmd.TheVariants as canvas
 use Rattle.w_meter.specs.declared.MeterCmd.TheVariants as meter
+use Rattle.w_edit.specs.declared.EditorCmd.TheVariants as editor
+use Rattle.w_edit.specs.Contents.{fresh}
 use Rattle.tr_grammar.specs.declared.meanings.Meaning.{Meaning}
 use Rattle.tr_grammar.specs.declared.meanings.Meaning.TheVariants as meanings
 use Rattle.tr_grammar.specs.Words.{word_at, rest_after, nat_of, int_of, hex_of, byte_of}
 use Rattle.tr_journal.specs.Names.{Names}
 use Rattle.tr_grammar.specs.Names.{numbered}
-use Rattle.tr_grammar.specs.Forms.{Form, Version, Screen, Glyph, Split, Page, Border, Rigid, Translate, Pack, Solid, Board, Label, Lines, Canvas, Meter, Put, PutAt, Root, Begin, Mouse, Motion, Key, Attach, AttachAt, Detach, Tint, Widen, Offset, Fix, Move, Lift, Show, Turn, Reshape, Resize, Rescreen, Mark, Flush, Force, Take, Enclose, Free, Own, Disown, Read, Sync, Dump, Peek, Journal, Where, Inbox, End, SetTint, SetTile, SetShift, SetText, AddLine, Clear, AddRect, AddSwap, AddExchange, Undo, SetBar}
+use Rattle.tr_grammar.specs.Forms.{Form, Version, Screen, Glyph, Split, Page, Border, Rigid, Translate, Pack, Solid, Board, Label, Lines, Canvas, Meter, Editor, Put, PutAt, Root, Begin, Mouse, Motion, Key, Attach, AttachAt, Detach, Tint, Widen, Offset, Fix, Move, Lift, Show, Turn, Reshape, Resize, Rescreen, Mark, Flush, Force, Take, Enclose, Free, Own, Disown, Read, Sync, Dump, Peek, Journal, Where, Inbox, End, SetTint, SetTile, SetShift, SetText, AddLine, Clear, AddRect, AddSwap, AddExchange, Undo, SetBar, InsertText, EraseByte, SplitLine, GoTo, CopyText, PasteClip}
 
 -- ---- values of one word or of words in a row, of which the first has so many before it
 
@@ -161,6 +163,7 @@ module _ (names : Names) (ws : List (List ℕ)) where
   meaning_of Lines = a_leaf_with (widgets.Lines []) ws
   meaning_of Canvas = a_leaf_with (widgets.Canvas []) ws
   meaning_of Meter = a_leaf_with (widgets.Meter (replicate (nat ws 9) 0)) ws
+  meaning_of Editor = a_leaf_with (widgets.Editor fresh) ws
   meaning_of Put = meanings.Item (items.Put (node_at 1) (node_at 2) origin)
   meaning_of PutAt = meanings.Item (items.Put (node_at 1) (node_at 2) (point ws 3))
   meaning_of Root = meanings.Item (items.Root (node_at 1))
@@ -210,3 +213,9 @@ module _ (names : Names) (ws : List (List ℕ)) where
   meaning_of AddExchange = acting (commands.Canvas (canvas.Exchange (rect ws 2) (nat ws 6) (nat ws 7)))
   meaning_of Undo = acting (commands.Canvas canvas.Undo)
   meaning_of SetBar = acting (commands.Meter (meter.Bar (nat ws 2) (nat ws 3)))
+  meaning_of InsertText = acting (commands.Editor (editor.Insert (rest_after ws 2)))
+  meaning_of EraseByte = acting (commands.Editor editor.Erase)
+  meaning_of SplitLine = acting (commands.Editor editor.Split)
+  meaning_of GoTo = acting (commands.Editor (editor.Goto (nat ws 2) (nat ws 3)))
+  meaning_of CopyText = acting (commands.Editor (editor.Copy (nat ws 2) (nat ws 3)))
+  meaning_of PasteClip = acting (commands.Editor editor.Paste)

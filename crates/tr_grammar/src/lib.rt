@@ -13,6 +13,3 @@ pub use codes::{Code, LineRefused, ReadRefused};
 pub use limits::LONGEST_SCRIPT;
 pub use meanings::Meaning;
 pub use places::Place;
-
-#[cfg(test)]
-mod tests;

@@ -5,6 +5,3 @@
 mod places;
 
 pub use places::{place, place_into, shape};
-
-#[cfg(test)]
-mod tests;

@@ -6,6 +6,3 @@ mod inboxes;
 
 pub use deliveries::Delivery;
 pub use inboxes::{CAPACITY, Dropped, Empty, Inbox};
-
-#[cfg(test)]
-mod tests;

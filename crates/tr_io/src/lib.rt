@@ -9,8 +9,6 @@ mod sources;
 mod standard_input;
 mod standard_output;
 mod streams;
-#[cfg(test)]
-mod tests;
 
 pub use sinks::{MemorySink, SteadySink};
 pub use sources::{MemorySource, SteadySource};

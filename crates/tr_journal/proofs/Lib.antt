@@ -1,3 +1,4 @@
 pub mod HeldLemmas
 pub mod JournalLemmas
+pub mod LevelLemmas
 pub mod OpeningLemmas

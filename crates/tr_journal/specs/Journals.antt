@@ -1,5 +1,5 @@
 -- The lines of a journal: entries in their order, each with what its step sent.
-use Rattle.std.specs.Prelude.{◌≡◌, ℕ, ◌+◌, ◌/◌, ◌<◌, min, List, [], ◌∷◌, length, take, drop, get_or, sum_by}
+use Rattle.std.specs.Prelude.{◌≡◌, ℕ, ◌+◌, ◌/◌, ◌<◌, min, List, [], ◌∷◌, length, take, drop, get_or, map, sum_by}
 use Rattle.tr_inbox.specs.declared.deliveries.Delivery.{Delivery}
 use Rattle.tr_journal.specs.declared.entries.Entry.{Entry}
 
@@ -8,10 +8,16 @@ pub record JournalLine (M : Type 0) : Type 0 where
   pub entry : Entry M
   pub sent : List Delivery
 
--- what a contract sees of a journal: its lines, and for how many more, of at most 32 deliveries each, there is room
+-- what a contract sees of a journal: its lines, for how many more, of at most 32 deliveries each, there is room, and for how many more
+-- that send nothing
 pub record JournalView (M : Type 0) : Type 0 where
   pub lines : List (JournalLine M)
   pub spare : ℕ
+  pub silent_spare : ℕ
+
+-- the lines of entries that sent nothing
+abbrev pub silent : {M : Type 0} → List (Entry M) → List (JournalLine M)
+silent entries = map (λ e. record { entry = e; sent = [] }) entries
 
 -- an entry says how much its step sent
 pub record IsCounted {M : Type 0} (line : JournalLine M) : Type 0 where

@@ -1,5 +1,5 @@
 -- Who makes which step, with which levels held, and what its values are.
-use Rattle.std.specs.Prelude.{◌≡◌, ℕ, ℤ, pos, neg_ℤ, ◌<◌, ◌≤◌, ◌≤ℤ◌, ⊤, Bool, true, false, ◌||◌, ◌==◌, List, [], ◌∷◌}
+use Rattle.std.specs.Prelude.{◌≡◌, ℕ, ℤ, pos, neg_ℤ, ◌<◌, ◌≤◌, ◌≤ℤ◌, ⊤, Bool, true, false, ◌||◌, ◌==◌, List, [], ◌∷◌, All, length}
 use Rattle.std.specs.List.{list_all, list_any}
 use Rattle.tr_base.specs.declared.LeafId.{LeafId}
 use Rattle.tr_base.specs.declared.Point.{Point}
@@ -87,6 +87,21 @@ covers held step = list_all (is_held held) (stated step)
 pub record IsLeaf (t : Nodes) (leaf : LeafId) : Type 0 where
   pub within : leaf.0 < leaf_count t
 
+-- the leaf of a level, where it has one, is a leaf
+abbrev pub IsLevel : Nodes → Level → Type 0
+IsLevel t Mu = ⊤
+IsLevel t (Share leaf) = IsLeaf t leaf
+IsLevel t (Win leaf) = IsLeaf t leaf
+
+-- so is that of each level
+abbrev pub AreLevels : Nodes → List Level → Type 0
+AreLevels t levels = All (IsLevel t) levels
+
+-- there are as many nodes, and as many leaves
+pub record AreAsMany (t new : Nodes) : Type 0 where
+  pub nodes : length new.entries ≡ length t.entries
+  pub leaves : leaf_count new ≡ leaf_count t
+
 -- times of input devices begin at 1
 pub record IsTime (time : ℕ) : Type 0 where
   pub low : 1 ≤ time
@@ -147,3 +162,11 @@ IsStep t (steps.Repaint leaf) = IsLeaf t leaf
 IsStep t steps.PaintFrame = ⊤
 IsStep t steps.Sync = ⊤
 IsStep t (steps.Report query) = IsQuery t query
+
+-- a step that its actor may make: it is for that actor to make, its levels are among those that are held, which are levels of leaves of
+-- the tree, and its numbers and values are a step's
+pub record IsFor {M : Type 0} (t : Nodes) (actor : Actor) (held : List Level) (step : Step M) : Type 0 where
+  pub may : may actor step ≡ true
+  pub covers : covers held step ≡ true
+  pub levels : AreLevels t held
+  pub values : IsStep t step

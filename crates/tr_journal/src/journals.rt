@@ -1,5 +1,5 @@
-ghost use Rattle.std.specs.Prelude.{◌≡◌, ◌+◌, ◌*◌, ◌<◌, ◌≤◌, ◌↔◌, [], ◌∷◌, ◌++◌, IsTrue, map, length, get_or, slice_get, slice_range, Some, All, IsOk, IfOk, OnOk, OnErr};
-ghost use Rattle.tr_journal.specs.Journals.{IsCounted};
+ghost use Rattle.std.specs.Prelude.{◌≡◌, ◌+◌, ◌*◌, ◌<◌, ◌≤◌, ◌↔◌, [], ◌∷◌, ◌++◌, IsTrue, map, length, get_or, slice_get, slice_range, Some, All, vec_len, IsOk, IfOk, OnOk, OnErr};
+ghost use Rattle.tr_journal.specs.Journals.{IsCounted, silent};
 
 use crate::entries::Entry;
 use std::alloc::Global;
@@ -21,7 +21,7 @@ pub struct Journal<M: Drop> {
 }
 
 impl<M: Drop> Model for Journal<M> {
-    ghost use Rattle.std.specs.Prelude.{◌-◌, vec_len, vec_capacity};
+    ghost use Rattle.std.specs.Prelude.{◌-◌, min, vec_len, vec_capacity};
     ghost use Rattle.tr_journal.specs.Journals.{JournalView, AreKept, lines_of, spare_of};
 
     ghost Value = { JournalView M };
@@ -32,6 +32,7 @@ impl<M: Drop> Model for Journal<M> {
           (vec_capacity j.entries - vec_len j.entries)
           (vec_capacity j.ends - vec_len j.ends)
           (vec_capacity j.sent - vec_len j.sent);
+      silent_spare = min (vec_capacity j.entries - vec_len j.entries) (vec_capacity j.ends - vec_len j.ends);
     } };
 
     ghost invariant = { λ j. AreKept j.entries.items j.ends.items j.sent.items };
@@ -56,6 +57,8 @@ impl<M: Drop> Journal<M> {
         ensures err { OnErr result (self.new.lines ≡ self.old.lines) }
         ensures room { 0 < self.old.spare → length sent.now ≤ DELIVERIES * self.old.spare → IsOk result }
         ensures spare { length sent.now ≤ DELIVERIES → self.old.spare ≤ self.new.spare + 1 }
+        ensures silent_room { 0 < self.old.silent_spare → length sent.now ≡ 0 → IsOk result }
+        ensures silent_spare { self.old.silent_spare ≤ self.new.silent_spare + 1 }
     {
         self.entries.reserve(1)?;
         self.ends.reserve(1)?;
@@ -86,6 +89,41 @@ impl<M: Drop> Journal<M> {
         ensures spare { length sent.now ≤ DELIVERIES → self.old.spare ≤ self.new.spare + 1 }
     {
         self.push(entry, sent).unwrap()
+    }
+
+    /// Makes room for `n` entries more that send nothing.
+    pub fn reserve_silent(&mut self, n: usize) -> Result<(), NoMemory>
+        ensures ok { OnOk result (n ≤ self.new.silent_spare) }
+        ensures lines { self.new.lines ≡ self.old.lines }
+        ensures spare { self.old.spare ≤ self.new.spare }
+        ensures room { n ≤ self.old.silent_spare → IsOk result }
+    {
+        self.entries.reserve(n)?;
+        Ok(self.ends.reserve(n)?)
+    }
+
+    /// Adds entries that sent nothing, in their order: all of them, or none.
+    pub fn extend(&mut self, entries: Vec<Entry<M>>) -> Result<(), NoMemory>
+        requires silent { All (λ e. e.reply.sent ≡ 0) entries.items }
+        ensures ok { OnOk result (self.new.lines ≡ self.old.lines ++ silent entries.items) }
+        ensures err { OnErr result (self.new.lines ≡ self.old.lines) }
+        ensures room { vec_len entries ≤ self.old.silent_spare → IsOk result }
+    {
+        self.reserve_silent(entries.len())?;
+        for entry in entries {
+            self.push_silent(entry);
+        }
+        Ok(())
+    }
+
+    /// Adds an entry that sent nothing, for which room was reserved.
+    fn push_silent(&mut self, entry: Entry<M>)
+        requires room { 0 < self.old.silent_spare }
+        requires silent { entry.reply.sent ≡ 0 }
+        ensures lines { self.new.lines ≡ self.old.lines ++ silent (entry ∷ []) }
+        ensures room { self.old.silent_spare ≤ self.new.silent_spare + 1 }
+    {
+        self.push(entry, &[]).unwrap()
     }
 
     /// How many entries there are.

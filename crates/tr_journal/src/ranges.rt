@@ -1,15 +1,16 @@
 //! Whether the numbers of steps and edits are those of nodes and leaves, and their values within their
 //! ranges: what calls that take them ask for.
-ghost use Rattle.std.specs.Prelude.{◌↔◌, IsTrue};
+ghost use Rattle.std.specs.Prelude.{◌↔◌, IsTrue, IfSome};
 ghost use Rattle.tr_base.specs.Layouts.{farthest, IsOffset};
 ghost use Rattle.tr_forest.specs.Nodes.{IsNode, IsSize};
 ghost use Rattle.tr_forest.specs.Edits.{IsEdit, IsScreenSize};
-ghost use Rattle.tr_journal.specs.Steps.{IsButton, IsCage, IsClip, IsEdge, IsLeaf, IsPlace, IsPosition, IsQuery, IsStep, IsTime};
+ghost use Rattle.tr_journal.specs.Steps.{AreLevels, IsButton, IsCage, IsClip, IsEdge, IsLeaf, IsPlace, IsPosition, IsQuery, IsStep, IsTime};
 
 use crate::steps::{Query, Step};
 use tr_base::{LeafId, NodeId, Point, Rect, Size};
 use tr_cage::Cage;
 use tr_forest::Edit;
+use tr_levels::Held;
 use tr_tree::Tree;
 
 /// Whether the step may be made: its numbers are those of nodes and leaves, and its values are within
@@ -55,6 +56,24 @@ pub fn is_edit(tree: &Tree, edit: &Edit) -> bool
         Edit::Show { node, child } => has_node(tree, *node) && has_node(tree, *child),
         Edit::Resize { size } => is_screen_size(*size),
         Edit::Rescreen { .. } => true,
+    }
+}
+
+/// Whether the leaves of the levels that are held are leaves of the tree.
+pub fn are_levels(tree: &Tree, held: &Held) -> bool
+    ensures { IsTrue result ↔ AreLevels tree.now.nodes held.now }
+{
+    let (_, share, win) = held.parts();
+    has_leaf_of(tree, share) && has_leaf_of(tree, win)
+}
+
+/// Whether the leaf, where there is one, is a leaf of the tree.
+fn has_leaf_of(tree: &Tree, leaf: Option<LeafId>) -> bool
+    ensures { IsTrue result ↔ IfSome leaf (λ leaf. IsLeaf tree.now.nodes leaf) }
+{
+    match leaf {
+        Some(leaf) => has_leaf(tree, leaf),
+        None => true,
     }
 }
 

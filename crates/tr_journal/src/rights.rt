@@ -1,5 +1,7 @@
 ghost use Rattle.std.specs.Prelude.{◌≡◌};
+ghost use Rattle.tr_forest.specs.Nodes.{Nodes};
 ghost use Rattle.tr_journal.specs.Steps as spec;
+ghost use Rattle.tr_journal.specs.Steps.{AreLevels, IsStep};
 
 use crate::steps::{Actor, Step};
 use tr_levels::{Held, Level};
@@ -44,6 +46,24 @@ pub fn covers<M>(held: Held, step: &Step<M>) -> bool
         }
         Step::Repaint { leaf } => is_held(&held, Level::Mu) || is_held(&held, Level::Share(*leaf)),
         _ => is_held(&held, Level::Mu),
+    }
+}
+
+/// Exactly the levels that the step must hold.
+pub fn stated<M>(step: &Step<M>) -> Held
+    ensures value { result ≡ spec.stated step.now }
+    ensures levels { (t : Nodes) → IsStep t step.now → AreLevels t result }
+{
+    let none = Held::none();
+    match step {
+        Step::Act { leaf, .. } => none.with(Level::Win(*leaf)),
+        Step::Mark { leaf, .. }
+        | Step::Take { leaf }
+        | Step::SetCage { leaf, .. }
+        | Step::Own { leaf, .. }
+        | Step::Disown { leaf, .. }
+        | Step::Read { leaf, .. } => none.with(Level::Mu).with(Level::Win(*leaf)),
+        _ => none.with(Level::Mu),
     }
 }
 

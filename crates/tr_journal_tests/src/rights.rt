@@ -1,7 +1,8 @@
 //! Who may make which steps, and which levels cover them.
+use super::digits::Digit;
 use super::steps::{A, steps};
 use tr_base::LeafId;
-use tr_journal::{Actor, covers, may};
+use tr_journal::{Actor, Step, covers, may};
 use tr_levels::{Held, Level};
 
 const B: LeafId = LeafId(1);
@@ -47,8 +48,8 @@ const COVERS: [[bool; 7]; 16] = [
     [false, true, false, true, true, false, false],
 ];
 
-#[test]
-fn each_step_has_its_makers_and_levels(rt: HostRuntime) {
+/// Whether just these actors may make a step.
+fn has_makers(step: &Step<Digit>, want: &[bool; 5]) -> bool {
     let actors = [
         Actor::Leaf(A),
         Actor::Leaf(B),
@@ -56,8 +57,28 @@ fn each_step_has_its_makers_and_levels(rt: HostRuntime) {
         Actor::Painter,
         Actor::Player,
     ];
+    for (actor, want) in actors.iter().zip(want) {
+        if may(*actor, step) != *want {
+            return false;
+        }
+    }
+    true
+}
+
+/// Whether just these of the levels cover a step.
+fn has_levels(step: &Step<Digit>, levels: &[Held; 7], want: &[bool; 7]) -> bool {
+    for (held, want) in levels.iter().zip(want) {
+        if covers(*held, step) != *want {
+            return false;
+        }
+    }
+    true
+}
+
+#[test]
+fn each_step_has_its_makers_and_levels(rt: HostRuntime) {
     let mu = Held::none().with(Level::Mu);
-    let helds = [
+    let levels = [
         Held::none(),
         mu,
         Held::none().with(Level::Win(A)),
@@ -66,16 +87,12 @@ fn each_step_has_its_makers_and_levels(rt: HostRuntime) {
         Held::none().with(Level::Share(A)),
         Held::none().with(Level::Share(B)),
     ];
-    for (i, step) in steps().iter().enumerate() {
-        for (k, actor) in actors.iter().enumerate() {
-            assert_eq!(rt; may(*actor, step), MAKERS[i][k], "{actor:?} makes step {i}");
-        }
-        for (k, held) in helds.iter().enumerate() {
-            assert_eq!(rt;
-                covers(*held, step),
-                COVERS[i][k],
-                "{held:?} covers step {i}"
-            );
-        }
+    for ((i, step), (makers, covered)) in steps()
+        .iter()
+        .enumerate()
+        .zip(MAKERS.iter().zip(&COVERS))
+    {
+        assert!(rt; has_makers(step, makers), "who makes step {i}");
+        assert!(rt; has_levels(step, &levels, covered), "what covers step {i}");
     }
 }

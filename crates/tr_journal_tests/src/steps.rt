@@ -1,6 +1,5 @@
 //! A step of each sort.
 use super::digits::Digit;
-use std::test::Fail;
 use tr_base::{LeafId, NodeId, Point, Rect, Selection};
 use tr_cage::Cage;
 use tr_forest::Edit;
@@ -52,15 +51,4 @@ pub fn steps() -> [Step<Digit>; 16] {
             query: Query::Where(AT),
         },
     ]
-}
-
-#[test]
-fn steps_are_copied_and_compared(rt: HostRuntime) -> Result<(), Fail> {
-    for (i, a) in steps().iter().enumerate() {
-        let copied = a.copy(rt.alloc())?;
-        for (j, b) in steps().iter().enumerate() {
-            assert_eq!(rt; copied.same(b), i == j, "steps {i} and {j}");
-        }
-    }
-    Ok(())
 }

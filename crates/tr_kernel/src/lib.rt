@@ -11,6 +11,3 @@ mod rows;
 pub use differences::{count_row, first_difference, last_difference};
 pub use masks::{Mask, mask_row};
 pub use rows::{copy_row, copy_rows_within, exchange_row, fill_row};
-
-#[cfg(test)]
-mod tests;

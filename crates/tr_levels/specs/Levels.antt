@@ -1,5 +1,5 @@
 -- The order in which a thread takes locks.
-use Rattle.std.specs.Prelude.{ℕ, ◌<◌, ⊤, List, All, AllPairs}
+use Rattle.std.specs.Prelude.{◌≡◌, ℕ, ◌<◌, ⊤, List, length, All, AllPairs}
 use Rattle.tr_levels.specs.declared.levels.Level.{Level}
 use Rattle.tr_levels.specs.declared.levels.Level.TheVariants.{Mu, Share, Win}
 
@@ -25,3 +25,18 @@ IsRising levels = AllPairs IsBelow levels
 -- no level of this one's sort or of a later one is held
 abbrev pub Admits : List Level → Level → Type 0
 Admits held level = All (λ l. sort_of l < sort_of level) held
+
+-- the level is the tree's lock, and no leaf's share or window
+abbrev pub IsTreeLock : Level → Type 0
+IsTreeLock Mu = ⊤
+IsTreeLock (Share leaf) = ⊥
+IsTreeLock (Win leaf) = ⊥
+
+-- no share and no window is held
+abbrev pub HoldsNoLeaf : List Level → Type 0
+HoldsNoLeaf held = All IsTreeLock held
+
+-- each command has the levels that its caller held, among them no share and no window
+pub record HaveLevels {M : Type 0} (commands : List M) (levels : List (List Level)) : Type 0 where
+  pub counts : length levels ≡ length commands
+  pub free : All HoldsNoLeaf levels

@@ -12,6 +12,3 @@ mod spent;
 pub use held_levels::Held;
 pub use ladders::Ladder;
 pub use levels::Level;
-
-#[cfg(test)]
-mod tests;

@@ -25,7 +25,7 @@ use Rattle.tr_machine.specs.States.{State, base, batch_of, content_of, look, win
 use Rattle.tr_machine.specs.Paintings.{flushed, is_visible}
 use Rattle.tr_machine.specs.Pictures.{colour_in, shown, shown_of}
 use Rattle.tr_machine.specs.Promises.{Fits}
-use Rattle.tr_machine.proofs.ListLemmas.{window_here, window_there}
+use Rattle.tr_machine.proofs.ListLemmas.{leaf_by_number, window_here, window_there}
 use Rattle.tr_machine.proofs.ShownLemmas.{IsShowing, after-base, base_sees, colour_in_leaf, colour_same, on_tree}
 
 -- what isn't nothing is something
@@ -34,11 +34,18 @@ some_of None h = absurd (false-true (sym h))
 some_of (Some x) h = (x, refl)
 
 -- a spot that is in one leaf, and not in another, tells the two apart
-apart : (leaf other : LeafId) (s : Spot) → is_in_leaf leaf s ≡ false → is_in_leaf other s ≡ true → leaf.0 ≡ other.0 → ⊥
+pub apart : (leaf other : LeafId) (s : Spot) → is_in_leaf leaf s ≡ false → is_in_leaf other s ≡ true → leaf.0 ≡ other.0 → ⊥
 apart leaf other (spots.Leaf l q size kind) out here same =
     false-true (sym out ∙ equal_test l.0 leaf.0 (equal_numbers l.0 other.0 here ∙ sym same))
 apart leaf other (spots.Frame n tint kind) out here same = false-true here
 apart leaf other spots.Off out here same = false-true here
+
+-- a spot is part of one leaf
+pub one_leaf : (a b : LeafId) (s : Spot) → is_in_leaf a s ≡ true → is_in_leaf b s ≡ true → a ≡ b
+one_leaf a b (spots.Leaf own q size kind) first second =
+    leaf_by_number a b (sym (equal_numbers own.0 a.0 first) ∙ equal_numbers own.0 b.0 second)
+one_leaf a b (spots.Frame k tint kind) first second = absurd (false-true first)
+one_leaf a b spots.Off first second = absurd (false-true first)
 
 -- an execution by another name of its font and of its batch
 pub by_state : {font own : List (List ℕ)} {batch waiting : List Paint} (s n : Shown) (leaf : LeafId) → font ≡ own → batch ≡ waiting →
@@ -74,7 +81,7 @@ module _ {C M : Type 0} (client : Ghosts C M) where
     pub outside : (p : Point) → is_visible m leaf p ≡ false → bad p ≡ m.bad p
 
   -- the leaf shows its present content
-  now_shown : (m : State C M) (leaf : LeafId) (bad : Point → Bool) → shown_of (brought leaf bad m) leaf ≡ content_of client m leaf
+  pub now_shown : (m : State C M) (leaf : LeafId) (bad : Point → Bool) → shown_of (brought leaf bad m) leaf ≡ content_of client m leaf
   now_shown m leaf bad =
       ap (λ (o : Option (Window C M)). option_map (λ w. w.shown) o) (window_here leaf leaf (updated client) m refl)
       ∙ by_window (window_of m leaf)

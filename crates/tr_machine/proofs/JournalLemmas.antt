@@ -1,5 +1,5 @@
 -- Journals that grow, and the lines that steps in a row make.
-use Rattle.std.proofs.Common.{◌≡◌, ℕ, zero, suc, ◌+◌, ◌<◌, arith, true, length, take, get_or, List, [], ◌∷◌, ◌++◌, refl, ◌∙◌, ap}
+use Rattle.std.proofs.Common.{◌≡◌, ℕ, zero, suc, ◌+◌, ◌<◌, arith, length, take, get_or, List, [], ◌∷◌, ◌++◌, refl, ◌∙◌, ap}
 use Rattle.std.specs.List.{AllByRecursion}
 use Rattle.std.proofs.lemmas.List.{take_more}
 use Rattle.tr_client.specs.declared.clients.Client.{Ghosts}
@@ -10,16 +10,9 @@ use Rattle.tr_journal.specs.declared.steps.Actor.{Actor}
 use Rattle.tr_journal.specs.declared.steps.Step.{Step}
 use Rattle.tr_journal.specs.Journals.{JournalLine}
 use Rattle.tr_journal.specs.Openings.{tree_of}
-use Rattle.tr_journal.specs.Steps.{IsStep, may, covers}
+use Rattle.tr_journal.specs.Steps.{IsFor}
 use Rattle.tr_machine.specs.States.{State, start}
-use Rattle.tr_machine.specs.Replays.{next, line_of, replay_from, replay, IsLegalLine, IsLegalFrom, IsLegal}
-use Rattle.tr_machine.specs.Settling.{after_steps, lines_of}
-
--- a step is for its actor to make, who holds its levels, and its numbers are those of nodes and leaves
-pub record IsFor {M : Type 0} (t : Nodes) (actor : Actor) (held : List Level) (step : Step M) : Type 0 where
-  pub may : may actor step ≡ true
-  pub covers : covers held step ≡ true
-  pub values : IsStep t step
+use Rattle.tr_machine.specs.Replays.{after_steps, line_of, lines_by, lines_of, next, replay_from, replay, IsLegalLine, IsLegalFrom, IsLegal}
 
 -- what holds of all elements of a list holds of each
 pub all_at : {A : Type 0} (P : A → Type 0) (xs : List A) (k : ℕ) (d : A) → AllByRecursion P xs → k < length xs → P (get_or xs k d)
@@ -115,13 +108,27 @@ module _ {C M : Type 0} (client : Ghosts C M) where
   replay_from-lines_of actor held m [] = refl
   replay_from-lines_of actor held m (x ∷ xs) = replay_from-lines_of actor held (next client m x) xs
 
+  -- the lines of steps in a row, each with its levels, and then of more
+  pub lines_by-append : (actor : Actor) (m : State C M) (xs ys : List (List Level × Step M)) →
+      lines_by client actor m (xs ++ ys)
+      ≡ lines_by client actor m xs ++ lines_by client actor (replay_from client m (lines_by client actor m xs)) ys
+  lines_by-append actor m [] ys = refl
+  lines_by-append actor m (x ∷ xs) ys =
+      ap (λ (ls : List (JournalLine M)). line_of client m actor x.0 x.1 ∷ ls) (lines_by-append actor (next client m x.1) xs ys)
+
   -- a step that is for its actor makes a legal line
   pub legal_line : (t : Nodes) (m : State C M) (actor : Actor) (held : List Level) (step : Step M) → IsFor t actor held step →
       IsLegalLine client t m (line_of client m actor held step)
-  legal_line t m actor held step is = record { may = is.may; covers = is.covers; values = is.values; made = refl }
+  legal_line t m actor held step is = record { may = is.may; covers = is.covers; levels = is.levels; values = is.values; made = refl }
 
   -- steps in a row that are for their actor make legal lines
   pub legal_lines : (t : Nodes) (m : State C M) (actor : Actor) (held : List Level) (steps : List (Step M)) →
       AllByRecursion (IsFor t actor held) steps → IsLegalFrom client t m (lines_of client actor held m steps)
   legal_lines t m actor held [] all = tt
   legal_lines t m actor held (x ∷ xs) all = (legal_line t m actor held x all.0, legal_lines t (next client m x) actor held xs all.1)
+
+  -- so do steps that have levels of their own
+  pub legal_by : (t : Nodes) (m : State C M) (actor : Actor) (made : List (List Level × Step M)) →
+      AllByRecursion (λ (x : List Level × Step M). IsFor t actor x.0 x.1) made → IsLegalFrom client t m (lines_by client actor m made)
+  legal_by t m actor [] all = tt
+  legal_by t m actor (x ∷ xs) all = (legal_line t m actor x.0 x.1 all.0, legal_by t (next client m x.1) actor xs all.1)

@@ -28,7 +28,7 @@ use Rattle.tr_journal.specs.declared.steps.Query.{Query}
 use Rattle.tr_journal.specs.declared.steps.Query.TheVariants as queries
 use Rattle.tr_journal.specs.Journals.{JournalLine}
 use Rattle.tr_journal.specs.Openings.{tree_of}
-use Rattle.tr_journal.specs.Steps.{IsLeaf, IsQuery, IsStep}
+use Rattle.tr_journal.specs.Steps.{AreAsMany, IsLeaf, IsQuery, IsStep}
 use Rattle.tr_machine.specs.Windows.{Window, Command, Mark, updated, with_change}
 use Rattle.tr_machine.specs.States.{State, content_of, start, with_window}
 use Rattle.tr_machine.specs.Paintings.{acted, flushed, repainted, framed}
@@ -127,11 +127,6 @@ module _ {C M : Type 0} (client : Ghosts C M) where
   }
 
 -- ---- the numbers of a step
-
--- there are as many nodes, and as many leaves
-pub record AreAsMany (t new : Nodes) : Type 0 where
-  pub nodes : length new.entries ≡ length t.entries
-  pub leaves : leaf_count new ≡ leaf_count t
 
 -- what is a node, a leaf, an edit or a query of the first is one of the second
 module _ (t new : Nodes) (many : AreAsMany t new) where

@@ -3,6 +3,7 @@ pub mod BaseLemmas
 pub mod CountLemmas
 pub mod FlushLemmas
 pub mod FrameLemmas
+pub mod HandingLemmas
 pub mod JournalLemmas
 pub mod KeptLemmas
 pub mod LagLemmas
@@ -12,6 +13,7 @@ pub mod PointLemmas
 pub mod RenderLemmas
 pub mod RepaintLemmas
 pub mod SettleLemmas
+pub mod SharingLemmas
 pub mod ShownLemmas
 pub mod SoundLemmas
 pub mod StillLemmas

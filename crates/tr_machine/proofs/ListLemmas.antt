@@ -45,6 +45,20 @@ changed_at-twice zero first second (x ∷ xs) = refl
 changed_at-twice (suc i) first second [] = refl
 changed_at-twice (suc i) first second (x ∷ xs) = ap (λ ys. x ∷ ys) (changed_at-twice i first second xs)
 
+-- what leaves an element as it is leaves the list as it is
+pub unchanged : {A : Type 0} (f : A → A) (xs : List A) (i : ℕ) → ((x : A) → f x ≡ x) → changed_at i f xs ≡ xs
+unchanged f [] i same = refl
+unchanged f (x ∷ xs) zero same = ap (λ y. y ∷ xs) (same x)
+unchanged f (x ∷ xs) (suc i) same = ap (λ ys. x ∷ ys) (unchanged f xs i same)
+
+-- what is made of an element depends on that element alone
+pub changed_at-at : {A : Type 0} (i : ℕ) (f g : A → A) (xs : List A) → ((x : A) → slice_get xs i ≡ Some x → f x ≡ g x) →
+    changed_at i f xs ≡ changed_at i g xs
+changed_at-at zero f g [] same = refl
+changed_at-at zero f g (x ∷ xs) same = ap (λ y. y ∷ xs) (same x refl)
+changed_at-at (suc i) f g [] same = refl
+changed_at-at (suc i) f g (x ∷ xs) same = ap (λ ys. x ∷ ys) (changed_at-at i f g xs same)
+
 -- a place of the list has an element
 pub slice_get-some : {A : Type 0} (xs : List A) (i : ℕ) → i < length xs → (x : A) × (slice_get xs i ≡ Some x)
 slice_get-some xs i within = by_place (slice_get xs i) refl

@@ -28,18 +28,20 @@ use Rattle.tr_surface.specs.Counts.{any_on}
 use Rattle.tr_levels.specs.declared.Level.TheVariants.{Mu}
 use Rattle.tr_journal.specs.declared.steps.Actor.TheVariants.{Painter}
 use Rattle.tr_journal.specs.declared.steps.Step.TheVariants.{Repaint, PaintFrame}
+use Rattle.tr_journal.specs.Steps.{IsFor}
+use Rattle.tr_journal.proofs.LevelLemmas.{lock_level}
 use Rattle.tr_machine.specs.Windows.{Window, content, updated}
 use Rattle.tr_machine.specs.States.{State, base, batch_in, batch_of, changed_at, content_of, look, window_of}
 use Rattle.tr_machine.specs.Paintings.{repainted, is_visible}
 use Rattle.tr_machine.specs.Pictures.{colour_in, colour_by, shown, shown_of, want}
 use Rattle.tr_machine.specs.Promises.{IsSound}
-use Rattle.tr_machine.specs.Replays.{IsLegalFrom}
-use Rattle.tr_machine.specs.Settling.{after_steps, frame_steps, is_frame_bad, is_unsettled, repaint_steps, repaints_below, settling, settling_lines}
+use Rattle.tr_machine.specs.Replays.{IsLegalFrom, after_steps}
+use Rattle.tr_machine.specs.Settling.{frame_steps, is_frame_bad, is_unsettled, repaint_steps, repaints_below, settling, settling_lines}
 use Rattle.tr_machine.proofs.ListLemmas.{changed_at-here, changed_at-there, leaf_by_number}
 use Rattle.tr_machine.proofs.LeadLemmas.{same_pictures}
 use Rattle.tr_machine.proofs.PointLemmas.{covered, none_on}
 use Rattle.tr_machine.proofs.SoundLemmas.{sound_framed, sound_repainted}
-use Rattle.tr_machine.proofs.JournalLemmas.{IsFor, after_steps-append, legal_lines}
+use Rattle.tr_machine.proofs.JournalLemmas.{after_steps-append, legal_lines}
 
 -- ---- small facts
 
@@ -67,7 +69,7 @@ unless_before true b before good = sym (before refl) ∙ good
 unless_before false b before good = refl
 
 -- a count that isn't more than zero is that of no command
-no_batch : (ps : List Paint) → not (length ps == 0) ≡ false → ps ≡ []
+pub no_batch : (ps : List Paint) → not (length ps == 0) ≡ false → ps ≡ []
 no_batch ps h = by_length ps (equal_numbers (length ps) 0 (not-false (length ps == 0) h))
   where
     by_length : (ps : List Paint) → length ps ≡ 0 → ps ≡ []
@@ -437,7 +439,7 @@ module _ {C M : Type 0} (client : Ghosts C M) where
       (repaints_for t n m (omega arith)) (by_test (must m (numbered n)))
     where
       by_test : (b : Bool) → AllByRecursion (IsFor {M = M} t Painter (Mu ∷ [])) (cond b (Repaint (numbered n) ∷ []) [])
-      by_test true = (record { may = refl; covers = refl; values = record { within = le } }, tt)
+      by_test true = (record { may = refl; covers = refl; levels = lock_level t; values = record { within = le } }, tt)
       by_test false = tt
 
   -- and so are all steps that settle a state
@@ -447,7 +449,7 @@ module _ {C M : Type 0} (client : Ghosts C M) where
       (repaints_for t (length m.windows) m (omega arith)) (by_test (is_frame_bad m))
     where
       by_test : (b : Bool) → AllByRecursion (IsFor {M = M} t Painter (Mu ∷ [])) (cond b (PaintFrame ∷ []) [])
-      by_test true = (record { may = refl; covers = refl; values = tt }, tt)
+      by_test true = (record { may = refl; covers = refl; levels = lock_level t; values = tt }, tt)
       by_test false = tt
 
   -- so their lines are legal

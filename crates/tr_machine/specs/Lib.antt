@@ -6,4 +6,6 @@ pub mod Machines
 pub mod Replays
 pub mod Pictures
 pub mod Settling
+pub mod Handing
+pub mod Sharing
 pub mod Promises

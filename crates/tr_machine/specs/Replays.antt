@@ -1,5 +1,5 @@
 -- Journals as runs of the machine.
-use Rattle.std.specs.Prelude.{◌≡◌, ⊤, true, List, [], ◌∷◌, length}
+use Rattle.std.specs.Prelude.{◌≡◌, ⊤, true, List, [], ◌∷◌, length, map}
 use Rattle.tr_client.specs.declared.clients.Client.{Ghosts}
 use Rattle.tr_forest.specs.Nodes.{Nodes}
 use Rattle.tr_levels.specs.declared.Level.{Level}
@@ -8,9 +8,13 @@ use Rattle.tr_journal.specs.declared.steps.Actor.{Actor}
 use Rattle.tr_journal.specs.declared.steps.Step.{Step}
 use Rattle.tr_journal.specs.Journals.{JournalLine}
 use Rattle.tr_journal.specs.Openings.{tree_of}
-use Rattle.tr_journal.specs.Steps.{IsStep, may, covers}
+use Rattle.tr_journal.specs.Steps.{AreLevels, IsStep, may, covers}
 use Rattle.tr_machine.specs.States.{State, start}
 use Rattle.tr_machine.specs.Machines as machine
+
+-- each of these steps, with the same levels held
+abbrev pub under : {M : Type 0} → List Level → List (Step M) → List (List Level × Step M)
+under level steps = map (λ step. (level, step)) steps
 
 module _ {C M : Type 0} (client : Ghosts C M) where
   -- the state after a step
@@ -31,6 +35,20 @@ module _ {C M : Type 0} (client : Ghosts C M) where
         sent = out.sent;
       }
 
+  -- the lines that steps in a row make, all by one actor, each with its levels held
+  abbrev pub lines_by : Actor → State C M → List (List Level × Step M) → List (JournalLine M)
+  lines_by actor m [] = []
+  lines_by actor m (made ∷ later) = line_of m actor made.0 made.1 ∷ lines_by actor (next m made.1) later
+
+  -- those of steps with the same levels held
+  abbrev pub lines_of : Actor → List Level → State C M → List (Step M) → List (JournalLine M)
+  lines_of actor level m steps = lines_by actor m (under level steps)
+
+  -- the state after steps in a row
+  abbrev pub after_steps : State C M → List (Step M) → State C M
+  after_steps m [] = m
+  after_steps m (step ∷ steps) = after_steps (next m step) steps
+
   -- the state after the steps of some lines
   abbrev pub replay_from : State C M → List (JournalLine M) → State C M
   replay_from m [] = m
@@ -40,11 +58,12 @@ module _ {C M : Type 0} (client : Ghosts C M) where
   abbrev pub replay : List (Item C) → List (JournalLine M) → State C M
   replay items lines = replay_from (start items) lines
 
-  -- a line that the machine makes: its step is for its actor to make, the step's levels are among those that were held, its numbers are
-  -- those of nodes and leaves and within their ranges, and its answer and what it sent are the machine's
+  -- a line that the machine makes: its step is for its actor to make, the step's levels are among those that were held, these are levels
+  -- of leaves, its numbers are those of nodes and leaves and within their ranges, and its answer and what it sent are the machine's
   pub record IsLegalLine (t : Nodes) (m : State C M) (line : JournalLine M) : Type 0 where
     pub may : may line.entry.actor line.entry.step ≡ true
     pub covers : covers line.entry.level line.entry.step ≡ true
+    pub levels : AreLevels t line.entry.level
     pub values : IsStep t line.entry.step
     pub made : line ≡ line_of m line.entry.actor line.entry.level line.entry.step
 

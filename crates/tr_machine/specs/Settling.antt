@@ -5,16 +5,14 @@ use Rattle.tr_client.specs.declared.clients.Client.{Ghosts}
 use Rattle.tr_spot.specs.Spots.{spot}
 use Rattle.tr_surface.specs.Surfaces.{is_frame}
 use Rattle.tr_surface.specs.Counts.{any_on}
-use Rattle.tr_levels.specs.declared.Level.{Level}
 use Rattle.tr_levels.specs.declared.Level.TheVariants.{Mu}
-use Rattle.tr_journal.specs.declared.steps.Actor.{Actor}
 use Rattle.tr_journal.specs.declared.steps.Actor.TheVariants.{Painter}
 use Rattle.tr_journal.specs.declared.steps.Step.{Step}
 use Rattle.tr_journal.specs.declared.steps.Step.TheVariants.{Repaint, PaintFrame}
 use Rattle.tr_journal.specs.Journals.{JournalLine}
 use Rattle.tr_machine.specs.States.{State, batch_of}
 use Rattle.tr_machine.specs.Paintings.{is_visible}
-use Rattle.tr_machine.specs.Replays.{line_of, next}
+use Rattle.tr_machine.specs.Replays.{lines_of}
 
 -- a point of a frame is bad
 abbrev pub is_frame_bad : {C M : Type 0} → State C M → Bool
@@ -43,17 +41,6 @@ module _ {C M : Type 0} (client : Ghosts C M) where
   abbrev pub settling : State C M → List (Step M)
   settling m = repaints_below (length m.windows) m ++ frame_steps m
 
-  -- the state after steps in a row
-  abbrev pub after_steps : State C M → List (Step M) → State C M
-  after_steps m [] = m
-  after_steps m (step ∷ steps) = after_steps (next client m step) steps
-
-  -- the lines that steps in a row make, all by one actor with the same levels held
-  abbrev pub lines_of : Actor → List Level → State C M → List (Step M) → List (JournalLine M)
-  lines_of actor level m [] = []
-  lines_of actor level m (step ∷ steps) =
-      line_of client m actor level step ∷ lines_of actor level (next client m step) steps
-
   -- the lines that settle a state: the painter's, under the tree's lock
   abbrev pub settling_lines : State C M → List (JournalLine M)
-  settling_lines m = lines_of Painter (Mu ∷ []) m (settling m)
+  settling_lines m = lines_of client Painter (Mu ∷ []) m (settling m)

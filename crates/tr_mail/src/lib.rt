@@ -10,6 +10,3 @@ mod positions;
 pub use mails::Mail;
 pub use outboxes::Outbox;
 pub use positions::is_reshaped;
-
-#[cfg(test)]
-mod tests;

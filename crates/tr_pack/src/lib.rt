@@ -5,6 +5,3 @@
 mod packs;
 
 pub use packs::{Rows, pack_place, pack_place_into, pack_shape};
-
-#[cfg(test)]
-mod tests;

@@ -9,6 +9,3 @@ mod paints;
 
 pub use batches::Batch;
 pub use paints::{NEAR, Paint};
-
-#[cfg(test)]
-mod tests;

@@ -11,27 +11,31 @@ use Rattle.tr_grammar.specs.States.{nothing_yet}
 use Rattle.tr_grammar.specs.Texts.{lines_of}
 use Rattle.tr_grammar.specs.Scripts.{Refusal, Script, most_bytes, refusal_of, refused_at, first_fault, script_of}
 use Rattle.tr_serial.specs.Outputs.{gen_text, drawn}
+use Rattle.tr_arguments.specs.declared.Command.{Command}
+use Rattle.tr_arguments.specs.declared.Command.TheVariants as commands
+use Rattle.tr_player.specs.declared.calls.Outcome.{Outcome}
 use Rattle.tr_player.specs.declared.statuses.Status.{Status}
 use Rattle.tr_player.specs.declared.statuses.Status.TheVariants.{NoMemory, WriteFault}
 use Rattle.tr_player.specs.Statuses.{code}
 use Rattle.tr_player.specs.Checks.{check_refusal}
-use Rattle.tr_player.specs.Replies.{IsDueOfText}
-use Rattle.tr_player.specs.Answers.{Reading, plays, checks, Task, reads, sums_up, most_read, OfBytesRead, IsReadThrough, or_else, refusal_for, text_for, usage_text, read_fault_text, refused_text, Due, usage, read_fault, refused, played, status_of, text_of, Asked, IsDueOfBytes, IsDueFor, IsDue, SinkChange, HandedOut, HasPlayed, IsStageOf, IsDelivered, IsAnswered, ReadsNone, Yields, OfScriptRead, OfNumber, IsAllowed}
+use Rattle.tr_player.specs.Responses.{IsDueOfText}
+use Rattle.tr_player.specs.Answers.{most_read, OfBytesRead, IsReadThrough, or_else, refusal_for, text_for, usage_text, read_fault_text, refused_text, Due, usage, read_fault, refused, played, status_of, text_of, SourceChange, IsDueOfBytes, IsDue, SinkChange, HasPlayed, IsStageOf, IsDelivered, IsAnswered, ReadsNone, Yields, OfReader, OfScriptRead, OfNumber, IsAllowed}
 
 -- ---- the bytes that were read
 
 -- what follows of the bytes that were read
-pub of_read : (P Q : List ℕ → Type 0) → ((bytes : List ℕ) → P bytes → Q bytes) → (left : Option (List ℕ)) → OfBytesRead left P → OfBytesRead left Q
-of_read P Q f None (bytes, p) = (bytes, f bytes p)
-of_read P Q f (Some xs) p = f (take most_read xs) p
+pub of_read : (command : Command) (P Q : List ℕ → Type 0) → ((bytes : List ℕ) → P bytes → Q bytes) → (left : Option (List ℕ)) →
+    OfBytesRead command left P → OfBytesRead command left Q
+of_read command P Q f None (bytes, p) = (bytes, f bytes p)
+of_read command P Q f (Some xs) p = f (take (most_read command) xs) p
 
 none_first : (r later : Option Refusal) → or_else r later ≡ None → r ≡ None
 none_first (Some r) later h = h
 none_first None later h = refl
 
-not_refused : (reading : Reading) (bytes : List ℕ) → refusal_for reading bytes ≡ None → refusal_of bytes ≡ None
-not_refused plays bytes h = h
-not_refused checks bytes h = none_first (refusal_of bytes) (check_refusal (script_of bytes)) h
+not_refused : (command : Command) (bytes : List ℕ) → refusal_for command bytes ≡ None → refusal_of bytes ≡ None
+not_refused commands.Check bytes h = none_first (refusal_of bytes) (check_refusal (script_of bytes)) h
+not_refused command bytes h = h
 
 none_else : (b : Bool) (r : Refusal) (later : Option Refusal) → (if b then Some r else later) ≡ None → b ≡ false
 none_else true r later h = let e : Some r ≡ None = h in cc
@@ -41,9 +45,9 @@ below_more : (most n : ℕ) → nat_lt most n ≡ false → n < most + 1
 below_more most n h = grind (arith, nat_tests)
 
 -- a text that isn't refused has fewer bytes than are read at most
-not_too_long : (bytes : List ℕ) → refusal_of bytes ≡ None → length bytes < most_read
+not_too_long : (command : Command) (bytes : List ℕ) → refusal_of bytes ≡ None → length bytes < most_read command
 unfolding refusal_of
-not_too_long bytes h =
+not_too_long command bytes h =
     below_more most_bytes (length bytes)
     (none_else (nat_lt most_bytes (length bytes)) (refused_at 0 B7) (first_fault nothing_yet 1 (lines_of bytes)) h)
 
@@ -52,20 +56,24 @@ all_read : (most : ℕ) (xs : List ℕ) → length (take most xs) < most → dro
 all_read most xs h = grind (arith, common_steps)
 
 -- a source of a script that isn't refused is read to its end
-all_of_script : (reading : Reading) (left left_new : Option (List ℕ)) → OfBytesRead left (λ bytes. refusal_for reading bytes ≡ None) →
-    IsReadThrough left left_new → IfSome left_new (λ rest. rest ≡ [])
-all_of_script reading left left_new h e = subst (λ (x : Option (List ℕ)). IfSome x (λ rest. rest ≡ [])) (sym e) (by_cases left h)
+all_of_script : (command : Command) (left left_new : Option (List ℕ)) → OfBytesRead command left (λ bytes. refusal_for command bytes ≡ None) →
+    IsReadThrough command left left_new → IfSome left_new (λ rest. rest ≡ [])
+all_of_script command left left_new h e = subst (λ (x : Option (List ℕ)). IfSome x (λ rest. rest ≡ [])) (sym e) (by_cases left h)
   where
-    by_cases : (x : Option (List ℕ)) → OfBytesRead x (λ bytes. refusal_for reading bytes ≡ None) →
-        IfSome (option_map (λ bytes. drop most_read bytes) x) (λ rest. rest ≡ [])
+    by_cases : (x : Option (List ℕ)) → OfBytesRead command x (λ bytes. refusal_for command bytes ≡ None) →
+        IfSome (option_map (λ bytes. drop (most_read command) bytes) x) (λ rest. rest ≡ [])
     by_cases None h = tt
-    by_cases (Some xs) h = all_read most_read xs (not_too_long _ (not_refused reading _ h))
+    by_cases (Some xs) h = all_read (most_read command) xs (not_too_long command _ (not_refused command _ h))
+
+-- the bytes that are read aren't refused
+abbrev AreAllowed : Command → Option (List ℕ) → Type 0
+AreAllowed command left = IsSomeAnd left (λ bytes. refusal_for command (take (most_read command) bytes) ≡ None)
 
 -- bytes that are refused aren't bytes that aren't
-not_both : (reading : Reading) (r : Refusal) (left : Option (List ℕ)) → OfBytesRead left (λ bytes. refusal_for reading bytes ≡ Some r) →
-    IsAllowed (Some (reads reading)) left → ⊥
-not_both reading r None h allowed = allowed
-not_both reading r (Some xs) h allowed = let e : Some r ≡ None = sym h ∙ allowed in cc
+not_both : (command : Command) (r : Refusal) (left : Option (List ℕ)) → OfBytesRead command left (λ bytes. refusal_for command bytes ≡ Some r) →
+    AreAllowed command left → ⊥
+not_both command r None h allowed = allowed
+not_both command r (Some xs) h allowed = let e : Some r ≡ None = sym h ∙ allowed in cc
 
 some_is : {A : Type 0} (o : Option A) (x : A) → o ≡ Some x → IsSome o
 some_is {A = A} o x e = subst (λ (v : Option A). IsSome v) (sym e) refl
@@ -78,302 +86,353 @@ and_is None P h = absurd h
 and_is (Some x) P h = refl
 
 -- the bytes aren't refused, and the script is what they say
-abbrev IsRead : Reading → Script → List ℕ → Type 0
-IsRead reading s bytes = (refusal_for reading bytes ≡ None) × (s ≡ script_of bytes)
+abbrev IsRead : Command → Script → List ℕ → Type 0
+IsRead command s bytes = (refusal_for command bytes ≡ None) × (s ≡ script_of bytes)
 
--- ---- the reply to what was read
+-- ---- the response to what was read
 
 -- what is due for the text that was read is due for its bytes
-pub due_of_text : (reading : Reading) (a : Asked) (items : List ℕ) (due : Due) → OfBytesRead a.left (λ bytes. items ≡ bytes) → IsReadThrough a.left a.left_new →
-    IsDueOfText reading items due → IsDueOfBytes reading a due
-due_of_text reading a items usage e t d = absurd d
-due_of_text reading a items read_fault e t d = absurd d
-due_of_text reading a items (refused r) e t d =
-    (t, of_read _ _ (λ bytes (same : items ≡ bytes). subst (λ (b : List ℕ). refusal_for reading b ≡ Some r) same d) a.left e)
-due_of_text reading a items (played s text) e t d =
-    let is : IsRead reading s items = (d.0, d.1) in
-    (t, of_read _ _ (λ bytes (same : items ≡ bytes). subst (λ (b : List ℕ). IsRead reading s b) same is) a.left e, d.2)
+pub due_of_text : (command : Command) (from : SourceChange) (items : List ℕ) (due : Due) → OfBytesRead command from.left (λ bytes. items ≡ bytes) →
+    IsReadThrough command from.left from.left_new → IsDueOfText command items due → IsDueOfBytes command from due
+due_of_text command from items usage e t d = absurd d
+due_of_text command from items read_fault e t d = absurd d
+due_of_text command from items (refused r) e t d =
+    (t, of_read command _ _ (λ bytes (same : items ≡ bytes). subst (λ (b : List ℕ). refusal_for command b ≡ Some r) same d) from.left e)
+due_of_text command from items (played s text) e t d =
+    let is : IsRead command s items = (d.0, d.1) in
+    (t, of_read command _ _ (λ bytes (same : items ≡ bytes). subst (λ (b : List ℕ). IsRead command s b) same is) from.left e, d.2)
 
 -- ---- the clauses
 
-pub status_due : (a : Asked) (out : HandedOut) (to : SinkChange) → IsAnswered a out to → (status : Status) × (out.status ≡ code status)
-status_due a out to (inl w) = (NoMemory, w.0)
-status_due a out to (inr w) = by_cases w.0 w.2
-  where
-    by_cases : (due : Due) → IsDelivered due out to → (status : Status) × (out.status ≡ code status)
-    by_cases due (inl v) = (status_of due, v.0)
-    by_cases due (inr (inl v)) = (WriteFault, v.0)
-    by_cases due (inr (inr v)) = (NoMemory, v.0)
+-- an answer that no write fault and no want of memory took the place of
+record IsGiven (asked : Option Command) (from : SourceChange) (out : Outcome) (to : SinkChange) : Type 0 where
+  due : Due
+  is : IsDue asked from due
+  status : out.status ≡ code (status_of due)
+  stage : IsStageOf due out.stage
+  written : Grew to.written to.written_new (text_of due)
 
--- usage comes exactly where there is no task
-pub usage_due : (a : Asked) (out : HandedOut) (to : SinkChange) → IsAnswered a out to → Yields out.status ((out.status ≡ 2) ↔ (a.task ≡ None))
-usage_due a out to (inl w) = λ n5 n6. absurd (n6 w.0)
-usage_due a out to (inr w) = by_cases a.task w.0 w.1 w.2
-  where
-    by_cases : (task : Option Task) (due : Due) → IsDueFor task a due → IsDelivered due out to → Yields out.status ((out.status ≡ 2) ↔ (task ≡ None))
-    by_cases task due d (inr (inl v)) = λ n5 n6. absurd (n5 v.0)
-    by_cases task due d (inr (inr v)) = λ n5 n6. absurd (n6 v.0)
-    by_cases None due d (inl v) = λ n5 n6. (λ _. refl, λ _. v.0 ∙ ap (λ (x : Due). code (status_of x)) d.0)
-    by_cases (Some (sums_up number)) due d (inl v) =
-        let zero : code (status_of due) ≡ 0 = ap (λ (x : Due). code (status_of x)) d.0 in
-        λ n5 n6. (λ two. absurd (omega arith), λ none. cc)
-    by_cases (Some (reads reading)) usage d (inl v) = absurd d
-    by_cases (Some (reads reading)) read_fault d (inl v) = λ n5 n6. (λ two. absurd (omega arith), λ none. cc)
-    by_cases (Some (reads reading)) (refused r) d (inl v) = λ n5 n6. (λ two. absurd (omega arith), λ none. cc)
-    by_cases (Some (reads reading)) (played s text) d (inl v) = λ n5 n6. (λ two. absurd (omega arith), λ none. cc)
+module _ (asked : Option Command) (from : SourceChange) (out : Outcome) (to : SinkChange) (answered : IsAnswered asked from out to) where
+  given : out.status ≢ 5 → out.status ≢ 6 → IsGiven asked from out to
+  given n5 n6 = by_cases answered
+    where
+      delivered : (due : Due) → IsDue asked from due → IsDelivered due out to → IsGiven asked from out to
+      delivered due d (inl v) = record { due = due; is = d; status = v.0; stage = v.1; written = v.2 }
+      delivered due d (inr (inl v)) = absurd (n5 v.0)
+      delivered due d (inr (inr v)) = absurd (n6 v.0)
 
--- the text of a delivered answer is that of its status
-pub usage_written : (a : Asked) (out : HandedOut) (to : SinkChange) → IsAnswered a out to → out.status ≡ 2 → Grew to.written to.written_new usage_text
-usage_written a out to (inl w) e = absurd (omega arith)
-usage_written a out to (inr w) e = by_cases w.0 w.2
-  where
-    by_cases : (due : Due) → IsDelivered due out to → Grew to.written to.written_new usage_text
-    by_cases due (inr (inl v)) = absurd (omega arith)
-    by_cases due (inr (inr v)) = absurd (omega arith)
-    by_cases usage (inl v) = v.2
-    by_cases read_fault (inl v) = absurd (omega arith)
-    by_cases (refused r) (inl v) = absurd (omega arith)
-    by_cases (played s text) (inl v) = absurd (omega arith)
+      by_cases : IsAnswered asked from out to → IsGiven asked from out to
+      by_cases (inl w) = absurd (n6 w.0)
+      by_cases (inr w) = delivered w.0 w.1 w.2
 
-pub read_fault_due : (a : Asked) (out : HandedOut) (to : SinkChange) → IsAnswered a out to → out.status ≡ 4 → HasFault a.faults a.faults_new
-read_fault_due a out to (inl w) e = absurd (omega arith)
-read_fault_due a out to (inr w) e = by_cases a.task w.0 w.1 w.2
-  where
-    by_cases : (task : Option Task) (due : Due) → IsDueFor task a due → IsDelivered due out to → HasFault a.faults a.faults_new
-    by_cases task due d (inr (inl v)) = absurd (omega arith)
-    by_cases task due d (inr (inr v)) = absurd (omega arith)
-    by_cases None due d (inl v) = let two : code (status_of due) ≡ 2 = ap (λ (x : Due). code (status_of x)) d.0 in absurd (omega arith)
-    by_cases (Some (sums_up number)) due d (inl v) =
-        let zero : code (status_of due) ≡ 0 = ap (λ (x : Due). code (status_of x)) d.0 in absurd (omega arith)
-    by_cases (Some (reads reading)) usage d (inl v) = absurd d
-    by_cases (Some (reads reading)) read_fault d (inl v) = d
-    by_cases (Some (reads reading)) (refused r) d (inl v) = absurd (omega arith)
-    by_cases (Some (reads reading)) (played s text) d (inl v) = absurd (omega arith)
+  -- the answer with a status below these two
+  given_at : (n : ℕ) → out.status ≡ n → n < 5 → IsGiven asked from out to
+  given_at n e h = given (λ five. absurd (omega arith)) (λ six. absurd (omega arith))
 
-pub read_fault_written : (a : Asked) (out : HandedOut) (to : SinkChange) → IsAnswered a out to → out.status ≡ 4 → Grew to.written to.written_new read_fault_text
-read_fault_written a out to (inl w) e = absurd (omega arith)
-read_fault_written a out to (inr w) e = by_cases w.0 w.2
-  where
-    by_cases : (due : Due) → IsDelivered due out to → Grew to.written to.written_new read_fault_text
-    by_cases due (inr (inl v)) = absurd (omega arith)
-    by_cases due (inr (inr v)) = absurd (omega arith)
-    by_cases usage (inl v) = absurd (omega arith)
-    by_cases read_fault (inl v) = v.2
-    by_cases (refused r) (inl v) = absurd (omega arith)
-    by_cases (played s text) (inl v) = absurd (omega arith)
+  pub status_due : (status : Status) × (out.status ≡ code status)
+  status_due = by_cases answered
+    where
+      delivered : (due : Due) → IsDelivered due out to → (status : Status) × (out.status ≡ code status)
+      delivered due (inl v) = (status_of due, v.0)
+      delivered due (inr (inl v)) = (WriteFault, v.0)
+      delivered due (inr (inr v)) = (NoMemory, v.0)
 
--- of the answers to a script that was read, 3 comes exactly where its bytes are refused
-pub refused_exactly : (a : Asked) (out : HandedOut) (to : SinkChange) → IsAnswered a out to →
-    Yields out.status (out.status ≢ 4 → OfScriptRead a.task a.left (λ reading bytes. (out.status ≡ 3) ↔ IsSome (refusal_for reading bytes)))
-refused_exactly a out to (inl w) = λ n5 n6 n4. absurd (n6 w.0)
-refused_exactly a out to (inr w) = by_cases a.task w.0 w.1 w.2
-  where
-    by_cases : (task : Option Task) (due : Due) → IsDueFor task a due → IsDelivered due out to →
-        Yields out.status (out.status ≢ 4 → OfScriptRead task a.left (λ reading bytes. (out.status ≡ 3) ↔ IsSome (refusal_for reading bytes)))
-    by_cases task due d (inr (inl v)) = λ n5 n6 n4. absurd (n5 v.0)
-    by_cases task due d (inr (inr v)) = λ n5 n6 n4. absurd (n6 v.0)
-    by_cases None due d (inl v) = λ n5 n6 n4. tt
-    by_cases (Some (sums_up number)) due d (inl v) = λ n5 n6 n4. tt
-    by_cases (Some (reads reading)) usage d (inl v) = absurd d
-    by_cases (Some (reads reading)) read_fault d (inl v) = λ n5 n6 n4. absurd (n4 v.0)
-    by_cases (Some (reads reading)) (refused r) d (inl v) = λ n5 n6 n4.
-        of_read _ _ (λ bytes (h : refusal_for reading bytes ≡ Some r). (λ _. some_is _ r h, λ _. v.0)) a.left d.1
-    by_cases (Some (reads reading)) (played s text) d (inl v) = λ n5 n6 n4.
-        of_read _ _ (λ bytes (h : IsRead reading s bytes). (λ three. absurd (omega arith), λ some. absurd (none_is_not _ h.0 some))) a.left d.1
+      by_cases : IsAnswered asked from out to → (status : Status) × (out.status ≡ code status)
+      by_cases (inl w) = (NoMemory, w.0)
+      by_cases (inr w) = delivered w.0 w.2
 
-pub refused_written : (a : Asked) (out : HandedOut) (to : SinkChange) → IsAnswered a out to → out.status ≡ 3 →
-    OfScriptRead a.task a.left (λ reading bytes. IsSomeAnd (refusal_for reading bytes) (λ r. Grew to.written to.written_new (refused_text r)))
-refused_written a out to (inl w) e = absurd (omega arith)
-refused_written a out to (inr w) e = by_cases a.task w.0 w.1 w.2
-  where
-    by_cases : (task : Option Task) (due : Due) → IsDueFor task a due → IsDelivered due out to →
-        OfScriptRead task a.left (λ reading bytes. IsSomeAnd (refusal_for reading bytes) (λ r. Grew to.written to.written_new (refused_text r)))
-    by_cases task due d (inr (inl v)) = absurd (omega arith)
-    by_cases task due d (inr (inr v)) = absurd (omega arith)
-    by_cases None due d (inl v) = tt
-    by_cases (Some (sums_up number)) due d (inl v) = tt
-    by_cases (Some (reads reading)) usage d (inl v) = absurd d
-    by_cases (Some (reads reading)) read_fault d (inl v) = absurd (omega arith)
-    by_cases (Some (reads reading)) (refused r) d (inl v) =
-        let P : Option Refusal → Type 0 = λ x. IsSomeAnd x (λ r. Grew to.written to.written_new (refused_text r)) in
-        of_read _ _ (λ bytes (h : refusal_for reading bytes ≡ Some r). subst P (sym h) v.2) a.left d.1
-    by_cases (Some (reads reading)) (played s text) d (inl v) = absurd (omega arith)
+  -- the status of the summary of a number's script
+  summed_up : (number : ℕ) (due : Due) → due ≡ played (drawn number) (gen_text number) → out.status ≡ code (status_of due) → out.status ≡ 0
+  summed_up number due is e = e ∙ ap (λ (x : Due). code (status_of x)) is
 
-pub number_allowed : (a : Asked) (out : HandedOut) (to : SinkChange) → IsAnswered a out to → OfNumber a.task (λ number. out.status ≢ 3)
-number_allowed a out to (inl w) = by_task a.task
-  where
-    by_task : (task : Option Task) → OfNumber task (λ number. out.status ≢ 3)
-    by_task None = tt
-    by_task (Some (reads reading)) = tt
-    by_task (Some (sums_up number)) = λ e. absurd (omega arith)
-number_allowed a out to (inr w) = by_cases a.task w.0 w.1 w.2
-  where
-    by_cases : (task : Option Task) (due : Due) → IsDueFor task a due → IsDelivered due out to → OfNumber task (λ number. out.status ≢ 3)
-    by_cases None due d v = tt
-    by_cases (Some (reads reading)) due d v = tt
-    by_cases (Some (sums_up number)) due d (inr (inl v)) = λ e. absurd (omega arith)
-    by_cases (Some (sums_up number)) due d (inr (inr v)) = λ e. absurd (omega arith)
-    by_cases (Some (sums_up number)) due d (inl v) =
-        let zero : code (status_of due) ≡ 0 = ap (λ (x : Due). code (status_of x)) d.0 in λ e. absurd (omega arith)
+  -- usage comes exactly where nothing is asked for
+  pub usage_due : Yields out.status ((out.status ≡ 2) ↔ (asked ≡ None))
+  usage_due n5 n6 = let g = given n5 n6 in by_command asked g.due g.is g.status
+    where
+      of_bytes : (command : Command) (due : Due) → IsDueOfBytes command from due → out.status ≡ code (status_of due) → out.status ≢ 2
+      of_bytes command usage d e = absurd d
+      of_bytes command read_fault d e = λ two. absurd (omega arith)
+      of_bytes command (refused r) d e = λ two. absurd (omega arith)
+      of_bytes command (played s text) d e = λ two. absurd (omega arith)
 
--- a script was read through where it was played or refused
-pub read_through : (a : Asked) (out : HandedOut) (to : SinkChange) → IsAnswered a out to → (out.status ≡ 0) ⊎ (out.status ≡ 3) → (ReadsNone a.task → ⊥) →
-    IsReadThrough a.left a.left_new
-read_through a out to (inl w) (inl e) reads_one = absurd (omega arith)
-read_through a out to (inl w) (inr e) reads_one = absurd (omega arith)
-read_through a out to (inr w) e reads_one = by_cases a.task w.0 w.1 w.2 e reads_one
-  where
-    by_cases : (task : Option Task) (due : Due) → IsDueFor task a due → IsDelivered due out to → (out.status ≡ 0) ⊎ (out.status ≡ 3) →
-        (ReadsNone task → ⊥) → IsReadThrough a.left a.left_new
-    by_cases task due d (inr (inl v)) (inl e) one = absurd (omega arith)
-    by_cases task due d (inr (inl v)) (inr e) one = absurd (omega arith)
-    by_cases task due d (inr (inr v)) (inl e) one = absurd (omega arith)
-    by_cases task due d (inr (inr v)) (inr e) one = absurd (omega arith)
-    by_cases None due d (inl v) e one = absurd (one tt)
-    by_cases (Some (sums_up number)) due d (inl v) e one = absurd (one tt)
-    by_cases (Some (reads reading)) usage d (inl v) e one = absurd d
-    by_cases (Some (reads reading)) read_fault d (inl v) (inl e) one = absurd (omega arith)
-    by_cases (Some (reads reading)) read_fault d (inl v) (inr e) one = absurd (omega arith)
-    by_cases (Some (reads reading)) (refused r) d (inl v) e one = d.0
-    by_cases (Some (reads reading)) (played s text) d (inl v) e one = d.0
+      by_command : (what : Option Command) (due : Due) → IsDue what from due → out.status ≡ code (status_of due) →
+          (out.status ≡ 2) ↔ (what ≡ None)
+      by_command None due d e = (λ _. refl, λ _. e ∙ ap (λ (x : Due). code (status_of x)) d.0)
+      by_command (Some (commands.Gen number)) due d e =
+          let zero : out.status ≡ 0 = summed_up number due d.0 e in (λ two. absurd (omega arith), λ none. cc)
+      by_command (Some command) due d e = (λ two. absurd (of_bytes command due d e two), λ none. cc)
 
--- at status 0 the source was read to its end
-pub read_to_end : (a : Asked) (out : HandedOut) (to : SinkChange) → IsAnswered a out to → out.status ≡ 0 → (ReadsNone a.task → ⊥) →
-    IfSome a.left_new (λ rest. rest ≡ [])
-read_to_end a out to (inl w) e reads_one = absurd (omega arith)
-read_to_end a out to (inr w) e reads_one = by_cases a.task w.0 w.1 w.2 reads_one
-  where
-    by_cases : (task : Option Task) (due : Due) → IsDueFor task a due → IsDelivered due out to → (ReadsNone task → ⊥) → IfSome a.left_new (λ rest. rest ≡ [])
-    by_cases task due d (inr (inl v)) one = absurd (omega arith)
-    by_cases task due d (inr (inr v)) one = absurd (omega arith)
-    by_cases None due d (inl v) one = absurd (one tt)
-    by_cases (Some (sums_up number)) due d (inl v) one = absurd (one tt)
-    by_cases (Some (reads reading)) usage d (inl v) one = absurd d
-    by_cases (Some (reads reading)) read_fault d (inl v) one = absurd (omega arith)
-    by_cases (Some (reads reading)) (refused r) d (inl v) one = absurd (omega arith)
-    by_cases (Some (reads reading)) (played s text) d (inl v) one =
-        all_of_script reading a.left a.left_new (of_read _ _ (λ bytes (h : IsRead reading s bytes). h.0) a.left d.1) d.0
+  -- the text of a given answer is that of its status
+  pub usage_written : out.status ≡ 2 → Grew to.written to.written_new usage_text
+  usage_written e = let g = given_at 2 e (omega arith) in by_due g.due g.status g.written
+    where
+      by_due : (due : Due) → out.status ≡ code (status_of due) → Grew to.written to.written_new (text_of due) →
+          Grew to.written to.written_new usage_text
+      by_due usage is grew = grew
+      by_due read_fault is grew = absurd (omega arith)
+      by_due (refused r) is grew = absurd (omega arith)
+      by_due (played s text) is grew = absurd (omega arith)
 
--- at status 0 the text of the script that was read is written
-pub script_written : (a : Asked) (out : HandedOut) (to : SinkChange) → IsAnswered a out to → out.status ≡ 0 →
-    OfScriptRead a.task a.left (λ reading bytes. Grew to.written to.written_new (text_for reading (script_of bytes)))
-script_written a out to (inl w) e = absurd (omega arith)
-script_written a out to (inr w) e = by_cases a.task w.0 w.1 w.2
-  where
-    by_cases : (task : Option Task) (due : Due) → IsDueFor task a due → IsDelivered due out to →
-        OfScriptRead task a.left (λ reading bytes. Grew to.written to.written_new (text_for reading (script_of bytes)))
-    by_cases task due d (inr (inl v)) = absurd (omega arith)
-    by_cases task due d (inr (inr v)) = absurd (omega arith)
-    by_cases None due d (inl v) = tt
-    by_cases (Some (sums_up number)) due d (inl v) = tt
-    by_cases (Some (reads reading)) usage d (inl v) = absurd d
-    by_cases (Some (reads reading)) read_fault d (inl v) = absurd (omega arith)
-    by_cases (Some (reads reading)) (refused r) d (inl v) = absurd (omega arith)
-    by_cases (Some (reads reading)) (played s text) d (inl v) =
-        let grew : Grew to.written to.written_new (text_for reading s) = subst (λ (t : List ℕ). Grew to.written to.written_new t) d.2 v.2 in
-        let P : Script → Type 0 = λ x. Grew to.written to.written_new (text_for reading x) in
-        of_read _ _ (λ bytes (h : IsRead reading s bytes). subst P h.1 grew) a.left d.1
+  pub read_fault_due : out.status ≡ 4 → HasFault from.faults from.faults_new
+  read_fault_due e = let g = given_at 4 e (omega arith) in by_command asked g.due g.is g.status
+    where
+      of_bytes : (command : Command) (due : Due) → IsDueOfBytes command from due → out.status ≡ code (status_of due) → HasFault from.faults from.faults_new
+      of_bytes command usage d is = absurd d
+      of_bytes command read_fault d is = d
+      of_bytes command (refused r) d is = absurd (omega arith)
+      of_bytes command (played s text) d is = absurd (omega arith)
 
--- at status 0 the stage has played the script that was read
-pub script_played : (a : Asked) (out : HandedOut) (to : SinkChange) → IsAnswered a out to → out.status ≡ 0 →
-    OfScriptRead a.task a.left (λ reading bytes. IsSomeAnd out.stage (λ stage. HasPlayed (script_of bytes) stage))
-script_played a out to (inl w) e = absurd (omega arith)
-script_played a out to (inr w) e = by_cases a.task w.0 w.1 w.2
-  where
-    by_cases : (task : Option Task) (due : Due) → IsDueFor task a due → IsDelivered due out to →
-        OfScriptRead task a.left (λ reading bytes. IsSomeAnd out.stage (λ stage. HasPlayed (script_of bytes) stage))
-    by_cases task due d (inr (inl v)) = absurd (omega arith)
-    by_cases task due d (inr (inr v)) = absurd (omega arith)
-    by_cases None due d (inl v) = tt
-    by_cases (Some (sums_up number)) due d (inl v) = tt
-    by_cases (Some (reads reading)) usage d (inl v) = absurd d
-    by_cases (Some (reads reading)) read_fault d (inl v) = absurd (omega arith)
-    by_cases (Some (reads reading)) (refused r) d (inl v) = absurd (omega arith)
-    by_cases (Some (reads reading)) (played s text) d (inl v) =
-        let P : Script → Type 0 = λ x. IsSomeAnd out.stage (λ stage. HasPlayed x stage) in
-        of_read _ _ (λ bytes (h : IsRead reading s bytes). subst P h.1 v.1) a.left d.1
+      by_command : (what : Option Command) (due : Due) → IsDue what from due → out.status ≡ code (status_of due) → HasFault from.faults from.faults_new
+      by_command None due d is =
+          let two : code (status_of due) ≡ 2 = ap (λ (x : Due). code (status_of x)) d.0 in absurd (omega arith)
+      by_command (Some (commands.Gen number)) due d is =
+          let zero : out.status ≡ 0 = summed_up number due d.0 is in absurd (omega arith)
+      by_command (Some command) due d is = of_bytes command due d is
 
--- at status 0 the summary of the number's script is written, and the stage has played it
-pub number_played : (a : Asked) (out : HandedOut) (to : SinkChange) → IsAnswered a out to → out.status ≡ 0 →
-    OfNumber a.task (λ number. Grew to.written to.written_new (gen_text number) × IsSomeAnd out.stage (λ stage. HasPlayed (drawn number) stage))
-number_played a out to (inl w) e = absurd (omega arith)
-number_played a out to (inr w) e = by_cases a.task w.0 w.1 w.2
-  where
-    by_cases : (task : Option Task) (due : Due) → IsDueFor task a due → IsDelivered due out to →
-        OfNumber task (λ number. Grew to.written to.written_new (gen_text number) × IsSomeAnd out.stage (λ stage. HasPlayed (drawn number) stage))
-    by_cases task due d (inr (inl v)) = absurd (omega arith)
-    by_cases task due d (inr (inr v)) = absurd (omega arith)
-    by_cases None due d (inl v) = tt
-    by_cases (Some (reads reading)) due d (inl v) = tt
-    by_cases (Some (sums_up number)) due d (inl v) = (
-      subst (λ (x : Due). Grew to.written to.written_new (text_of x)) d.0 v.2,
-      subst (λ (x : Due). IsStageOf x out.stage) d.0 v.1,
-    )
+  pub read_fault_written : out.status ≡ 4 → Grew to.written to.written_new read_fault_text
+  read_fault_written e = let g = given_at 4 e (omega arith) in by_due g.due g.status g.written
+    where
+      by_due : (due : Due) → out.status ≡ code (status_of due) → Grew to.written to.written_new (text_of due) →
+          Grew to.written to.written_new read_fault_text
+      by_due usage is grew = absurd (omega arith)
+      by_due read_fault is grew = grew
+      by_due (refused r) is grew = absurd (omega arith)
+      by_due (played s text) is grew = absurd (omega arith)
 
--- a stage is handed out exactly at status 0
-pub stage_exactly : (a : Asked) (out : HandedOut) (to : SinkChange) → IsAnswered a out to → IsSome out.stage ↔ (out.status ≡ 0)
-stage_exactly a out to (inl w) = (λ some. absurd (none_is_not _ w.1 some), λ e. absurd (omega arith))
-stage_exactly a out to (inr w) = by_cases w.0 w.2
-  where
-    by_cases : (due : Due) → IsDelivered due out to → IsSome out.stage ↔ (out.status ≡ 0)
-    by_cases due (inr (inl v)) = (λ some. absurd (none_is_not _ v.1 some), λ e. absurd (omega arith))
-    by_cases due (inr (inr v)) = (λ some. absurd (none_is_not _ v.1 some), λ e. absurd (omega arith))
-    by_cases usage (inl v) = (λ some. absurd (none_is_not _ v.1 some), λ e. absurd (omega arith))
-    by_cases read_fault (inl v) = (λ some. absurd (none_is_not _ v.1 some), λ e. absurd (omega arith))
-    by_cases (refused r) (inl v) = (λ some. absurd (none_is_not _ v.1 some), λ e. absurd (omega arith))
-    by_cases (played s text) (inl v) = (λ _. v.0, λ _. and_is _ _ v.1)
+  -- of the answers to a script that was read, 3 comes exactly where its bytes are refused
+  pub refused_exactly : Yields out.status (out.status ≢ 4 →
+      OfScriptRead asked from.left (λ command bytes. (out.status ≡ 3) ↔ IsSome (refusal_for command bytes)))
+  refused_exactly n5 n6 n4 = let g = given n5 n6 in by_command asked g.due g.is g.status
+    where
+      of_bytes : (command : Command) (due : Due) → IsDueOfBytes command from due → out.status ≡ code (status_of due) →
+          OfBytesRead command from.left (λ bytes. (out.status ≡ 3) ↔ IsSome (refusal_for command bytes))
+      of_bytes command usage d e = absurd d
+      of_bytes command read_fault d e = absurd (n4 e)
+      of_bytes command (refused r) d e =
+          of_read command _ _ (λ bytes (h : refusal_for command bytes ≡ Some r). (λ _. some_is _ r h, λ _. e)) from.left d.1
+      of_bytes command (played s text) d e =
+          of_read command _ _ (λ bytes (h : IsRead command s bytes). (λ three. absurd (omega arith), λ some. absurd (none_is_not _ h.0 some)))
+          from.left d.1
 
-pub write_fault_due : (a : Asked) (out : HandedOut) (to : SinkChange) → IsAnswered a out to → out.status ≡ 5 → HasFault to.faults to.faults_new
-write_fault_due a out to (inl w) e = absurd (omega arith)
-write_fault_due a out to (inr w) e = by_cases w.0 w.2
-  where
-    by_cases : (due : Due) → IsDelivered due out to → HasFault to.faults to.faults_new
-    by_cases due (inr (inl v)) = v.2
-    by_cases due (inr (inr v)) = absurd (omega arith)
-    by_cases usage (inl v) = absurd (omega arith)
-    by_cases read_fault (inl v) = absurd (omega arith)
-    by_cases (refused r) (inl v) = absurd (omega arith)
-    by_cases (played s text) (inl v) = absurd (omega arith)
+      by_command : (what : Option Command) (due : Due) → IsDue what from due → out.status ≡ code (status_of due) →
+          OfScriptRead what from.left (λ command bytes. (out.status ≡ 3) ↔ IsSome (refusal_for command bytes))
+      by_command None due d e = tt
+      by_command (Some (commands.Gen number)) due d e = tt
+      by_command (Some command) due d e = of_bytes command due d e
 
--- beside a write fault a prefix of what is due is written
-pub prefix_written : (a : Asked) (out : HandedOut) (to : SinkChange) → IsAnswered a out to → out.status ≡ 5 →
-    (due : Due) × IsDue a due × GrewByPrefix to.written to.written_new (text_of due)
-prefix_written a out to (inl w) e = absurd (omega arith)
-prefix_written a out to (inr w) e = (w.0, w.1, by_cases w.0 w.2)
-  where
-    by_cases : (due : Due) → IsDelivered due out to → GrewByPrefix to.written to.written_new (text_of due)
-    by_cases due (inr (inl v)) = v.3
-    by_cases due (inr (inr v)) = absurd (omega arith)
-    by_cases usage (inl v) = absurd (omega arith)
-    by_cases read_fault (inl v) = absurd (omega arith)
-    by_cases (refused r) (inl v) = absurd (omega arith)
-    by_cases (played s text) (inl v) = absurd (omega arith)
+  pub refused_written : out.status ≡ 3 → OfScriptRead asked from.left (λ command bytes.
+      IsSomeAnd (refusal_for command bytes) (λ r. Grew to.written to.written_new (refused_text r)))
+  refused_written e = let g = given_at 3 e (omega arith) in by_command asked g.due g.is g.status g.written
+    where
+      of_bytes : (command : Command) (due : Due) → IsDueOfBytes command from due → out.status ≡ code (status_of due) →
+          Grew to.written to.written_new (text_of due) →
+          OfBytesRead command from.left (λ bytes. IsSomeAnd (refusal_for command bytes) (λ r. Grew to.written to.written_new (refused_text r)))
+      of_bytes command usage d is grew = absurd d
+      of_bytes command read_fault d is grew = absurd (omega arith)
+      of_bytes command (refused r) d is grew =
+          let P : Option Refusal → Type 0 = λ x. IsSomeAnd x (λ r. Grew to.written to.written_new (refused_text r)) in
+          of_read command _ _ (λ bytes (h : refusal_for command bytes ≡ Some r). subst P (sym h) grew) from.left d.1
+      of_bytes command (played s text) d is grew = absurd (omega arith)
 
--- where memory was wanting nothing is written
-pub nothing_written : (a : Asked) (out : HandedOut) (to : SinkChange) → IsAnswered a out to → out.status ≡ 6 → to.written_new ≡ to.written
-nothing_written a out to (inl w) e = w.2
-nothing_written a out to (inr w) e = by_cases w.0 w.2
-  where
-    by_cases : (due : Due) → IsDelivered due out to → to.written_new ≡ to.written
-    by_cases due (inr (inl v)) = absurd (omega arith)
-    by_cases due (inr (inr v)) = v.2
-    by_cases usage (inl v) = absurd (omega arith)
-    by_cases read_fault (inl v) = absurd (omega arith)
-    by_cases (refused r) (inl v) = absurd (omega arith)
-    by_cases (played s text) (inl v) = absurd (omega arith)
+      by_command : (what : Option Command) (due : Due) → IsDue what from due → out.status ≡ code (status_of due) →
+          Grew to.written to.written_new (text_of due) →
+          OfScriptRead what from.left (λ command bytes. IsSomeAnd (refusal_for command bytes) (λ r. Grew to.written to.written_new (refused_text r)))
+      by_command None due d is grew = tt
+      by_command (Some (commands.Gen number)) due d is grew = tt
+      by_command (Some command) due d is grew = of_bytes command due d is grew
 
--- what isn't refused is played, where no fault is counted
-pub all_played : (a : Asked) (out : HandedOut) (to : SinkChange) → IsAnswered a out to → IsAllowed a.task a.left → (HasFault a.faults a.faults_new → ⊥) →
-    (HasFault to.faults to.faults_new → ⊥) → (out.status ≡ 0) ⊎ (out.status ≡ 6)
-all_played a out to (inl w) allowed read written = inr w.0
-all_played a out to (inr w) allowed read written = by_cases a.task w.0 w.1 w.2 allowed
-  where
-    by_cases : (task : Option Task) (due : Due) → IsDueFor task a due → IsDelivered due out to → IsAllowed task a.left → (out.status ≡ 0) ⊎ (out.status ≡ 6)
-    by_cases task due d (inr (inl v)) allowed = absurd (written v.2)
-    by_cases task due d (inr (inr v)) allowed = inr v.0
-    by_cases None due d (inl v) allowed = absurd allowed
-    by_cases (Some (sums_up number)) due d (inl v) allowed = inl (v.0 ∙ ap (λ (x : Due). code (status_of x)) d.0)
-    by_cases (Some (reads reading)) usage d (inl v) allowed = absurd d
-    by_cases (Some (reads reading)) read_fault d (inl v) allowed = absurd (read d)
-    by_cases (Some (reads reading)) (refused r) d (inl v) allowed = absurd (not_both reading r a.left d.1 allowed)
-    by_cases (Some (reads reading)) (played s text) d (inl v) allowed = inl v.0
+  pub number_allowed : OfNumber asked (λ number. out.status ≢ 3)
+  number_allowed = by_command asked (λ due d. d)
+    where
+      by_command : (what : Option Command) → ((due : Due) → IsDue asked from due → IsDue what from due) → OfNumber what (λ number. out.status ≢ 3)
+      by_command (Some (commands.Gen number)) same = λ e.
+          let g = given_at 3 e (omega arith) in
+          let zero : out.status ≡ 0 = summed_up number g.due (same g.due g.is).0 g.status in absurd (omega arith)
+      by_command what same = tt
+
+  -- a script was read through where it was played or refused
+  pub read_through : (out.status ≡ 0) ⊎ (out.status ≡ 3) → OfReader asked (λ command. IsReadThrough command from.left from.left_new)
+  read_through played_or_refused =
+      let low : out.status < 4 = below played_or_refused in
+      let g = given_at out.status refl (omega arith) in
+      by_command asked g.due g.is (omega (arith, g.status))
+    where
+      below : (out.status ≡ 0) ⊎ (out.status ≡ 3) → out.status < 4
+      below (inl zero) = omega arith
+      below (inr three) = omega arith
+
+      of_bytes : (command : Command) (due : Due) → IsDueOfBytes command from due → code (status_of due) < 4 → IsReadThrough command from.left from.left_new
+      of_bytes command usage d h = absurd d
+      of_bytes command read_fault d h = absurd (omega arith)
+      of_bytes command (refused r) d h = d.0
+      of_bytes command (played s text) d h = d.0
+
+      by_command : (what : Option Command) (due : Due) → IsDue what from due → code (status_of due) < 4 →
+          OfReader what (λ command. IsReadThrough command from.left from.left_new)
+      by_command None due d h = tt
+      by_command (Some (commands.Gen number)) due d h = tt
+      by_command (Some command) due d h = of_bytes command due d h
+
+  -- at status 0 the source was read to its end
+  pub read_to_end : out.status ≡ 0 → (ReadsNone asked → ⊥) → IfSome from.left_new (λ rest. rest ≡ [])
+  read_to_end e reads = let g = given_at 0 e (omega arith) in by_command asked g.due g.is g.status reads
+    where
+      of_bytes : (command : Command) (due : Due) → IsDueOfBytes command from due → out.status ≡ code (status_of due) →
+          IfSome from.left_new (λ rest. rest ≡ [])
+      of_bytes command usage d is = absurd d
+      of_bytes command read_fault d is = absurd (omega arith)
+      of_bytes command (refused r) d is = absurd (omega arith)
+      of_bytes command (played s text) d is =
+          all_of_script command from.left from.left_new (of_read command _ _ (λ bytes (h : IsRead command s bytes). h.0) from.left d.1) d.0
+
+      by_command : (what : Option Command) (due : Due) → IsDue what from due → out.status ≡ code (status_of due) → (ReadsNone what → ⊥) →
+          IfSome from.left_new (λ rest. rest ≡ [])
+      by_command None due d is reads = absurd (reads tt)
+      by_command (Some (commands.Gen number)) due d is reads = absurd (reads tt)
+      by_command (Some command) due d is reads = of_bytes command due d is
+
+  -- at status 0 the text of the script that was read is written
+  pub script_written : out.status ≡ 0 →
+      OfScriptRead asked from.left (λ command bytes. Grew to.written to.written_new (text_for command (script_of bytes)))
+  script_written e = let g = given_at 0 e (omega arith) in by_command asked g.due g.is g.status g.written
+    where
+      of_bytes : (command : Command) (due : Due) → IsDueOfBytes command from due → out.status ≡ code (status_of due) →
+          Grew to.written to.written_new (text_of due) →
+          OfBytesRead command from.left (λ bytes. Grew to.written to.written_new (text_for command (script_of bytes)))
+      of_bytes command usage d is grew = absurd d
+      of_bytes command read_fault d is grew = absurd (omega arith)
+      of_bytes command (refused r) d is grew = absurd (omega arith)
+      of_bytes command (played s text) d is grew =
+          let wrote : Grew to.written to.written_new (text_for command s) = subst (λ (t : List ℕ). Grew to.written to.written_new t) d.2 grew in
+          let P : Script → Type 0 = λ x. Grew to.written to.written_new (text_for command x) in
+          of_read command _ _ (λ bytes (h : IsRead command s bytes). subst P h.1 wrote) from.left d.1
+
+      by_command : (what : Option Command) (due : Due) → IsDue what from due → out.status ≡ code (status_of due) →
+          Grew to.written to.written_new (text_of due) →
+          OfScriptRead what from.left (λ command bytes. Grew to.written to.written_new (text_for command (script_of bytes)))
+      by_command None due d is grew = tt
+      by_command (Some (commands.Gen number)) due d is grew = tt
+      by_command (Some command) due d is grew = of_bytes command due d is grew
+
+  -- at status 0 the stage has played the script that was read
+  pub script_played : out.status ≡ 0 →
+      OfScriptRead asked from.left (λ command bytes. IsSomeAnd out.stage (λ stage. HasPlayed (script_of bytes) stage))
+  script_played e = let g = given_at 0 e (omega arith) in by_command asked g.due g.is g.status g.stage
+    where
+      of_bytes : (command : Command) (due : Due) → IsDueOfBytes command from due → out.status ≡ code (status_of due) → IsStageOf due out.stage →
+          OfBytesRead command from.left (λ bytes. IsSomeAnd out.stage (λ stage. HasPlayed (script_of bytes) stage))
+      of_bytes command usage d is plays = absurd d
+      of_bytes command read_fault d is plays = absurd (omega arith)
+      of_bytes command (refused r) d is plays = absurd (omega arith)
+      of_bytes command (played s text) d is plays =
+          let P : Script → Type 0 = λ x. IsSomeAnd out.stage (λ stage. HasPlayed x stage) in
+          of_read command _ _ (λ bytes (h : IsRead command s bytes). subst P h.1 plays) from.left d.1
+
+      by_command : (what : Option Command) (due : Due) → IsDue what from due → out.status ≡ code (status_of due) → IsStageOf due out.stage →
+          OfScriptRead what from.left (λ command bytes. IsSomeAnd out.stage (λ stage. HasPlayed (script_of bytes) stage))
+      by_command None due d is plays = tt
+      by_command (Some (commands.Gen number)) due d is plays = tt
+      by_command (Some command) due d is plays = of_bytes command due d is plays
+
+  -- at status 0 the summary of the number's script is written, and the stage has played it
+  pub number_played : out.status ≡ 0 → OfNumber asked (λ number.
+      Grew to.written to.written_new (gen_text number) × IsSomeAnd out.stage (λ stage. HasPlayed (drawn number) stage))
+  number_played e = let g = given_at 0 e (omega arith) in by_command asked g.due g.is g.written g.stage
+    where
+      by_command : (what : Option Command) (due : Due) → IsDue what from due → Grew to.written to.written_new (text_of due) → IsStageOf due out.stage →
+          OfNumber what (λ number. Grew to.written to.written_new (gen_text number) × IsSomeAnd out.stage (λ stage. HasPlayed (drawn number) stage))
+      by_command (Some (commands.Gen number)) due d grew plays = (
+        subst (λ (x : Due). Grew to.written to.written_new (text_of x)) d.0 grew,
+        subst (λ (x : Due). IsStageOf x out.stage) d.0 plays,
+      )
+      by_command what due d grew plays = tt
+
+  -- a stage is handed out exactly at status 0
+  pub stage_exactly : IsSome out.stage ↔ (out.status ≡ 0)
+  stage_exactly = by_cases answered
+    where
+      delivered : (due : Due) → IsDelivered due out to → IsSome out.stage ↔ (out.status ≡ 0)
+      delivered due (inr (inl v)) = (λ some. absurd (none_is_not _ v.1 some), λ e. absurd (omega arith))
+      delivered due (inr (inr v)) = (λ some. absurd (none_is_not _ v.1 some), λ e. absurd (omega arith))
+      delivered usage (inl v) = (λ some. absurd (none_is_not _ v.1 some), λ e. absurd (omega arith))
+      delivered read_fault (inl v) = (λ some. absurd (none_is_not _ v.1 some), λ e. absurd (omega arith))
+      delivered (refused r) (inl v) = (λ some. absurd (none_is_not _ v.1 some), λ e. absurd (omega arith))
+      delivered (played s text) (inl v) = (λ _. v.0, λ _. and_is _ _ v.1)
+
+      by_cases : IsAnswered asked from out to → IsSome out.stage ↔ (out.status ≡ 0)
+      by_cases (inl w) = (λ some. absurd (none_is_not _ w.1 some), λ e. absurd (omega arith))
+      by_cases (inr w) = delivered w.0 w.2
+
+  pub write_fault_due : out.status ≡ 5 → HasFault to.faults to.faults_new
+  write_fault_due e = by_cases answered
+    where
+      delivered : (due : Due) → IsDelivered due out to → HasFault to.faults to.faults_new
+      delivered due (inr (inl v)) = v.2
+      delivered due (inr (inr v)) = absurd (omega arith)
+      delivered usage (inl v) = absurd (omega arith)
+      delivered read_fault (inl v) = absurd (omega arith)
+      delivered (refused r) (inl v) = absurd (omega arith)
+      delivered (played s text) (inl v) = absurd (omega arith)
+
+      by_cases : IsAnswered asked from out to → HasFault to.faults to.faults_new
+      by_cases (inl w) = absurd (omega arith)
+      by_cases (inr w) = delivered w.0 w.2
+
+  -- beside a write fault a prefix of what is due is written
+  pub prefix_written : out.status ≡ 5 → (due : Due) × IsDue asked from due × GrewByPrefix to.written to.written_new (text_of due)
+  prefix_written e = by_cases answered
+    where
+      delivered : (due : Due) → IsDelivered due out to → GrewByPrefix to.written to.written_new (text_of due)
+      delivered due (inr (inl v)) = v.3
+      delivered due (inr (inr v)) = absurd (omega arith)
+      delivered usage (inl v) = absurd (omega arith)
+      delivered read_fault (inl v) = absurd (omega arith)
+      delivered (refused r) (inl v) = absurd (omega arith)
+      delivered (played s text) (inl v) = absurd (omega arith)
+
+      by_cases : IsAnswered asked from out to → (due : Due) × IsDue asked from due × GrewByPrefix to.written to.written_new (text_of due)
+      by_cases (inl w) = absurd (omega arith)
+      by_cases (inr w) = (w.0, w.1, delivered w.0 w.2)
+
+  -- where memory was wanting nothing is written
+  pub nothing_written : out.status ≡ 6 → to.written_new ≡ to.written
+  nothing_written e = by_cases answered
+    where
+      delivered : (due : Due) → IsDelivered due out to → to.written_new ≡ to.written
+      delivered due (inr (inl v)) = absurd (omega arith)
+      delivered due (inr (inr v)) = v.2
+      delivered usage (inl v) = absurd (omega arith)
+      delivered read_fault (inl v) = absurd (omega arith)
+      delivered (refused r) (inl v) = absurd (omega arith)
+      delivered (played s text) (inl v) = absurd (omega arith)
+
+      by_cases : IsAnswered asked from out to → to.written_new ≡ to.written
+      by_cases (inl w) = w.2
+      by_cases (inr w) = delivered w.0 w.2
+
+  -- what isn't refused is played, where no fault is counted
+  pub all_played : IsAllowed asked from.left → (HasFault from.faults from.faults_new → ⊥) →
+      (HasFault to.faults to.faults_new → ⊥) → (out.status ≡ 0) ⊎ (out.status ≡ 6)
+  all_played allowed reads writes = by_cases answered
+    where
+      of_bytes : (command : Command) (due : Due) → IsDueOfBytes command from due → out.status ≡ code (status_of due) → AreAllowed command from.left →
+          (out.status ≡ 0) ⊎ (out.status ≡ 6)
+      of_bytes command usage d is allowed = absurd d
+      of_bytes command read_fault d is allowed = absurd (reads d)
+      of_bytes command (refused r) d is allowed = absurd (not_both command r from.left d.1 allowed)
+      of_bytes command (played s text) d is allowed = inl is
+
+      by_command : (what : Option Command) (due : Due) → IsDue what from due → out.status ≡ code (status_of due) → IsAllowed what from.left →
+          (out.status ≡ 0) ⊎ (out.status ≡ 6)
+      by_command None due d is allowed = absurd allowed
+      by_command (Some (commands.Gen number)) due d is allowed = inl (summed_up number due d.0 is)
+      by_command (Some command) due d is allowed = of_bytes command due d is allowed
+
+      delivered : (due : Due) → IsDue asked from due → IsDelivered due out to → (out.status ≡ 0) ⊎ (out.status ≡ 6)
+      delivered due d (inr (inl v)) = absurd (writes v.2)
+      delivered due d (inr (inr v)) = inr v.0
+      delivered due d (inl v) = by_command asked due d v.0 allowed
+
+      by_cases : IsAnswered asked from out to → (out.status ≡ 0) ⊎ (out.status ≡ 6)
+      by_cases (inl w) = inr w.0
+      by_cases (inr w) = delivered w.0 w.1 w.2

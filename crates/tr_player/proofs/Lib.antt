@@ -1,4 +1,4 @@
 pub mod StreamLemmas
 pub mod CheckLemmas
-pub mod ReplyLemmas
+pub mod ResponseLemmas
 pub mod CallLemmas

@@ -6,8 +6,7 @@ use Rattle.std.specs.Prelude.{Option, Some, None, IfSome}
 use Rattle.std.proofs.lemmas.Grind.{common_steps}
 use mathlib.Core.List.{append_assoc}
 use Rattle.std.specs.Io.KnownBytes.{prepend_known}
-use Rattle.tr_io.specs.Streams.{Fell, Grew}
-use Rattle.tr_player.specs.Answers.{IsReadThrough, OfBytesRead}
+use Rattle.tr_io.specs.Streams.{Fell, Grew, IsReadUpTo, OfFirst}
 
 -- text that a sink took in two parts
 pub grew_twice : (x y z : Option (List ℕ)) (text : List ℕ) (m n : ℕ) → Grew x y (take m text) → Grew y z (take n (drop m text)) → Grew x z (take (m + n) text)
@@ -32,18 +31,18 @@ drop_all most bytes rest h k = by_test (nat_lt (length bytes) most) refl
     by_test false t = let full : most ≡ length bytes = grind (arith, nat_tests) in rw full (sym (drop-append_seam bytes rest))
 
 -- where the source came to its end, or as many bytes came as may be read, the bytes are those read
-pub are_read : (left left_new : Option (List ℕ)) (bytes : List ℕ) (n : ℕ) → length bytes ≡ n → Fell left left_new bytes → n ≤ 4194305 →
-    (n < 4194305 → IfSome left_new (λ rest. rest ≡ [])) → OfBytesRead left (λ read. bytes ≡ read)
-are_read left left_new bytes n len e h k = subst (λ (x : Option (List ℕ)). OfBytesRead x (λ read. bytes ≡ read)) (sym e) (by_cases left_new k)
+pub are_read : (most : ℕ) (left left_new : Option (List ℕ)) (bytes : List ℕ) → Fell left left_new bytes → length bytes ≤ most →
+    (length bytes < most → IfSome left_new (λ rest. rest ≡ [])) → OfFirst most left (λ read. bytes ≡ read)
+are_read most left left_new bytes e h k = subst (λ (x : Option (List ℕ)). OfFirst most x (λ read. bytes ≡ read)) (sym e) (by_cases left_new k)
   where
-    by_cases : (x : Option (List ℕ)) → (n < 4194305 → IfSome x (λ rest. rest ≡ [])) → OfBytesRead (prepend_known bytes x) (λ read. bytes ≡ read)
+    by_cases : (x : Option (List ℕ)) → (length bytes < most → IfSome x (λ rest. rest ≡ [])) → OfFirst most (prepend_known bytes x) (λ read. bytes ≡ read)
     by_cases None k = (bytes, refl)
-    by_cases (Some rest) k = sym (take_all 4194305 bytes rest (omega arith) (λ small. k (omega arith)))
+    by_cases (Some rest) k = sym (take_all most bytes rest h k)
 
-pub is_read_through : (left left_new : Option (List ℕ)) (bytes : List ℕ) (n : ℕ) → length bytes ≡ n → Fell left left_new bytes → n ≤ 4194305 →
-    (n < 4194305 → IfSome left_new (λ rest. rest ≡ [])) → IsReadThrough left left_new
-is_read_through left left_new bytes n len e h k = subst (λ (x : Option (List ℕ)). IsReadThrough x left_new) (sym e) (by_cases left_new k)
+pub is_read_through : (most : ℕ) (left left_new : Option (List ℕ)) (bytes : List ℕ) → Fell left left_new bytes → length bytes ≤ most →
+    (length bytes < most → IfSome left_new (λ rest. rest ≡ [])) → IsReadUpTo most left left_new
+is_read_through most left left_new bytes e h k = subst (λ (x : Option (List ℕ)). IsReadUpTo most x left_new) (sym e) (by_cases left_new k)
   where
-    by_cases : (x : Option (List ℕ)) → (n < 4194305 → IfSome x (λ rest. rest ≡ [])) → IsReadThrough (prepend_known bytes x) x
+    by_cases : (x : Option (List ℕ)) → (length bytes < most → IfSome x (λ rest. rest ≡ [])) → IsReadUpTo most (prepend_known bytes x) x
     by_cases None k = refl
-    by_cases (Some rest) k = ap Some (drop_all 4194305 bytes rest (omega arith) (λ small. k (omega arith)))
+    by_cases (Some rest) k = ap Some (drop_all most bytes rest h k)

@@ -1,5 +1,7 @@
 -- What a call answers, and when.
 use Rattle.std.specs.Prelude.{◌≡◌, ◌≢◌, ◌⊎◌, ⊤, ℕ, ◌+◌, List, ◌++◌, take, Option, Some, None, IsSomeAnd, codes, decimal}
+use Rattle.tr_io.specs.declared.streams.Source.{Ghosts as SourceGhosts}
+use Rattle.tr_io.specs.declared.streams.Sink.{Ghosts as SinkGhosts}
 use Rattle.tr_io.specs.Faults.{HasFault}
 use Rattle.tr_io.specs.Streams.{Grew, GrewByPrefix, OfFirst, IsReadUpTo}
 use Rattle.tr_widget.specs.declared.Widget.{Widget}
@@ -10,6 +12,7 @@ use Rattle.tr_serial.specs.Outputs.{out_text, check_text, gen_text, drawn, seria
 use Rattle.tr_arguments.specs.declared.Command.{Command}
 use Rattle.tr_arguments.specs.declared.Command.TheVariants as commands
 use Rattle.tr_arguments.specs.Commands.{command_of}
+use Rattle.tr_player.specs.declared.calls.Outcome.{Outcome}
 use Rattle.tr_player.specs.declared.statuses.Status.{Status}
 use Rattle.tr_player.specs.declared.statuses.Status.TheVariants.{Done, Usage, Refused, ReadFault, WriteFault, NoMemory}
 use Rattle.tr_player.specs.Statuses.{code}
@@ -17,45 +20,34 @@ use Rattle.tr_player.specs.Checks.{check_refusal}
 
 -- ---- what is asked for
 
--- what is done with a script that is read: it is played, or each of its steps is checked, too
-pub data Reading : Type 0 where
-  plays : Reading
-  checks : Reading
+-- what one thread can be asked for: `play` asks for many
+abbrev pub of_one_thread : Option Command → Option Command
+of_one_thread (Some commands.Play) = None
+of_one_thread command = command
 
--- what is asked of one thread: to read a script, or to write the summary of the script that a number gives
-pub data Task : Type 0 where
-  reads : Reading → Task
-  sums_up : ℕ → Task
+-- what the words after the program's name ask one thread for, if they ask for anything
+abbrev pub asked_by : List (List ℕ) → Option Command
+asked_by words = of_one_thread (command_of words)
 
--- the task of a command: none where many threads are asked for, or nothing that is known
-abbrev pub task_of : Option Command → Option Task
-task_of (Some commands.Serial) = Some (reads plays)
-task_of (Some commands.Check) = Some (reads checks)
-task_of (Some (commands.Gen number)) = Some (sums_up number)
-task_of command = None
-
--- what the words after the program's name ask for
-abbrev pub asked_by : List (List ℕ) → Option Task
-asked_by words = task_of (command_of words)
-
--- no script is read: none is asked for
-abbrev pub ReadsNone : Option Task → Type 0
-ReadsNone (Some (reads reading)) = ⊥
-ReadsNone task = ⊤
+-- nothing is read: nothing is asked for, or the script that a number gives
+abbrev pub ReadsNone : Option Command → Type 0
+ReadsNone None = ⊤
+ReadsNone (Some (commands.Gen number)) = ⊤
+ReadsNone (Some command) = ⊥
 
 -- ---- what is read
 
 -- the most bytes that are read: one more than a script may have, which shows that it is too long
-abbrev pub most_read : ℕ
-most_read = most_bytes + 1
+abbrev pub most_read : Command → ℕ
+most_read command = most_bytes + 1
 
 -- a fact of the bytes that are read; where the source doesn't tell what it has left, of some bytes
-abbrev pub OfBytesRead : Option (List ℕ) → (List ℕ → Type 0) → Type 0
-OfBytesRead left P = OfFirst most_read left P
+abbrev pub OfBytesRead : Command → Option (List ℕ) → (List ℕ → Type 0) → Type 0
+OfBytesRead command left P = OfFirst (most_read command) left P
 
 -- the reading came to its end: to that of the source, or to the most bytes that are read
-abbrev pub IsReadThrough : Option (List ℕ) → Option (List ℕ) → Type 0
-IsReadThrough before after = IsReadUpTo most_read before after
+abbrev pub IsReadThrough : Command → Option (List ℕ) → Option (List ℕ) → Type 0
+IsReadThrough command before after = IsReadUpTo (most_read command) before after
 
 -- the first refusal if there is one, and else the second
 abbrev pub or_else : Option Refusal → Option Refusal → Option Refusal
@@ -63,14 +55,14 @@ or_else (Some r) later = Some r
 or_else None later = later
 
 -- why a text is refused, if it is: it is no script, or it is one that isn't checked
-abbrev pub refusal_for : Reading → List ℕ → Option Refusal
-refusal_for plays bytes = refusal_of bytes
-refusal_for checks bytes = or_else (refusal_of bytes) (check_refusal (script_of bytes))
+abbrev pub refusal_for : Command → List ℕ → Option Refusal
+refusal_for commands.Check bytes = or_else (refusal_of bytes) (check_refusal (script_of bytes))
+refusal_for command bytes = refusal_of bytes
 
 -- what is written of a script
-abbrev pub text_for : Reading → Script → List ℕ
-text_for plays s = out_text s
-text_for checks s = check_text s
+abbrev pub text_for : Command → Script → List ℕ
+text_for commands.Check s = check_text s
+text_for command s = out_text s
 
 -- ---- what is due
 
@@ -107,38 +99,42 @@ text_of read_fault = read_fault_text
 text_of (refused r) = refused_text r
 text_of (played s text) = text
 
--- what a call was asked for, what the source had left, and its count of faults, before the call and after it
-pub record Asked : Type 0 where
-  pub task : Option Task
+-- what became of a source in a call: the bytes that it had left and its count of faults, before and after
+pub record SourceChange : Type 0 where
   pub left : Option (List ℕ)
   pub left_new : Option (List ℕ)
   pub faults : ℕ
   pub faults_new : ℕ
 
+-- that of any source
+abbrev pub source_change : {S : Type 0} → SourceGhosts S → S → S → SourceChange
+source_change source before after = record {
+  left = source.left before;
+  left_new = source.left after;
+  faults = source.faults before;
+  faults_new = source.faults after;
+}
+
 -- nothing was read
-pub record IsUnread (a : Asked) : Type 0 where
-  pub left : a.left_new ≡ a.left
-  pub faults : a.faults_new ≡ a.faults
+pub record IsUnread (from : SourceChange) : Type 0 where
+  pub left : from.left_new ≡ from.left
+  pub faults : from.faults_new ≡ from.faults
 
 -- where a script is read: a read fault is due where the source has one; else the refusal of the bytes, or the text of the script that they are
-abbrev pub IsDueOfBytes : Reading → Asked → Due → Type 0
-IsDueOfBytes reading a usage = ⊥
-IsDueOfBytes reading a read_fault = HasFault a.faults a.faults_new
-IsDueOfBytes reading a (refused r) =
-    IsReadThrough a.left a.left_new × OfBytesRead a.left (λ bytes. refusal_for reading bytes ≡ Some r)
-IsDueOfBytes reading a (played s text) =
-    IsReadThrough a.left a.left_new
-    × OfBytesRead a.left (λ bytes. (refusal_for reading bytes ≡ None) × (s ≡ script_of bytes)) × (text ≡ text_for reading s)
+abbrev pub IsDueOfBytes : Command → SourceChange → Due → Type 0
+IsDueOfBytes command from usage = ⊥
+IsDueOfBytes command from read_fault = HasFault from.faults from.faults_new
+IsDueOfBytes command from (refused r) =
+    IsReadThrough command from.left from.left_new × OfBytesRead command from.left (λ bytes. refusal_for command bytes ≡ Some r)
+IsDueOfBytes command from (played s text) =
+    IsReadThrough command from.left from.left_new
+    × OfBytesRead command from.left (λ bytes. (refusal_for command bytes ≡ None) × (s ≡ script_of bytes)) × (text ≡ text_for command s)
 
--- without a task the usage is due, for a number the summary of its script; in both cases nothing is read
-abbrev pub IsDueFor : Option Task → Asked → Due → Type 0
-IsDueFor None a due = (due ≡ usage) × IsUnread a
-IsDueFor (Some (sums_up number)) a due = (due ≡ played (drawn number) (gen_text number)) × IsUnread a
-IsDueFor (Some (reads reading)) a due = IsDueOfBytes reading a due
-
--- an answer is due
-abbrev pub IsDue : Asked → Due → Type 0
-IsDue a due = IsDueFor a.task a due
+-- an answer is due: where nothing is asked for the usage, for a number the summary of its script, and in both cases nothing is read
+abbrev pub IsDue : Option Command → SourceChange → Due → Type 0
+IsDue None from due = (due ≡ usage) × IsUnread from
+IsDue (Some (commands.Gen number)) from due = (due ≡ played (drawn number) (gen_text number)) × IsUnread from
+IsDue (Some command) from due = IsDueOfBytes command from due
 
 -- ---- what becomes of it
 
@@ -149,10 +145,14 @@ pub record SinkChange : Type 0 where
   pub faults : ℕ
   pub faults_new : ℕ
 
--- what a call hands out: its status, and a stage or none
-pub record HandedOut : Type 0 where
-  pub status : ℕ
-  pub stage : Option (StageView Widget WidgetCmd)
+-- that of any sink
+abbrev pub sink_change : {K : Type 0} → SinkGhosts K → K → K → SinkChange
+sink_change sink before after = record {
+  written = sink.written before;
+  written_new = sink.written after;
+  faults = sink.faults before;
+  faults_new = sink.faults after;
+}
 
 -- a stage that has played a script on one thread
 pub record HasPlayed (s : Script) (stage : StageView Widget WidgetCmd) : Type 0 where
@@ -166,7 +166,7 @@ IsStageOf due stage = stage ≡ None
 
 -- what became of the text that is due, by the status that is answered: it was written, or a write fault left a prefix of it, or want of
 -- memory nothing; the stage is handed out in the first case alone
-abbrev pub IsDelivered : Due → HandedOut → SinkChange → Type 0
+abbrev pub IsDelivered : Due → Outcome → SinkChange → Type 0
 IsDelivered due out to =
     ((out.status ≡ code (status_of due)) × IsStageOf due out.stage × Grew to.written to.written_new (text_of due))
     ⊎ (((out.status ≡ code WriteFault) × (out.stage ≡ None) × HasFault to.faults to.faults_new
@@ -174,10 +174,10 @@ IsDelivered due out to =
     ⊎ ((out.status ≡ code NoMemory) × (out.stage ≡ None) × (to.written_new ≡ to.written)))
 
 -- all that a call does: memory was wanted before an answer was found, or one is due and was delivered
-abbrev pub IsAnswered : Asked → HandedOut → SinkChange → Type 0
-IsAnswered a out to =
-    ((out.status ≡ code NoMemory) × (out.stage ≡ None) × (to.written_new ≡ to.written) × (ReadsNone a.task → IsUnread a))
-    ⊎ ((due : Due) × IsDue a due × IsDelivered due out to)
+abbrev pub IsAnswered : Option Command → SourceChange → Outcome → SinkChange → Type 0
+IsAnswered asked from out to =
+    ((out.status ≡ code NoMemory) × (out.stage ≡ None) × (to.written_new ≡ to.written) × (ReadsNone asked → IsUnread from))
+    ⊎ ((due : Due) × IsDue asked from due × IsDelivered due out to)
 
 -- ---- words of the clauses
 
@@ -185,18 +185,24 @@ IsAnswered a out to =
 abbrev pub Yields : ℕ → Type 0 → Type 0
 Yields status P = status ≢ code WriteFault → status ≢ code NoMemory → P
 
--- where a script is read, a fact of what is done with it and of the bytes that are read
-abbrev pub OfScriptRead : Option Task → Option (List ℕ) → (Reading → List ℕ → Type 0) → Type 0
-OfScriptRead (Some (reads reading)) left P = OfBytesRead left (λ bytes. P reading bytes)
-OfScriptRead task left P = ⊤
+-- where something is read, a fact of what is asked for
+abbrev pub OfReader : Option Command → (Command → Type 0) → Type 0
+OfReader None P = ⊤
+OfReader (Some (commands.Gen number)) P = ⊤
+OfReader (Some command) P = P command
 
--- where a number is summed up, a fact of the number
-abbrev pub OfNumber : Option Task → (ℕ → Type 0) → Type 0
-OfNumber (Some (sums_up number)) P = P number
-OfNumber task P = ⊤
+-- where a script is read, a fact of what is asked for and of the bytes that are read
+abbrev pub OfScriptRead : Option Command → Option (List ℕ) → (Command → List ℕ → Type 0) → Type 0
+OfScriptRead asked left P = OfReader asked (λ command. OfBytesRead command left (λ bytes. P command bytes))
 
--- there is a task, and its script, which the source tells, isn't refused
-abbrev pub IsAllowed : Option Task → Option (List ℕ) → Type 0
+-- where a number's script is summed up, a fact of the number
+abbrev pub OfNumber : Option Command → (ℕ → Type 0) → Type 0
+OfNumber (Some (commands.Gen number)) P = P number
+OfNumber command P = ⊤
+
+-- something is asked for, and its script, which the source tells, isn't refused
+abbrev pub IsAllowed : Option Command → Option (List ℕ) → Type 0
 IsAllowed None left = ⊥
-IsAllowed (Some (sums_up number)) left = ⊤
-IsAllowed (Some (reads reading)) left = IsSomeAnd left (λ bytes. refusal_for reading (take most_read bytes) ≡ None)
+IsAllowed (Some (commands.Gen number)) left = ⊤
+IsAllowed (Some command) left =
+    IsSomeAnd left (λ bytes. refusal_for command (take (most_read command) bytes) ≡ None)

@@ -1,4 +1,4 @@
 pub mod Statuses
 pub mod Checks
 pub mod Answers
-pub mod Replies
+pub mod Responses

@@ -7,12 +7,12 @@ ghost use Rattle.tr_arguments.specs.Commands.{texts_of};
 ghost use Rattle.tr_serial.specs.Outputs.{drawn, gen_text};
 ghost use Rattle.tr_player.specs.Statuses.{code};
 ghost use Rattle.tr_player.specs.Answers.{Due, HasPlayed, IsAllowed, IsAnswered, IsDelivered, IsDue};
-ghost use Rattle.tr_player.specs.Answers.{IsReadThrough, OfNumber, OfScriptRead, ReadsNone, Yields};
-ghost use Rattle.tr_player.specs.Answers.{asked_by, read_fault_text, refusal_for, refused_text, text_for, text_of};
-ghost use Rattle.tr_player.specs.Answers.{usage_text};
-ghost use Rattle.tr_player.specs.Replies.{IsReply};
+ghost use Rattle.tr_player.specs.Answers.{IsReadThrough, OfNumber, OfReader, OfScriptRead, ReadsNone, Yields};
+ghost use Rattle.tr_player.specs.Answers.{asked_by, read_fault_text, refusal_for, refused_text};
+ghost use Rattle.tr_player.specs.Answers.{sink_change, source_change, text_for, text_of, usage_text};
+ghost use Rattle.tr_player.specs.Responses.{IsResponse};
 
-use crate::replies::{Reply, reply_to};
+use crate::responses::{Response, response_to};
 use crate::statuses::Status;
 use crate::streams::write_all;
 use std::alloc::Global;
@@ -47,18 +47,8 @@ pub fn serial_call<S: Source, K: Sink>(
     ensures rising { (S.faults source.old ≤ S.faults source.new) × (K.faults sink.old ≤ K.faults sink.new) }
 
     // All of it at once: one of the answers is due, and what became of it. The clauses below follow.
-    ensures answered { IsAnswered (record {
-      task = asked_by (texts_of words.now);
-      left = S.left source.old;
-      left_new = S.left source.new;
-      faults = S.faults source.old;
-      faults_new = S.faults source.new;
-    }) (record { status = result.status; stage = result.stage }) (record {
-      written = K.written sink.old;
-      written_new = K.written sink.new;
-      faults = K.faults sink.old;
-      faults_new = K.faults sink.new;
-    }) }
+    ensures answered { IsAnswered (asked_by (texts_of words.now))
+        (source_change S.Source source.old source.new) result (sink_change K.Sink sink.old sink.new) }
 
     // Usage: exactly where the words are no accepted list; `play` is none here.
     ensures usage { Yields result.status
@@ -79,27 +69,27 @@ pub fn serial_call<S: Source, K: Sink>(
     // Refused: of the answers to a script that was read, exactly where its bytes are refused, with the
     // first fault.
     ensures refused { Yields result.status (result.status ≢ code Status.ReadFault →
-        OfScriptRead (asked_by (texts_of words.now)) (S.left source.old) (λ reading bytes.
-        (result.status ≡ code Status.Refused) ↔ IsSome (refusal_for reading bytes))) }
+        OfScriptRead (asked_by (texts_of words.now)) (S.left source.old) (λ command bytes.
+        (result.status ≡ code Status.Refused) ↔ IsSome (refusal_for command bytes))) }
     ensures refused_text { result.status ≡ code Status.Refused →
-        OfScriptRead (asked_by (texts_of words.now)) (S.left source.old) (λ reading bytes.
-        IsSomeAnd (refusal_for reading bytes) (λ refusal.
+        OfScriptRead (asked_by (texts_of words.now)) (S.left source.old) (λ command bytes.
+        IsSomeAnd (refusal_for command bytes) (λ refusal.
         Grew (K.written sink.old) (K.written sink.new) (refused_text refusal))) }
     ensures never_refused { OfNumber (asked_by (texts_of words.now)) (λ number.
         result.status ≢ code Status.Refused) }
     ensures read_through { (result.status ≡ code Status.Done) ⊎ (result.status ≡ code Status.Refused) →
-        (ReadsNone (asked_by (texts_of words.now)) → ⊥) →
-        IsReadThrough (S.left source.old) (S.left source.new) }
+        OfReader (asked_by (texts_of words.now)) (λ command.
+        IsReadThrough command (S.left source.old) (S.left source.new)) }
 
     // Done: the source was read to its end. The script in the bytes read was played: what is written is its
     // text, the stage has its opening, and the journal is the serial one.
     ensures read_to_end { result.status ≡ code Status.Done → (ReadsNone (asked_by (texts_of words.now)) → ⊥) →
         IfSome (S.left source.new) (λ rest. rest ≡ []) }
     ensures output { result.status ≡ code Status.Done →
-        OfScriptRead (asked_by (texts_of words.now)) (S.left source.old) (λ reading bytes.
-        Grew (K.written sink.old) (K.written sink.new) (text_for reading (script_of bytes))) }
+        OfScriptRead (asked_by (texts_of words.now)) (S.left source.old) (λ command bytes.
+        Grew (K.written sink.old) (K.written sink.new) (text_for command (script_of bytes))) }
     ensures stage { result.status ≡ code Status.Done →
-        OfScriptRead (asked_by (texts_of words.now)) (S.left source.old) (λ reading bytes.
+        OfScriptRead (asked_by (texts_of words.now)) (S.left source.old) (λ command bytes.
         IsSomeAnd result.stage (λ stage. HasPlayed (script_of bytes) stage)) }
 
     // The same of the script that a number gives.
@@ -114,13 +104,9 @@ pub fn serial_call<S: Source, K: Sink>(
     // Write fault: only where the sink had one. What is written is a prefix of the text that is due.
     ensures write_fault { result.status ≡ code Status.WriteFault →
         HasFault (K.faults sink.old) (K.faults sink.new) }
-    ensures prefix { result.status ≡ code Status.WriteFault → (due : Due) × IsDue (record {
-      task = asked_by (texts_of words.now);
-      left = S.left source.old;
-      left_new = S.left source.new;
-      faults = S.faults source.old;
-      faults_new = S.faults source.new;
-    }) due × GrewByPrefix (K.written sink.old) (K.written sink.new) (text_of due) }
+    ensures prefix { result.status ≡ code Status.WriteFault → (due : Due)
+        × IsDue (asked_by (texts_of words.now)) (source_change S.Source source.old source.new) due
+        × GrewByPrefix (K.written sink.old) (K.written sink.new) (text_of due) }
 
     // Want of memory: nothing is written.
     ensures no_memory { result.status ≡ code Status.NoMemory →
@@ -132,37 +118,30 @@ pub fn serial_call<S: Source, K: Sink>(
         (HasFault (K.faults sink.old) (K.faults sink.new) → ⊥) →
         (result.status ≡ code Status.Done) ⊎ (result.status ≡ code Status.NoMemory) }
 {
-    let Ok(reply) = reply_to(alloc, words, source) else {
+    let Ok(response) = response_to(alloc, words, source) else {
         return Outcome {
             status: Status::NoMemory.code(),
             stage: None,
         };
     };
-    deliver(sink, reply)
+    deliver(sink, response)
 }
 
-/// Writes the text of a reply, and answers its status and its stage.
-fn deliver<K: Sink>(sink: &mut K, reply: Reply) -> Outcome
-    ensures delivered { (due : Due) → IsReply due reply → IsDelivered due (record {
-      status = result.status;
-      stage = result.stage;
-    }) (record {
-      written = K.written sink.old;
-      written_new = K.written sink.new;
-      faults = K.faults sink.old;
-      faults_new = K.faults sink.new;
-    }) }
+/// Writes the text of a response, and answers its status and its stage.
+fn deliver<K: Sink>(sink: &mut K, response: Response) -> Outcome
+    ensures delivered { (due : Due) → IsResponse due response →
+        IsDelivered due result (sink_change K.Sink sink.old sink.new) }
     ensures rising { K.faults sink.old ≤ K.faults sink.new }
 {
-    let text = reply.text();
+    let text = response.text();
     let status = if sink.reserve(text.len()).is_err() {
         Status::NoMemory
     } else if write_all(sink, text).is_err() {
         Status::WriteFault
     } else {
         return Outcome {
-            status: reply.status().code(),
-            stage: reply.into_stage(),
+            status: response.status().code(),
+            stage: response.into_stage(),
         };
     };
     Outcome {

@@ -4,12 +4,9 @@
 mod calls;
 mod checks;
 mod errors;
-mod replies;
+mod responses;
 mod statuses;
 mod streams;
 
 pub use calls::{Outcome, serial_call};
 pub use statuses::Status;
-
-#[cfg(test)]
-mod tests;

@@ -1,31 +1,24 @@
 ghost use Rattle.std.specs.Prelude.{◌≡◌, ◌+◌, ◌<◌, ◌≤◌, length, take, drop, vec_len, [], Err, IfOk, IfSome, OnOk, OnErr};
 ghost use Rattle.tr_io.specs.Faults.{HasFault};
 ghost use Rattle.std.specs.Io.KnownBytes.{prepend_known};
-ghost use Rattle.tr_io.specs.Streams.{Fell, Grew, GrewByPrefix};
-ghost use Rattle.tr_player.specs.Answers.{IsReadThrough, OfBytesRead};
+ghost use Rattle.tr_io.specs.Streams.{Fell, Grew, GrewByPrefix, IsReadUpTo, OfFirst};
 
 use crate::errors::ReadError;
 use std::alloc::Global;
 use tr_io::{Failed, Sink, Source};
 
-/// The most bytes that a script may have.
-const LONGEST_SCRIPT: usize = 4 * 1024 * 1024;
-
-/// The most bytes that are read: one more shows that a script is too long.
-const MOST_READ: usize = LONGEST_SCRIPT + 1;
-
 /// How many bytes are asked for at once.
 const PIECE: usize = 64 * 1024;
 
-/// The bytes that a source has left, or the first `MOST_READ` of them.
-pub fn read_all<S: Source>(alloc: Global, source: &mut S) -> Result<Vec<u8>, ReadError>
-    ensures bytes { IfOk result (λ v. OfBytesRead (S.left source.old) (λ bytes. v.items ≡ bytes)) }
-    ensures through { OnOk result (IsReadThrough (S.left source.old) (S.left source.new)) }
+/// The bytes that a source has left, or the first `most` of them.
+pub fn read_all<S: Source>(alloc: Global, source: &mut S, most: usize) -> Result<Vec<u8>, ReadError>
+    ensures bytes { IfOk result (λ v. OfFirst most (S.left source.old) (λ bytes. v.items ≡ bytes)) }
+    ensures through { OnOk result (IsReadUpTo most (S.left source.old) (S.left source.new)) }
     ensures failed { result ≡ Err ReadError.Failed → HasFault (S.faults source.old) (S.faults source.new) }
     ensures rising { S.faults source.old ≤ S.faults source.new }
 {
     let mut piece = vec![in alloc; 0u8; PIECE]?;
-    let bytes = read_up_to(alloc, source, &mut piece, MOST_READ)?;
+    let bytes = read_up_to(alloc, source, &mut piece, most)?;
     Ok(bytes)
 }
 

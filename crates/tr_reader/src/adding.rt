@@ -12,6 +12,7 @@ use tr_grammar::{Code, LineRefused, Meaning, Place};
 use tr_journal::{Actor, Query, Step};
 use tr_widget::WidgetCmd;
 use w_canvas::CanvasCmd;
+use w_edit::EditorCmd;
 use w_lines::LinesCmd;
 use w_meter::MeterCmd;
 use w_plain::{BoardCmd, LabelCmd};
@@ -56,7 +57,7 @@ impl<'a> Reader<'a> {
     {
         // For the prover: its borrow checker finds the types within a command, and so a rule for the
         // steps, only where the body names them.
-        let _told: Option<(BoardCmd, LabelCmd, LinesCmd, CanvasCmd, MeterCmd)> = None;
+        let _told: Option<(BoardCmd, LabelCmd, LinesCmd, CanvasCmd, MeterCmd, EditorCmd)> = None;
         self.steps.push(actor, step)?;
         self.place = Place::Steps;
         Ok(())

@@ -42,6 +42,7 @@ fn suits(cmd: &WidgetCmd, content: &Widget) -> bool
         (WidgetCmd::Lines(_), Widget::Lines(_)) => true,
         (WidgetCmd::Canvas(_), Widget::Canvas(_)) => true,
         (WidgetCmd::Meter(_), Widget::Meter(_)) => true,
+        (WidgetCmd::Editor(_), Widget::Editor(_)) => true,
         _ => false,
     }
 }

@@ -1,5 +1,5 @@
 -- The least rectangle round a list.
-use Rattle.std.proofs.Common.{◌≡◌, ◌≢◌, ℕ, zero, suc, ◌+◌, ◌-◌, ◌≤◌, ◌<◌, ℤ, ◌≤ℤ◌, ◌<ℤ◌, pos, Bool, true, false, ◌||◌, ◌↔◌, ◌⊎◌, inl, inr, ⊎_elim, List, [], ◌∷◌, ◌++◌, length, take, get_or, refl, sym, ap, ◌∙◌, w32, to_z, of_z, arith}
+use Rattle.std.proofs.Common.{◌≡◌, ◌≢◌, ℕ, zero, suc, ◌+◌, ◌-◌, ◌≤◌, ◌<◌, ℤ, ◌-ℤ◌, ◌≤ℤ◌, ◌<ℤ◌, pos, Bool, true, false, ◌||◌, ◌↔◌, ◌⊎◌, inl, inr, ⊎_elim, List, [], ◌∷◌, ◌++◌, length, take, get_or, refl, sym, ap, ◌∙◌, w32, to_z, of_z, arith}
 use Rattle.std.specs.Int.{int_min, int_max}
 use Rattle.std.specs.List.{AllByRecursion}
 use Rattle.std.proofs.lemmas.Int.{ints, clamps}
@@ -8,6 +8,7 @@ use Rattle.std.proofs.lemmas.List.Elements.{All-get_or, All-from_recursion}
 use Rattle.std.proofs.lemmas.List.{take_more, take_all}
 use Rattle.tr_base.specs.declared.Point.{Point}
 use Rattle.tr_base.specs.Rects.{Edges, InReach, AreInReach, between, has_point, empty_rect}
+use Rattle.tr_base.specs.Layouts.{IsBetween, IsPartOf}
 use Rattle.tr_base.proofs.RectLemmas.{cast-in_reach}
 use Rattle.tr_region.specs.Points.{holds}
 use Rattle.tr_region.specs.Bands.{IsCanonical}
@@ -167,3 +168,46 @@ pub north-within : (rects : List Edges) (y : ℤ) → AreInOrder rects → y <�
 north-within [] y o h = tt
 north-within (r ∷ []) y o h = (h, tt)
 north-within (r ∷ s ∷ rects) y o h = (omega (arith, ints, clamps), north-within (s ∷ rects) y o.2 (omega (arith, ints, clamps)))
+
+-- ---- the least rectangle round a list
+
+-- a rectangle with points lies between the edges of one that has them all
+between_edges : (r outer : Edges) → IsFull r → ((p : Point) → has_point r p ≡ true → has_point outer p ≡ true) → IsBetween r outer
+between_edges r outer full all =
+    let across : r.west <ℤ r.east = full.across in
+    let down : r.north <ℤ r.south = full.down in
+    let first = edges r.west r.north (all _ (corner r.west r.north (omega (arith, ints)) across (omega (arith, ints)) down)) in
+    let last = edges (r.east -ℤ pos 1) (r.south -ℤ pos 1) (all _ (corner (r.east -ℤ pos 1) (r.south -ℤ pos 1)
+    (omega (arith, ints)) (omega (arith, ints)) (omega (arith, ints)) (omega (arith, ints)))) in
+    record { west = first.0; east = omega (arith, ints, last.1); north = first.2; south = omega (arith, ints, last.3) }
+  where
+    corner : (h v : ℤ) → r.west ≤ℤ h → h <ℤ r.east → r.north ≤ℤ v → v <ℤ r.south → has_point r (record { h = h; v = v }) ≡ true
+    corner h v a b c d = grind (arith, ints)
+
+    edges : (h v : ℤ) → has_point outer (record { h = h; v = v }) ≡ true → (outer.west ≤ℤ h) × (h <ℤ outer.east) × (outer.north ≤ℤ v) × (v <ℤ outer.south)
+    edges h v on = (grind (arith, ints), grind (arith, ints), grind (arith, ints), grind (arith, ints))
+
+between_hull : (a b outer : Edges) → IsBetween a outer → IsBetween b outer → IsBetween (hull_of a b) outer
+between_hull a b outer f g = record {
+  west = omega (arith, ints, clamps, f.west, g.west);
+  east = omega (arith, ints, clamps, f.east, g.east);
+  north = omega (arith, ints, clamps, f.north, g.north);
+  south = omega (arith, ints, clamps, f.south, g.south);
+}
+
+between_all : (r : Edges) (rects : List Edges) (outer : Edges) → AreInOrder (r ∷ rects) →
+    ((p : Point) → holds (r ∷ rects) p ≡ true → has_point outer p ≡ true) → IsBetween (extents_of (r ∷ rects)) outer
+between_all r [] outer h all = between_edges r outer h.0 (λ p k. all p (or-false (has_point r p) ∙ k))
+between_all r (s ∷ rects) outer h all =
+    between_hull r (extents_of (s ∷ rects)) outer (between_edges r outer h.0 (λ p k. all p (ap (λ b. b || holds (s ∷ rects) p) k)))
+    (between_all s rects outer h.2 (λ p k. all p (ap (λ b. has_point r p || b) k ∙ or_true (has_point r p))))
+  where
+    or_true : (b : Bool) → b || true ≡ true
+    or_true true = refl
+    or_true false = refl
+
+-- the extents are part of each rectangle that has all points
+pub extents_least : (rects : List Edges) → AreInOrder rects → (outer : Edges) → ((p : Point) → holds rects p ≡ true → has_point outer p ≡ true) →
+    IsPartOf (extents_of rects) outer
+extents_least [] h outer all = inl refl
+extents_least (r ∷ rects) h outer all = inr (between_all r rects outer h all)

@@ -4,8 +4,6 @@
 mod good;
 mod moving;
 mod shifting;
-#[cfg(test)]
-mod tests;
 
 pub use good::still_good;
 pub use moving::move_pixels;

@@ -36,13 +36,14 @@ use Rattle.tr_journal.specs.declared.steps.Step.{Step}
 use Rattle.tr_journal.specs.declared.steps.Step.TheVariants as steps
 use Rattle.tr_journal.specs.Journals.{JournalLine}
 use Rattle.tr_journal.specs.Openings.{tree_of}
-use Rattle.tr_journal.specs.Steps.{IsLeaf, IsQuery, IsStep, covers, may, stated}
+use Rattle.tr_journal.specs.Steps.{AreAsMany, AreLevels, IsLevel, IsQuery, IsStep, may, stated}
+use Rattle.tr_journal.proofs.LevelLemmas.{stated_levels}
 use Rattle.tr_machine.specs.States.{State, content_of, start}
 use Rattle.tr_machine.specs.Machines as machine
 use Rattle.tr_machine.specs.Machines.{Outcome, asked_of, edited, obeyed, taken, unless}
 use Rattle.tr_machine.specs.Replays.{IsLegal, IsLegalFrom, IsLegalLine, line_of, next, replay, replay_from}
 use Rattle.tr_machine.proofs.JournalLemmas.{replay-append}
-use Rattle.tr_machine.proofs.KeptLemmas.{AreAsMany, IsKept, as_many, kept_next, step_along}
+use Rattle.tr_machine.proofs.KeptLemmas.{IsKept, as_many, kept_next, step_along}
 use Rattle.tr_journal.specs.Names.{HasLeaf, HasNode, Names}
 use Rattle.tr_dump.specs.Names.{IsNamedActor, IsNamedEdit, IsNamedLevel, IsNamedLine, IsNamedQuery, IsNamedStep}
 use Rattle.tr_stage.specs.Stages.{IsOf, IsPainters, StageView, state}
@@ -136,29 +137,14 @@ named_actor : {M : Type 0} (names : Names) (t : Nodes) (actor : Actor) (step : S
 named_actor names t (actors.Leaf own) step named h is = has_leaf names t own named (own_leaf t own step h is)
 named_actor names t actor step named h is = tt
 
--- the tree's lock
-named_lock : (names : Names) → All (IsNamedLevel names) (Mu ∷ [])
-named_lock names = All-cons (IsNamedLevel names) Mu [] tt (All-nil (IsNamedLevel names))
-
--- a window
-named_window : (names : Names) (t : Nodes) (leaf : LeafId) → AreNamed names t → IsLeaf t leaf → All (IsNamedLevel names) (Win leaf ∷ [])
-named_window names t leaf named is =
-    All-cons (IsNamedLevel names) (Win leaf) [] (has_leaf names t leaf named is.within) (All-nil (IsNamedLevel names))
-
--- the tree's lock and a window
-named_both : (names : Names) (t : Nodes) (leaf : LeafId) → AreNamed names t → IsLeaf t leaf → All (IsNamedLevel names) (Mu ∷ Win leaf ∷ [])
-named_both names t leaf named is = All-cons (IsNamedLevel names) Mu (Win leaf ∷ []) tt (named_window names t leaf named is)
-
--- the levels of a step
-named_levels : {M : Type 0} (names : Names) (t : Nodes) (step : Step M) → AreNamed names t → IsStep t step → All (IsNamedLevel names) (stated step)
-named_levels names t (steps.Act leaf cmd) named is = named_window names t leaf named is
-named_levels names t (steps.Mark leaf clip) named is = named_both names t leaf named is.0
-named_levels names t (steps.Take leaf) named is = named_both names t leaf named is
-named_levels names t (steps.SetCage leaf cage) named is = named_both names t leaf named is.0
-named_levels names t (steps.Own leaf selection time) named is = named_both names t leaf named is.0
-named_levels names t (steps.Disown leaf selection) named is = named_both names t leaf named is
-named_levels names t (steps.Read leaf selection) named is = named_both names t leaf named is
-named_levels names t step named is = named_lock names
+-- levels of leaves
+named_levels : (names : Names) (t : Nodes) (levels : List Level) → AreNamed names t → AreLevels t levels → All (IsNamedLevel names) levels
+named_levels names t levels named are = All-weaker (IsLevel t) (IsNamedLevel names) each levels are
+  where
+    each : (level : Level) → IsLevel t level → IsNamedLevel names level
+    each Mu is = tt
+    each (Share leaf) is = has_leaf names t leaf named is.within
+    each (Win leaf) is = has_leaf names t leaf named is.within
 
 -- ---- what a step sends
 
@@ -267,7 +253,7 @@ module _ {C M : Type 0} (client : Ghosts C M) where
       line = record {
         entry = record {
           actor = named_actor names t actor step is.tree made.may made.values;
-          levels = named_levels names t step is.tree made.values;
+          levels = named_levels names t (stated step) is.tree (stated_levels t step made.values);
           step = named_step names t step is.tree made.values;
         };
         sent = All-weaker (IsBelow (leaf_count t)) (λ (delivery : Delivery). HasLeaf names delivery.leaf)
@@ -275,10 +261,6 @@ module _ {C M : Type 0} (client : Ghosts C M) where
       }
 
   -- ---- lines that others made
-
-  -- the levels of a line are those of leaves that have names
-  abbrev pub HasNamedLevels : Names → JournalLine M → Type 0
-  HasNamedLevels names line = All (IsNamedLevel names) line.entry.level
 
   -- a state whose tree is a forest with as many nodes and leaves as another one, and whose mail knows them
   pub record IsLike (t : Nodes) (m : State C M) : Type 0 where
@@ -288,14 +270,14 @@ module _ {C M : Type 0} (client : Ghosts C M) where
 
   -- a line that the machine made
   named_made : (names : Names) (t : Nodes) (m : State C M) (actor : Actor) (held : List Level) (step : Step M) → AreNamed names t →
-      IsLike t m → may actor step ≡ true → IsStep t step → All (IsNamedLevel names) held → IsNamedLine names (line_of client m actor held step)
+      IsLike t m → may actor step ≡ true → IsStep t step → AreLevels t held → IsNamedLine names (line_of client m actor held step)
   named_made names t m actor held step named like may values levels =
       let goes : IsGoing (leaf_count t) (machine.step client m step) =
-          going t m step (record { forest = like.forest; leaves = like.many.leaves; mail = like.mail }) values in
+      going t m step (record { forest = like.forest; leaves = like.many.leaves; mail = like.mail }) values in
       record {
         entry = record {
           actor = named_actor names t actor step named may values;
-          levels = levels;
+          levels = named_levels names t held named levels;
           step = named_step names t step named values;
         };
         sent = All-weaker (IsBelow (leaf_count t)) (λ (delivery : Delivery). HasLeaf names delivery.leaf)
@@ -307,7 +289,7 @@ module _ {C M : Type 0} (client : Ghosts C M) where
   like_next t m step like values =
       let kept : IsKept client m (next client m step) = kept_next client m step like.forest (step_along t m.tree.nodes like.many step values) in
       let goes : IsGoing (leaf_count t) (machine.step client m step) =
-          going t m step (record { forest = like.forest; leaves = like.many.leaves; mail = like.mail }) values in
+      going t m step (record { forest = like.forest; leaves = like.many.leaves; mail = like.mail }) values in
       record {
         forest = kept.forest;
         many = record { nodes = kept.nodes ∙ like.many.nodes; leaves = kept.leaves ∙ like.many.leaves };
@@ -320,16 +302,15 @@ module _ {C M : Type 0} (client : Ghosts C M) where
     mail : IsKnowing (leaf_count t) (replay_from client m lines).mail
 
   named_lines : (names : Names) (t : Nodes) (m : State C M) (lines : List (JournalLine M)) → AreNamed names t → IsLike t m →
-      IsLegalFrom client t m lines → All (HasNamedLevels names) lines → AreNamedTo names t m lines
-  named_lines names t m [] named like legal levels = record { named = All-nil (IsNamedLine names); mail = like.mail }
-  named_lines names t m (line ∷ lines) named like legal levels =
+      IsLegalFrom client t m lines → AreNamedTo names t m lines
+  named_lines names t m [] named like legal = record { named = All-nil (IsNamedLine names); mail = like.mail }
+  named_lines names t m (line ∷ lines) named like legal =
       let new : State C M = next client m line.entry.step in
       let first : IsNamedLine names (line_of client m line.entry.actor line.entry.level line.entry.step) =
-          named_made names t m line.entry.actor line.entry.level line.entry.step named like legal.0.may legal.0.values
-          (All-head (HasNamedLevels names) line lines levels) in
+      named_made names t m line.entry.actor line.entry.level line.entry.step named like legal.0.may legal.0.values
+      legal.0.levels in
       let later : AreNamedTo names t new lines =
-          named_lines names t new lines named (like_next t m line.entry.step like legal.0.values) legal.1
-          (All-tail (HasNamedLevels names) line lines levels) in
+      named_lines names t new lines named (like_next t m line.entry.step like legal.0.values) legal.1 in
       record {
         named = All-cons (IsNamedLine names) line lines (subst (λ (l : JournalLine M). IsNamedLine names l) (sym legal.0.made) first) later.named;
         mail = later.mail;
@@ -342,16 +323,15 @@ module _ {C M : Type 0} (client : Ghosts C M) where
   legal_later t m (x ∷ xs) ys legal = legal_later t (next client m x.entry.step) xs ys legal.1
 
   -- from one stage to a later one some lines were added, by whomever
-  pub record IsLater (names : Names) (s n : StageView C M) (lines : List (JournalLine M)) : Type 0 where
+  pub record IsLater (s n : StageView C M) (lines : List (JournalLine M)) : Type 0 where
     pub stands : Stands client s
     pub like : IsOf s.opening (state client s)
     pub legal : IsLegal client n.opening n.journal
     pub opening : n.opening ≡ s.opening
     pub journal : n.journal ≡ s.journal ++ lines
-    pub levels : All (HasNamedLevels names) lines
 
   -- the later one's journal names what has names, too
-  pub named_later : (names : Names) (s n : StageView C M) (lines : List (JournalLine M)) → IsNamed client names s → IsLater names s n lines →
+  pub named_later : (names : Names) (s n : StageView C M) (lines : List (JournalLine M)) → IsNamed client names s → IsLater s n lines →
       IsNamed client names n
   named_later names s n lines is later = record {
     tree = subst (λ (items : List (Item C)). AreNamed names (tree_of items).nodes) (sym later.opening) is.tree;
@@ -378,4 +358,4 @@ module _ {C M : Type 0} (client : Ghosts C M) where
       named : AreNamedTo names t (state client s) lines
       named = named_lines names t (state client s) lines is.tree
           (record { forest = later.stands.forest; many = record { nodes = later.like.nodes; leaves = later.like.leaves }; mail = is.mail })
-          legal later.levels
+          legal

@@ -16,8 +16,8 @@ use Rattle.tr_journal.specs.Journals.{JournalLine}
 use Rattle.tr_journal.specs.Reports.{is_report}
 use Rattle.tr_journal.specs.Steps.{stated}
 use Rattle.tr_machine.specs.States.{State}
-use Rattle.tr_machine.specs.Replays.{line_of, next, replay, replay_from}
-use Rattle.tr_machine.specs.Settling.{after_steps, lines_of, settling_lines}
+use Rattle.tr_machine.specs.Replays.{line_of, next, replay, replay_from, after_steps, lines_of}
+use Rattle.tr_machine.specs.Settling.{settling_lines}
 use Rattle.tr_machine.proofs.JournalLemmas.{lines_of-take, replay-append, replay-more, replay_from-append, replay_from-lines_of}
 use Rattle.tr_journal.specs.Names.{Names}
 use Rattle.tr_stage.specs.Stages.{StageView, is_note, state}

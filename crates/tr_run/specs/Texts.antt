@@ -18,7 +18,7 @@ use Rattle.tr_machine.specs.States.{State, batch_of}
 use Rattle.tr_machine.specs.Pictures.{render, bad_count, waiting_count, stale_count, is_stale}
 use Rattle.tr_machine.specs.Replays.{next}
 use Rattle.tr_stage.specs.Stages.{is_note}
-use Rattle.tr_dump.specs.declared.Peek3.{Peek3}
+use Rattle.tr_journal.specs.declared.Peek3.{Peek3}
 use Rattle.tr_dump.specs.Values.{line_text}
 use Rattle.tr_journal.specs.Names.{Names}
 use Rattle.tr_dump.specs.Reports.{dump_text, peek_text, journal_text, place_text, inbox_text}

@@ -2,11 +2,9 @@
 //! this writes.
 #![tactic(auto)]
 
-mod levels;
 mod modes;
 mod reports;
 mod runs;
-mod standings;
 mod sums;
 
 pub use modes::Mode;

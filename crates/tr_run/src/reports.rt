@@ -11,11 +11,10 @@ ghost use Rattle.tr_stage.specs.Stages.{state};
 ghost use Rattle.tr_run.specs.Texts.{lag, lag_line, report_text};
 ghost use Rattle.tr_run.specs.Views.{AreNamed, IsNamed};
 
-use crate::standings::stands;
 use std::alloc::Global;
 use tr_base::{NoMemory, Point};
 use tr_client::Client;
-use tr_dump::{Peek3, dump, inbox, journal, peek_line, place_line};
+use tr_dump::{dump, inbox, journal, peek_line, place_line};
 use tr_journal::{NameOf, Query};
 use tr_spot::spot_at;
 use tr_stage::Stage;
@@ -46,15 +45,7 @@ pub(crate) fn append_report<C: Client, N: NameOf>(
 fn append_peek<C: Client>(stage: &Stage<C>, out: &mut Vec<u8>) -> Result<(), NoMemory>
     ensures { OnOk result (out.new.items ≡ out.old.items ++ peek_text (lag C.Client (state C.Client stage.now))) }
 {
-    let peek = stage.peek()?;
-    peek_line(
-        &Peek3 {
-            bad: peek.bad,
-            waiting: peek.waiting,
-            stale: peek.stale,
-        },
-        out,
-    )
+    peek_line(&stage.peek()?, out)
 }
 
 /// Appends the journal.
@@ -95,7 +86,7 @@ pub(crate) fn append_lag<C: Client>(
         lag_line C.Client (length stage.now.journal) (state C.Client stage.now)) }
 {
     // Called for what it tells the prover: that what is stale waits to be painted.
-    stands(stage);
+    stage.stands();
     let number = stage.journal().len();
     let peek = stage.peek()?;
     let (bad, stale) = (peek.bad, peek.stale);

@@ -7,24 +7,22 @@ ghost use Rattle.tr_journal.specs.Openings.{tree_of};
 ghost use Rattle.tr_journal.specs.Reports.{is_report};
 ghost use Rattle.tr_journal.specs.Steps.{IsQuery, IsStep, may, stated};
 ghost use Rattle.tr_machine.specs.Pictures.{render};
-ghost use Rattle.tr_machine.specs.Replays.{line_of};
-ghost use Rattle.tr_machine.specs.Settling.{lines_of, settling_lines};
 ghost use Rattle.tr_journal.specs.Names.{names_of};
+ghost use Rattle.tr_machine.specs.Replays.{line_of, lines_of};
+ghost use Rattle.tr_machine.specs.Settling.{settling_lines};
 ghost use Rattle.tr_stage.specs.Stages.{IsPainters, is_note, state};
 ghost use Rattle.tr_run.specs.Runs.{makes, reporting};
 ghost use Rattle.tr_run.specs.Texts.{is_check, sum_after, written};
 ghost use Rattle.tr_run.specs.Views.{AreNamed, IsNamed, Adds, Does};
 
-use crate::levels::levels_of;
 use crate::modes::Mode;
 use crate::reports::{append_lag, append_report};
-use crate::standings::stands;
 use crate::sums::sum_of;
 use std::alloc::Global;
 use std::marker::Model;
 use tr_base::NoMemory;
 use tr_client::Client;
-use tr_journal::{Actor, NameOf, Opening, Query, Step};
+use tr_journal::{Actor, NameOf, Opening, Query, Step, stated};
 use tr_stage::Stage;
 
 /// A stage on which steps and reports are made one after another, and what was written meanwhile. Each
@@ -185,9 +183,9 @@ impl<'a, C: Client, N: NameOf> Run<'a, C, N> {
         ensures sum { self.new.sum ≡ self.old.sum }
     {
         // Called for what they tell the prover: what holds of the stage, and of its tree.
-        stands(&self.stage);
+        self.stage.stands();
         let _tree = self.stage.tree();
-        let level = levels_of(&step);
+        let level = stated(&step);
         self.stage.step(actor, level, step)?;
         Ok(())
     }
@@ -221,10 +219,10 @@ impl<'a, C: Client, N: NameOf> Run<'a, C, N> {
         ensures screen { OnOk result (self.new.stage.screen ≡ render C.Client (state C.Client self.new.stage)) }
     {
         // Called, before and after, for what it tells the prover.
-        stands(&self.stage);
+        self.stage.stands();
         let steps = self.stage.steps_to_settle()?;
         self.paint_all(steps)?;
-        stands(&self.stage);
+        self.stage.stands();
         Ok(())
     }
 

@@ -3,3 +3,4 @@ pub mod CopyLemmas
 pub mod RunLemmas
 pub mod Repainting
 pub mod ResizingLemmas
+pub mod ReadingLemmas

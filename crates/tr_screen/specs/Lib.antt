@@ -4,3 +4,4 @@ pub mod Runs
 pub mod RunLending
 pub mod Copies
 pub mod Resizing
+pub mod Readings

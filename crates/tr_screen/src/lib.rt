@@ -2,12 +2,8 @@
 #![tactic(auto)]
 
 mod copies;
-#[cfg(test)]
-mod run_tests;
 mod runs;
 mod screens;
-#[cfg(test)]
-mod tests;
 
 pub use runs::Run;
 pub use screens::Screen;

@@ -1,8 +1,10 @@
-ghost use Rattle.std.specs.Prelude.{◌≡◌, ◌+◌, ◌*◌, ◌≤◌, pos, ◌-ℤ◌, ◌≤ℤ◌};
+ghost use Rattle.std.specs.Prelude.{◌≡◌, ◌+◌, ◌*◌, ◌<◌, ◌≤◌, pos, ◌-ℤ◌, ◌≤ℤ◌};
+ghost use Rattle.tr_base.specs.Rects.{sides_of};
 ghost use Rattle.tr_screen.specs.Pictures.{IsScreenSize};
+ghost use Rattle.tr_screen.specs.Readings.{row_in};
 ghost use Rattle.tr_screen.specs.Runs as spec;
 
-use tr_base::{Point, Size};
+use tr_base::{Point, Rect, Size};
 
 /// Points side by side in a row: those of row `v` with `west <= h < east`.
 #[derive(Clone, Copy, Debug, PartialEq, Eq)]
@@ -63,4 +65,18 @@ pub fn row_before(v: u16, delta: Point) -> usize
     ensures { pos result ≡ pos v -ℤ delta.v }
 {
     (i32::from(v) - delta.v) as usize
+}
+
+/// Row `n` of a rectangle, counted from its north.
+pub fn row_in(rect: &Rect, n: u32) -> Run
+    requires { n < (sides_of rect.now).1 }
+    ensures { result ≡ row_in rect.now n }
+{
+    // Called for what it tells the prover: that the edges are those of a rectangle.
+    let _ = rect.is_empty();
+    Run {
+        v: rect.north() + n as i32,
+        west: rect.west(),
+        east: rect.east(),
+    }
 }

@@ -1,4 +1,4 @@
-ghost use Rattle.std.specs.Prelude.{◌≡◌, ◌<◌, ◌≤◌, ℕ, List, length, pos, ◌-ℤ◌, ◌≤ℤ◌, slice_index, true, IsTrue, IfOk};
+ghost use Rattle.std.specs.Prelude.{◌≡◌, ◌<◌, ◌≤◌, ◌++◌, ℕ, List, length, All, pos, ◌-ℤ◌, ◌≤ℤ◌, slice_index, true, IsTrue, IfOk, OnOk};
 ghost use Rattle.std.specs.Borrow.{sem};
 ghost use Rattle.tr_base.specs.declared.points.Point.{Point};
 ghost use Rattle.tr_base.specs.Rects.{before_shift, has_point, whole_of};
@@ -7,12 +7,13 @@ ghost use Rattle.tr_screen.specs.Lending.{LendsRow};
 ghost use Rattle.tr_screen.specs.RunLending.{LendsRun, run_overwritten};
 ghost use Rattle.tr_screen.specs.Runs.{in_run, in_rows, run_before, width_of, column_in, IsOn, IsRun, Repaints};
 ghost use Rattle.tr_screen.specs.Resizing.{kept_pixel};
+ghost use Rattle.tr_screen.specs.Readings.{LiesOn, rect_by, rects_by, run_by};
 
 use crate::copies::{copy_pixels, copy_through};
-use crate::runs::{Run, row_before, row_start, source_of, start_of, width_of};
+use crate::runs::{Run, row_before, row_in, row_start, source_of, start_of, width_of};
 use std::alloc::Global;
 use std::marker::Model;
-use tr_base::{Kind, NoMemory, Point, Size};
+use tr_base::{Kind, NoMemory, Point, Rect, Size};
 use tr_kernel::copy_row;
 
 /// The pixels of a screen, 1 to 1024 from west to east and 1 to 1024 from north to south.
@@ -129,6 +130,44 @@ impl Screen {
         self.pixels.slice_mut(start..start + count)
     }
 
+    /// The pixels at the points of these rectangles, one after another, and row after row in each.
+    pub fn pixels_at(&self, rects: &[Rect]) -> Result<Vec<u8>, NoMemory>
+        requires { All (LiesOn self.now.size) rects.now }
+        ensures { IfOk result (λ pixels. pixels.items ≡ rects_by (pixel_of self.now) rects.now) }
+    {
+        let mut pixels = Vec::new(*self.pixels.allocator());
+        for rect in rects {
+            self.append_rect(&mut pixels, rect)?;
+        }
+        Ok(pixels)
+    }
+
+    /// Puts the pixels of a rectangle behind others, row after row.
+    fn append_rect(&self, pixels: &mut Vec<u8>, rect: &Rect) -> Result<(), NoMemory>
+        requires { LiesOn self.now.size rect.now }
+        ensures { OnOk result (pixels.new.items ≡
+            pixels.old.items ++ rect_by (pixel_of self.now) rect.now) }
+    {
+        // Called for what it tells the prover: that the edges are those of a rectangle.
+        let _ = rect.is_empty();
+        let (_, high) = rect.size();
+        for n in 0..high {
+            pixels.extend_from_slice(self.run(row_in(rect, n)))?;
+        }
+        Ok(())
+    }
+
+    /// The pixels of the run.
+    fn run(&self, run: Run) -> &[u8]
+        requires { IsRun self.now.size run }
+        ensures pixels { result.now ≡ run_by (pixel_of self.now) run }
+        ensures wide { length result.now ≡ width_of run }
+    {
+        let start = start_of(self.size, run);
+        let count = width_of(self.size, run);
+        &self.pixels[start..start + count]
+    }
+
     /// Gives each point of the run the pixel that lay `delta` before it.
     pub fn move_run(&mut self, run: Run, delta: Point)
         requires to { IsRun self.old.size run }
@@ -206,8 +245,6 @@ impl Screen {
         requires from { IsRun other.now.size run }
         ensures { Repaints (in_run run) (pixel_of other.now) self.old self.new }
     {
-        let start = start_of(other.size, run);
-        let count = width_of(other.size, run);
-        copy_row(self.run_mut(run), &other.pixels[start..start + count]);
+        copy_row(self.run_mut(run), other.run(run));
     }
 }

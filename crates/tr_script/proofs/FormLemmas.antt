@@ -83,7 +83,7 @@ pub no_node : (v : ℕ) (w : List ℕ) (ws : List (List ℕ)) → bytes_eq w (co
 no_node v w ws other = rw (other, and-false (is_second v)) refl
 
 pub no_leaf : (v : ℕ) (w : List ℕ) (ws : List (List ℕ)) → bytes_eq w (codes "leaf") ≡ false → among v leaf_forms (w ∷ ws) ≡ None
-no_leaf v w ws other = rw other refl
+no_leaf v w ws other = rw (other, and-false (is_second v)) refl
 
 pub no_act : (v : ℕ) (w : List ℕ) (ws : List (List ℕ)) → eqb (get_or w 0 0) 64 ≡ false → among v act_forms (w ∷ ws) ≡ None
 no_act v w ws other = rw (other, and-false (is_second v)) refl

@@ -6,7 +6,7 @@ use Rattle.tr_grammar.specs.declared.LineRefused.{LineRefused}
 use Rattle.tr_grammar.specs.declared.LineRefused.TheVariants as refused
 use Rattle.tr_grammar.specs.declared.Meaning.{Meaning}
 use Rattle.tr_grammar.specs.Words.{word_at, nat_of, int_of, is_name, is_shape, is_signed}
-use Rattle.tr_grammar.specs.Forms.{Form, Version, Screen, Glyph, Put, PutAt, Root, Begin, Mouse, Motion, Key, Attach, AttachAt, Detach, Tint, Widen, Offset, Fix, Move, Lift, Show, Turn, Reshape, Resize, Rescreen, Sync, Dump, Peek, Journal, Where, Inbox, End, SetTint, SetTile, SetShift, SetText, AddLine, Clear, AddRect, AddSwap, AddExchange, Undo, SetBar, among}
+use Rattle.tr_grammar.specs.Forms.{Form, Version, Screen, Glyph, Put, PutAt, Root, Begin, Mouse, Motion, Key, Attach, AttachAt, Detach, Tint, Widen, Offset, Fix, Move, Lift, Show, Turn, Reshape, Resize, Rescreen, Sync, Dump, Peek, Journal, Where, Inbox, End, SetTint, SetTile, SetShift, SetText, AddLine, Clear, AddRect, AddSwap, AddExchange, Undo, SetBar, InsertText, EraseByte, SplitLine, GoTo, CopyText, PasteClip, among}
 use Rattle.tr_grammar.specs.Meanings.{meaning_of}
 use Rattle.tr_grammar.specs.States.{SoFar}
 use Rattle.tr_grammar.specs.Faults.{first_of, word_faults}
@@ -74,10 +74,14 @@ plain_forms =
     (Version ∷ Screen ∷ Glyph ∷ Put ∷ PutAt ∷ Root ∷ Begin ∷ []) ++ desk_forms
     ++ (Sync ∷ Dump ∷ Peek ∷ Journal ∷ Where ∷ Inbox ∷ End ∷ [])
 
+-- the forms of the commands for editors
+abbrev pub editor_forms : List Form
+editor_forms = InsertText ∷ EraseByte ∷ SplitLine ∷ GoTo ∷ CopyText ∷ PasteClip ∷ []
+
 -- the forms of the commands for widgets
 abbrev pub command_forms : List Form
 command_forms =
-    SetTint ∷ SetTile ∷ SetShift ∷ SetText ∷ AddLine ∷ Clear ∷ AddRect ∷ AddSwap ∷ AddExchange ∷ Undo ∷ SetBar ∷ []
+    (SetTint ∷ SetTile ∷ SetShift ∷ SetText ∷ AddLine ∷ Clear ∷ AddRect ∷ AddSwap ∷ AddExchange ∷ Undo ∷ SetBar ∷ []) ++ editor_forms
 
 -- the words of a line of a leaf's actor
 abbrev pub act_line : ActLine → List (List ℕ)

@@ -18,6 +18,7 @@ use tr_reader::Reader;
 use tr_widget::Widget;
 use tr_words::{LeafWords, ShapeWords, byte, name, rest_after, rows, shape, shift, small, text};
 use w_canvas::Canvas;
+use w_edit::Editor;
 use w_lines::Lines;
 use w_meter::Meter;
 use w_plain::{Board, Label, Solid};
@@ -94,6 +95,7 @@ fn read_widget(
         "lines" => read_typescript(alloc, reader, head, words.values),
         "canvas" => read_canvas(alloc, reader, head, words.values),
         "meter" => read_meter(alloc, reader, head, words.values),
+        "edit" => read_editor(alloc, reader, head, words.values),
         _ => Err(NO_FORM),
     }
 }
@@ -210,5 +212,26 @@ fn read_meter(
     let bars = small(bars, 1, 32)?;
     reader.is_new(head.name)?;
     let content = Widget::Meter(Meter::new(alloc, bars)?);
+    Ok(Meaning::Item(Item::Leaf { shapes, content }))
+}
+
+fn read_editor(
+    alloc: Global,
+    reader: &Reader,
+    head: &LeafWords,
+    values: &[&str],
+) -> Result<Meaning, LineRefused>
+    ensures { Reads reader.now (form.Editor ∷ []) (leaf_line head.now
+        (codes "edit") (texts values.now)) result }
+{
+    let [] = values else {
+        return Err(NO_FORM);
+    };
+    if !reader.is_second() {
+        return Err(NO_FORM);
+    }
+    let shapes = shapes_of(reader, head)?;
+    reader.is_new(head.name)?;
+    let content = Widget::Editor(Editor::new(alloc)?);
     Ok(Meaning::Item(Item::Leaf { shapes, content }))
 }

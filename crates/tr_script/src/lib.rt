@@ -7,6 +7,7 @@
 
 mod act_lines;
 mod desk_lines;
+mod editor_lines;
 mod leaf_lines;
 mod lines;
 mod names;

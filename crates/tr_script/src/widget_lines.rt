@@ -10,6 +10,7 @@ ghost use Rattle.tr_words.specs.Answers.{texts};
 ghost use Rattle.tr_script.specs.Reading.{Reads, ReadsAs, ReadsEdges, act_line, command_forms, edges_of, edge_words};
 
 use crate::act_lines::{ActLine, EdgeWords, by_leaf, leaf_in_steps};
+use crate::editor_lines::read_editing;
 use crate::names::leaf_of;
 use crate::refusals::NO_FORM;
 use tr_base::{LeafId, Point, Tile};
@@ -24,10 +25,10 @@ use w_meter::{BarNumber, MeterCmd};
 use w_plain::{BoardCmd, LabelCmd, Shift, SolidCmd};
 
 /// How many words stand before the text of a command.
-const WORDS_BEFORE_TEXT: usize = 2;
+pub const WORDS_BEFORE_TEXT: usize = 2;
 
 /// A command for a leaf's widget.
-fn acting(leaf: LeafId, cmd: WidgetCmd) -> Meaning
+pub fn acting(leaf: LeafId, cmd: WidgetCmd) -> Meaning
     ensures { result ≡ Meaning.Step (actors.Leaf leaf) (Step.Act leaf cmd) }
 {
     by_leaf(leaf, Step::Act { leaf, cmd })
@@ -62,7 +63,7 @@ pub fn read_command(reader: &Reader, words: &ActLine, line: &str) -> Result<Mean
         "exchange" => read_exchange(reader, words.leaf, words.values),
         "undo" => read_undo(reader, words.leaf, words.values),
         "bar" => read_bar(reader, words.leaf, words.values),
-        _ => Err(NO_FORM),
+        _ => read_editing(reader, words, line),
     }
 }
 

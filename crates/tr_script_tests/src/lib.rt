@@ -1,11 +1,6 @@
-//! Tests of the reading of scripts, by tables of texts and of their faults. Nothing but tests is in here.
+//! Tests of the scripts that are drawn from a number. Nothing but tests is in here: lines that are refused, and what
+//! a script writes, are tried by the linked program.
 #![tactic(auto)]
 
 #[cfg(test)]
-mod faults;
-#[cfg(test)]
-mod openings;
-#[cfg(test)]
-mod parts;
-#[cfg(test)]
-mod whole;
+mod drawn;

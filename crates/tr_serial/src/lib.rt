@@ -6,6 +6,3 @@ mod plays;
 
 pub use drawn::summary;
 pub use plays::{Played, check, serial};
-
-#[cfg(test)]
-mod tests;

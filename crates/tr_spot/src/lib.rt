@@ -17,6 +17,3 @@ pub use owners::levels_suffice;
 pub use spots::{from_corner, size_of, spot_at};
 pub use tr_base::Spot;
 pub use windows::{frame, visible};
-
-#[cfg(test)]
-mod tests;

@@ -6,6 +6,3 @@
 mod stacks;
 
 pub use stacks::{max_shape, page_child, page_place, page_shape, t_child, t_place, z_place};
-
-#[cfg(test)]
-mod tests;

@@ -27,12 +27,12 @@ use Rattle.tr_journal.specs.declared.steps.Step.{Step}
 use Rattle.tr_journal.specs.declared.steps.Step.TheVariants as steps
 use Rattle.tr_journal.specs.Journals.{JournalLine}
 use Rattle.tr_journal.specs.Openings.{font_of, tree_of}
+use Rattle.tr_journal.specs.Steps.{IsFor}
 use Rattle.tr_machine.specs.States.{State, changed_at, content_of, look}
 use Rattle.tr_machine.specs.Paintings.{acted, marked}
 use Rattle.tr_machine.specs.Machines.{asked_of, obeyed, taken}
 use Rattle.tr_machine.specs.Machines as machine
 use Rattle.tr_machine.specs.Replays.{line_of, next, replay}
-use Rattle.tr_machine.proofs.JournalLemmas.{IsFor}
 use Rattle.tr_machine.proofs.SoundLemmas.{IsObeyed, sound_acted, sound_mail, sound_marked}
 use Rattle.tr_machine.proofs.StillLemmas.{act_shows, mail_shows, mark_shows}
 use Rattle.tr_windows.specs.Presents.{Present, act_on, content_at, mark_on, presents}

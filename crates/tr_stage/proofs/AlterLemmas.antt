@@ -29,11 +29,11 @@ use Rattle.tr_journal.specs.declared.steps.Actor.{Actor}
 use Rattle.tr_journal.specs.declared.steps.Step.TheVariants as steps
 use Rattle.tr_journal.specs.Journals.{JournalLine}
 use Rattle.tr_journal.specs.Openings.{tree_of}
+use Rattle.tr_journal.specs.Steps.{IsFor}
 use Rattle.tr_machine.specs.States.{State, look}
 use Rattle.tr_machine.specs.Edits.{altered}
 use Rattle.tr_machine.specs.Machines.{edited}
 use Rattle.tr_machine.specs.Replays.{line_of, next, replay}
-use Rattle.tr_machine.proofs.JournalLemmas.{IsFor}
 use Rattle.tr_machine.proofs.SoundLemmas.{fits}
 use Rattle.tr_machine.proofs.AlterLemmas.{IsAlter, KeepsColours, alter_shows}
 use Rattle.tr_windows.specs.Presents.{Present, cleared_from, kept_by, presents}

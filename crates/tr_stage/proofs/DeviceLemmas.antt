@@ -22,12 +22,11 @@ use Rattle.tr_journal.specs.declared.steps.Step.{Step}
 use Rattle.tr_journal.specs.declared.steps.Step.TheVariants as steps
 use Rattle.tr_journal.specs.Journals.{JournalLine}
 use Rattle.tr_journal.specs.Openings.{tree_of}
-use Rattle.tr_journal.specs.Steps.{IsStep, may, covers}
+use Rattle.tr_journal.specs.Steps.{IsStep, may, covers, IsFor}
 use Rattle.tr_machine.specs.States.{State}
 use Rattle.tr_machine.specs.Machines as machine
 use Rattle.tr_machine.specs.Machines.{Outcome, answered, delivered, unless}
 use Rattle.tr_machine.specs.Replays.{line_of, replay}
-use Rattle.tr_machine.proofs.JournalLemmas.{IsFor}
 use Rattle.tr_machine.proofs.SoundLemmas.{IsObedient}
 use Rattle.tr_machine.proofs.StillLemmas.{mail_shows}
 use Rattle.tr_stage.specs.Stages.{IsStage, Parts, StageView}
@@ -66,17 +65,12 @@ module _ {C M : Type 0} (client : Ghosts C M) where
     pub shown : IsShown b.parts.surface
     pub view : StageView C M
     pub same : b.opening ≡ view.opening
-    pub may : may b.actor step ≡ true
-    pub covers : covers b.held step ≡ true
-    pub values : IsStep (tree_of view.opening).nodes step
+    pub allowed : IsFor (tree_of view.opening).nodes b.actor b.held step
 
   -- the step is for its actor
   pub for_actor : (b : Before C M) (step : Step M) → IsMaking b step → IsFor (tree_of b.opening).nodes b.actor b.held step
-  for_actor b step making = record {
-    may = making.may;
-    covers = making.covers;
-    values = subst (λ (items : List (Item C)). IsStep (tree_of items).nodes step) (sym making.same) making.values;
-  }
+  for_actor b step making =
+      subst (λ (items : List (Item C)). IsFor (tree_of items).nodes b.actor b.held step) (sym making.same) making.allowed
 
   -- the nodes of the state's tree are a forest
   pub forest_before : (b : Before C M) (step : Step M) → IsMaking b step → IsForest (state_before b).tree.nodes

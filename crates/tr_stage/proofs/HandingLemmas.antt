@@ -20,53 +20,47 @@ use Rattle.tr_forest.specs.Nodes.{Nodes, leaf_count}
 use Rattle.tr_forest.specs.Forests.{IsForest}
 use Rattle.tr_spot.specs.Leaves.{leaf_size}
 use Rattle.tr_levels.specs.declared.Level.{Level}
-use Rattle.tr_levels.specs.declared.Level.TheVariants.{Mu, Share, Win}
-use Rattle.tr_levels.specs.Levels.{Admits, sort_of}
+use Rattle.tr_levels.specs.declared.Level.TheVariants.{Win}
+use Rattle.tr_levels.specs.Levels.{HaveLevels}
 use Rattle.tr_journal.specs.declared.items.Item.{Item}
 use Rattle.tr_journal.specs.declared.entries.Entry.{Entry}
-use Rattle.tr_journal.specs.declared.steps.Step.TheVariants as steps
+use Rattle.tr_journal.specs.declared.steps.Actor.TheVariants.{Leaf}
+use Rattle.tr_journal.specs.declared.steps.Step.TheVariants.{Act}
 use Rattle.tr_journal.specs.Journals.{JournalLine}
 use Rattle.tr_journal.specs.Openings.{tree_of}
-use Rattle.tr_journal.specs.Steps.{IsLeaf, is_held, is_level}
+use Rattle.tr_journal.specs.Steps.{IsLeaf}
 use Rattle.tr_machine.specs.Windows.{Window, Command, content, with_change, batch, paints_from}
 use Rattle.tr_machine.specs.Windows as windows
 use Rattle.tr_machine.specs.States.{State, changed_at, content_of, look, window_of, with_window}
 use Rattle.tr_machine.specs.Paintings.{acted}
-use Rattle.tr_machine.specs.Replays.{IsLegalFrom, IsLegal, next, replay, replay_from}
+use Rattle.tr_machine.specs.Replays.{lines_by, replay}
+use Rattle.tr_machine.specs.Handing.{act_entries, act_entry, acts}
 use Rattle.tr_machine.specs.Promises.{IsSound, Leads}
 use Rattle.tr_machine.proofs.JournalLemmas.{legal-append, replay-append}
-use Rattle.tr_machine.proofs.ListLemmas.{changed_at-twice}
+use Rattle.tr_machine.proofs.HandingLemmas.{commands_more, handed, handed_more, handed_none, legal_handed, no_commands, replay_handed, with_commands}
+use Rattle.tr_machine.proofs.ListLemmas.{changed_at-at, changed_at-twice, unchanged}
 use Rattle.tr_machine.proofs.SoundLemmas.{sound_changed}
 use Rattle.tr_machine.proofs.StillLemmas.{window_shows}
 use Rattle.tr_windows.specs.Presents.{Present, act_on, content_at, present, presents, taken_over}
-use Rattle.tr_windows.proofs.ChangeLemmas.{unchanged}
 use Rattle.tr_windows.proofs.PresentLemmas.{present-changed, presents-acted, presents-content}
 use Rattle.tr_stage.specs.Stages.{IsAt, IsOf, IsStage, Parts}
-use Rattle.tr_stage.specs.Handing.{HoldsNoLeaf, IsTreeLock, act_entries, act_entry, silent}
 use Rattle.tr_stage.proofs.StageLemmas.{holding}
 use Rattle.tr_stage.proofs.PartLemmas.{content_at_leaf}
 
--- ---- levels and entries
-
--- a window may be taken where no share and no window is held
-tree_below : (level : Level) (leaf : LeafId) → IsTreeLock level → sort_of level < sort_of (Win leaf)
-tree_below Mu leaf h = omega arith
-tree_below (Share a) leaf h = absurd h
-tree_below (Win a) leaf h = absurd h
-
-pub admits_window : (held : List Level) (leaf : LeafId) → HoldsNoLeaf held → Admits held (Win leaf)
-admits_window held leaf free i d within = tree_below (get_or held i d) leaf (free i d within)
+-- ---- entries
 
 -- the entries of the first commands, and of one more
 pub entries_more : {M : Type 0} (leaf : LeafId) (cmds : List M) (levels : List (List Level)) (k : ℕ) (c : M) (l : List Level) →
     k < length cmds → length levels ≡ length cmds → c ≡ get_or cmds k c → l ≡ get_or levels k l →
-    act_entries leaf (take (k + 1) cmds) (take (k + 1) levels) ≡ act_entries leaf (take k cmds) (take k levels) ++ act_entry leaf c l ∷ []
+    act_entries leaf (take (k + 1) cmds) (take (k + 1) levels)
+    ≡ act_entries leaf (take k cmds) (take k levels) ++ act_entry leaf (l ++ Win leaf ∷ [], Act leaf c) ∷ []
 entries_more leaf [] levels k c l within same here there = absurd (omega arith)
 entries_more leaf (x ∷ cmds) [] k c l within same here there = absurd (omega arith)
-entries_more leaf (x ∷ cmds) (y ∷ levels) zero c l within same here there = ap₂ (λ a b. act_entry leaf a b ∷ []) (sym here) (sym there)
+entries_more leaf (x ∷ cmds) (y ∷ levels) zero c l within same here there =
+    ap₂ (λ a b. act_entry leaf (b ++ Win leaf ∷ [], Act leaf a) ∷ []) (sym here) (sym there)
 entries_more leaf (x ∷ cmds) (y ∷ levels) (suc k) c l within same here there =
     let e : suc k + 1 ≡ suc (k + 1) = omega arith in
-    rw e (ap (λ es. act_entry leaf x y ∷ es) (entries_more leaf cmds levels k c l (omega arith) (omega arith) here there))
+    rw e (ap (λ es. act_entry leaf (y ++ Win leaf ∷ [], Act leaf x) ∷ es) (entries_more leaf cmds levels k c l (omega arith) (omega arith) here there))
 
 -- they sent nothing
 pub entries_quiet : {M : Type 0} (leaf : LeafId) (cmds : List M) (levels : List (List Level)) → All (λ e. e.reply.sent ≡ 0) (act_entries leaf cmds levels)
@@ -77,45 +71,12 @@ entries_quiet leaf (c ∷ cmds) (l ∷ levels) (suc i) d within = entries_quiet 
 
 -- ---- small facts
 
--- a number is the same as itself
-same_number : (n : ℕ) → (n == n) ≡ true
-same_number n = grind (arith, nat_tests)
-
--- one of two is true
-or_true : (a b : Bool) → b ≡ true → (a || b) ≡ true
-or_true true b is = refl
-or_true false b is = is
-
--- the last of a list passes a test
-last_passes : (p : Level → Bool) (held : List Level) (x : Level) → p x ≡ true → list_any p (held ++ x ∷ []) ≡ true
-last_passes p [] x is = ap (λ b. b || false) is
-last_passes p (y ∷ ys) x is = or_true (p y) (list_any p (ys ++ x ∷ [])) (last_passes p ys x is)
-
--- what is made of an element depends on that element alone
-changed_at-at : {A : Type 0} (i : ℕ) (f g : A → A) (xs : List A) → ((x : A) → slice_get xs i ≡ Some x → f x ≡ g x) → changed_at i f xs ≡ changed_at i g xs
-changed_at-at zero f g [] same = refl
-changed_at-at zero f g (x ∷ xs) same = ap (λ y. y ∷ xs) (same x refl)
-changed_at-at (suc i) f g [] same = refl
-changed_at-at (suc i) f g (x ∷ xs) same = ap (λ ys. x ∷ ys) (changed_at-at i f g xs same)
-
 -- what stands in an option
 stands : {A B : Type 0} (f : A → B) (o : Option A) (x : A) (y : B) → o ≡ Some x → option_map f o ≡ Some y → f x ≡ y
 stands f o x y is has = ap (λ p. unwrap_or p y) (sym (ap (option_map f) is) ∙ has)
 
 module _ {C M : Type 0} (client : Ghosts C M) where
   -- ---- one window
-
-  -- commands in a row
-  abbrev with_commands : List M → Window C M → Window C M
-  with_commands cmds w = record w { made = w.made ++ map Command cmds }
-
-  -- one, and then others
-  commands_more : (cmd : M) (cmds : List M) (w : Window C M) → with_commands cmds (with_change (Command cmd) w) ≡ with_commands (cmd ∷ cmds) w
-  commands_more cmd cmds w = ap (λ made. record w { made = made }) (append_assoc w.made (Command cmd ∷ []) (map Command cmds))
-
-  -- none
-  no_commands : (w : Window C M) → with_commands [] w ≡ w
-  no_commands w = ap (λ made. record w { made = made }) (append-nil w.made)
 
   -- what the program holds of it
   abbrev many_on : Look → Size → List M → Present C → Present C
@@ -137,66 +98,26 @@ module _ {C M : Type 0} (client : Ghosts C M) where
       ap with (append-nil p.batch)
 
   present_many : (look : Look) (size : Size) (cmds : List M) (w : Window C M) →
-      present client look size (with_commands cmds w) ≡ many_on look size cmds (present client look size w)
-  present_many look size [] w = ap (present client look size) (no_commands w) ∙ sym (many_none look size (present client look size w))
+      present client look size (with_commands client cmds w) ≡ many_on look size cmds (present client look size w)
+  present_many look size [] w = ap (present client look size) (no_commands client w) ∙ sym (many_none look size (present client look size w))
   present_many look size (cmd ∷ cmds) w =
-      ap (present client look size) (sym (commands_more cmd cmds w))
+      ap (present client look size) (sym (commands_more client cmd cmds w))
       ∙ present_many look size cmds (with_change (Command cmd) w)
       ∙ ap (many_on look size cmds) (present-changed client look size (Command cmd) w)
       ∙ many_more look size cmd cmds (present client look size w)
 
   -- ---- states
 
-  -- commands of a leaf in a row
-  abbrev handed : LeafId → List M → State C M → State C M
-  handed leaf cmds m = with_window leaf (with_commands cmds) m
-
-  handed_more : (leaf : LeafId) (cmd : M) (cmds : List M) (m : State C M) → handed leaf cmds (acted leaf cmd m) ≡ handed leaf (cmd ∷ cmds) m
-  handed_more leaf cmd cmds m =
-      let with : List (Window C M) → State C M = λ ws. record m { windows = ws } in
-      ap with (changed_at-twice leaf.0 (with_change (Command cmd)) (with_commands cmds) m.windows
-      ∙ ap (λ f. changed_at leaf.0 f m.windows) (fun_ext (commands_more cmd cmds)))
-
-  handed_none : (leaf : LeafId) (m : State C M) → handed leaf [] m ≡ m
-  handed_none leaf m =
-      let with : List (Window C M) → State C M = λ ws. record m { windows = ws } in
-      ap with (unchanged (with_commands []) m.windows leaf.0 no_commands)
-
-  -- the state after the lines
-  replay_handed : (m : State C M) (leaf : LeafId) (cmds : List M) (levels : List (List Level)) → length levels ≡ length cmds →
-      replay_from client m (silent (act_entries leaf cmds levels)) ≡ handed leaf cmds m
-  replay_handed m leaf [] [] same = sym (handed_none leaf m)
-  replay_handed m leaf [] (l ∷ levels) same = absurd (omega arith)
-  replay_handed m leaf (c ∷ cmds) [] same = absurd (omega arith)
-  replay_handed m leaf (c ∷ cmds) (l ∷ levels) same =
-      replay_handed (acted leaf c m) leaf cmds levels (omega arith) ∙ handed_more leaf c cmds m
-
-  -- the lines are the machine's
-  legal_handed : (t : Nodes) (m : State C M) (leaf : LeafId) (cmds : List M) (levels : List (List Level)) → IsLeaf t leaf →
-      length levels ≡ length cmds → IsLegalFrom client t m (silent (act_entries leaf cmds levels))
-  legal_handed t m leaf [] [] is same = tt
-  legal_handed t m leaf [] (l ∷ levels) is same = absurd (omega arith)
-  legal_handed t m leaf (c ∷ cmds) [] is same = absurd (omega arith)
-  legal_handed t m leaf (c ∷ cmds) (l ∷ levels) is same = (
-    record {
-      may = same_number leaf.0;
-      covers = ap (λ b. b && true) (last_passes (is_level (Win leaf)) l (Win leaf) (same_number leaf.0));
-      values = is;
-      made = refl;
-    },
-    legal_handed t (acted leaf c m) leaf cmds levels is (omega arith),
-  )
-
   -- the windows
   presents_handed : (m : State C M) (leaf : LeafId) (cmds : List M) →
-      presents client (handed leaf cmds m) ≡ changed_at leaf.0 (many_on (look m) (leaf_size m.tree leaf) cmds) (presents client m)
+      presents client (handed client leaf cmds m) ≡ changed_at leaf.0 (many_on (look m) (leaf_size m.tree leaf) cmds) (presents client m)
   presents_handed m leaf [] =
-      ap (presents client) (handed_none leaf m)
+      ap (presents client) (handed_none client leaf m)
       ∙ sym (unchanged (many_on (look m) (leaf_size m.tree leaf) []) (presents client m) leaf.0 (many_none (look m) (leaf_size m.tree leaf)))
   presents_handed m leaf (c ∷ cmds) =
       let l = look m in
       let size = leaf_size m.tree leaf in
-      ap (presents client) (sym (handed_more leaf c cmds m))
+      ap (presents client) (sym (handed_more client leaf c cmds m))
       ∙ presents_handed (acted leaf c m) leaf cmds
       ∙ ap (changed_at leaf.0 (many_on l size cmds)) (presents-acted client m leaf c)
       ∙ changed_at-twice leaf.0 (act_on client l size c) (many_on l size cmds) (presents client m)
@@ -222,20 +143,23 @@ module _ {C M : Type 0} (client : Ghosts C M) where
         to_is = to_is;
         batch_is = subst (λ (l : Look). paints ≡ patches_of client l (leaf_size m.tree leaf) from cmds) same
             (subst (λ (s : Size). paints ≡ patches_of client (look_of kind font) s from cmds) sizes batch_is);
-        patch = subst (λ (l : Look). IsPatch l (leaf_size m.tree leaf) paints (client.pic l (leaf_size m.tree leaf) from) (client.pic l (leaf_size m.tree leaf) to)) same
-            (subst (λ (s : Size). IsPatch (look_of kind font) s paints (client.pic (look_of kind font) s from) (client.pic (look_of kind font) s to)) sizes patch);
+        patch = subst (λ (l : Look). IsPatch l (leaf_size m.tree leaf) paints
+            (client.pic l (leaf_size m.tree leaf) from) (client.pic l (leaf_size m.tree leaf) to)) same
+            (subst (λ (s : Size). IsPatch (look_of kind font) s paints
+            (client.pic (look_of kind font) s from) (client.pic (look_of kind font) s to)) sizes patch);
       }
 
   -- the windows get what was prepared
   windows_ready : (m : State C M) (leaf : LeafId) (cmds : List M) (from to : C) (paints : List Paint) → IsReady m leaf cmds from to paints →
-      changed_at leaf.0 (taken_over to paints) (presents client m) ≡ presents client (handed leaf cmds m)
+      changed_at leaf.0 (taken_over to paints) (presents client m) ≡ presents client (handed client leaf cmds m)
   windows_ready m leaf cmds from to paints r =
       changed_at-at leaf.0 (taken_over to paints) (many_on (look m) (leaf_size m.tree leaf) cmds) (presents client m) one
       ∙ sym (presents_handed m leaf cmds)
     where
       one : (p : Present C) → slice_get (presents client m) leaf.0 ≡ Some p → taken_over to paints p ≡ many_on (look m) (leaf_size m.tree leaf) cmds p
       one p is =
-          let here : p.content ≡ from = stands (λ (q : Present C). q.content) (slice_get (presents client m) leaf.0) p from is (presents-content client m leaf ∙ r.has) in
+          let here : p.content ≡ from =
+          stands (λ (q : Present C). q.content) (slice_get (presents client m) leaf.0) p from is (presents-content client m leaf ∙ r.has) in
           let size = leaf_size m.tree leaf in
           let made : C → Present C = λ x. record { content = runs.content_after client x cmds; batch = p.batch ++ patches_of client (look m) size x cmds } in
           let with : C → List Paint → Present C = λ x b. record { content = x; batch = p.batch ++ b } in
@@ -243,23 +167,26 @@ module _ {C M : Type 0} (client : Ghosts C M) where
 
   -- what was prepared leads from the shown picture to the next one
   sound_ready : (m : State C M) (leaf : LeafId) (cmds : List M) (from to : C) (paints : List Paint) → IsReady m leaf cmds from to paints →
-      IsSound client m → IsSound client (handed leaf cmds m)
-  sound_ready m leaf cmds from to paints r sound = sound_changed client m leaf (with_commands cmds) sound led
+      IsSound client m → IsSound client (handed client leaf cmds m)
+  sound_ready m leaf cmds from to paints r sound = sound_changed client m leaf (with_commands client cmds) sound led
     where
-      led : (w : Window C M) → window_of m leaf ≡ Some w → Leads client m leaf (with_commands cmds w)
+      led : (w : Window C M) → window_of m leaf ≡ Some w → Leads client m leaf (with_commands client cmds w)
       led w is =
           let size = leaf_size m.tree leaf in
           let here : content client w ≡ from = stands (content client) (window_of m leaf) w from is r.has in
           let whole = present_many (look m) size cmds w in
           let first : IsPatch (look m) size (batch client (look m) size w) (client.pic (look m) size w.shown) (client.pic (look m) size from) =
-              subst (λ (x : C). IsPatch (look m) size (batch client (look m) size w) (client.pic (look m) size w.shown) (client.pic (look m) size x)) here (sound.leads leaf w is) in
-          let both = two_patches (look m) size (batch client (look m) size w) paints (client.pic (look m) size w.shown) (client.pic (look m) size from) (client.pic (look m) size to) first r.patch in
-          let batch_to : batch client (look m) size w ++ paints ≡ batch client (look m) size (with_commands cmds w) =
-              ap (λ ps. batch client (look m) size w ++ ps) (r.batch_is ∙ ap (λ x. patches_of client (look m) size x cmds) (sym here))
-              ∙ sym (ap (λ (p : Present C). p.batch) whole) in
-          let content_to : to ≡ content client (with_commands cmds w) =
-              r.to_is ∙ ap (λ x. runs.content_after client x cmds) (sym here) ∙ sym (ap (λ (p : Present C). p.content) whole) in
-          subst (λ (x : C). IsPatch (look m) size (batch client (look m) size (with_commands cmds w)) (client.pic (look m) size w.shown) (client.pic (look m) size x)) content_to
+          subst (λ (x : C). IsPatch (look m) size (batch client (look m) size w)
+          (client.pic (look m) size w.shown) (client.pic (look m) size x)) here (sound.leads leaf w is) in
+          let both = two_patches (look m) size (batch client (look m) size w) paints
+          (client.pic (look m) size w.shown) (client.pic (look m) size from) (client.pic (look m) size to) first r.patch in
+          let batch_to : batch client (look m) size w ++ paints ≡ batch client (look m) size (with_commands client cmds w) =
+          ap (λ ps. batch client (look m) size w ++ ps) (r.batch_is ∙ ap (λ x. patches_of client (look m) size x cmds) (sym here))
+          ∙ sym (ap (λ (p : Present C). p.batch) whole) in
+          let content_to : to ≡ content client (with_commands client cmds w) =
+          r.to_is ∙ ap (λ x. runs.content_after client x cmds) (sym here) ∙ sym (ap (λ (p : Present C). p.content) whole) in
+          subst (λ (x : C). IsPatch (look m) size (batch client (look m) size (with_commands client cmds w))
+          (client.pic (look m) size w.shown) (client.pic (look m) size x)) content_to
           (subst (λ (ps : List Paint). IsPatch (look m) size ps (client.pic (look m) size w.shown) (client.pic (look m) size to)) batch_to both)
 
   -- ---- a stage
@@ -268,28 +195,30 @@ module _ {C M : Type 0} (client : Ghosts C M) where
   pub takes_over : {opening : List (Item C)} {lines : List (JournalLine M)} {old : Parts C} {leaf : LeafId} (cmds : List M) (levels : List (List Level))
       {from to : C} {paints : List Paint} {new : List (Present C)} →
       IsStage client opening lines old → IsLeaf (tree_of opening).nodes leaf → IsReady (replay client opening lines) leaf cmds from to paints →
-      length levels ≡ length cmds → new ≡ changed_at leaf.0 (taken_over to paints) old.windows →
-      IsStage client opening (lines ++ silent (act_entries leaf cmds levels)) (record old { windows = new })
+      HaveLevels cmds levels → new ≡ changed_at leaf.0 (taken_over to paints) old.windows →
+      IsStage client opening (lines ++ lines_by client (Leaf leaf) (replay client opening lines) (acts leaf cmds levels)) (record old { windows = new })
   takes_over {opening = opening} {lines = lines} {old = old} {leaf = leaf} cmds levels {from = from} {to = to} {paints = paints} {new = new}
-      is leafy r same made = record {
-    kept = subst (λ (m : State C M). IsAt client m (record old { windows = new })) (sym after) at;
-    like = subst (λ (m : State C M). IsOf opening m) (sym after)
-        (record { font = is.like.font; nodes = is.like.nodes; leaves = is.like.leaves; inboxes = is.like.inboxes });
-    legal = legal-append client opening lines (silent (act_entries leaf cmds levels)) is.legal (legal_handed (tree_of opening).nodes n leaf cmds levels leafy same);
-  }
+      is leafy r have made = record {
+        kept = subst (λ (m : State C M). IsAt client m (record old { windows = new })) (sym after) at;
+        like = subst (λ (m : State C M). IsOf opening m) (sym after)
+            (record { font = is.like.font; nodes = is.like.nodes; leaves = is.like.leaves; inboxes = is.like.inboxes });
+        legal = legal-append client opening lines (lines_by client (Leaf leaf) n (acts leaf cmds levels)) is.legal
+            (legal_handed client (tree_of opening).nodes n leaf cmds levels leafy have);
+      }
     where
       n : State C M
       n = replay client opening lines
 
-      after : replay client opening (lines ++ silent (act_entries leaf cmds levels)) ≡ handed leaf cmds n
-      after = replay-append client opening lines (silent (act_entries leaf cmds levels)) ∙ replay_handed n leaf cmds levels same
+      after : replay client opening (lines ++ lines_by client (Leaf leaf) (replay client opening lines) (acts leaf cmds levels)) ≡ handed client leaf cmds n
+      after = replay-append client opening lines (lines_by client (Leaf leaf) n (acts leaf cmds levels)) ∙ replay_handed client n leaf cmds levels have.counts
 
-      at : IsAt client (handed leaf cmds n) (record old { windows = new })
+      at : IsAt client (handed client leaf cmds n) (record old { windows = new })
       at = record {
         tree = is.kept.tree;
         bad = is.kept.bad;
-        windows = made ∙ ap (λ (ws : List (Present C)). changed_at leaf.0 (taken_over to paints) ws) is.kept.windows ∙ windows_ready n leaf cmds from to paints r;
+        windows = made ∙ ap (λ (ws : List (Present C)). changed_at leaf.0 (taken_over to paints) ws) is.kept.windows
+            ∙ windows_ready n leaf cmds from to paints r;
         mail = is.kept.mail;
         sound = sound_ready n leaf cmds from to paints r is.kept.sound;
-        agrees = (window_shows client n old.surface leaf (with_commands cmds) (λ w. refl) (holding client n old is.kept).shows).agrees;
+        agrees = (window_shows client n old.surface leaf (with_commands client cmds) (λ w. refl) (holding client n old is.kept).shows).agrees;
       }

@@ -5,7 +5,6 @@ pub mod ActLemmas
 pub mod MailLemmas
 pub mod DeviceLemmas
 pub mod PaintLemmas
-pub mod SizeLemmas
 pub mod AlterLemmas
 pub mod SettleLemmas
 pub mod CountLemmas

@@ -14,11 +14,10 @@ use Rattle.tr_journal.specs.declared.steps.Actor.{Actor}
 use Rattle.tr_journal.specs.declared.steps.Step.{Step}
 use Rattle.tr_journal.specs.Journals.{JournalLine}
 use Rattle.tr_journal.specs.Openings.{tree_of}
-use Rattle.tr_journal.specs.Steps.{IsStep, may, covers}
+use Rattle.tr_journal.specs.Steps.{IsFor}
 use Rattle.tr_machine.specs.States.{State, batch_of, content_of}
 use Rattle.tr_machine.specs.Promises.{Fits, Lags}
 use Rattle.tr_machine.specs.Replays.{replay}
-use Rattle.tr_machine.proofs.JournalLemmas.{IsFor}
 use Rattle.tr_machine.proofs.LagLemmas.{lags}
 use Rattle.tr_machine.proofs.SoundLemmas.{fits}
 use Rattle.tr_windows.specs.Presents.{Present, batch_at, content_at}
@@ -26,10 +25,10 @@ use Rattle.tr_windows.proofs.PresentLemmas.{presents-batch, presents-content, pr
 use Rattle.tr_stage.specs.Stages.{IsAt, IsStage, KeepsOthers, Parts, StageView, state}
 
 -- a step that is for its actor to make, by what the stage shows of its opening
-pub seen_for : {C M : Type 0} {v w : StageView C M} (actor : Actor) (held : List Level) (step : Step M) → v ≡ w → may actor step ≡ true →
-    covers held step ≡ true → IsStep (tree_of v.opening).nodes step → IsFor (tree_of w.opening).nodes actor held step
-seen_for {C = C} {M = M} actor held step same may covers values =
-    record { may = may; covers = covers; values = subst (λ (u : StageView C M). IsStep (tree_of u.opening).nodes step) same values }
+pub seen_for : {C M : Type 0} {v w : StageView C M} {actor : Actor} {held : List Level} {step : Step M} → v ≡ w →
+    IsFor (tree_of v.opening).nodes actor held step → IsFor (tree_of w.opening).nodes actor held step
+seen_for {C = C} {M = M} {actor = actor} {held = held} {step = step} same allowed =
+    subst (λ (u : StageView C M). IsFor (tree_of u.opening).nodes actor held step) same allowed
 
 module _ {C M : Type 0} (client : Ghosts C M) where
   -- ---- one state

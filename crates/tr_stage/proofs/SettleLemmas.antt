@@ -28,12 +28,13 @@ use Rattle.tr_journal.specs.declared.steps.Step.{Step}
 use Rattle.tr_journal.specs.declared.steps.Step.TheVariants.{Repaint, PaintFrame}
 use Rattle.tr_journal.specs.Journals.{JournalLine}
 use Rattle.tr_journal.specs.Openings.{tree_of}
+use Rattle.tr_journal.specs.Steps.{IsFor}
 use Rattle.tr_machine.specs.States.{State, batch_of}
 use Rattle.tr_machine.specs.Paintings.{is_visible}
 use Rattle.tr_machine.specs.Pictures.{render}
-use Rattle.tr_machine.specs.Replays.{line_of, next, replay}
-use Rattle.tr_machine.specs.Settling.{after_steps, is_frame_bad, is_unsettled, lines_of, repaints_below, settling, settling_lines}
-use Rattle.tr_machine.proofs.JournalLemmas.{IsFor, all_at, lines_of-take, replay-append, replay_from-lines_of}
+use Rattle.tr_machine.specs.Replays.{line_of, next, replay, after_steps, lines_of}
+use Rattle.tr_machine.specs.Settling.{is_frame_bad, is_unsettled, repaints_below, settling, settling_lines}
+use Rattle.tr_machine.proofs.JournalLemmas.{all_at, lines_of-take, replay-append, replay_from-lines_of}
 use Rattle.tr_machine.proofs.PointLemmas.{none_on, some_on}
 use Rattle.tr_machine.proofs.RenderLemmas.{idle_screen}
 use Rattle.tr_machine.proofs.SettleLemmas.{IsSettled, settles, settling-for}
@@ -198,17 +199,13 @@ module _ {C M : Type 0} (client : Ghosts C M) where
       is ∙ sym (append-nil (repaints_below client (length m.windows) m))
       ∙ ap (λ b. repaints_below client (length m.windows) m ++ cond b (PaintFrame ∷ []) []) (sym good)
 
-  -- a step that is for the painter, under the tree's lock
-  painter_of : (t : Nodes) (step : Step M) → IsFor t Painter (Mu ∷ []) step → IsPainters t step
-  painter_of t step for = record { may = for.may; covers = for.covers; values = for.values }
-
-  -- all of them are
+  -- all of them are for the painter, under the tree's lock
   painters : (opening : List (Item C)) (lines : List (JournalLine M)) (parts : Parts C) (steps : List (Step M)) →
       IsStage client opening lines parts → steps ≡ settling client (replay client opening lines) → All (IsPainters (tree_of opening).nodes) steps
   painters opening lines parts steps is same k d lt =
-      painter_of t (get_or steps k d) (all_at (IsFor t Painter (Mu ∷ [])) steps k d
+      all_at (IsFor t Painter (Mu ∷ [])) steps k d
       (subst (λ (xs : List (Step M)). AllByRecursion (IsFor t Painter (Mu ∷ [])) xs) (sym same)
-      (settling-for client t (replay client opening lines) (is.kept.sound.windows ∙ is.like.leaves))) lt)
+      (settling-for client t (replay client opening lines) (is.kept.sound.windows ∙ is.like.leaves))) lt
     where
       t : Nodes
       t = (tree_of opening).nodes

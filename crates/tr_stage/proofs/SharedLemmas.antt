@@ -1,353 +1,40 @@
--- What waits is flushed, the bad leaves are painted side by side and put one after another, then the frames: what the state is then.
-use Rattle.std.proofs.Common.{◌≡◌, ℕ, zero, suc, ◌+◌, ◌<◌, ◌≤◌, ◌==◌, Bool, true, false, cond, ◌&&◌, ◌||◌, not, List, [], ◌∷◌, ◌++◌, Option, Some, None, length, get_or, take, ◌⊎◌, inl, inr, refl, sym, ap, subst, ◌∙◌, add-one, append_assoc, arith}
-use Rattle.std.specs.Prelude.{⊤, All, slice_get}
-use Rattle.std.specs.Option.{option_map}
+-- The bad leaves are painted side by side and put one after another: what the stage is then.
+use Rattle.std.proofs.Common.{◌≡◌, ℕ, zero, suc, ◌+◌, ◌<◌, cond, List, [], ◌∷◌, ◌++◌, true, false, length, get_or, take, refl, sym, ap, subst, ◌∙◌, add-one, append_assoc, arith}
+use Rattle.std.specs.Prelude.{All}
 use Rattle.std.specs.List.{AllByRecursion}
-use Rattle.std.proofs.lemmas.Bool.{cases_eq, cases_lt}
 use Rattle.std.proofs.lemmas.List.{append-nil, take_more}
-use Rattle.std.proofs.lemmas.Option.{slice_get_past}
 use Rattle.tr_base.specs.declared.Point.{Point}
 use Rattle.tr_base.specs.declared.LeafId.{LeafId}
-use Rattle.tr_base.specs.declared.Spot.{Spot}
-use Rattle.tr_base.specs.declared.Spot.TheVariants as spots
-use Rattle.tr_base.specs.Rects.{Edges}
-use Rattle.tr_base.proofs.RectLemmas.{false-true}
-use Rattle.tr_region.specs.Points.{holds}
-use Rattle.tr_region.proofs.ListLemmas.{AllByRecursion-append}
-use Rattle.tr_paint.specs.declared.paints.Paint.{Paint}
 use Rattle.tr_client.specs.declared.clients.Client.{Ghosts}
 use Rattle.tr_forest.specs.Nodes.{Nodes, leaf_count}
-use Rattle.tr_forest.specs.Forests.{IsForest}
 use Rattle.tr_tree.specs.Trees.{Seen}
-use Rattle.tr_spot.specs.Spots.{HasRoot, spot, is_in_leaf}
-use Rattle.tr_spot.proofs.WayLemmas.{equal_numbers, other_test}
-use Rattle.tr_surface.specs.Surfaces.{is_on, is_frame}
+use Rattle.tr_spot.specs.Spots.{spot, is_in_leaf}
 use Rattle.tr_levels.specs.declared.Level.TheVariants.{Mu, Share}
 use Rattle.tr_journal.specs.declared.items.Item.{Item}
 use Rattle.tr_journal.specs.declared.steps.Actor.TheVariants.{Painter}
 use Rattle.tr_journal.specs.declared.steps.Step.{Step}
-use Rattle.tr_journal.specs.declared.steps.Step.TheVariants.{Flush, PaintFrame, Repaint}
+use Rattle.tr_journal.specs.declared.steps.Step.TheVariants.{Repaint}
 use Rattle.tr_journal.specs.Journals.{JournalLine}
 use Rattle.tr_journal.specs.Openings.{tree_of}
-use Rattle.tr_machine.specs.Windows.{Window, content, updated}
-use Rattle.tr_machine.specs.States.{State, batch_in, batch_of, content_of, window_of}
-use Rattle.tr_machine.specs.Paintings.{flushed, framed, is_visible, repainted}
-use Rattle.tr_machine.specs.Pictures.{render, want}
-use Rattle.tr_machine.specs.Replays.{line_of, next, replay, replay_from}
-use Rattle.tr_machine.specs.Settling.{after_steps, frame_steps, is_frame_bad, lines_of}
-use Rattle.tr_machine.proofs.JournalLemmas.{IsFor, after_steps-append, all_at, replay-append, replay_from-lines_of}
-use Rattle.tr_machine.proofs.ListLemmas.{leaf_by_number, window_here, window_there}
-use Rattle.tr_machine.proofs.PointLemmas.{covered, none_on}
+use Rattle.tr_journal.specs.Steps.{IsFor}
+use Rattle.tr_machine.specs.States.{State, batch_of}
+use Rattle.tr_machine.specs.Paintings.{is_visible}
+use Rattle.tr_machine.specs.Pictures.{render}
+use Rattle.tr_machine.specs.Replays.{after_steps, line_of, lines_of, replay}
+use Rattle.tr_machine.specs.Settling.{frame_steps}
+use Rattle.tr_machine.specs.Sharing.{IsPaintedOf, all_bad_leaves, bad_leaves, flushes_below, flushing, has_bad, repainted_each, share_lines, sharing_lines}
+use Rattle.tr_machine.proofs.JournalLemmas.{all_at}
 use Rattle.tr_machine.proofs.RenderLemmas.{idle_screen}
-use Rattle.tr_machine.proofs.SettleLemmas.{repainted-is}
-use Rattle.tr_machine.proofs.ShownLemmas.{colour_same}
+use Rattle.tr_machine.proofs.SharingLemmas.{AreApart, AreBelow, AreOthers, bad_apart, bad_below, each_batch, each_tree, flushed_all, flushing-for, framing_batch, framing_good, painted_each, repainted_good, share_lines-more, sharing-parts, state_shared}
 use Rattle.tr_machine.proofs.SoundLemmas.{fits}
 use Rattle.tr_stage.specs.declared.sharing.Painted.{Painted}
 use Rattle.tr_stage.specs.Stages.{IsPainters, IsStage, Parts, StageView, state}
 use Rattle.tr_stage.specs.Standings.{Stands}
-use Rattle.tr_stage.specs.Sharing.{ArePainted, IsPaintedOf, all_bad_leaves, bad_leaves, flushes_below, flushing, has_bad, repainted_each, share_lines, sharing_lines, waits}
+use Rattle.tr_stage.specs.Sharing.{ArePainted}
 use Rattle.tr_stage.proofs.SettleLemmas.{IsView, state_after}
 use Rattle.tr_stage.proofs.StaleLemmas.{windows_seen}
 
--- ---- small facts
-
-numbered : ℕ → LeafId
-numbered n = record { 0 = n }
-
-no_batch : (ps : List Paint) → not (length ps == 0) ≡ false → ps ≡ []
-no_batch [] h = refl
-no_batch (p ∷ ps) h = absurd (false-true (sym h ∙ ap not (other_test (length (p ∷ ps)) 0 (λ e. absurd (omega arith)))))
-
--- a spot is part of one leaf
-one_leaf : (a b : LeafId) (s : Spot) → is_in_leaf a s ≡ true → is_in_leaf b s ≡ true → a.0 ≡ b.0
-one_leaf a b (spots.Leaf own q size kind) first second = sym (equal_numbers own.0 a.0 first) ∙ equal_numbers own.0 b.0 second
-one_leaf a b (spots.Frame k tint kind) first second = absurd (false-true first)
-one_leaf a b spots.Off first second = absurd (false-true first)
-
--- leaves that are others than this one
-abbrev pub AreOthers : LeafId → List LeafId → Type 0
-AreOthers leaf leaves = AllByRecursion (λ (l : LeafId). l.0 ≡ leaf.0 → ⊥) leaves
-
--- a visible point of one of some leaves
-abbrev pub in_any : {C M : Type 0} → State C M → List LeafId → Point → Bool
-in_any m [] p = false
-in_any m (leaf ∷ leaves) p = is_visible m leaf p || in_any m leaves p
-
--- ---- the bad leaves
-
--- each has a number below n
-abbrev AreBelow : ℕ → List LeafId → Type 0
-AreBelow n leaves = AllByRecursion (λ (l : LeafId). l.0 < n) leaves
-
-below_more : (n : ℕ) (leaves : List LeafId) → AreBelow n leaves → AreBelow (suc n) leaves
-below_more n [] all = tt
-below_more n (l ∷ leaves) all = (omega (arith, all.0), below_more n leaves all.1)
-
-module _ {C M : Type 0} where
-  pub bad_below : (n : ℕ) (m : State C M) → AreBelow n (bad_leaves n m)
-  bad_below zero m = tt
-  bad_below (suc n) m =
-      AllByRecursion-append (λ (l : LeafId). l.0 < suc n) (bad_leaves n m) _ (below_more n (bad_leaves n m) (bad_below n m)) (by_test (has_bad m (record { 0 = n })))
-    where
-      by_test : (b : Bool) → AreBelow (suc n) (cond b (record { 0 = n } ∷ []) [])
-      by_test true = (omega arith, tt)
-      by_test false = tt
-
--- leaves below n are others than leaf n
-others_below : (n : ℕ) (leaf : LeafId) (leaves : List LeafId) → n ≤ leaf.0 → AreBelow n leaves → AreOthers leaf leaves
-others_below n leaf [] le all = tt
-others_below n leaf (l ∷ leaves) le all = (λ e. omega (arith, e, all.0, le), others_below n leaf leaves le all.1)
-
--- leaves of which each is another than those that follow it
-abbrev pub AreApart : List LeafId → Type 0
-AreApart [] = ⊤
-AreApart (l ∷ leaves) = AllByRecursion (λ (k : LeafId). k.0 ≡ l.0 → ⊥) leaves × AreApart leaves
-
-apart_push : (leaves : List LeafId) (l : LeafId) → AreApart leaves → AreOthers l leaves → AreApart (leaves ++ l ∷ [])
-apart_push [] l apart others = (tt, tt)
-apart_push (x ∷ leaves) l apart others =
-    (AllByRecursion-append (λ (k : LeafId). k.0 ≡ x.0 → ⊥) leaves (l ∷ []) apart.0 (λ e. others.0 (sym e), tt), apart_push leaves l apart.1 others.1)
-
-module _ {C M : Type 0} where
-  pub bad_apart : (n : ℕ) (m : State C M) → AreApart (bad_leaves n m)
-  bad_apart zero m = tt
-  bad_apart (suc n) m = by_test (bad_apart n m) (has_bad m (record { 0 = n }))
-    where
-      by_test : AreApart (bad_leaves n m) → (b : Bool) → AreApart (bad_leaves n m ++ cond b (record { 0 = n } ∷ []) [])
-      by_test before true = apart_push (bad_leaves n m) (record { 0 = n }) before (others_below n (record { 0 = n }) (bad_leaves n m) (omega arith) (bad_below n m))
-      by_test before false = subst AreApart (sym (append-nil (bad_leaves n m))) before
-
-  in_any-append : (m : State C M) (xs ys : List LeafId) (p : Point) → in_any m (xs ++ ys) p ≡ (in_any m xs p || in_any m ys p)
-  in_any-append m [] ys p = refl
-  in_any-append m (x ∷ xs) ys p = ap (λ b. is_visible m x p || b) (in_any-append m xs ys p) ∙ assoc (is_visible m x p) (in_any m xs p) (in_any m ys p)
-    where
-      assoc : (a b c : Bool) → (a || (b || c)) ≡ ((a || b) || c)
-      assoc true b c = refl
-      assoc false b c = refl
-
-  -- a visible point of a bad leaf is one of the bad leaves'
-  pub bad_listed : (n : ℕ) (m : State C M) (leaf : LeafId) (p : Point) → leaf.0 < n → has_bad m leaf ≡ true → is_visible m leaf p ≡ true →
-      in_any m (bad_leaves n m) p ≡ true
-  bad_listed zero m leaf p lt has seen = absurd (omega (arith, lt))
-  bad_listed (suc n) m leaf p lt has seen =
-      in_any-append m (bad_leaves n m) _ p ∙ by_number (λ less. bad_listed n m leaf p less has seen) (cases_lt leaf.0 n)
-    where
-      last : Bool → List LeafId
-      last b = cond b (record { 0 = n } ∷ []) []
-
-      or_right : (a b : Bool) → b ≡ true → (a || b) ≡ true
-      or_right true b h = refl
-      or_right false b h = h
-
-      by_number : (leaf.0 < n → in_any m (bad_leaves n m) p ≡ true) → (leaf.0 < n) ⊎ (n ≤ leaf.0) →
-          (in_any m (bad_leaves n m) p || in_any m (last (has_bad m (record { 0 = n }))) p) ≡ true
-      by_number before (inl less) = ap (λ b. b || in_any m (last (has_bad m (record { 0 = n }))) p) (before less)
-      by_number before (inr le) =
-          let same : leaf ≡ record { 0 = n } = leaf_by_number leaf (record { 0 = n }) (omega (arith, le, lt)) in
-          or_right (in_any m (bad_leaves n m) p) _
-          (ap (λ b. in_any m (last b) p) (ap (has_bad m) (sym same) ∙ has)
-          ∙ ap (λ (l : LeafId). is_visible m l p || false) (sym same) ∙ ap (λ b. b || false) seen)
-
 module _ {C M : Type 0} (client : Ghosts C M) where
-  -- ---- the flushes
-
-  updated_batch : (m : State C M) (leaf : LeafId) (o : Option (Window C M)) → batch_in client m leaf (option_map (updated client) o) ≡ []
-  updated_batch m leaf None = refl
-  updated_batch m leaf (Some w) = refl
-
-  -- nothing waits for a leaf that is flushed
-  flushed_here : (m : State C M) (leaf other : LeafId) → leaf.0 ≡ other.0 → batch_of client (flushed client leaf m) other ≡ []
-  flushed_here m leaf other same =
-      ap (batch_in client m other) (window_here leaf other (updated client) m same) ∙ updated_batch m other (window_of m other)
-
-  -- what waits for another one stays
-  flushed_there : (m : State C M) (leaf other : LeafId) → (leaf.0 ≡ other.0 → ⊥) → batch_of client (flushed client leaf m) other ≡ batch_of client m other
-  flushed_there m leaf other apart = ap (batch_in client m other) (window_there leaf other (updated client) m apart)
-
-  -- what waits for a leaf once the first n are flushed
-  flushed_later : (n : ℕ) (m : State C M) (leaf : LeafId) → n ≤ leaf.0 → batch_of client (after_steps client m (flushes_below client n m)) leaf ≡ batch_of client m leaf
-  flushed_later zero m leaf le = refl
-  flushed_later (suc n) m leaf le =
-      ap (λ (s : State C M). batch_of client s leaf) (after_steps-append client m (flushes_below client n m) _)
-      ∙ by_test (waits client m (record { 0 = n })) ∙ flushed_later n m leaf (omega (arith, le))
-    where
-      s : State C M
-      s = after_steps client m (flushes_below client n m)
-
-      by_test : (b : Bool) → batch_of client (after_steps client s (cond b (Flush (record { 0 = n }) ∷ []) [])) leaf ≡ batch_of client s leaf
-      by_test true = flushed_there s (record { 0 = n }) leaf (λ e. omega (arith, e, le))
-      by_test false = refl
-
-  flushed_before : (n : ℕ) (m : State C M) (leaf : LeafId) → leaf.0 < n → batch_of client (after_steps client m (flushes_below client n m)) leaf ≡ []
-  flushed_before zero m leaf lt = absurd (omega (arith, lt))
-  flushed_before (suc n) m leaf lt =
-      ap (λ (s : State C M). batch_of client s leaf) (after_steps-append client m (flushes_below client n m) _)
-      ∙ by_number (λ less. flushed_before n m leaf less) (cases_lt leaf.0 n)
-    where
-      s : State C M
-      s = after_steps client m (flushes_below client n m)
-
-      last : Bool → State C M
-      last b = after_steps client s (cond b (Flush (record { 0 = n }) ∷ []) [])
-
-      by_less : (b : Bool) → leaf.0 < n → batch_of client (last b) leaf ≡ batch_of client s leaf
-      by_less true less = flushed_there s (record { 0 = n }) leaf (λ e. omega (arith, e, less))
-      by_less false less = refl
-
-      by_here : (b : Bool) → n ≡ leaf.0 → waits client m leaf ≡ b → batch_of client (last b) leaf ≡ []
-      by_here true same is = flushed_here s (record { 0 = n }) leaf same
-      by_here false same is = flushed_later n m leaf (omega (arith, same)) ∙ no_batch (batch_of client m leaf) is
-
-      by_number : (leaf.0 < n → batch_of client s leaf ≡ []) → (leaf.0 < n) ⊎ (n ≤ leaf.0) → batch_of client (last (waits client m (record { 0 = n }))) leaf ≡ []
-      by_number before (inl less) = by_less (waits client m (record { 0 = n })) less ∙ before less
-      by_number before (inr le) =
-          let same : n ≡ leaf.0 = omega (arith, le, lt) in
-          by_here (waits client m (record { 0 = n })) same (ap (waits client m) (leaf_by_number leaf (record { 0 = n }) (sym same)))
-
-  -- nothing waits once all are flushed
-  pub flushed_all : (m : State C M) (leaf : LeafId) → batch_of client (after_steps client m (flushing client m)) leaf ≡ []
-  flushed_all m leaf = by_number (cases_lt leaf.0 (length m.windows))
-    where
-      by_number : (leaf.0 < length m.windows) ⊎ (length m.windows ≤ leaf.0) → batch_of client (after_steps client m (flushing client m)) leaf ≡ []
-      by_number (inl less) = flushed_before (length m.windows) m leaf less
-      by_number (inr le) = flushed_later (length m.windows) m leaf le ∙ ap (batch_in client m leaf) (slice_get_past m.windows leaf.0 le)
-
-  -- the flushes are for the painter, under the tree's lock
-  flushes_for : (t : Nodes) (n : ℕ) (m : State C M) → n ≤ leaf_count t → AllByRecursion (IsFor t Painter (Mu ∷ [])) (flushes_below client n m)
-  flushes_for t zero m le = tt
-  flushes_for t (suc n) m le =
-      AllByRecursion-append (IsFor t Painter (Mu ∷ [])) (flushes_below client n m) _ (flushes_for t n m (omega (arith, le))) (by_test (waits client m (record { 0 = n })))
-    where
-      by_test : (b : Bool) → AllByRecursion (IsFor {M = M} t Painter (Mu ∷ [])) (cond b (Flush (record { 0 = n }) ∷ []) [])
-      by_test true = (record { may = refl; covers = refl; values = record { within = le } }, tt)
-      by_test false = tt
-
-  pub flushing-for : (t : Nodes) (m : State C M) → length m.windows ≡ leaf_count t → AllByRecursion (IsFor t Painter (Mu ∷ [])) (flushing client m)
-  flushing-for t m many = flushes_for t (length m.windows) m (omega (arith, many))
-
-  pub flush_more : (m : State C M) (n : ℕ) (steps : List (Step M)) → steps ≡ flushes_below client n m → waits client m (record { 0 = n }) ≡ true →
-      steps ++ Flush (record { 0 = n }) ∷ [] ≡ flushes_below client (n + 1) m
-  flush_more m n steps is must =
-      rw (add-one) (ap (λ (xs : List (Step M)). xs ++ Flush (record { 0 = n }) ∷ []) is
-      ∙ ap (λ b. flushes_below client n m ++ cond b (Flush (record { 0 = n }) ∷ []) []) (sym must))
-
-  pub flush_less : (m : State C M) (n : ℕ) (steps : List (Step M)) → steps ≡ flushes_below client n m → waits client m (record { 0 = n }) ≡ false →
-      steps ≡ flushes_below client (n + 1) m
-  flush_less m n steps is quiet =
-      rw (add-one) (is ∙ sym (append-nil (flushes_below client n m))
-      ∙ ap (λ b. flushes_below client n m ++ cond b (Flush (record { 0 = n }) ∷ []) []) (sym quiet))
-
-  -- ---- the repaints
-
-  -- after a repaint nothing waits for a leaf for which nothing waited
-  repainted_batch : (m : State C M) (leaf other : LeafId) → batch_of client m other ≡ [] → batch_of client (repainted client leaf m) other ≡ []
-  repainted_batch m leaf other none = by_leaf (cases_eq leaf.0 other.0)
-    where
-      by_leaf : (leaf.0 ≡ other.0) ⊎ (leaf.0 ≡ other.0 → ⊥) → batch_of client (repainted client leaf m) other ≡ []
-      by_leaf (inl same) = flushed_here m leaf other same
-      by_leaf (inr apart) = flushed_there m leaf other apart ∙ none
-
-  pub each_batch : (m : State C M) (leaves : List LeafId) → ((leaf : LeafId) → batch_of client m leaf ≡ []) → (leaf : LeafId) →
-      batch_of client (repainted_each client m leaves) leaf ≡ []
-  each_batch m [] none leaf = none leaf
-  each_batch m (l ∷ leaves) none leaf = each_batch (repainted client l m) leaves (λ other. repainted_batch m l other (none other)) leaf
-
-  -- each leaf has its content
-  repainted_content : (m : State C M) (leaf other : LeafId) → content_of client (repainted client leaf m) other ≡ content_of client m other
-  repainted_content m leaf other = by_leaf (cases_eq leaf.0 other.0)
-    where
-      painted : (o : Option (Window C M)) → option_map (content client) (option_map (updated client) o) ≡ option_map (content client) o
-      painted None = refl
-      painted (Some w) = refl
-
-      by_leaf : (leaf.0 ≡ other.0) ⊎ (leaf.0 ≡ other.0 → ⊥) → content_of client (repainted client leaf m) other ≡ content_of client m other
-      by_leaf (inl same) =
-          ap (option_map (content client)) (window_here leaf other (updated client) m same) ∙ painted (window_of m other)
-      by_leaf (inr apart) = ap (option_map (content client)) (window_there leaf other (updated client) m apart)
-
-  repainted_want : (m : State C M) (leaf : LeafId) (p : Point) → want client (repainted client leaf m) p ≡ want client m p
-  repainted_want m leaf p =
-      colour_same client (content_of client m) (content_of client (repainted client leaf m)) m (repainted client leaf m) (spot m.tree p) refl
-      (λ other here. repainted_content m leaf other)
-
-  -- its visible points aren't bad, and the others are as they were
-  repainted_bad : (m : State C M) (leaf : LeafId) (p : Point) → (repainted client leaf m).bad p ≡ (m.bad p && not (is_visible m leaf p))
-  repainted_bad m leaf p = ap (λ (s : State C M). s.bad p) (repainted-is client m leaf)
-
-  -- A leaf's painted points stay what they are when another leaf is repainted.
-  painted_stays : (m : State C M) (leaf other : LeafId) (part : List Edges) (pixels : List ℕ) → (other.0 ≡ leaf.0 → ⊥) →
-      IsPaintedOf client m leaf part pixels → IsPaintedOf client (repainted client other m) leaf part pixels
-  painted_stays m leaf other part pixels apart is = record {
-    points = λ p. is.points p ∙ by_sight p (is_visible m leaf p) refl (is_visible m other p) refl
-        ∙ sym (ap (λ b. b && is_visible m leaf p) (repainted_bad m other p));
-    many = is.many;
-    colours = λ p held. is.colours p held ∙ sym (repainted_want m other p);
-  }
-    where
-      by_sight : (p : Point) (c : Bool) → is_visible m leaf p ≡ c → (d : Bool) → is_visible m other p ≡ d →
-          (m.bad p && is_visible m leaf p) ≡ ((m.bad p && not (is_visible m other p)) && is_visible m leaf p)
-      by_sight p true seen true also = absurd (apart (one_leaf other leaf (spot m.tree p) also seen))
-      by_sight p c seen false hidden =
-          ap (λ b. b && is_visible m leaf p) (sym (all (m.bad p)) ∙ sym (ap (λ b. m.bad p && not b) hidden))
-        where
-          all : (b : Bool) → (b && true) ≡ b
-          all true = refl
-          all false = refl
-      by_sight p false hidden d other_is =
-          ap (λ b. m.bad p && b) hidden ∙ none (m.bad p) ∙ sym (none (m.bad p && not (is_visible m other p)))
-          ∙ sym (ap (λ b. (m.bad p && not (is_visible m other p)) && b) hidden)
-        where
-          none : (b : Bool) → (b && false) ≡ false
-          none true = refl
-          none false = refl
-
-  -- when others are
-  pub painted_each : (m : State C M) (leaves : List LeafId) (leaf : LeafId) (part : List Edges) (pixels : List ℕ) → AreOthers leaf leaves →
-      IsPaintedOf client m leaf part pixels → IsPaintedOf client (repainted_each client m leaves) leaf part pixels
-  painted_each m [] leaf part pixels others is = is
-  painted_each m (l ∷ leaves) leaf part pixels others is =
-      painted_each (repainted client l m) leaves leaf part pixels others.1 (painted_stays m leaf l part pixels others.0 is)
-
-  -- which points are bad after them
-  pub each_bad : (m : State C M) (leaves : List LeafId) (p : Point) → (repainted_each client m leaves).bad p ≡ (m.bad p && not (in_any m leaves p))
-  each_bad m [] p = sym (all (m.bad p))
-    where
-      all : (b : Bool) → (b && true) ≡ b
-      all true = refl
-      all false = refl
-  each_bad m (l ∷ leaves) p =
-      each_bad (repainted client l m) leaves p ∙ ap (λ b. b && not (in_any m leaves p)) (repainted_bad m l p)
-      ∙ both (m.bad p) (is_visible m l p) (in_any m leaves p)
-    where
-      both : (a b c : Bool) → ((a && not b) && not c) ≡ (a && not (b || c))
-      both true true c = refl
-      both true false c = refl
-      both false b c = refl
-
-  pub each_tree : (m : State C M) (leaves : List LeafId) → (repainted_each client m leaves).tree ≡ m.tree
-  each_tree m [] = refl
-  each_tree m (l ∷ leaves) = each_tree (repainted client l m) leaves
-
-  -- ---- a row of shares
-
-  -- the lines of one more
-  pub share_lines-more : (m : State C M) (leaves : List LeafId) (leaf : LeafId) →
-      share_lines client m (leaves ++ leaf ∷ [])
-      ≡ share_lines client m leaves ++ line_of client (repainted_each client m leaves) Painter (Share leaf ∷ []) (Repaint leaf) ∷ []
-  share_lines-more m [] leaf = refl
-  share_lines-more m (l ∷ leaves) leaf =
-      ap (λ (ls : List (JournalLine M)). line_of client m Painter (Share l ∷ []) (Repaint l) ∷ ls) (share_lines-more (repainted client l m) leaves leaf)
-
-  -- their replay
-  share_replay : (m : State C M) (leaves : List LeafId) → replay_from client m (share_lines client m leaves) ≡ repainted_each client m leaves
-  share_replay m [] = refl
-  share_replay m (l ∷ leaves) = share_replay (repainted client l m) leaves
-
-  pub state_shared : (opening : List (Item C)) (lines : List (JournalLine M)) (leaves : List LeafId) →
-      replay client opening (lines ++ share_lines client (replay client opening lines) leaves) ≡ repainted_each client (replay client opening lines) leaves
-  state_shared opening lines leaves =
-      replay-append client opening lines (share_lines client (replay client opening lines) leaves) ∙ share_replay (replay client opening lines) leaves
-
   -- ---- a row of painted parts
 
   -- one more
@@ -358,7 +45,8 @@ module _ {C M : Type 0} (client : Ghosts C M) where
   painted_push m (l ∷ leaves) [] leaf x are same is = absurd are
   painted_push m (l ∷ leaves) (y ∷ all) leaf x are same is = (are.0, are.1, painted_push m leaves all leaf x are.2 same is)
 
-  pub painted_more : (m : State C M) (n : ℕ) (all : List Painted) (x : Painted) → ArePainted client m (bad_leaves n m) all → has_bad m (record { 0 = n }) ≡ true →
+  pub painted_more : (m : State C M) (n : ℕ) (all : List Painted) (x : Painted) → ArePainted client m (bad_leaves n m) all →
+      has_bad m (record { 0 = n }) ≡ true →
       x.leaf ≡ record { 0 = n } → IsPaintedOf client m (record { 0 = n }) x.part x.pixels.items → ArePainted client m (bad_leaves (n + 1) m) (all ++ x ∷ [])
   painted_more m n all x are must same is =
       let P : List LeafId → Type 0 = λ ls. ArePainted client m ls (all ++ x ∷ []) in
@@ -426,7 +114,7 @@ module _ {C M : Type 0} (client : Ghosts C M) where
   put_state old now leaves k has =
       ap (λ (items : List (Item C)). replay client items now.journal) has.opening
       ∙ ap (λ (lines : List (JournalLine M)). replay client old.opening lines) has.journal
-      ∙ state_shared old.opening old.journal (take k leaves)
+      ∙ state_shared client old.opening old.journal (take k leaves)
 
   -- the next one may be put
   pub put_ready : (old now : StageView C M) (leaves : List LeafId) (all : List Painted) (k : ℕ) (x : Painted) → HasPut old now leaves k →
@@ -436,12 +124,12 @@ module _ {C M : Type 0} (client : Ghosts C M) where
       let here = painted_at (state client old) leaves all k x are apart at.0 at.1 in
       let P : State C M → Type 0 = λ s. IsPaintedOf client s x.leaf x.part x.pixels.items in
       subst P (sym (put_state old now leaves k has))
-      (painted_each (state client old) (take k leaves) x.leaf x.part x.pixels.items here.others here.painted)
+      (painted_each client (state client old) (take k leaves) x.leaf x.part x.pixels.items here.others here.painted)
 
   pub put_idle : (old now : StageView C M) (leaves : List LeafId) (k : ℕ) (leaf : LeafId) → HasPut old now leaves k →
       ((l : LeafId) → batch_of client (state client old) l ≡ []) → batch_of client (state client now) leaf ≡ []
   put_idle old now leaves k leaf has none =
-      ap (λ (s : State C M). batch_of client s leaf) (put_state old now leaves k has) ∙ each_batch (state client old) (take k leaves) none leaf
+      ap (λ (s : State C M). batch_of client s leaf) (put_state old now leaves k has) ∙ each_batch client (state client old) (take k leaves) none leaf
 
   -- the journal with its line
   pub put_more : (old now : StageView C M) (leaves : List LeafId) (all : List Painted) (k : ℕ) (x : Painted) → HasPut old now leaves k →
@@ -457,7 +145,7 @@ module _ {C M : Type 0} (client : Ghosts C M) where
       ap (λ (s : State C M). now.journal ++ line s) (put_state old now leaves k has)
       ∙ ap (λ (ls : List (JournalLine M)). ls ++ line (repainted_each client m (take k leaves))) has.journal
       ∙ append_assoc old.journal (share_lines client m (take k leaves)) (line (repainted_each client m (take k leaves)))
-      ∙ ap (λ (ls : List (JournalLine M)). old.journal ++ ls) (sym (share_lines-more m (take k leaves) x.leaf))
+      ∙ ap (λ (ls : List (JournalLine M)). old.journal ++ ls) (sym (share_lines-more client m (take k leaves) x.leaf))
       ∙ ap (λ (ls : List LeafId). old.journal ++ share_lines client m ls) (sym next_one)
 
   -- the bad leaves are leaves
@@ -471,61 +159,6 @@ module _ {C M : Type 0} (client : Ghosts C M) where
   put_within m n all k x are at =
       let here = painted_at m (bad_leaves n m) all k x are (bad_apart n m) at.0 at.1 in
       subst (λ (l : LeafId). l.0 < n) (sym here.leaf) (get_below n k x.leaf (bad_leaves n m) (bad_below n m) here.within)
-
-  -- ---- the end
-
-  -- once the frames are painted too no point is bad
-  pub framing_good : (s : State C M) → IsForest s.tree.nodes → HasRoot s.tree → ((p : Point) → s.bad p ≡ true → is_on s.tree p ≡ true) →
-      ((leaf : LeafId) (p : Point) → leaf.0 < leaf_count s.tree.nodes → is_visible s leaf p ≡ true → s.bad p ≡ false) →
-      (p : Point) → (after_steps client s (frame_steps s)).bad p ≡ false
-  framing_good s forest root on leaves p = by_frames (is_frame_bad s) refl
-    where
-      by_bad : (b : Bool) → s.bad p ≡ b → is_frame (spot s.tree p) ≡ false → b ≡ false
-      by_bad false e out = refl
-      by_bad true e out = elim (covered s.tree p forest root (on p e)) [
-        | inl own ↦ sym e ∙ leaves own.leaf p own.below own.visible
-        | inr here ↦ absurd (false-true (sym out ∙ here))
-      ]
-
-      by_frame : (f : Bool) → is_frame (spot s.tree p) ≡ f → (s.bad p && not f) ≡ false
-      by_frame true e = none (s.bad p)
-        where
-          none : (b : Bool) → (b && false) ≡ false
-          none true = refl
-          none false = refl
-      by_frame false e = ap (λ b. b && true) (by_bad (s.bad p) refl e)
-
-      by_point : (b f : Bool) → s.bad p ≡ b → is_frame (spot s.tree p) ≡ f → is_frame_bad s ≡ false → b ≡ false
-      by_point false f e g none = refl
-      by_point true true e g none =
-          sym (sym (none_on s.tree.size (λ q. s.bad q && is_frame (spot s.tree q)) none p (on p e)) ∙ ap (λ b. b && is_frame (spot s.tree p)) e ∙ g)
-      by_point true false e g none = by_bad true e g
-
-      by_frames : (b : Bool) → is_frame_bad s ≡ b → (after_steps client s (cond b (PaintFrame ∷ []) [])).bad p ≡ false
-      by_frames true e = by_frame (is_frame (spot s.tree p)) refl
-      by_frames false e = by_point (s.bad p) (is_frame (spot s.tree p)) refl refl e
-
-  framing_batch : (s : State C M) (leaf : LeafId) → batch_of client (after_steps client s (frame_steps s)) leaf ≡ batch_of client s leaf
-  framing_batch s leaf = by_frames (is_frame_bad s)
-    where
-      by_frames : (b : Bool) → batch_of client (after_steps client s (cond b (PaintFrame ∷ []) [])) leaf ≡ batch_of client s leaf
-      by_frames true = refl
-      by_frames false = refl
-
-  -- no visible point of a leaf is bad once all bad leaves are repainted
-  repainted_good : (m : State C M) → length m.windows ≡ leaf_count m.tree.nodes → ((p : Point) → m.bad p ≡ true → is_on m.tree p ≡ true) →
-      (leaf : LeafId) (p : Point) → leaf.0 < leaf_count m.tree.nodes → is_visible m leaf p ≡ true → (repainted_each client m (all_bad_leaves m)).bad p ≡ false
-  repainted_good m many on leaf p below seen =
-      each_bad m (all_bad_leaves m) p ∙ by_bad (m.bad p) refl (has_bad m leaf) refl
-    where
-      rest : Bool
-      rest = in_any m (all_bad_leaves m) p
-
-      by_bad : (b : Bool) → m.bad p ≡ b → (h : Bool) → has_bad m leaf ≡ h → (b && not rest) ≡ false
-      by_bad false e h g = refl
-      by_bad true e true g = ap not (bad_listed (length m.windows) m leaf p (omega (arith, below, many)) g seen)
-      by_bad true e false g =
-          absurd (false-true (sym (none_on m.tree.size (λ q. m.bad q && is_visible m leaf q) g p (on p e)) ∙ ap (λ b. b && is_visible m leaf p) e ∙ seen))
 
   -- a stage before, after the flushes, after the shares, and after the frames
   pub record AreShared (s0 s1 s2 s3 : StageView C M) : Type 0 where
@@ -552,7 +185,7 @@ module _ {C M : Type 0} (client : Ghosts C M) where
   after_shares s n leaves opening journal =
       ap (λ (items : List (Item C)). replay client items n.journal) opening
       ∙ ap (λ (lines : List (JournalLine M)). replay client s.opening lines) journal
-      ∙ state_shared s.opening s.journal leaves
+      ∙ state_shared client s.opening s.journal leaves
 
   -- nothing waits after the flushes
   pub flushed_idle : (s0 s1 : StageView C M) → s1.opening ≡ s0.opening →
@@ -560,7 +193,7 @@ module _ {C M : Type 0} (client : Ghosts C M) where
       batch_of client (state client s1) leaf ≡ []
   flushed_idle s0 s1 opening journal leaf =
       ap (λ (s : State C M). batch_of client s leaf) (after_lines s0 s1 (flushing client (state client s0)) opening journal)
-      ∙ flushed_all (state client s0) leaf
+      ∙ flushed_all client (state client s0) leaf
 
   module _ (s0 s1 s2 s3 : StageView C M) (a : AreShared s0 s1 s2 s3) where
     one : state client s1 ≡ after_steps client (state client s0) (flushing client (state client s0))
@@ -588,13 +221,14 @@ module _ {C M : Type 0} (client : Ghosts C M) where
         ∙ ap (λ (s : State C M). s1.journal ++ share_lines client s (all_bad_leaves s)) one
         ∙ ap (λ (ls : List (JournalLine M)). ls ++ B) a.journal1)
         ∙ append_assoc (s0.journal ++ A) B Z ∙ append_assoc s0.journal A (B ++ Z)
+        ∙ ap (λ (ls : List (JournalLine M)). s0.journal ++ ls) (sym (sharing-parts client m))
 
     -- nothing waits
     pub shared_idle : (leaf : LeafId) → batch_of client (state client s3) leaf ≡ []
     shared_idle leaf =
-        ap (λ (s : State C M). batch_of client s leaf) three ∙ framing_batch (state client s2) leaf
+        ap (λ (s : State C M). batch_of client s leaf) three ∙ framing_batch client (state client s2) leaf
         ∙ ap (λ (s : State C M). batch_of client s leaf) two
-        ∙ each_batch (state client s1) (all_bad_leaves (state client s1)) (flushed_idle s0 s1 a.opening1 a.journal1) leaf
+        ∙ each_batch client (state client s1) (all_bad_leaves (state client s1)) (flushed_idle s0 s1 a.opening1 a.journal1) leaf
 
     -- no point is bad
     pub shared_good : (p : Point) → (state client s3).bad p ≡ false
@@ -602,11 +236,11 @@ module _ {C M : Type 0} (client : Ghosts C M) where
         let m : State C M = state client s1 in
         let P : State C M → Type 0 = λ s. (leaf : LeafId) (q : Point) → leaf.0 < leaf_count s.tree.nodes → is_visible s leaf q ≡ true → s.bad q ≡ false in
         let Q : Seen → Type 0 = λ t. (leaf : LeafId) (q : Point) → leaf.0 < leaf_count t.nodes → is_in_leaf leaf (spot t q) ≡ true →
-            (repainted_each client m (all_bad_leaves m)).bad q ≡ false in
+        (repainted_each client m (all_bad_leaves m)).bad q ≡ false in
         let leaves : P (repainted_each client m (all_bad_leaves m)) =
-        subst Q (sym (each_tree m (all_bad_leaves m))) (repainted_good m a.stands1.sound.windows a.stands1.sound.bad) in
+        subst Q (sym (each_tree client m (all_bad_leaves m))) (repainted_good client m a.stands1.sound.windows a.stands1.sound.bad) in
         ap (λ (s : State C M). s.bad p) three
-        ∙ framing_good (state client s2) a.stands2.forest a.stands2.root a.stands2.sound.bad (subst P (sym two) leaves) p
+        ∙ framing_good client (state client s2) a.stands2.forest a.stands2.root a.stands2.sound.bad (subst P (sym two) leaves) p
 
     -- the screen is as if it were painted from nothing
     pub shared_screen : s3.screen ≡ render client (state client s3)
@@ -614,17 +248,8 @@ module _ {C M : Type 0} (client : Ghosts C M) where
         idle_screen client (state client s3) s3.screen a.stands3.forest (fits client (state client s3) a.stands3.forest a.stands3.sound)
         (record { good = λ p on. shared_good p; batches = shared_idle }) a.stands3.agrees a.stands3.picture
 
--- ---- the steps that are made
+  -- ---- the steps that are made
 
-module _ {C M : Type 0} where
-  pub frame_more : (m : State C M) (steps : List (Step M)) → steps ≡ [] → is_frame_bad m ≡ true → steps ++ PaintFrame ∷ [] ≡ frame_steps m
-  frame_more m steps none bad =
-      ap (λ (xs : List (Step M)). xs ++ PaintFrame ∷ []) none ∙ ap (λ b. cond {A = List (Step M)} b (PaintFrame ∷ []) []) (sym bad)
-
-  pub frame_less : (m : State C M) (steps : List (Step M)) → steps ≡ [] → is_frame_bad m ≡ false → steps ≡ frame_steps m
-  frame_less m steps none good = none ∙ ap (λ b. cond {A = List (Step M)} b (PaintFrame ∷ []) []) (sym good)
-
-module _ {C M : Type 0} (client : Ghosts C M) where
   -- the flushes of all windows are those of the machine's
   pub flushes_done : {opening : List (Item C)} {lines : List (JournalLine M)} {parts : Parts C} (s : StageView C M) (n : ℕ) (steps : List (Step M)) →
       IsStage client opening lines parts → IsView client opening lines parts s → n ≡ length parts.windows →
@@ -642,10 +267,9 @@ module _ {C M : Type 0} (client : Ghosts C M) where
       steps ≡ flushing client (replay client opening lines) → All (IsPainters (tree_of opening).nodes) steps
   flushers opening lines parts steps is same k d lt =
       let t : Nodes = (tree_of opening).nodes in
-      let for = all_at (IsFor t Painter (Mu ∷ [])) steps k d
+      all_at (IsFor t Painter (Mu ∷ [])) steps k d
       (subst (λ (xs : List (Step M)). AllByRecursion (IsFor t Painter (Mu ∷ [])) xs) (sym same)
-      (flushing-for client t (replay client opening lines) (is.kept.sound.windows ∙ is.like.leaves))) lt in
-      record { may = for.may; covers = for.covers; values = for.values }
+      (flushing-for client t (replay client opening lines) (is.kept.sound.windows ∙ is.like.leaves))) lt
 
   pub flushing_painters : {opening : List (Item C)} {lines : List (JournalLine M)} {parts : Parts C} (s : StageView C M) (steps : List (Step M)) →
       IsStage client opening lines parts → IsView client opening lines parts s → steps ≡ flushing client (state client s) →

@@ -24,7 +24,7 @@ use Rattle.tr_spot.specs.Spots.{spot, is_in_leaf}
 use Rattle.tr_spot.specs.Leaves.{in_leaf, leaf_corner, leaf_size}
 use Rattle.tr_spot.proofs.WayLemmas.{equal_numbers, equal_test}
 use Rattle.tr_surface.specs.Surfaces.{Shown, IsShown, is_on}
-use Rattle.tr_surface.specs.Puts.{place_in}
+use Rattle.tr_region.specs.Places.{place_in}
 use Rattle.tr_journal.specs.declared.answers.Answer.TheVariants as answers
 use Rattle.tr_journal.specs.declared.steps.Step.TheVariants as steps
 use Rattle.tr_machine.specs.Windows.{Window, content, updated}
@@ -34,24 +34,17 @@ use Rattle.tr_machine.specs.Pictures.{colour_in, shown, shown_of, want}
 use Rattle.tr_machine.specs.Promises.{Fits}
 use Rattle.tr_machine.specs.Machines.{done}
 use Rattle.tr_machine.proofs.BaseLemmas.{leaf_on, placed-in_leaf}
-use Rattle.tr_machine.proofs.FlushLemmas.{brought, forest_of}
+use Rattle.tr_machine.proofs.FlushLemmas.{apart, forest_of, now_shown}
 use Rattle.tr_machine.proofs.ListLemmas.{window_here, window_there}
 use Rattle.tr_machine.proofs.ShownLemmas.{IsShowing, colour_in_leaf, colour_same, untouched_colour}
 use Rattle.tr_machine.proofs.SoundLemmas.{fits}
 use Rattle.tr_windows.specs.Presents.{Present, cleared}
 use Rattle.tr_windows.proofs.PresentLemmas.{presents-repainted}
 use Rattle.tr_stage.specs.Stages.{IsAt, Parts}
-use Rattle.tr_stage.specs.Sharing.{IsPaintedOf}
+use Rattle.tr_machine.specs.Sharing.{IsPaintedOf}
 use Rattle.tr_stage.proofs.StageLemmas.{holding}
 use Rattle.tr_stage.proofs.DeviceLemmas.{Before, IsAfter, IsMaking, forest_before, made_step, state_before}
 use Rattle.tr_stage.proofs.StaleLemmas.{IsPlan, plan_paints}
-
--- a spot that is in one leaf, and not in another, tells the two apart
-apart : (leaf other : LeafId) (s : Spot) → is_in_leaf leaf s ≡ false → is_in_leaf other s ≡ true → leaf.0 ≡ other.0 → ⊥
-apart leaf other (spots.Leaf l q size kind) out here same =
-    false-true (sym out ∙ equal_test l.0 leaf.0 (equal_numbers l.0 other.0 here ∙ sym same))
-apart leaf other (spots.Frame n tint kind) out here same = false-true here
-apart leaf other spots.Off out here same = false-true here
 
 and_false : (b : Bool) → (b && false) ≡ false
 and_false true = refl
@@ -89,16 +82,6 @@ module _ {C M : Type 0} (client : Ghosts C M) where
       seen = ap (λ (r : Point). holds part r) placed_is ∙ held
 
   -- ---- putting
-
-  -- the leaf shows its present content
-  now_shown : (m : State C M) (leaf : LeafId) (bad : Point → Bool) → shown_of (brought client leaf bad m) leaf ≡ content_of client m leaf
-  now_shown m leaf bad =
-      ap (λ (o : Option (Window C M)). option_map (λ w. w.shown) o) (window_here leaf leaf (updated client) m refl)
-      ∙ by_window (window_of m leaf)
-    where
-      by_window : (o : Option (Window C M)) → option_map (λ w. w.shown) (option_map (updated client) o) ≡ option_map (content client) o
-      by_window None = refl
-      by_window (Some w) = refl
 
   -- a surface before and after the pixels of a leaf's bad points are put, as the contract has it; nothing waits for the leaf
   pub record IsPut (m : State C M) (s n : Shown) (leaf : LeafId) : Type 0 where
@@ -166,7 +149,7 @@ module _ {C M : Type 0} (client : Ghosts C M) where
     want_is p seen =
         colour_in_leaf client (content_of client m) m leaf p forest seen
         ∙ sym (colour_in_leaf client (shown_of next_state) next_state leaf p forest seen
-        ∙ ap (λ (o : Option C). colour_in client m (leaf_size m.tree leaf) (in_leaf m.tree leaf p) o) (now_shown m leaf next_state.bad))
+        ∙ ap (λ (o : Option C). colour_in client m (leaf_size m.tree leaf) (in_leaf m.tree leaf p) o) (now_shown client m leaf next_state.bad))
 
     -- a visible point of the leaf has its colour
     seen_good : (p : Point) → is_on m.tree p ≡ true → is_visible m leaf p ≡ true → pixel_of n.screen p ≡ shown client next_state p

@@ -9,11 +9,11 @@ use Rattle.tr_journal.specs.declared.steps.Actor.{Actor}
 use Rattle.tr_journal.specs.declared.steps.Step.{Step}
 use Rattle.tr_journal.specs.Journals.{JournalLine}
 use Rattle.tr_journal.specs.Openings.{tree_of}
-use Rattle.tr_journal.specs.Steps.{IsStep}
+use Rattle.tr_journal.specs.Steps.{IsStep, IsFor}
 use Rattle.tr_machine.specs.States.{State}
 use Rattle.tr_machine.specs.Promises.{IsSound}
 use Rattle.tr_machine.specs.Replays.{line_of, next, replay}
-use Rattle.tr_machine.proofs.JournalLemmas.{IsFor, legal_line, one_more, replay-more}
+use Rattle.tr_machine.proofs.JournalLemmas.{legal_line, one_more, replay-more}
 use Rattle.tr_machine.proofs.KeptLemmas.{IsKept, kept_next, step_along}
 use Rattle.tr_machine.proofs.SoundLemmas.{IsObedient, sound_next}
 use Rattle.tr_machine.proofs.ShownLemmas.{IsShowing}

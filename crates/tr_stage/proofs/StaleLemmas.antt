@@ -37,7 +37,7 @@ use Rattle.tr_machine.specs.Replays.{replay}
 use Rattle.tr_machine.proofs.BaseLemmas.{leaf_on, leaf_within, placed-in_leaf}
 use Rattle.tr_machine.proofs.CountLemmas.{bad_count_is}
 use Rattle.tr_machine.proofs.LagLemmas.{stale_waits}
-use Rattle.tr_machine.proofs.ListLemmas.{leaf_by_number}
+use Rattle.tr_machine.proofs.FlushLemmas.{one_leaf}
 use Rattle.tr_machine.proofs.ShownLemmas.{colour_in_leaf}
 use Rattle.tr_machine.proofs.SoundLemmas.{fits}
 use Rattle.tr_windows.specs.Presents.{Present, batch_at}
@@ -78,13 +78,6 @@ before_at : (n : ℕ) (leaf : LeafId) (s : Spot) → leaf.0 < n → is_in_leaf l
 before_at n leaf (spots.Leaf own q size kind) low seen = grind (arith, nat_tests)
 before_at n leaf (spots.Frame k tint kind) low seen = absurd (false-true seen)
 before_at n leaf spots.Off low seen = absurd (false-true seen)
-
--- a spot is part of one leaf
-one_leaf : (a b : LeafId) (s : Spot) → is_in_leaf a s ≡ true → is_in_leaf b s ≡ true → a ≡ b
-one_leaf a b (spots.Leaf own q size kind) first second =
-    leaf_by_number a b (sym (equal_numbers own.0 a.0 first) ∙ equal_numbers own.0 b.0 second)
-one_leaf a b (spots.Frame k tint kind) first second = absurd (false-true first)
-one_leaf a b spots.Off first second = absurd (false-true first)
 
 -- a sum is zero if both parts are
 none_first : (ps : List Paint) (k : ℕ) → length ps + k ≡ 0 → ps ≡ []
@@ -232,25 +225,6 @@ module _ {C M : Type 0} (client : Ghosts C M) where
       within : has_point (meet_of (whole_of extent) (whole_of extent)) q ≡ true
       within = has_point-meet_of (whole_of extent) (whole_of extent) q ∙ ap (λ b. b && has_point (whole_of extent) q) inside ∙ inside
 
-  -- executed within its good points, it gives each of these the colour that it is to have
-  pub painted_wanted : {m : State C M} {leaf : LeafId} {how : Look} {extent : Size} {origin : Point} {content : C} {batch : List Paint}
-      (good bad : List Edges) (old new : Picture) → IsForest m.tree.nodes → IsPlan m leaf how extent origin content batch →
-      ((p : Point) → holds good p ≡ is_good_in m leaf p) →
-      ((p : Point) (x : ℕ) → holds good p ≡ true → colour_after how (base_of origin good bad old) batch origin p ≡ Some x → pixel_of new p ≡ x) →
-      (p : Point) → is_good_in m leaf p ≡ true → pixel_of new p ≡ want client m p
-  painted_wanted {m} {leaf} {how} {extent} {origin} {content} {batch} good bad old new forest plan is known p here =
-      known p (want client m p) held
-      (plan_paints (base_of origin good bad old) p forest plan (and_left (is_visible m leaf p) (not (m.bad p)) here) seen)
-    where
-      held : holds good p ≡ true
-      held = is p ∙ here
-
-      placed_is : placed origin (in_leaf m.tree leaf p) ≡ p
-      placed_is = ap (λ (c : Point). placed c (in_leaf m.tree leaf p)) plan.corner ∙ placed-in_leaf m.tree leaf p
-
-      seen : holds good (placed origin (in_leaf m.tree leaf p)) ≡ true
-      seen = ap (λ (r : Point). holds good r) placed_is ∙ held
-
   -- the points of a leaf that are good
   pub good_is : (m : State C M) (parts : Parts C) (leaf : LeafId) (visible bad good : List Edges) → IsAt client m parts →
       ((p : Point) → holds visible p ≡ is_in_leaf leaf (spot parts.surface.tree p)) → bad ≡ parts.surface.bad →
@@ -259,14 +233,6 @@ module _ {C M : Type 0} (client : Ghosts C M) where
       is p
       ∙ ap (λ b. b && not (holds bad p)) (seen p ∙ ap (λ (t : Seen). is_in_leaf leaf (spot t p)) at.tree)
       ∙ ap (λ b. is_visible m leaf p && not b) (ap (λ es. holds es p) same ∙ at.bad p)
-
-  -- these lie on each screen of the same size
-  pub good_on : (parts : Parts C) (leaf : LeafId) (visible bad good : List Edges) (size : Size) → IsShown parts.surface → size ≡ parts.surface.screen.size →
-      ((p : Point) → holds visible p ≡ is_in_leaf leaf (spot parts.surface.tree p)) →
-      ((p : Point) → holds good p ≡ (holds visible p && not (holds bad p))) → (p : Point) → holds good p ≡ true → has_point (whole_of size) p ≡ true
-  good_on parts leaf visible bad good size shown same seen is p here =
-      ap (λ (s : Size). has_point (whole_of s) p) (same ∙ shown.size)
-      ∙ leaf_on parts.surface.tree leaf p (sym (seen p) ∙ and_left (holds visible p) (not (holds bad p)) (sym (is p) ∙ here))
 
   -- ---- what a stage counts
 

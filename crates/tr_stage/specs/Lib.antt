@@ -1,4 +1,4 @@
 pub mod Stages
 pub mod Standings
-pub mod Handing
+pub mod Making
 pub mod Sharing

@@ -22,7 +22,7 @@ use Rattle.tr_journal.specs.declared.steps.Step.{Step}
 use Rattle.tr_journal.specs.declared.steps.Step.TheVariants as steps
 use Rattle.tr_journal.specs.Journals.{JournalLine}
 use Rattle.tr_journal.specs.Openings.{tree_of, font_of}
-use Rattle.tr_journal.specs.Steps.{IsStep, may, covers}
+use Rattle.tr_journal.specs.Steps.{IsFor}
 use Rattle.tr_machine.specs.States.{State}
 use Rattle.tr_machine.specs.Paintings.{is_visible}
 use Rattle.tr_machine.specs.Replays.{IsLegal, line_of, replay}
@@ -86,10 +86,8 @@ KeepsOthers t step old new =
     (p : Point) → is_on t p ≡ true → may_paint step (spot t p) ≡ false → pixel_of new p ≡ pixel_of old p
 
 -- a step that the painter may make under the tree's lock
-pub record IsPainters {M : Type 0} (t : Nodes) (step : Step M) : Type 0 where
-  pub may : may Painter step ≡ true
-  pub covers : covers (Mu ∷ []) step ≡ true
-  pub values : IsStep t step
+abbrev pub IsPainters : {M : Type 0} → Nodes → Step M → Type 0
+IsPainters t step = IsFor t Painter (Mu ∷ []) step
 
 -- the point is a visible point of the leaf, and good
 abbrev pub is_good_in : {C M : Type 0} → State C M → LeafId → Point → Bool

@@ -1,6 +1,6 @@
-ghost use Rattle.std.specs.Prelude.{◌≡◌, ◌<◌, ◌++◌, ◌∷◌, [], true, length, slice_get, Some, None, IfOk, IfSome, OnOk, OnErr};
+ghost use Rattle.std.specs.Prelude.{◌≡◌, ◌<◌, [], true, length, slice_get, Some, None, IfOk, IfSome, OnOk, OnErr};
 ghost use Rattle.tr_journal.specs.Openings.{tree_of};
-ghost use Rattle.tr_journal.specs.Steps.{IsStep, may, covers};
+ghost use Rattle.tr_journal.specs.Steps.{IsFor};
 ghost use Rattle.tr_paint.specs.Traces.{Look, look_of};
 ghost use Rattle.tr_paint.specs.Patches.{IsPatch};
 ghost use Rattle.tr_client.specs.Laws.{IsWindowSize};
@@ -8,7 +8,8 @@ ghost use Rattle.tr_desk.specs.Desks.{owner};
 ghost use Rattle.tr_machine.specs.States.{changed_at};
 ghost use Rattle.tr_machine.specs.Machines as machine;
 ghost use Rattle.tr_windows.specs.Presents.{Present, act_on};
-ghost use Rattle.tr_stage.specs.Stages.{is_note, line, state};
+ghost use Rattle.tr_stage.specs.Making.{Makes};
+ghost use Rattle.tr_stage.specs.Stages.{is_note, state};
 
 use crate::lines::{By, write};
 use crate::stages::Stage;
@@ -22,16 +23,10 @@ use tr_windows::Windows;
 impl<C: Client> Stage<C> {
     /// A command changes the content of a leaf, and what that paints waits.
     pub(crate) fn act(&mut self, by: &By, leaf: LeafId, cmd: C::Cmd) -> Result<Reply, NoMemory>
-        requires may { may by.now.actor (Step.Act leaf cmd) ≡ true }
-        requires covers { covers by.now.level (Step.Act leaf cmd) ≡ true }
-        requires values { IsStep (tree_of self.old.opening).nodes (Step.Act leaf cmd) }
-        ensures opening { self.new.opening ≡ self.old.opening }
-        ensures ok { let made = Step.Act leaf cmd in
-            OnOk result (self.new.journal ≡
-            self.old.journal ++ line C.Client self.old by.now.actor by.now.level made ∷ []) }
-        ensures reply { let made = Step.Act leaf cmd in
-            IfOk result (λ r. r ≡ (line C.Client self.old by.now.actor by.now.level made).entry.reply) }
-        ensures err_journal { OnErr result (self.new.journal ≡ self.old.journal) }
+        requires allowed { let t = (tree_of self.old.opening).nodes in
+            IsFor t by.now.actor by.now.level (Step.Act leaf cmd) }
+        ensures made { Makes C.Client self.old self.new by.now.actor by.now.level
+            (Step.Act leaf cmd) result }
         ensures screen { self.new.screen ≡ self.old.screen }
     {
         self.journal.reserve(1)?;
@@ -48,16 +43,10 @@ impl<C: Client> Stage<C> {
 
     /// A part of a leaf's window is to be painted again.
     pub(crate) fn mark(&mut self, by: &By, leaf: LeafId, clip: Rect) -> Result<Reply, NoMemory>
-        requires may { may {M = C.Cmd} by.now.actor (Step.Mark leaf clip) ≡ true }
-        requires covers { covers {M = C.Cmd} by.now.level (Step.Mark leaf clip) ≡ true }
-        requires values { IsStep {M = C.Cmd} (tree_of self.old.opening).nodes (Step.Mark leaf clip) }
-        ensures opening { self.new.opening ≡ self.old.opening }
-        ensures ok { let made = Step.Mark leaf clip in
-            OnOk result (self.new.journal ≡
-            self.old.journal ++ line C.Client self.old by.now.actor by.now.level made ∷ []) }
-        ensures reply { let made = Step.Mark leaf clip in
-            IfOk result (λ r. r ≡ (line C.Client self.old by.now.actor by.now.level made).entry.reply) }
-        ensures err_journal { OnErr result (self.new.journal ≡ self.old.journal) }
+        requires allowed { let t = (tree_of self.old.opening).nodes in
+            IsFor {M = C.Cmd} t by.now.actor by.now.level (Step.Mark leaf clip) }
+        ensures made { Makes C.Client self.old self.new by.now.actor by.now.level
+            (Step.Mark leaf clip) result }
         ensures screen { self.new.screen ≡ self.old.screen }
     {
         self.journal.reserve(1)?;
@@ -70,16 +59,10 @@ impl<C: Client> Stage<C> {
     /// The event that has waited longest for a leaf is taken out, and the leaf obeys the command that its
     /// content asks for then, if it asks for one.
     pub(crate) fn take(&mut self, by: &By, leaf: LeafId) -> Result<Reply, NoMemory>
-        requires may { may {M = C.Cmd} by.now.actor (Step.Take leaf) ≡ true }
-        requires covers { covers {M = C.Cmd} by.now.level (Step.Take leaf) ≡ true }
-        requires values { IsStep {M = C.Cmd} (tree_of self.old.opening).nodes (Step.Take leaf) }
-        ensures opening { self.new.opening ≡ self.old.opening }
-        ensures ok { let made = Step.Take leaf in
-            OnOk result (self.new.journal ≡
-            self.old.journal ++ line C.Client self.old by.now.actor by.now.level made ∷ []) }
-        ensures reply { let made = Step.Take leaf in
-            IfOk result (λ r. r ≡ (line C.Client self.old by.now.actor by.now.level made).entry.reply) }
-        ensures err_journal { OnErr result (self.new.journal ≡ self.old.journal) }
+        requires allowed { let t = (tree_of self.old.opening).nodes in
+            IsFor {M = C.Cmd} t by.now.actor by.now.level (Step.Take leaf) }
+        ensures made { Makes C.Client self.old self.new by.now.actor by.now.level
+            (Step.Take leaf) result }
         ensures screen { self.new.screen ≡ self.old.screen }
     {
         self.journal.reserve(1)?;
@@ -107,17 +90,10 @@ impl<C: Client> Stage<C> {
         leaf: LeafId,
         selection: Selection,
     ) -> Result<Reply, NoMemory>
-        requires may { may {M = C.Cmd} by.now.actor (Step.Read leaf selection) ≡ true }
-        requires covers { covers {M = C.Cmd} by.now.level (Step.Read leaf selection) ≡ true }
-        requires values { let t = (tree_of self.old.opening).nodes in
-            IsStep {M = C.Cmd} t (Step.Read leaf selection) }
-        ensures opening { self.new.opening ≡ self.old.opening }
-        ensures ok { let made = Step.Read leaf selection in
-            OnOk result (self.new.journal ≡
-            self.old.journal ++ line C.Client self.old by.now.actor by.now.level made ∷ []) }
-        ensures reply { let made = Step.Read leaf selection in
-            IfOk result (λ r. r ≡ (line C.Client self.old by.now.actor by.now.level made).entry.reply) }
-        ensures err_journal { OnErr result (self.new.journal ≡ self.old.journal) }
+        requires allowed { let t = (tree_of self.old.opening).nodes in
+            IsFor {M = C.Cmd} t by.now.actor by.now.level (Step.Read leaf selection) }
+        ensures made { Makes C.Client self.old self.new by.now.actor by.now.level
+            (Step.Read leaf selection) result }
         ensures screen { self.new.screen ≡ self.old.screen }
     {
         self.journal.reserve(1)?;
@@ -144,15 +120,8 @@ impl<C: Client> Stage<C> {
     /// Something that is written down, and changes nothing.
     pub(crate) fn note(&mut self, by: &By, step: Step<C::Cmd>) -> Result<Reply, NoMemory>
         requires note { is_note step ≡ true }
-        requires may { may by.now.actor step ≡ true }
-        requires covers { covers by.now.level step ≡ true }
-        requires values { IsStep (tree_of self.old.opening).nodes step }
-        ensures opening { self.new.opening ≡ self.old.opening }
-        ensures ok { OnOk result (self.new.journal ≡
-            self.old.journal ++ line C.Client self.old by.now.actor by.now.level step ∷ []) }
-        ensures reply { IfOk result (λ r.
-            r ≡ (line C.Client self.old by.now.actor by.now.level step).entry.reply) }
-        ensures err_journal { OnErr result (self.new.journal ≡ self.old.journal) }
+        requires allowed { IsFor (tree_of self.old.opening).nodes by.now.actor by.now.level step }
+        ensures made { Makes C.Client self.old self.new by.now.actor by.now.level step result }
         ensures screen { self.new.screen ≡ self.old.screen }
     {
         self.journal.reserve(1)?;

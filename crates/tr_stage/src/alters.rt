@@ -1,35 +1,24 @@
-ghost use Rattle.std.specs.Prelude.{◌≡◌, ◌++◌, ◌∷◌, [], true, false, IfOk, OnOk, OnErr};
-ghost use Rattle.tr_base.specs.declared.LeafId.{LeafId};
-ghost use Rattle.tr_client.specs.Laws.{IsWindowSize};
-ghost use Rattle.tr_spot.specs.Leaves.{leaf_size};
+ghost use Rattle.std.specs.Prelude.{◌≡◌, [], false, IfOk};
 ghost use Rattle.tr_journal.specs.Openings.{tree_of};
-ghost use Rattle.tr_journal.specs.Steps.{IsStep, may, covers};
-ghost use Rattle.tr_stage.specs.Stages.{line, paints};
+ghost use Rattle.tr_journal.specs.Steps.{IsFor};
+ghost use Rattle.tr_stage.specs.Making.{Makes};
+ghost use Rattle.tr_stage.specs.Stages.{paints};
 
 use crate::lines::{By, write};
 use crate::stages::Stage;
-use tr_base::{LeafId, NoMemory};
+use tr_base::NoMemory;
 use tr_client::Client;
 use tr_forest::{Edit, EditRefused};
 use tr_journal::{Answer, Reply, Step};
-use tr_spot::leaf_size;
-use tr_tree::Tree;
 
 impl<C: Client> Stage<C> {
     /// The tree of windows is edited, if that is not refused: what shows what it is to show stays
     /// good, and the windows are told.
     pub(crate) fn alter(&mut self, by: &By, edit: Edit) -> Result<Reply, NoMemory>
-        requires may { may {M = C.Cmd} by.now.actor (Step.Alter edit) ≡ true }
-        requires covers { covers {M = C.Cmd} by.now.level (Step.Alter edit) ≡ true }
-        requires values { IsStep {M = C.Cmd} (tree_of self.old.opening).nodes (Step.Alter edit) }
-        ensures opening { self.new.opening ≡ self.old.opening }
-        ensures ok { let made = Step.Alter edit in
-            OnOk result (self.new.journal ≡
-            self.old.journal ++ line C.Client self.old by.now.actor by.now.level made ∷ []) }
-        ensures reply { let made = Step.Alter edit in
-            IfOk result (λ r. r ≡ (line C.Client self.old by.now.actor by.now.level made).entry.reply) }
-        ensures err_journal { OnErr result (self.new.journal ≡ self.old.journal) }
-        ensures err_screen { OnErr result (self.new.screen ≡ self.old.screen) }
+        requires allowed { let t = (tree_of self.old.opening).nodes in
+            IsFor {M = C.Cmd} t by.now.actor by.now.level (Step.Alter edit) }
+        ensures made { Makes C.Client self.old self.new by.now.actor by.now.level
+            (Step.Alter edit) result }
         ensures screen { let made = Step.Alter edit in
             IfOk result (λ r. paints {M = C.Cmd} made r.answer ≡ false → self.new.screen ≡ self.old.screen) }
     {
@@ -43,8 +32,8 @@ impl<C: Client> Stage<C> {
         match self.surface.alter(&edit, &self.windows) {
             Ok(was) => {
                 let is = self.surface.tree();
-                sizes_are_small(&was);
-                sizes_are_small(is);
+                was.domains_are_small();
+                is.domains_are_small();
                 self.windows.refit(&was, is);
                 let sent = self.mail.edited(&was, is);
                 let entry = by.entry(Step::Alter { edit }, Answer::Done, sent.len());
@@ -56,17 +45,5 @@ impl<C: Client> Stage<C> {
             }
             Err(EditRefused::NoMemory) => Err(NoMemory),
         }
-    }
-}
-
-/// Looks at the size of each leaf's window, for what that tells the prover: that none is larger
-/// than a window may be. It does nothing else.
-fn sizes_are_small(tree: &Tree)
-    ensures { (leaf : LeafId) → IsWindowSize (leaf_size tree.now leaf) }
-{
-    // Called for what it tells the prover: that the nodes are a forest.
-    let _ = tree.count();
-    for n in 0..tree.leaves() {
-        let _size = leaf_size(tree, LeafId(n));
     }
 }

@@ -1,7 +1,7 @@
-ghost use Rattle.std.specs.Prelude.{◌≡◌, ◌<◌, ◌≤◌, ◌+◌, ◌++◌, ◌∷◌, [], true, IfOk, OnOk, OnErr};
+ghost use Rattle.std.specs.Prelude.{◌≡◌, ◌<◌, ◌≤◌, ◌+◌, []};
 ghost use Rattle.tr_journal.specs.Openings.{tree_of};
-ghost use Rattle.tr_journal.specs.Steps.{IsStep, may, covers};
-ghost use Rattle.tr_stage.specs.Stages.{line};
+ghost use Rattle.tr_journal.specs.Steps.{IsFor};
+ghost use Rattle.tr_stage.specs.Making.{Makes};
 
 use crate::lines::{By, write};
 use crate::stages::Stage;
@@ -14,15 +14,10 @@ impl<C: Client> Stage<C> {
     /// A button goes down or up.
     pub(crate) fn mouse(&mut self, by: &By, time: u32, button: u8, down: bool) -> Reply
         requires spare { 0 < self.old.spare }
-        requires may { may {M = C.Cmd} by.now.actor (Step.Mouse time button down) ≡ true }
-        requires covers { covers {M = C.Cmd} by.now.level (Step.Mouse time button down) ≡ true }
-        requires values { IsStep {M = C.Cmd} (tree_of self.old.opening).nodes (Step.Mouse time button down) }
-        ensures opening { self.new.opening ≡ self.old.opening }
-        ensures journal { let made = Step.Mouse time button down in
-            self.new.journal ≡
-            self.old.journal ++ line C.Client self.old by.now.actor by.now.level made ∷ [] }
-        ensures reply { let made = Step.Mouse time button down in
-            result ≡ (line C.Client self.old by.now.actor by.now.level made).entry.reply }
+        requires allowed { let t = (tree_of self.old.opening).nodes in
+            IsFor {M = C.Cmd} t by.now.actor by.now.level (Step.Mouse time button down) }
+        ensures made { Makes C.Client self.old self.new by.now.actor by.now.level
+            (Step.Mouse time button down) (Ok result) }
         ensures screen { self.new.screen ≡ self.old.screen }
         ensures spare { self.old.spare ≤ self.new.spare + 1 }
     {
@@ -42,15 +37,10 @@ impl<C: Client> Stage<C> {
     /// The cursor moves.
     pub(crate) fn motion(&mut self, by: &By, time: u32, at: Point) -> Reply
         requires spare { 0 < self.old.spare }
-        requires may { may {M = C.Cmd} by.now.actor (Step.Motion time at) ≡ true }
-        requires covers { covers {M = C.Cmd} by.now.level (Step.Motion time at) ≡ true }
-        requires values { IsStep {M = C.Cmd} (tree_of self.old.opening).nodes (Step.Motion time at) }
-        ensures opening { self.new.opening ≡ self.old.opening }
-        ensures journal { let made = Step.Motion time at in
-            self.new.journal ≡
-            self.old.journal ++ line C.Client self.old by.now.actor by.now.level made ∷ [] }
-        ensures reply { let made = Step.Motion time at in
-            result ≡ (line C.Client self.old by.now.actor by.now.level made).entry.reply }
+        requires allowed { let t = (tree_of self.old.opening).nodes in
+            IsFor {M = C.Cmd} t by.now.actor by.now.level (Step.Motion time at) }
+        ensures made { Makes C.Client self.old self.new by.now.actor by.now.level
+            (Step.Motion time at) (Ok result) }
         ensures screen { self.new.screen ≡ self.old.screen }
         ensures spare { self.old.spare ≤ self.new.spare + 1 }
     {
@@ -70,15 +60,10 @@ impl<C: Client> Stage<C> {
     /// A key is struck.
     pub(crate) fn key(&mut self, by: &By, time: u32, code: u8) -> Reply
         requires spare { 0 < self.old.spare }
-        requires may { may {M = C.Cmd} by.now.actor (Step.Key time code) ≡ true }
-        requires covers { covers {M = C.Cmd} by.now.level (Step.Key time code) ≡ true }
-        requires values { IsStep {M = C.Cmd} (tree_of self.old.opening).nodes (Step.Key time code) }
-        ensures opening { self.new.opening ≡ self.old.opening }
-        ensures journal { let made = Step.Key time code in
-            self.new.journal ≡
-            self.old.journal ++ line C.Client self.old by.now.actor by.now.level made ∷ [] }
-        ensures reply { let made = Step.Key time code in
-            result ≡ (line C.Client self.old by.now.actor by.now.level made).entry.reply }
+        requires allowed { let t = (tree_of self.old.opening).nodes in
+            IsFor {M = C.Cmd} t by.now.actor by.now.level (Step.Key time code) }
+        ensures made { Makes C.Client self.old self.new by.now.actor by.now.level
+            (Step.Key time code) (Ok result) }
         ensures screen { self.new.screen ≡ self.old.screen }
         ensures spare { self.old.spare ≤ self.new.spare + 1 }
     {
@@ -100,15 +85,10 @@ impl<C: Client> Stage<C> {
     /// A leaf asks for another cage.
     pub(crate) fn set_cage(&mut self, by: &By, leaf: LeafId, cage: Cage) -> Reply
         requires spare { 0 < self.old.spare }
-        requires may { may {M = C.Cmd} by.now.actor (Step.SetCage leaf cage) ≡ true }
-        requires covers { covers {M = C.Cmd} by.now.level (Step.SetCage leaf cage) ≡ true }
-        requires values { IsStep {M = C.Cmd} (tree_of self.old.opening).nodes (Step.SetCage leaf cage) }
-        ensures opening { self.new.opening ≡ self.old.opening }
-        ensures journal { let made = Step.SetCage leaf cage in
-            self.new.journal ≡
-            self.old.journal ++ line C.Client self.old by.now.actor by.now.level made ∷ [] }
-        ensures reply { let made = Step.SetCage leaf cage in
-            result ≡ (line C.Client self.old by.now.actor by.now.level made).entry.reply }
+        requires allowed { let t = (tree_of self.old.opening).nodes in
+            IsFor {M = C.Cmd} t by.now.actor by.now.level (Step.SetCage leaf cage) }
+        ensures made { Makes C.Client self.old self.new by.now.actor by.now.level
+            (Step.SetCage leaf cage) (Ok result) }
         ensures screen { self.new.screen ≡ self.old.screen }
         ensures spare { self.old.spare ≤ self.new.spare + 1 }
     {
@@ -127,17 +107,10 @@ impl<C: Client> Stage<C> {
         selection: Selection,
         time: u32,
     ) -> Result<Reply, NoMemory>
-        requires may { may {M = C.Cmd} by.now.actor (Step.Own leaf selection time) ≡ true }
-        requires covers { covers {M = C.Cmd} by.now.level (Step.Own leaf selection time) ≡ true }
-        requires values { IsStep {M = C.Cmd} (tree_of self.old.opening).nodes (Step.Own leaf selection time) }
-        ensures opening { self.new.opening ≡ self.old.opening }
-        ensures ok { let made = Step.Own leaf selection time in
-            OnOk result (self.new.journal ≡
-            self.old.journal ++ line C.Client self.old by.now.actor by.now.level made ∷ []) }
-        ensures reply { let made = Step.Own leaf selection time in
-            IfOk result (λ r.
-            r ≡ (line C.Client self.old by.now.actor by.now.level made).entry.reply) }
-        ensures err_journal { OnErr result (self.new.journal ≡ self.old.journal) }
+        requires allowed { let t = (tree_of self.old.opening).nodes in
+            IsFor {M = C.Cmd} t by.now.actor by.now.level (Step.Own leaf selection time) }
+        ensures made { Makes C.Client self.old self.new by.now.actor by.now.level
+            (Step.Own leaf selection time) result }
         ensures screen { self.new.screen ≡ self.old.screen }
     {
         // Called for what it tells the prover: that the nodes of the tree are a forest.
@@ -178,17 +151,10 @@ impl<C: Client> Stage<C> {
         leaf: LeafId,
         selection: Selection,
     ) -> Result<Reply, NoMemory>
-        requires may { may {M = C.Cmd} by.now.actor (Step.Disown leaf selection) ≡ true }
-        requires covers { covers {M = C.Cmd} by.now.level (Step.Disown leaf selection) ≡ true }
-        requires values { IsStep {M = C.Cmd} (tree_of self.old.opening).nodes (Step.Disown leaf selection) }
-        ensures opening { self.new.opening ≡ self.old.opening }
-        ensures ok { let made = Step.Disown leaf selection in
-            OnOk result (self.new.journal ≡
-            self.old.journal ++ line C.Client self.old by.now.actor by.now.level made ∷ []) }
-        ensures reply { let made = Step.Disown leaf selection in
-            IfOk result (λ r.
-            r ≡ (line C.Client self.old by.now.actor by.now.level made).entry.reply) }
-        ensures err_journal { OnErr result (self.new.journal ≡ self.old.journal) }
+        requires allowed { let t = (tree_of self.old.opening).nodes in
+            IsFor {M = C.Cmd} t by.now.actor by.now.level (Step.Disown leaf selection) }
+        ensures made { Makes C.Client self.old self.new by.now.actor by.now.level
+            (Step.Disown leaf selection) result }
         ensures screen { self.new.screen ≡ self.old.screen }
     {
         // Called for what it tells the prover: that the nodes of the tree are a forest.

@@ -1,16 +1,20 @@
-ghost use Rattle.std.specs.Prelude.{◌≡◌, ◌<◌, ◌≤◌, ◌++◌, All, length, Some, IfOk, OnOk, OnErr};
+ghost use Rattle.std.specs.Prelude.{◌≡◌, ◌<◌, ◌++◌, ◌∷◌, [], Some, IfOk, OnOk, OnErr};
 ghost use Rattle.tr_forest.specs.Nodes.{leaf_count};
 ghost use Rattle.tr_spot.specs.Leaves.{leaf_size};
+ghost use Rattle.tr_levels.specs.declared.Level.TheVariants.{Win};
+ghost use Rattle.tr_levels.specs.Levels.{HaveLevels, HoldsNoLeaf};
+ghost use Rattle.tr_journal.specs.declared.Actor.TheVariants.{Leaf};
 ghost use Rattle.tr_journal.specs.Openings.{tree_of};
 ghost use Rattle.tr_machine.specs.States.{content_of};
+ghost use Rattle.tr_machine.specs.Replays.{lines_by};
+ghost use Rattle.tr_machine.specs.Handing.{act_entries, act_entry, acts};
 ghost use Rattle.tr_stage.specs.Stages.{state};
-ghost use Rattle.tr_stage.specs.Handing.{HoldsNoLeaf, act_entries, act_entry, silent};
 
 use crate::stages::Stage;
 use std::alloc::Global;
 use tr_base::{Command, LeafId, NoMemory};
 use tr_client::{Client, Prepared};
-use tr_journal::{Actor, Answer, Entry, Journal, Reply, Step};
+use tr_journal::{Actor, Answer, Entry, Reply, Step};
 use tr_levels::{Held, Level};
 
 impl<C: Client> Stage<C> {
@@ -28,24 +32,21 @@ impl<C: Client> Stage<C> {
         requires font { prepared.now.font ≡ (state C.Client self.old).font }
         requires size { prepared.now.size ≡ leaf_size (state C.Client self.old).tree leaf }
         requires kind { prepared.now.kind ≡ (state C.Client self.old).tree.kind }
-        requires counts { length levels.now ≡ length prepared.now.commands.items }
-        requires free { All HoldsNoLeaf levels.now }
+        requires levels { HaveLevels prepared.now.commands.items levels.now }
         ensures opening { self.new.opening ≡ self.old.opening }
-        ensures ok { OnOk result (self.new.journal ≡
-            self.old.journal ++ silent (act_entries leaf prepared.now.commands.items levels.now)) }
+        ensures ok { let m = state C.Client self.old in OnOk result (self.new.journal ≡ self.old.journal
+            ++ lines_by C.Client (Leaf leaf) m (acts leaf prepared.now.commands.items levels.now)) }
         ensures err_journal { OnErr result (self.new.journal ≡ self.old.journal) }
         ensures screen { self.new.screen ≡ self.old.screen }
     {
         // Called for what it tells the prover: that the nodes are a forest.
         let _ = self.surface.tree();
         let entries = entries_of(self.alloc, leaf, &prepared.commands, levels)?;
-        let Ok(count) = u32::try_from(entries.len()) else {
-            return Err(NoMemory);
-        };
-        self.journal.reserve(count)?;
+        // Room is taken first, so that nothing can fail once the window has changed.
+        self.journal.reserve_silent(entries.len())?;
         let content = prepared.to.copy(self.alloc)?;
         self.windows.take_over(leaf, content, &prepared.batch)?;
-        write_silent(&mut self.journal, entries);
+        self.journal.extend(entries).unwrap();
         Ok(())
     }
 }
@@ -57,8 +58,7 @@ fn entries_of<M: Command>(
     commands: &[M],
     levels: &[Held],
 ) -> Result<Vec<Entry<M>>, NoMemory>
-    requires counts { length levels.now ≡ length commands.now }
-    requires free { All HoldsNoLeaf levels.now }
+    requires { HaveLevels commands.now levels.now }
     ensures { IfOk result (λ v. v.items ≡ act_entries leaf commands.now levels.now) }
 {
     let mut entries = Vec::with_capacity(alloc, commands.len())?;
@@ -72,7 +72,7 @@ fn entries_of<M: Command>(
 /// The entry of a command that is handed over.
 fn entry_of<M: Command>(leaf: LeafId, cmd: M, level: &Held) -> Entry<M>
     requires { HoldsNoLeaf level.now }
-    ensures { result ≡ act_entry leaf cmd level.now }
+    ensures { result ≡ act_entry leaf (level.now ++ Win leaf ∷ [], Step.Act leaf cmd) }
 {
     Entry {
         actor: Actor::Leaf(leaf),
@@ -82,16 +82,5 @@ fn entry_of<M: Command>(leaf: LeafId, cmd: M, level: &Held) -> Entry<M>
             answer: Answer::Done,
             sent: 0,
         },
-    }
-}
-
-/// Adds entries that sent nothing, for which room was reserved.
-fn write_silent<M: Command>(journal: &mut Journal<M>, entries: Vec<Entry<M>>)
-    requires spare { length entries.items ≤ journal.old.spare }
-    requires quiet { All (λ e. e.reply.sent ≡ 0) entries.items }
-    ensures { journal.new.lines ≡ journal.old.lines ++ silent entries.items }
-{
-    for entry in entries {
-        journal.push_reserved(entry, &[]);
     }
 }

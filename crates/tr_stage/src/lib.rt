@@ -17,6 +17,6 @@ mod shared;
 mod sharing;
 mod stages;
 
-pub use peeks::Peek;
 pub use sharing::Painted;
 pub use stages::{Stage, is_reservable};
+pub use tr_journal::Peek3 as Peek;

@@ -1,7 +1,8 @@
-ghost use Rattle.std.specs.Prelude.{◌≡◌, ◌++◌, ◌∷◌, [], true, IfOk, OnOk, OnErr};
+ghost use Rattle.std.specs.Prelude.{[], OnOk};
 ghost use Rattle.tr_journal.specs.Openings.{tree_of};
-ghost use Rattle.tr_journal.specs.Steps.{IsStep, may, covers};
-ghost use Rattle.tr_stage.specs.Stages.{KeepsOthers, line, state};
+ghost use Rattle.tr_journal.specs.Steps.{IsFor};
+ghost use Rattle.tr_stage.specs.Making.{Makes};
+ghost use Rattle.tr_stage.specs.Stages.{KeepsOthers, state};
 
 use crate::lines::{By, write};
 use crate::stages::Stage;
@@ -13,18 +14,10 @@ use tr_spot::leaf_size;
 impl<C: Client> Stage<C> {
     /// What waits for a leaf is painted.
     pub(crate) fn flush(&mut self, by: &By, leaf: LeafId) -> Result<Reply, NoMemory>
-        requires may { may {M = C.Cmd} by.now.actor (Step.Flush leaf) ≡ true }
-        requires covers { covers {M = C.Cmd} by.now.level (Step.Flush leaf) ≡ true }
-        requires values { IsStep {M = C.Cmd} (tree_of self.old.opening).nodes (Step.Flush leaf) }
-        ensures opening { self.new.opening ≡ self.old.opening }
-        ensures ok { let made = Step.Flush leaf in
-            OnOk result (self.new.journal ≡
-            self.old.journal ++ line C.Client self.old by.now.actor by.now.level made ∷ []) }
-        ensures reply { let made = Step.Flush leaf in
-            IfOk result (λ r.
-            r ≡ (line C.Client self.old by.now.actor by.now.level made).entry.reply) }
-        ensures err_journal { OnErr result (self.new.journal ≡ self.old.journal) }
-        ensures err_screen { OnErr result (self.new.screen ≡ self.old.screen) }
+        requires allowed { let t = (tree_of self.old.opening).nodes in
+            IsFor {M = C.Cmd} t by.now.actor by.now.level (Step.Flush leaf) }
+        ensures made { Makes C.Client self.old self.new by.now.actor by.now.level
+            (Step.Flush leaf) result }
         ensures others { let t = (state C.Client self.old).tree in
             OnOk result (KeepsOthers {M = C.Cmd} t (Step.Flush leaf) self.old.screen self.new.screen) }
     {
@@ -41,18 +34,10 @@ impl<C: Client> Stage<C> {
 
     /// What waits for a leaf is painted, and then each of its points that is bad.
     pub(crate) fn repaint(&mut self, by: &By, leaf: LeafId) -> Result<Reply, NoMemory>
-        requires may { may {M = C.Cmd} by.now.actor (Step.Repaint leaf) ≡ true }
-        requires covers { covers {M = C.Cmd} by.now.level (Step.Repaint leaf) ≡ true }
-        requires values { IsStep {M = C.Cmd} (tree_of self.old.opening).nodes (Step.Repaint leaf) }
-        ensures opening { self.new.opening ≡ self.old.opening }
-        ensures ok { let made = Step.Repaint leaf in
-            OnOk result (self.new.journal ≡
-            self.old.journal ++ line C.Client self.old by.now.actor by.now.level made ∷ []) }
-        ensures reply { let made = Step.Repaint leaf in
-            IfOk result (λ r.
-            r ≡ (line C.Client self.old by.now.actor by.now.level made).entry.reply) }
-        ensures err_journal { OnErr result (self.new.journal ≡ self.old.journal) }
-        ensures err_screen { OnErr result (self.new.screen ≡ self.old.screen) }
+        requires allowed { let t = (tree_of self.old.opening).nodes in
+            IsFor {M = C.Cmd} t by.now.actor by.now.level (Step.Repaint leaf) }
+        ensures made { Makes C.Client self.old self.new by.now.actor by.now.level
+            (Step.Repaint leaf) result }
         ensures others { let t = (state C.Client self.old).tree in
             OnOk result (KeepsOthers {M = C.Cmd} t (Step.Repaint leaf) self.old.screen self.new.screen) }
     {
@@ -75,18 +60,10 @@ impl<C: Client> Stage<C> {
 
     /// Each bad point of a frame is painted.
     pub(crate) fn paint_frame(&mut self, by: &By) -> Result<Reply, NoMemory>
-        requires may { may {M = C.Cmd} by.now.actor Step.PaintFrame ≡ true }
-        requires covers { covers {M = C.Cmd} by.now.level Step.PaintFrame ≡ true }
-        requires values { IsStep {M = C.Cmd} (tree_of self.old.opening).nodes Step.PaintFrame }
-        ensures opening { self.new.opening ≡ self.old.opening }
-        ensures ok { let made = Step.PaintFrame in
-            OnOk result (self.new.journal ≡
-            self.old.journal ++ line C.Client self.old by.now.actor by.now.level made ∷ []) }
-        ensures reply { let made = Step.PaintFrame in
-            IfOk result (λ r.
-            r ≡ (line C.Client self.old by.now.actor by.now.level made).entry.reply) }
-        ensures err_journal { OnErr result (self.new.journal ≡ self.old.journal) }
-        ensures err_screen { OnErr result (self.new.screen ≡ self.old.screen) }
+        requires allowed { let t = (tree_of self.old.opening).nodes in
+            IsFor {M = C.Cmd} t by.now.actor by.now.level Step.PaintFrame }
+        ensures made { Makes C.Client self.old self.new by.now.actor by.now.level
+            Step.PaintFrame result }
         ensures others { let t = (state C.Client self.old).tree in
             OnOk result (KeepsOthers {M = C.Cmd} t Step.PaintFrame self.old.screen self.new.screen) }
     {

@@ -3,9 +3,7 @@ ghost use Rattle.tr_base.specs.declared.Point.{Point};
 ghost use Rattle.tr_base.specs.declared.LeafId.{LeafId};
 ghost use Rattle.tr_region.specs.Points.{holds};
 ghost use Rattle.tr_screen.specs.Pictures.{pixel_of};
-ghost use Rattle.tr_exec.specs.Executions.{IsOrigin};
 ghost use Rattle.tr_forest.specs.Nodes.{leaf_count};
-ghost use Rattle.tr_spot.specs.Leaves.{leaf_corner};
 ghost use Rattle.tr_surface.specs.Counts.{count_on};
 ghost use Rattle.tr_journal.specs.Openings.{tree_of};
 ghost use Rattle.tr_machine.specs.Paintings.{is_visible};
@@ -15,29 +13,16 @@ ghost use Rattle.tr_stage.specs.Stages.{is_good_in, state};
 
 use crate::counts::count_apart;
 use crate::stages::Stage;
-use tr_base::{Env, LeafId, NoMemory, Point, whole};
+use tr_base::{LeafId, NoMemory};
 use tr_client::Client;
-use tr_exec::execute;
+use tr_journal::Peek3;
 use tr_region::Region;
 use tr_screen::Screen;
-use tr_spot::leaf_size;
-use tr_tree::Tree;
-
-/// How far a screen lags behind.
-#[derive(Clone, Copy, Debug, PartialEq, Eq)]
-pub struct Peek {
-    /// How many points are bad.
-    pub bad: u32,
-    /// How many paint commands wait for all leaves. The count stops at 2^64 - 1.
-    pub waiting: u64,
-    /// How many points aren't bad, and don't have the colour that they are to have.
-    pub stale: u32,
-}
 
 impl<C: Client> Stage<C> {
     /// How far the screen lags behind. Of the pixels it looks at those of leaves for which something
     /// waits, and at no others.
-    pub fn peek(&self) -> Result<Peek, NoMemory>
+    pub fn peek(&self) -> Result<Peek3, NoMemory>
         ensures bad { IfOk result (λ peek. peek.bad ≡ spec.bad_count (state C.Client self.now)) }
         ensures waiting { IfOk result (λ peek.
             peek.waiting ≡ spec.waiting_count C.Client (state C.Client self.now)) }
@@ -47,7 +32,7 @@ impl<C: Client> Stage<C> {
         // Called for what it tells the prover: that the screen has a size, and agrees with the state.
         self.stands();
         let stale = self.stale_count()?;
-        Ok(Peek {
+        Ok(Peek3 {
             bad: self.surface.bad_count(),
             waiting: self.windows.waiting(),
             stale,
@@ -105,40 +90,8 @@ impl<C: Client> Stage<C> {
         ensures size { wanted.new.size ≡ wanted.old.size }
         ensures kind { wanted.new.kind ≡ wanted.old.kind }
     {
-        // Called for what it tells the prover: that the screen has the tree's size and kind.
-        self.stands();
-        let tree = self.surface.tree();
-        let env = Env {
-            kind: tree.kind(),
-            font: self.opening.font(),
-        };
-        let size = leaf_size(tree, leaf);
-        let content = self.windows.content(leaf);
-        let painting = content.paint(self.alloc, &env, size, whole(size))?;
         let good = self.surface.visible(leaf).minus(self.surface.bad())?;
-        let corner = corner_of(tree, leaf);
-        let mut unknown = Region::empty(self.alloc);
-        execute(
-            self.alloc,
-            &painting,
-            &env,
-            corner,
-            &good,
-            wanted,
-            &mut unknown,
-        )?;
+        self.paint_part(leaf, &good, wanted)?;
         Ok(good)
     }
-}
-
-/// Where the north-west corner of a leaf's window lies on the screen.
-pub(crate) fn corner_of(tree: &Tree, leaf: LeafId) -> Point
-    requires { leaf.0 < leaf_count tree.now.nodes }
-    ensures value { result ≡ leaf_corner tree.now leaf }
-    ensures origin { IsOrigin result }
-{
-    let domain = tree.domain(tree.node_of(leaf));
-    // Called for what it tells the prover: that the edges are those of a rectangle.
-    let _ = domain.is_empty();
-    domain.corner()
 }

@@ -7,7 +7,8 @@ ghost use Rattle.tr_journal.specs.declared.Actor.TheVariants.{Painter};
 ghost use Rattle.tr_journal.specs.Openings.{tree_of};
 ghost use Rattle.tr_machine.specs.States.{batch_of};
 ghost use Rattle.tr_machine.specs.Pictures.{render};
-ghost use Rattle.tr_machine.specs.Settling.{is_unsettled, lines_of, settling, settling_lines};
+ghost use Rattle.tr_machine.specs.Replays.{lines_of};
+ghost use Rattle.tr_machine.specs.Settling.{is_unsettled, settling, settling_lines};
 ghost use Rattle.tr_stage.specs.Stages.{IsPainters, state};
 ghost use Rattle.tr_stage.specs.Standings.{Stands};
 
@@ -44,9 +45,9 @@ impl<C: Client> Stage<C> {
         Ok(())
     }
 
-    /// What holds of each stage. Nothing runs.
-    pub(crate) fn stands(&self)
-        ensures { Stands C.Client self.now }
+    /// What holds of each stage, for what that tells the prover. It does nothing.
+    pub fn stands(&self)
+        ensures invariant { Stands C.Client self.now }
     {
         let _tree = self.surface.tree();
         let _size = self.surface.screen().size();

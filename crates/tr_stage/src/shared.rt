@@ -6,8 +6,9 @@ ghost use Rattle.tr_journal.specs.Openings.{tree_of};
 ghost use Rattle.tr_machine.specs.States.{batch_of};
 ghost use Rattle.tr_machine.specs.Pictures.{render};
 ghost use Rattle.tr_machine.specs.Settling.{frame_steps};
-ghost use Rattle.tr_stage.specs.Sharing as spec;
-ghost use Rattle.tr_stage.specs.Sharing.{ArePainted, all_bad_leaves, flushing, share_lines, sharing_lines};
+ghost use Rattle.tr_machine.specs.Sharing as spec;
+ghost use Rattle.tr_machine.specs.Sharing.{all_bad_leaves, flushing, share_lines, sharing_lines};
+ghost use Rattle.tr_stage.specs.Sharing.{ArePainted};
 ghost use Rattle.tr_stage.specs.Stages.{IsPainters, state};
 
 use crate::sharing::Painted;

@@ -2,21 +2,23 @@ ghost use Rattle.std.specs.Prelude.{◌≡◌, ◌<◌, ◌++◌, ◌∷◌, [],
 ghost use Rattle.tr_base.specs.declared.Point.{Point};
 ghost use Rattle.tr_region.specs.Points.{holds};
 ghost use Rattle.tr_screen.specs.Pictures.{pixel_of};
+ghost use Rattle.tr_exec.specs.Executions.{IsOrigin};
 ghost use Rattle.tr_forest.specs.Nodes.{leaf_count};
+ghost use Rattle.tr_spot.specs.Leaves.{leaf_corner};
 ghost use Rattle.tr_levels.specs.declared.Level.TheVariants.{Share};
 ghost use Rattle.tr_journal.specs.declared.Actor.TheVariants.{Painter};
 ghost use Rattle.tr_journal.specs.Openings.{tree_of};
-ghost use Rattle.tr_journal.specs.Steps.{IsStep, may, covers};
+ghost use Rattle.tr_journal.specs.Steps.{IsFor};
 ghost use Rattle.tr_machine.specs.States.{batch_of};
 ghost use Rattle.tr_machine.specs.Paintings.{is_visible};
 ghost use Rattle.tr_machine.specs.Pictures.{want};
-ghost use Rattle.tr_stage.specs.Sharing.{IsPaintedOf};
+ghost use Rattle.tr_machine.specs.Sharing.{IsPaintedOf};
+ghost use Rattle.tr_stage.specs.Making.{Makes};
 ghost use Rattle.tr_stage.specs.Stages.{KeepsOthers, line, state};
 
 use crate::lines::{By, write};
-use crate::peeks::corner_of;
 use crate::stages::Stage;
-use tr_base::{Env, LeafId, NoMemory, whole};
+use tr_base::{Env, LeafId, NoMemory, Point, whole};
 use tr_client::Client;
 use tr_exec::execute;
 use tr_journal::{Actor, Answer, Reply, Step};
@@ -25,6 +27,7 @@ use tr_region::Region;
 use tr_screen::Screen;
 use tr_spot::leaf_size;
 use tr_surface::pixels_at;
+use tr_tree::Tree;
 
 /// The bad points of a leaf's window, painted apart from the screen.
 #[derive(Drop)]
@@ -50,12 +53,17 @@ impl<C: Client> Stage<C> {
         let part = self.surface.bad_of(leaf)?;
         let mut wanted = Screen::blank(self.alloc, screen.size(), screen.kind())?;
         self.paint_part(leaf, &part, &mut wanted)?;
-        let pixels = pixels_at(self.alloc, &wanted, &part)?;
+        let pixels = pixels_at(&wanted, &part)?;
         Ok(Painted { leaf, part, pixels })
     }
 
     /// Gives visible points of a leaf the colour that they are to have.
-    fn paint_part(&self, leaf: LeafId, part: &Region, wanted: &mut Screen) -> Result<(), NoMemory>
+    pub(crate) fn paint_part(
+        &self,
+        leaf: LeafId,
+        part: &Region,
+        wanted: &mut Screen,
+    ) -> Result<(), NoMemory>
         requires leaf { leaf.0 < leaf_count (tree_of self.now.opening).nodes }
         requires size { wanted.old.size ≡ self.now.screen.size }
         requires kind { wanted.old.kind ≡ self.now.screen.kind }
@@ -96,7 +104,8 @@ impl<C: Client> Stage<C> {
     pub fn put_painted(&mut self, painted: Painted) -> Result<(), NoMemory>
         requires leaf { painted.leaf.0 < leaf_count (tree_of self.old.opening).nodes }
         requires idle { batch_of C.Client (state C.Client self.old) painted.leaf ≡ [] }
-        requires painted { IsPaintedOf C.Client (state C.Client self.old) painted.leaf painted.part painted.pixels.items }
+        requires painted { let m = state C.Client self.old in
+            IsPaintedOf C.Client m painted.leaf painted.part painted.pixels.items }
         ensures opening { self.new.opening ≡ self.old.opening }
         ensures ok { let made = Step.Repaint painted.leaf in
             OnOk result (self.new.journal ≡ self.old.journal
@@ -115,18 +124,19 @@ impl<C: Client> Stage<C> {
     }
 
     /// Makes a repaint of a leaf for which nothing waits, by the pixels of its bad points.
-    fn put(&mut self, by: &By, leaf: LeafId, part: &Region, pixels: &[u8]) -> Result<Reply, NoMemory>
-        requires may { may {M = C.Cmd} by.now.actor (Step.Repaint leaf) ≡ true }
-        requires covers { covers {M = C.Cmd} by.now.level (Step.Repaint leaf) ≡ true }
-        requires values { IsStep {M = C.Cmd} (tree_of self.old.opening).nodes (Step.Repaint leaf) }
+    fn put(
+        &mut self,
+        by: &By,
+        leaf: LeafId,
+        part: &Region,
+        pixels: &[u8],
+    ) -> Result<Reply, NoMemory>
+        requires allowed { let t = (tree_of self.old.opening).nodes in
+            IsFor {M = C.Cmd} t by.now.actor by.now.level (Step.Repaint leaf) }
         requires idle { batch_of C.Client (state C.Client self.old) leaf ≡ [] }
         requires painted { IsPaintedOf C.Client (state C.Client self.old) leaf part.now pixels.now }
-        ensures opening { self.new.opening ≡ self.old.opening }
-        ensures ok { let made = Step.Repaint leaf in
-            OnOk result (self.new.journal ≡
-            self.old.journal ++ line C.Client self.old by.now.actor by.now.level made ∷ []) }
-        ensures err_journal { OnErr result (self.new.journal ≡ self.old.journal) }
-        ensures err_screen { OnErr result (self.new.screen ≡ self.old.screen) }
+        ensures made { Makes C.Client self.old self.new by.now.actor by.now.level
+            (Step.Repaint leaf) result }
         ensures others { let t = (state C.Client self.old).tree in
             OnOk result (KeepsOthers {M = C.Cmd} t (Step.Repaint leaf) self.old.screen self.new.screen) }
     {
@@ -139,4 +149,16 @@ impl<C: Client> Stage<C> {
         let entry = by.entry(Step::Repaint { leaf }, Answer::Done, 0);
         Ok(write(&mut self.journal, entry, &[]))
     }
+}
+
+/// Where the north-west corner of a leaf's window lies on the screen.
+fn corner_of(tree: &Tree, leaf: LeafId) -> Point
+    requires { leaf.0 < leaf_count tree.now.nodes }
+    ensures value { result ≡ leaf_corner tree.now leaf }
+    ensures origin { IsOrigin result }
+{
+    let domain = tree.domain(tree.node_of(leaf));
+    // Called for what it tells the prover: that the edges are those of a rectangle.
+    let _ = domain.is_empty();
+    domain.corner()
 }

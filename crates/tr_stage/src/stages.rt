@@ -4,8 +4,9 @@ ghost use Rattle.tr_region.specs.Points.{holds};
 ghost use Rattle.tr_screen.specs.Pictures.{blank_of};
 ghost use Rattle.tr_surface.specs.Surfaces.{is_on};
 ghost use Rattle.tr_journal.specs.Openings.{tree_of};
-ghost use Rattle.tr_journal.specs.Steps.{IsStep, may, covers};
+ghost use Rattle.tr_journal.specs.Steps.{AreLevels, IsFor, IsStep, may, covers};
 ghost use Rattle.tr_stage.specs.Stages as spec;
+ghost use Rattle.tr_stage.specs.Making.{Makes};
 ghost use Rattle.tr_stage.specs.Stages.{KeepsOthers, line, paints, state};
 
 use crate::lines::By;
@@ -90,6 +91,7 @@ impl<C: Client> Stage<C> {
     pub fn step(&mut self, actor: Actor, level: Held, step: Step<C::Cmd>) -> Result<Reply, NoMemory>
         requires may { may actor step ≡ true }
         requires covers { covers level step ≡ true }
+        requires levels { AreLevels (tree_of self.old.opening).nodes level }
         requires values { IsStep (tree_of self.old.opening).nodes step }
         ensures opening { self.new.opening ≡ self.old.opening }
         ensures ok { OnOk result (self.new.journal ≡
@@ -129,6 +131,7 @@ impl<C: Client> Stage<C> {
         requires reservable { spec.is_reservable step ≡ true }
         requires may { may actor step ≡ true }
         requires covers { covers level step ≡ true }
+        requires levels { AreLevels (tree_of self.old.opening).nodes level }
         requires values { IsStep (tree_of self.old.opening).nodes step }
         ensures opening { self.new.opening ≡ self.old.opening }
         ensures journal { self.new.journal ≡
@@ -150,16 +153,8 @@ impl<C: Client> Stage<C> {
     /// Makes a step of another sort.
     fn step_other(&mut self, by: &By, step: Step<C::Cmd>) -> Result<Reply, NoMemory>
         requires other { spec.is_reservable step ≡ false }
-        requires may { may by.now.actor step ≡ true }
-        requires covers { covers by.now.level step ≡ true }
-        requires values { IsStep (tree_of self.old.opening).nodes step }
-        ensures opening { self.new.opening ≡ self.old.opening }
-        ensures ok { OnOk result (self.new.journal ≡
-            self.old.journal ++ line C.Client self.old by.now.actor by.now.level step ∷ []) }
-        ensures reply { IfOk result (λ r.
-            r ≡ (line C.Client self.old by.now.actor by.now.level step).entry.reply) }
-        ensures err_journal { OnErr result (self.new.journal ≡ self.old.journal) }
-        ensures err_screen { OnErr result (self.new.screen ≡ self.old.screen) }
+        requires allowed { IsFor (tree_of self.old.opening).nodes by.now.actor by.now.level step }
+        ensures made { Makes C.Client self.old self.new by.now.actor by.now.level step result }
         ensures screen { IfOk result (λ r. paints step r.answer ≡ false → self.new.screen ≡ self.old.screen) }
         ensures others { let t = (state C.Client self.old).tree in
             OnOk result (KeepsOthers t step self.old.screen self.new.screen) }

@@ -2,8 +2,8 @@
 use tr_base::{LeafId, Point, Rect, Selection};
 use tr_cage::Cage;
 use tr_forest::Edit;
-use tr_journal::{Actor, Query, Step};
-use tr_levels::{Held, Level};
+use tr_journal::{Actor, Query, Step, stated};
+use tr_levels::Held;
 use tr_widget::WidgetCmd;
 
 /// A step.
@@ -66,11 +66,12 @@ pub struct By {
     pub level: Held,
 }
 
-/// Who makes the step in a script that is played by one thread: a leaf makes all that names it.
+/// Who makes the step in a script that is played by one thread: a leaf makes all that names it. No more is held
+/// than the step needs.
 pub fn maker_of(act: &Act) -> By {
     By {
         actor: actor_of(act),
-        level: level_of(act),
+        level: stated(&step_of(act)),
     }
 }
 
@@ -88,20 +89,5 @@ fn actor_of(act: &Act) -> Actor {
         Act::Mouse(..) | Act::Motion(..) | Act::Key(..) | Act::Alter(_) => Actor::Desk,
         Act::PaintFrame => Actor::Painter,
         Act::Sync | Act::Report(_) => Actor::Player,
-    }
-}
-
-/// What is held: no more than the step needs.
-fn level_of(act: &Act) -> Held {
-    let mu = Held::none().with(Level::Mu);
-    match *act {
-        Act::Tell(leaf, _) => Held::none().with(Level::Win(leaf)),
-        Act::Mark(leaf, _)
-        | Act::Take(leaf)
-        | Act::SetCage(leaf, _)
-        | Act::Own(leaf, _, _)
-        | Act::Disown(leaf, _)
-        | Act::Read(leaf, _) => mu.with(Level::Win(leaf)),
-        _ => mu,
     }
 }

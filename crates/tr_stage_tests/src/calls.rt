@@ -3,7 +3,7 @@
 ghost use Rattle.std.specs.Prelude.{◌≡◌, ◌<◌, ◌≤◌, ◌+◌, true};
 ghost use Rattle.tr_forest.specs.Nodes.{leaf_count};
 ghost use Rattle.tr_journal.specs.Openings.{tree_of};
-ghost use Rattle.tr_journal.specs.Steps.{IsStep, may, covers};
+ghost use Rattle.tr_journal.specs.Steps.{AreLevels, IsStep, may, covers};
 ghost use Rattle.tr_stage.specs.Stages as spec;
 
 use super::acts::By;
@@ -11,9 +11,11 @@ use super::openings::{Part, Sample, opening_of};
 use super::traces::same_commands;
 use std::process::Abort;
 use tr_base::{Event, LeafId, Line, NoMemory, Point, Selection, Size, whole};
+use tr_book::Book;
 use tr_client::Client;
 use tr_forest::EditRefused;
-use tr_journal::{Delivery, Entry, Opening, Reply, Step, covers, is_step, may};
+use tr_journal::{Delivery, Entry, Opening, Reply, Step, are_levels, covers, is_step, may};
+use tr_levels::{Held, Level};
 use tr_paint::Batch;
 use tr_stage::{Peek, Stage, is_reservable};
 
@@ -21,10 +23,12 @@ use tr_stage::{Peek, Stage, is_reservable};
 fn allow<C: Client>(rt: &impl Abort, stage: &Stage<C>, by: &By, step: &Step<C::Cmd>)
     ensures may { may by.now.actor step.now ≡ true }
     ensures covers { covers by.now.level step.now ≡ true }
+    ensures levels { AreLevels (tree_of stage.now.opening).nodes by.now.level }
     ensures values { IsStep (tree_of stage.now.opening).nodes step.now }
 {
     assert!(rt; may(by.actor, step) && covers(by.level, step));
-    assert!(rt; is_step(stage.opening().tree(), step));
+    let tree = stage.opening().tree();
+    assert!(rt; are_levels(tree, &by.level) && is_step(tree, step));
 }
 
 /// Ends the test where room may not be reserved for the step.
@@ -110,6 +114,33 @@ pub fn make_three_reserved<C: Client>(
     let second = reserved(rt, stage, by, second);
     let third = reserved(rt, stage, by, third);
     Ok([first, second, third])
+}
+
+/// Hands a command over that was posted while the tree's lock was held.
+pub fn hand_over<C: Client>(
+    rt: &(impl Abort + AllocGlobal),
+    stage: &mut Stage<C>,
+    leaf: LeafId,
+    cmd: C::Cmd,
+) -> Result<(), NoMemory> {
+    allow_leaf(rt, stage, leaf);
+    let content = stage.content(leaf).copy(rt.alloc())?;
+    let (size, kind) = (stage.leaf_size(leaf), stage.tree().kind());
+    let mut book = Book::fresh(rt.alloc(), content, stage.font(), size, kind)?;
+    book.post(Held::none().with(Level::Mu), cmd)?;
+    stage.take_over(leaf, book.prepared(), book.levels())
+}
+
+/// Paints a leaf's bad points apart from the screen, and puts them there.
+pub fn repaint_apart<C: Client>(
+    rt: &impl Abort,
+    stage: &mut Stage<C>,
+    leaf: LeafId,
+) -> Result<(), NoMemory> {
+    allow_leaf(rt, stage, leaf);
+    assert!(rt; stage.batch(leaf).is_empty());
+    let painted = stage.paint_bad(leaf)?;
+    stage.put_painted(painted)
 }
 
 pub fn settle<C: Client>(stage: &mut Stage<C>) -> Result<(), NoMemory> {

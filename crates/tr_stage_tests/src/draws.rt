@@ -13,6 +13,7 @@ use tr_base::{
 use tr_cage::Cage;
 use tr_forest::{Edit, NodeKind};
 use tr_journal::Query;
+use tr_testing::Numbers;
 use tr_widget::WidgetCmd;
 use w_canvas::{Area, CanvasCmd};
 use w_lines::LinesCmd;
@@ -27,10 +28,10 @@ const LEAVES: u8 = 6;
 
 const NODES: u8 = 15;
 
-/// A linear congruential generator, and the leaf that was drawn last.
+/// What is drawn, and the leaf that was drawn last.
 #[derive(Drop)]
 pub struct Draw {
-    state: u32,
+    numbers: Numbers,
     leaf: u8,
 }
 
@@ -101,15 +102,14 @@ fn shift_by(rt: &impl Abort, by: Point) -> Shift {
 
 impl Draw {
     pub fn new(state: u32) -> Draw {
-        Draw { state, leaf: 0 }
+        Draw {
+            numbers: Numbers::new(state),
+            leaf: 0,
+        }
     }
 
     fn byte(&mut self) -> u8 {
-        self.state = self
-            .state
-            .wrapping_mul(1_664_525)
-            .wrapping_add(1_013_904_223);
-        (self.state >> 24) as u8
+        self.numbers.byte()
     }
 
     /// A number below another one.

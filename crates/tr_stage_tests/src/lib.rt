@@ -1,4 +1,5 @@
-//! Tests of the stage by whole runs. Nothing but tests is in here: they cross all crates below.
+//! Tests of the stage: random runs against a slow model, and calls that no script makes. Nothing but tests is in
+//! here: what steps make of the screen, and what they send, is tried by scripts.
 #![tactic(auto)]
 
 #[cfg(test)]
@@ -8,17 +9,17 @@ mod calls;
 #[cfg(test)]
 mod draws;
 #[cfg(test)]
-mod events;
-#[cfg(test)]
 mod openings;
 #[cfg(test)]
 mod played;
 #[cfg(test)]
 mod reads;
 #[cfg(test)]
+mod reserved;
+#[cfg(test)]
 mod runs;
 #[cfg(test)]
-mod screens;
+mod shares;
 #[cfg(test)]
 mod slow;
 #[cfg(test)]

@@ -42,6 +42,17 @@ pub trait Played: Sized + Drop {
         steps: [Step<WidgetCmd>; 3],
     ) -> Result<[Reply; 3], NoMemory>;
 
+    /// Hands a command over that was posted while the tree's lock was held.
+    fn hand_over(
+        &mut self,
+        rt: &(impl Abort + AllocGlobal),
+        leaf: LeafId,
+        cmd: WidgetCmd,
+    ) -> Result<(), NoMemory>;
+
+    /// Paints a leaf's bad points apart from the screen, and puts them there.
+    fn repaint_apart(&mut self, rt: &impl Abort, leaf: LeafId) -> Result<(), NoMemory>;
+
     fn settle(&mut self) -> Result<(), NoMemory>;
 
     fn peek(&self) -> Result<Peek, NoMemory>;
@@ -141,6 +152,19 @@ impl Played for Stage<Widget> {
         steps: [Step<WidgetCmd>; 3],
     ) -> Result<[Reply; 3], NoMemory> {
         calls::make_three_reserved(rt, self, by, steps)
+    }
+
+    fn hand_over(
+        &mut self,
+        rt: &(impl Abort + AllocGlobal),
+        leaf: LeafId,
+        cmd: WidgetCmd,
+    ) -> Result<(), NoMemory> {
+        calls::hand_over(rt, self, leaf, cmd)
+    }
+
+    fn repaint_apart(&mut self, rt: &impl Abort, leaf: LeafId) -> Result<(), NoMemory> {
+        calls::repaint_apart(rt, self, leaf)
     }
 
     fn settle(&mut self) -> Result<(), NoMemory> {

@@ -1,14 +1,13 @@
 //! Each sort of step, and each read, once.
 use super::acts::Act;
-use super::events::{clicked, label_and_solid};
-use super::openings::line;
+use super::openings::{Part, Shown, line};
 use super::played::Played;
 use super::runs::*;
 use std::process::Abort;
 use std::test::Fail;
 use tr_base::{Click, Event, NoMemory, NodeId, Point, Rect, Selection, Size};
 use tr_cage::Cage;
-use tr_forest::{Edit, EditRefused};
+use tr_forest::{Edit, EditRefused, NodeKind};
 use tr_journal::{Answer, Query};
 use tr_widget::WidgetCmd;
 use w_plain::SolidCmd;
@@ -19,6 +18,30 @@ const EAST: Point = Point { h: 1, v: 0 };
 
 /// A key that is struck at time 2.
 const STRUCK: Event = Event::Key { time: 2, code: 33 };
+
+/// What a window is told of a button.
+fn clicked(time: u32, click: Click, button: u8, h: i32) -> Event {
+    let at = Point { h, v: 0 };
+    Event::Mouse {
+        time,
+        click,
+        button,
+        at,
+    }
+}
+
+/// The stage of a window with a text, and of another one east of it.
+fn label_and_solid<P: Played>(rt: &(impl Abort + AllocGlobal)) -> Result<P, EditRefused> {
+    let parts = [
+        Part::Glyph,
+        Part::Node(NodeKind::H, 0),
+        Part::Leaf([1; 3], [1; 3], Shown::Label),
+        Part::Leaf([1; 3], [1; 3], Shown::Solid(2)),
+        Part::Put(1, 0, 0, 0),
+        Part::Put(2, 0, 0, 0),
+    ];
+    P::start(rt, Size { wide: 2, high: 1 }, &parts)
+}
 
 /// A step of each sort of the input devices, and each with selections, is done.
 fn devices<P: Played>(rt: &impl Abort, stage: &mut P) -> Result<(), NoMemory> {

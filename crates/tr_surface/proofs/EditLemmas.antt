@@ -1,11 +1,10 @@
 -- What an edit leaves, and which child it moves.
-use Rattle.std.proofs.Common.{arith, ◌≡◌, Bool, true, false, cond, ◌&&◌, Option, Some, None, refl, sym, ap, subst, ◌∙◌}
+use Rattle.std.proofs.Common.{arith, ◌≡◌, Option, Some, None, refl, sym, subst}
 use Rattle.std.proofs.lemmas.Option.{none-some}
 use Rattle.tr_base.specs.declared.NodeId.{NodeId}
-use Rattle.tr_base.specs.declared.Size.{Size}
 use Rattle.tr_forest.specs.declared.Edit.{Edit}
 use Rattle.tr_forest.specs.declared.Edit.TheVariants as edits
-use Rattle.tr_forest.specs.Nodes.{Nodes, IsNode}
+use Rattle.tr_forest.specs.Nodes.{IsNode}
 use Rattle.tr_forest.specs.Forests.{IsForest}
 use Rattle.tr_forest.specs.Edits.{IsEdit, edited, refusal}
 use Rattle.tr_forest.proofs.Keeping.{Follows}
@@ -13,8 +12,8 @@ use Rattle.tr_forest.proofs.Editing.{follows_edited}
 use Rattle.tr_tree.specs.Trees.{Seen, size_after, edited_tree}
 use Rattle.tr_spot.specs.Spots.{HasRoot}
 use Rattle.std.specs.Prelude.{IfSome, IsSome}
-use Rattle.tr_surface.specs.TreeSteps.{child_of, if_placed, moved_child}
-use Rattle.tr_surface.specs.Shares.{IsLike}
+use Rattle.tr_surface.specs.TreeSteps.{if_placed, moved_child}
+use Rattle.tr_surface.specs.Survivors.{IsLike}
 use Rattle.tr_surface.proofs.PixelLemmas.{IsMove}
 
 pub like_edited : (was : Seen) (edit : Edit) → IsForest was.nodes → IsEdit was.nodes edit → refusal was.nodes edit ≡ None → IsLike was (edited_tree was edit)

@@ -1,15 +1,13 @@
 -- Which points are known after a tree step, and which pixels they have.
-use Rattle.std.proofs.Common.{◌≡◌, ℕ, zero, suc, ◌+◌, ◌<◌, add-one, Bool, true, false, cond, not, ◌&&◌, ◌||◌, ◌==◌, List, [], Option, Some, None, length, get_or, inl, inr, ◌⊎◌, refl, sym, ap, ◌∙◌, subst, arith}
+use Rattle.std.proofs.Common.{◌≡◌, ℕ, zero, suc, ◌+◌, ◌<◌, add-one, Bool, true, false, cond, not, ◌&&◌, ◌||◌, ◌==◌, List, [], Option, Some, None, length, get_or, inl, inr, ◌⊎◌, refl, sym, ap, ◌∙◌, arith}
 use Rattle.std.specs.Prelude.{IsSome}
 use Rattle.std.proofs.lemmas.Bool.{cases_eq}
-use Rattle.std.proofs.lemmas.Option.{none-some}
 use Rattle.tr_base.specs.declared.Point.{Point}
 use Rattle.tr_base.specs.declared.Kind.{Kind}
 use Rattle.tr_base.specs.declared.NodeId.{NodeId}
-use Rattle.tr_base.specs.declared.LeafId.{LeafId}
 use Rattle.tr_base.specs.declared.Spot.{Spot}
 use Rattle.tr_base.specs.declared.Spot.TheVariants as spots
-use Rattle.tr_base.specs.Rects.{Edges, has_point, whole_of}
+use Rattle.tr_base.specs.Rects.{Edges, whole_of}
 use Rattle.tr_region.specs.Points.{holds}
 use Rattle.tr_forest.specs.declared.NodeKind.{NodeKind}
 use Rattle.tr_forest.specs.declared.NodeKind.TheVariants as kinds
@@ -21,8 +19,8 @@ use Rattle.tr_spot.specs.Spots.{CoverOnce, HasRoot, owner, spot, spot_on, spot_b
 use Rattle.tr_spot.specs.Leaves.{same_kind, same_size}
 use Rattle.tr_surface.specs.Surfaces.{AreRegions, is_on}
 use Rattle.tr_surface.specs.TreeSteps.{Keeping, is_below, is_kept, same_point, source_by, survives}
-use Rattle.tr_surface.specs.Shares.{AreSides, good_by, in_first, in_moved, is_carried}
-use Rattle.tr_surface.proofs.StepLemmas.{below_is}
+use Rattle.tr_surface.specs.Survivors.{AreSides, change, good_by, in_first, in_moved}
+use Rattle.tr_surface.proofs.TreeChangeLemmas.{below_is}
 
 false-true : {X : Type 0} → false ≡ true → X
 false-true h = absurd cc
@@ -122,7 +120,7 @@ pub record IsGood (k : Keeping) (was is : Seen) (moved : Option NodeId) (bad : P
   pub was_good : bad (source_by was is moved p) ≡ false
   pub lasts : survives k (spot was (source_by was is moved p)) (spot is p) ≡ true
 
-pub good_parts : (k : Keeping) (was is : Seen) (moved : Option NodeId) (bad : Point → Bool) (p : Point) → good_by k was is moved bad p ≡ true → IsGood k was is moved bad p
+pub good_parts : (k : Keeping) (was is : Seen) (moved : Option NodeId) (bad : Point → Bool) (p : Point) → good_by k (change was is moved bad) p ≡ true → IsGood k was is moved bad p
 good_parts k was is moved bad p h = by_tests (is_on is p) (is_on was s) (bad s) (survives k (spot was s) (spot is p)) refl refl refl refl h
   where
     s : Point
@@ -201,10 +199,10 @@ on_is t root p on = ap (λ b. is_off (cond b (spot_below t p t.nodes.root) spots
 
 -- where the kind changes no point stays good
 pub none_good : (k : Keeping) (was is : Seen) (moved : Option NodeId) (bad : Point → Bool) → HasRoot is → same_kind was.kind is.kind ≡ false → (p : Point) →
-    good_by k was is moved bad p ≡ false
-none_good k was is moved bad root other p = by_good (good_by k was is moved bad p) refl
+    good_by k (change was is moved bad) p ≡ false
+none_good k was is moved bad root other p = by_good (good_by k (change was is moved bad) p) refl
   where
-    by_good : (b : Bool) → good_by k was is moved bad p ≡ b → b ≡ false
+    by_good : (b : Bool) → good_by k (change was is moved bad) p ≡ b → b ≡ false
     by_good false h = refl
     by_good true h =
         let g : IsGood k was is moved bad p = good_parts k was is moved bad p h in

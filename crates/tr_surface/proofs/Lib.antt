@@ -1,5 +1,5 @@
-pub mod ShareLemmas
-pub mod StepLemmas
+pub mod SurvivorLemmas
+pub mod TreeChangeLemmas
 pub mod KnownLemmas
 pub mod NearLemmas
 pub mod ShownLemmas
@@ -9,4 +9,3 @@ pub mod PixelLemmas
 pub mod EditLemmas
 pub mod TintLemmas
 pub mod PutLemmas
-pub mod RowReadLemmas

@@ -1,5 +1,5 @@
 -- Corners that are moved, and points that can be.
-use Rattle.std.proofs.Common.{◌≡◌, ◌≤◌, ℕ, pos, neg_ℤ, ◌≤ℤ◌, true, ℤ, ◌-ℤ◌, refl, sym, ap, ◌∙◌, arith, nat_eq, w32, to_z, of_z, SFits, rules}
+use Rattle.std.proofs.Common.{◌≡◌, ◌≤◌, ℕ, pos, neg_ℤ, ◌≤ℤ◌, true, ℤ, ◌-ℤ◌, sym, ap, ◌∙◌, arith, nat_eq, w32, to_z, of_z, SFits, rules}
 use Rattle.std.specs.Ordering.{int_eq}
 use Rattle.std.proofs.lemmas.Int.{ints, to_z-of_z}
 use Rattle.std.proofs.lemmas.Bool.Decides.{Decides-int_eq, Decides-eqb, same_from_decides, Decides-like}
@@ -12,7 +12,7 @@ use Rattle.tr_base.specs.Layouts.{IsDomain}
 use Rattle.tr_base.proofs.RectLemmas.{has_point-rect_of}
 use Rattle.tr_repair.specs.Near.{IsAround, IsStep}
 use Rattle.tr_spot.specs.Spots.{from_corner}
-use Rattle.tr_surface.specs.Shares.{corner_of}
+use Rattle.tr_surface.specs.Survivors.{corner_of}
 
 -- two numbers with equal bits are equal
 pub same_bits : (x y : ℤ) → SFits w32 x → SFits w32 y → nat_eq (of_z w32 x) (of_z w32 y) ≡ int_eq x y

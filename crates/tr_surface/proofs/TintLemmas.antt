@@ -1,16 +1,14 @@
 -- A new tint moves no node: the regions stay, and the frame alone shows something else.
-use Rattle.std.proofs.Common.{◌≡◌, ℕ, zero, suc, Bool, true, false, cond, not, ◌&&◌, ◌||◌, ◌==◌, List, [], ◌∷◌, Option, Some, None, length, refl, sym, ap, ◌∙◌, arith}
+use Rattle.std.proofs.Common.{◌≡◌, ℕ, zero, suc, Bool, true, false, cond, not, ◌&&◌, ◌||◌, ◌==◌, List, [], ◌∷◌, Option, Some, None, refl, sym, ap, ◌∙◌, arith}
 use Rattle.std.specs.Prelude.{IsSome}
 use Rattle.std.specs.List.{find}
 use Rattle.std.proofs.lemmas.Bool.Decides.{nat_tests}
-use Rattle.std.specs.Ordering.{int_eq}
 use Rattle.tr_base.specs.declared.Point.{Point}
 use Rattle.tr_base.specs.declared.Size.{Size}
 use Rattle.tr_base.specs.declared.NodeId.{NodeId}
 use Rattle.tr_base.specs.declared.LeafId.{LeafId}
 use Rattle.tr_base.specs.Rects.{Edges, before_shift, has_point, whole_of}
 use Rattle.tr_region.specs.Points.{holds}
-use Rattle.tr_forest.specs.declared.Edit.{Edit}
 use Rattle.tr_forest.specs.declared.Edit.TheVariants as edits
 use Rattle.tr_forest.specs.declared.NodeKind.{NodeKind}
 use Rattle.tr_forest.specs.declared.NodeKind.TheVariants as kinds
@@ -29,13 +27,13 @@ use Rattle.tr_spot.proofs.GainLemmas.{cover_once}
 use Rattle.tr_spot.proofs.SpotLemmas.{spot_is}
 use Rattle.tr_spot.proofs.WayLemmas.{equal_numbers, equal_test}
 use Rattle.tr_spot.proofs.NodeLemmas.{by_number}
-use Rattle.tr_surface.specs.declared.shares.Share.{Share}
-use Rattle.tr_surface.specs.declared.shares.Share.TheVariants as shares
+use Rattle.tr_surface.specs.declared.survivors.Survivors.{Survivors}
+use Rattle.tr_surface.specs.declared.survivors.Survivors.TheVariants as variants
 use Rattle.tr_surface.specs.Surfaces.{AreRegions, is_on}
 use Rattle.tr_surface.specs.TreeSteps.{Keeping, same_point}
-use Rattle.tr_surface.specs.Shares.{AreSides, bad_by, corner, corner_of, good_by, has_share, leaf_share, share_of, share_by, side, tint_bad, unmoved}
-use Rattle.tr_surface.proofs.ShareLemmas.{AreForests}
-use Rattle.tr_surface.proofs.StepLemmas.{before_none, new_on, node_good, still_good}
+use Rattle.tr_surface.specs.Survivors.{AreSides, bad_by, change, corner, corner_of, good_by, has_survivor, leaf_survivors, side, survivors_by, survivors_from, tint_bad, unmoved}
+use Rattle.tr_surface.proofs.SurvivorLemmas.{AreForests}
+use Rattle.tr_surface.proofs.TreeChangeLemmas.{before_none, new_on, node_good, still_good}
 use Rattle.tr_surface.proofs.KnownLemmas.{covered}
 use Rattle.tr_surface.proofs.EditLemmas.{forest_edited}
 
@@ -100,8 +98,8 @@ same_ints : (p : Point) → same_point p p ≡ true
 same_ints p = grind (arith, nat_tests)
 
 -- a node keeps all if its tint stays
-share_all : (was is : Seen) → AreTinted was is → (m : NodeId) → ((node was.nodes m).tint == (node is.nodes m).tint) ≡ true → share_of was is unmoved m ≡ shares.All
-share_all was is t m tint = by_leaf (leaf_of (node was.nodes m).kind)
+survivors_all : (was is : Seen) → AreTinted was is → (m : NodeId) → ((node was.nodes m).tint == (node is.nodes m).tint) ≡ true → survivors_from was is unmoved m ≡ variants.All
+survivors_all was is t m tint = by_leaf (leaf_of (node was.nodes m).kind)
   where
     own_size : (z : Size) → same_size z z ≡ true
     own_size z = grind (arith, nat_tests)
@@ -109,16 +107,16 @@ share_all was is t m tint = by_leaf (leaf_of (node was.nodes m).kind)
     own_place : (q : Point) → same_point (before_shift q unmoved) q ≡ true
     own_place q = ap (λ (r : Point). same_point r q) (before_none q) ∙ same_ints q
 
-    by_leaf : (o : Option LeafId) → share_by was is unmoved m o ≡ shares.All
+    by_leaf : (o : Option LeafId) → survivors_by was is unmoved m o ≡ variants.All
     by_leaf (Some leaf) =
-        ap (λ (e : Edges). leaf_share (same_point (before_shift (corner_of e) unmoved) (corner was m)) leaf (side was m) (size_of e)) (domain_alike was is t m)
-        ∙ ap (λ b. leaf_share b leaf (side was m) (side was m)) (own_place (corner was m))
-        ∙ ap (λ b. cond b shares.All (shares.Kept leaf (side was m) (side was m))) (own_size (side was m))
-    by_leaf None = ap (λ b. cond b shares.All shares.Nothing) tint
+        ap (λ (e : Edges). leaf_survivors (same_point (before_shift (corner_of e) unmoved) (corner was m)) leaf (side was m) (size_of e)) (domain_alike was is t m)
+        ∙ ap (λ b. leaf_survivors b leaf (side was m) (side was m)) (own_place (corner was m))
+        ∙ ap (λ b. cond b variants.All (variants.Kept leaf (side was m) (side was m))) (own_size (side was m))
+    by_leaf None = ap (λ b. cond b variants.All variants.Nothing) tint
 
 -- and a frame nothing if it doesn't
-share_none : (was is : Seen) (n : NodeId) → leaf_of (node was.nodes n).kind ≡ None → ((node was.nodes n).tint == (node is.nodes n).tint) ≡ false → share_of was is unmoved n ≡ shares.Nothing
-share_none was is n frame tint = ap (λ (o : Option LeafId). share_by was is unmoved n o) frame ∙ ap (λ b. cond b shares.All shares.Nothing) tint
+survivors_none : (was is : Seen) (n : NodeId) → leaf_of (node was.nodes n).kind ≡ None → ((node was.nodes n).tint == (node is.nodes n).tint) ≡ false → survivors_from was is unmoved n ≡ variants.Nothing
+survivors_none was is n frame tint = ap (λ (o : Option LeafId). survivors_by was is unmoved n o) frame ∙ ap (λ b. cond b variants.All variants.Nothing) tint
 
 -- ---- the bad points
 
@@ -130,7 +128,7 @@ pub record IsTint (was is : Seen) (n : NodeId) : Type 0 where
 
 pub bad_tinted : (k : Keeping) (was is : Seen) (regions : List (List Edges)) (n : NodeId) → AreForests was is → IsTint was is n → AreRegions was regions → HasRoot is → IsNode is.nodes n →
     (bad : Point → Bool) → ((p : Point) → bad p ≡ true → is_on was p ≡ true) → (p : Point) →
-    tint_bad ((node was.nodes n).tint == (node is.nodes n).tint) (bad p) (holds (region_of regions n) p) ≡ bad_by k was is None bad p
+    tint_bad ((node was.nodes n).tint == (node is.nodes n).tint) (bad p) (holds (region_of regions n) p) ≡ bad_by k (change was is None bad) p
 bad_tinted k was is regions n forests tint old root inside bad within p = by_screen (is_on is p) refl
   where
     same : Bool
@@ -168,10 +166,10 @@ bad_tinted k was is regions n forests tint old root inside bad within p = by_scr
     tint_none false = refl
 
     -- the good points of a node that keeps all
-    all_good : (m : NodeId) → IsNode is.nodes m → holds (region_of regions m) p ≡ true → ((node was.nodes m).tint == (node is.nodes m).tint) ≡ true → good_by k was is None bad p ≡ not (bad p)
+    all_good : (m : NodeId) → IsNode is.nodes m → holds (region_of regions m) p ≡ true → ((node was.nodes m).tint == (node is.nodes m).tint) ≡ true → good_by k (change was is None bad) p ≡ not (bad p)
     all_good m at h keeps =
         node_good k was is regions regions forests sides None bad m at p h
-        ∙ still_good k was is (region_of regions m) bad m unmoved p refl (share_all was is tint.tinted m keeps) h
+        ∙ still_good k was is None (region_of regions m) bad m unmoved p refl (survivors_all was is tint.tinted m keeps) h
 
     not_twice : (b : Bool) → not (not b) ≡ b
     not_twice true = refl
@@ -189,23 +187,23 @@ bad_tinted k was is regions n forests tint old root inside bad within p = by_scr
     or_false true = refl
     or_false false = refl
 
-    here : is_on is p ≡ true → holds (region_of regions n) p ≡ true → (b : Bool) → same ≡ b → tint_bad same (bad p) (holds (region_of regions n) p) ≡ bad_by k was is None bad p
+    here : is_on is p ≡ true → holds (region_of regions n) p ≡ true → (b : Bool) → same ≡ b → tint_bad same (bad p) (holds (region_of regions n) p) ≡ bad_by k (change was is None bad) p
     here on h true e =
         ap (λ b. tint_bad b (bad p) (holds (region_of regions n) p)) e
-        ∙ sym (ap (λ b. b && not (good_by k was is None bad p)) on ∙ ap not (all_good n inside h e) ∙ not_twice (bad p))
+        ∙ sym (ap (λ b. b && not (good_by k (change was is None bad) p)) on ∙ ap not (all_good n inside h e) ∙ not_twice (bad p))
     here on h false e =
-        let none : good_by k was is None bad p ≡ false =
+        let none : good_by k (change was is None bad) p ≡ false =
         node_good k was is regions regions forests sides None bad n inside p h
-        ∙ ap (λ (w : Share). (holds (region_of regions n) (before_shift p unmoved) && not (bad (before_shift p unmoved))) && has_share k w (from_corner (domain is n) p)) (share_none was is n tint.frame e)
+        ∙ ap (λ (w : Survivors). (holds (region_of regions n) (before_shift p unmoved) && not (bad (before_shift p unmoved))) && has_survivor k w (from_corner (domain is n) p)) (survivors_none was is n tint.frame e)
         ∙ and_false (holds (region_of regions n) (before_shift p unmoved) && not (bad (before_shift p unmoved))) in
         ap (λ b. tint_bad b (bad p) (holds (region_of regions n) p)) e ∙ ap (λ b. bad p || b) h ∙ or_true (bad p)
-        ∙ sym (ap (λ b. b && not (good_by k was is None bad p)) on ∙ ap not none)
+        ∙ sym (ap (λ b. b && not (good_by k (change was is None bad) p)) on ∙ ap not none)
 
     there : is_on is p ≡ true → (m : NodeId) → IsNode is.nodes m → holds (region_of regions m) p ≡ true → (m.0 == n.0) ≡ false →
-        tint_bad same (bad p) (holds (region_of regions n) p) ≡ bad_by k was is None bad p
+        tint_bad same (bad p) (holds (region_of regions n) p) ≡ bad_by k (change was is None bad) p
     there on m at h apart =
         ap (λ b. tint_bad same (bad p) b) (elsewhere (holds (region_of regions n) p) refl) ∙ stays same
-        ∙ sym (ap (λ b. b && not (good_by k was is None bad p)) on ∙ ap not (all_good m at h (tint.others m apart)) ∙ not_twice (bad p))
+        ∙ sym (ap (λ b. b && not (good_by k (change was is None bad) p)) on ∙ ap not (all_good m at h (tint.others m apart)) ∙ not_twice (bad p))
       where
         elsewhere : (b : Bool) → holds (region_of regions n) p ≡ b → holds (region_of regions n) p ≡ false
         elsewhere true g = false-true (sym apart ∙ equal_test m.0 n.0 (cover.once m n p h g))
@@ -216,17 +214,17 @@ bad_tinted k was is regions n forests tint old root inside bad within p = by_scr
         stays false = or_false (bad p)
 
     by_node : is_on is p ≡ true → (m : NodeId) → IsNode is.nodes m → holds (region_of regions m) p ≡ true → (b : Bool) → (m.0 == n.0) ≡ b →
-        tint_bad same (bad p) (holds (region_of regions n) p) ≡ bad_by k was is None bad p
+        tint_bad same (bad p) (holds (region_of regions n) p) ≡ bad_by k (change was is None bad) p
     by_node on m at h true e = here on (ap (λ (r : NodeId). holds (region_of regions r) p) (sym (by_number m n (equal_numbers m.0 n.0 e))) ∙ h) same refl
     by_node on m at h false e = there on m at h e
 
-    by_screen : (b : Bool) → is_on is p ≡ b → tint_bad same (bad p) (holds (region_of regions n) p) ≡ bad_by k was is None bad p
+    by_screen : (b : Bool) → is_on is p ≡ b → tint_bad same (bad p) (holds (region_of regions n) p) ≡ bad_by k (change was is None bad) p
     by_screen true on =
         let own = cover.each p on in
         by_node on own.0 (record { within = omega (arith, own.1.0, new.count) }) own.1.1 (own.0.0 == n.0) refl
     by_screen false off =
         ap (λ b. tint_bad same b (holds (region_of regions n) p)) (none_bad off (bad p) refl) ∙ ap (λ b. tint_bad same false b) (none_held off (holds (region_of regions n) p) refl) ∙ tint_none same
-        ∙ sym (ap (λ b. b && not (good_by k was is None bad p)) off)
+        ∙ sym (ap (λ b. b && not (good_by k (change was is None bad) p)) off)
 
 -- ---- an edit of a tint
 
@@ -254,7 +252,7 @@ tint_edited was n tint inside allowed = record {
 pub tint_step : (k : Keeping) (was : Seen) (regions : List (List Edges)) (n : NodeId) (tint : ℕ) → IsForest was.nodes → AreRegions was regions → HasRoot was → IsNode was.nodes n →
     refusal was.nodes (edits.Tint n tint) ≡ None → (bad : Point → Bool) → ((p : Point) → bad p ≡ true → is_on was p ≡ true) → (p : Point) →
     let is = edited_tree was (edits.Tint n tint) in
-    tint_bad ((node was.nodes n).tint == (node is.nodes n).tint) (bad p) (is_spot_of was n (spot was p)) ≡ bad_by k was is None bad p
+    tint_bad ((node was.nodes n).tint == (node is.nodes n).tint) (bad p) (is_spot_of was n (spot was p)) ≡ bad_by k (change was is None bad) p
 tint_step k was regions n tint forest old root inside allowed bad within p =
     let is : Seen = edited_tree was (edits.Tint n tint) in
     let its : IsTint was is n = tint_edited was n tint inside allowed in

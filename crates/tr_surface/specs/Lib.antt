@@ -1,6 +1,6 @@
 pub mod Surfaces
 pub mod Frames
 pub mod TreeSteps
-pub mod Shares
+pub mod Survivors
+pub mod TreeChanges
 pub mod Counts
-pub mod Puts

@@ -7,7 +7,7 @@ use Rattle.tr_base.specs.declared.Spot.{Spot}
 use Rattle.tr_base.specs.declared.Spot.TheVariants as spots
 use Rattle.tr_base.specs.declared.Op.TheVariants.{Set}
 use Rattle.tr_base.specs.Ops.{eff}
-use Rattle.tr_base.specs.Rects.{Edges, has_point, whole_of}
+use Rattle.tr_base.specs.Rects.{Edges, before_shift, has_point, whole_of}
 use Rattle.tr_region.specs.Points.{holds}
 use Rattle.tr_screen.specs.Pictures.{Picture, pixel_of}
 use Rattle.tr_paint.specs.Traces.{Base}
@@ -50,6 +50,11 @@ leaf_base s leaf = record {
       if holds s.bad (placed (leaf_corner s.tree leaf) q) then None
       else Some (pixel_of s.screen (placed (leaf_corner s.tree leaf) q));
 }
+
+-- the rectangle, in the coordinates of a leaf's window, has each bad visible point of the leaf
+abbrev pub HasBadPoints : Shown → LeafId → Edges → Type 0
+HasBadPoints s leaf r = (p : Point) → is_in_leaf leaf (spot s.tree p) ≡ true → holds s.bad p ≡ true →
+    has_point r (before_shift p (leaf_corner s.tree leaf)) ≡ true
 
 -- the regions are those of the tree's nodes: of a leaf its visible points, of another node its frame
 pub record AreRegions (t : Seen) (regions : List (List Edges)) : Type 0 where

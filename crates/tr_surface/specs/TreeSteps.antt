@@ -4,7 +4,6 @@ use Rattle.std.specs.Prelude.{◌-ℤ◌, Bool, true, false, not, ◌&&◌, ◌|
 use Rattle.std.specs.Ordering.{int_eq}
 use Rattle.tr_base.specs.declared.Point.{Point}
 use Rattle.tr_base.specs.declared.Size.{Size}
-use Rattle.tr_base.specs.declared.Kind.{Kind}
 use Rattle.tr_base.specs.declared.NodeId.{NodeId}
 use Rattle.tr_base.specs.declared.LeafId.{LeafId}
 use Rattle.tr_base.specs.declared.Spot.{Spot}

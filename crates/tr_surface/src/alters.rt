@@ -9,11 +9,12 @@ ghost use Rattle.tr_spot.specs.Spots.{is_spot_of, spot};
 ghost use Rattle.tr_spot.specs.Leaves.{same_kind};
 ghost use Rattle.tr_surface.specs.Surfaces.{AreRegions, is_on};
 ghost use Rattle.tr_surface.specs.TreeSteps.{bad_after, child_of as spec_child, first_node, good_after, moved_child as spec_moved, source};
-ghost use Rattle.tr_surface.specs.Shares as spec;
+ghost use Rattle.tr_surface.specs.Survivors as spec;
 
+use crate::goods::way_of;
 use crate::keepers::Keeper;
-use crate::steps::{Known, Step, way_of};
 use crate::surfaces::Surface;
+use crate::tree_changes::{Known, TreeChange};
 use std::mem;
 use tr_base::{Kind, NoMemory, NodeId, Point, whole};
 use tr_region::Region;
@@ -93,10 +94,10 @@ impl Surface {
         requires cover { (p : Point) → spec.in_first (length is.now.nodes.entries) after.now p ≡ is_on is.now p }
         requires moved { IfSome moved (IsNode self.now.tree.nodes) }
         requires leaves { K.leaves keeper.now ≡ leaf_count self.now.tree.nodes }
-        ensures bad { IfOk result (λ r. (p : Point) → holds r.bad p ≡
-            spec.bad_by (K.keeping keeper.now) self.now.tree is.now moved (holds self.now.bad) p) }
-        ensures follows { IfOk result (λ r. (p : Point) → holds r.follows p ≡
-            spec.follows_by (K.keeping keeper.now) self.now.tree is.now moved (holds self.now.bad) p) }
+        ensures bad { let c = spec.change_to self.now is.now moved in
+            IfOk result (λ r. (p : Point) → holds r.bad p ≡ spec.bad_by (K.keeping keeper.now) c p) }
+        ensures follows { let c = spec.change_to self.now is.now moved in
+            IfOk result (λ r. (p : Point) → holds r.follows p ≡ spec.follows_by (K.keeping keeper.now) c p) }
     {
         let (alloc, was) = (self.alloc, &self.tree);
         if is_other(was.kind(), is.kind()) {
@@ -104,7 +105,7 @@ impl Surface {
             let follows = Region::empty(alloc);
             return Ok(Known { bad, follows });
         }
-        let step = Step {
+        let change = TreeChange {
             alloc,
             was,
             is,
@@ -113,7 +114,7 @@ impl Surface {
             bad: &self.bad,
             moved,
         };
-        step.known(keeper)
+        change.known(keeper)
     }
 }
 

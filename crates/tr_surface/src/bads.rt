@@ -1,13 +1,13 @@
 ghost use Rattle.std.specs.Prelude.{◌≡◌, ◌<◌, ◌&&◌, not, true, false, IsTrue, IfOk};
 ghost use Rattle.tr_base.specs.declared.Point.{Point};
-ghost use Rattle.tr_base.specs.Rects.{before_shift, has_point};
+ghost use Rattle.tr_base.specs.Rects.{Edges};
+ghost use Rattle.tr_base.specs.Layouts.{IsPartOf};
 ghost use Rattle.tr_region.specs.Points.{holds, count_in_square};
 ghost use Rattle.tr_forest.specs.Nodes.{leaf_count};
 ghost use Rattle.tr_spot.specs.Spots.{spot, is_in_leaf};
 ghost use Rattle.tr_repair.specs.Near.{IsStep};
 ghost use Rattle.tr_exec.specs.Executions.{IsOrigin};
-ghost use Rattle.tr_spot.specs.Leaves.{leaf_corner};
-ghost use Rattle.tr_surface.specs.Surfaces.{is_frame, back_from};
+ghost use Rattle.tr_surface.specs.Surfaces.{HasBadPoints, is_frame, back_from};
 
 use crate::executes::origin_of;
 use crate::surfaces::Surface;
@@ -54,17 +54,20 @@ impl Surface {
         Ok(false)
     }
 
-    /// A rectangle of a leaf's window, in its coordinates, that has each bad point of the leaf.
+    /// The least rectangle of a leaf's window, in its coordinates, that has each bad visible point of the
+    /// leaf; the empty one where none is bad.
     pub fn bad_extents(&self, leaf: LeafId) -> Result<Rect, NoMemory>
         requires { leaf.0 < leaf_count self.now.tree.nodes }
-        ensures { let t = self.now.tree in
-            IfOk result (λ r. (p : Point) → is_in_leaf leaf (spot t p) ≡ true → holds self.now.bad p ≡ true →
-            has_point r (before_shift p (leaf_corner t leaf)) ≡ true) }
+        ensures all { IfOk result (HasBadPoints self.now leaf) }
+        ensures least { IfOk result (λ r. (outer : Edges) →
+            HasBadPoints self.now leaf outer → IsPartOf r outer) }
     {
-        // Called for what they tell the prover: that bad points lie on the screen, and that it has a size.
+        // Called for what they tell the prover: that bad points lie on the screen, that it has a size, and
+        // that the list of a region is canonical.
         let _ = self.tree().count();
         let origin = origin_of(&self.tree, leaf);
         let bad = shifted(&self.bad_of(leaf)?, opposite(origin))?;
+        let _ = bad.rects();
         Ok(bad.extents())
     }
 

@@ -7,11 +7,12 @@ mod bads;
 mod executes;
 mod fills;
 mod frames;
+mod goods;
 mod keepers;
 mod puts;
-mod shares;
-mod steps;
 mod surfaces;
+mod survivors;
+mod tree_changes;
 
 pub use keepers::Keeper;
 pub use puts::pixels_at;

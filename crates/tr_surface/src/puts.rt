@@ -1,16 +1,15 @@
-ghost use Rattle.std.specs.Prelude.{◌≡◌, ◌≤◌, ◌<◌, ◌+◌, ◌&&◌, ◌<ℤ◌, ◌≤ℤ◌, pos, ℕ, not, true, length, slice_index, IfOk, OnOk, OnErr};
+ghost use Rattle.std.specs.Prelude.{◌≡◌, ◌≤◌, ◌+◌, ◌&&◌, ◌<ℤ◌, not, true, length, slice_index, IfOk, OnOk, OnErr};
 ghost use Rattle.tr_base.specs.declared.Point.{Point};
-ghost use Rattle.tr_base.specs.Rects.{has_point, sides_of};
-ghost use Rattle.tr_region.specs.Areas.{area_of};
+ghost use Rattle.tr_base.specs.Rects.{has_point};
+ghost use Rattle.tr_region.specs.Areas.{area_of, total_area};
+ghost use Rattle.tr_region.specs.Places.{place_in, place_within};
 ghost use Rattle.tr_region.specs.Points.{holds};
 ghost use Rattle.tr_screen.specs.Pictures.{pixel_of};
 ghost use Rattle.tr_screen.specs.Runs.{Repaints, in_run, point_in, width_of};
 ghost use Rattle.tr_exec.specs.Walks.{AreOn};
 ghost use Rattle.tr_surface.specs.Surfaces.{is_on};
-ghost use Rattle.tr_surface.specs.Puts.{count_of, place_in, place_within, row_in};
 
 use crate::surfaces::Surface;
-use std::alloc::Global;
 use tr_base::{NoMemory, Rect};
 use tr_exec::{Brush, paint_within};
 use tr_kernel::copy_row;
@@ -22,7 +21,7 @@ impl Surface {
     /// each, and makes these points good.
     pub fn put(&mut self, part: &Region, pixels: &[u8]) -> Result<(), NoMemory>
         requires on { (p : Point) → holds part.now p ≡ true → is_on self.old.tree p ≡ true }
-        requires many { length pixels.now ≡ count_of part.now }
+        requires many { length pixels.now ≡ total_area part.now }
         ensures pixels { OnOk result (Repaints (holds part.now)
             (λ p. slice_index pixels.now (place_in part.now p)) self.old.screen self.new.screen) }
         ensures bad { OnOk result ((p : Point) →
@@ -40,7 +39,7 @@ impl Surface {
 /// Gives the points of a region these pixels.
 fn put_pixels(screen: &mut Screen, part: &Region, pixels: &[u8])
     requires on { AreOn screen.old.size (holds part.now) }
-    requires many { length pixels.now ≡ count_of part.now }
+    requires many { length pixels.now ≡ total_area part.now }
     ensures { Repaints (holds part.now) (λ p. slice_index pixels.now (place_in part.now p))
         screen.old screen.new }
 {
@@ -61,22 +60,19 @@ fn put_rect(screen: &mut Screen, part: &Region, rect: &Rect, pixels: &[u8])
     ensures { Repaints (has_point rect.now) (λ p. slice_index pixels.now (place_within rect.now p))
         screen.old screen.new }
 {
-    let brush = PatchBrush {
-        area: *rect,
-        pixels,
-    };
-    paint_within(screen, part, &brush);
+    let area = *rect;
+    paint_within(screen, part, &Raster { area, pixels });
 }
 
-/// Writes pixels over the points of a rectangle, row after row.
+/// The brush that gives the points of an area these pixels, row after row.
 #[derive(Drop)]
-struct PatchBrush<'a> {
+struct Raster<'a> {
     area: Rect,
     pixels: &'a [u8],
     ghost many: { length pixels.now ≡ area_of area },
 }
 
-impl Brush for PatchBrush<'_> {
+impl Brush for Raster<'_> {
     ghost area = { λ b. b.area };
 
     ghost pixel = { λ b p _. slice_index b.pixels.now (place_within b.area p) };
@@ -114,58 +110,11 @@ fn area(rect: &Rect) -> usize
 
 /// The pixels of a screen at the points of a region, by the region's rectangles in order and by rows
 /// within each.
-pub fn pixels_at(alloc: Global, screen: &Screen, part: &Region) -> Result<Vec<u8>, NoMemory>
+pub fn pixels_at(screen: &Screen, part: &Region) -> Result<Vec<u8>, NoMemory>
     requires on { AreOn screen.now.size (holds part.now) }
-    ensures many { IfOk result (λ v. length v.items ≡ count_of part.now) }
+    ensures many { IfOk result (λ v. length v.items ≡ total_area part.now) }
     ensures pixels { IfOk result (λ v. (p : Point) → holds part.now p ≡ true →
         slice_index v.items (place_in part.now p) ≡ pixel_of screen.now p) }
 {
-    let rects = part.rects();
-    let mut pixels = Vec::new(alloc);
-    for rect in rects {
-        append_rect(&mut pixels, screen, rect)?;
-    }
-    Ok(pixels)
-}
-
-/// Adds the pixels of a screen at the points of a rectangle, row after row.
-fn append_rect(pixels: &mut Vec<u8>, screen: &Screen, rect: &Rect) -> Result<(), NoMemory>
-    requires on { AreOn screen.now.size (has_point rect.now) }
-    ensures many { OnOk result (length pixels.new.items ≡ length pixels.old.items + area_of rect.now) }
-    ensures before { OnOk result ((k : ℕ) → k < length pixels.old.items →
-        slice_index pixels.new.items k ≡ slice_index pixels.old.items k) }
-    ensures own { OnOk result ((p : Point) → has_point rect.now p ≡ true →
-        slice_index pixels.new.items (length pixels.old.items + place_within rect.now p)
-        ≡ pixel_of screen.now p) }
-{
-    let (_, high) = rect.size();
-    for n in 0..high as usize {
-        pixels.extend_from_slice(row_part(screen, rect, n))?;
-    }
-    Ok(())
-}
-
-/// The pixels of a screen in row `n` of a rectangle.
-fn row_part<'a>(screen: &'a Screen, rect: &Rect, n: usize) -> &'a [u8]
-    requires on { AreOn screen.now.size (has_point rect.now) }
-    requires row { n < (sides_of rect.now).1 }
-    ensures long { length result.now ≡ (sides_of rect.now).0 }
-    ensures pixels { (k : ℕ) → k < (sides_of rect.now).0 →
-        slice_index result.now k ≡ pixel_of screen.now (point_in (row_in rect.now n) k) }
-{
-    // Called for what they tell the prover: that the screen is a picture, and the edges a rectangle's.
-    let _ = screen.size();
-    let _ = rect.is_empty();
-    let north = number(rect.north());
-    let (west, east) = (number(rect.west()), number(rect.east()));
-    let row = screen.row((north + n) as u16);
-    &row[west..east]
-}
-
-/// A coordinate of the screen, as a number.
-fn number(x: i32) -> usize
-    requires { pos 0 ≤ℤ x }
-    ensures { pos result ≡ x }
-{
-    x as usize
+    screen.pixels_at(part.rects())
 }

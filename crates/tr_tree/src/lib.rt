@@ -10,6 +10,3 @@ mod wishes;
 
 pub use tr_forest::{Edit, EditRefused, NodeFault, NodeKind};
 pub use trees::Tree;
-
-#[cfg(test)]
-mod tests;

@@ -242,6 +242,13 @@ impl Tree {
         })
     }
 
+    /// No domain lies far from the screen, and none is large. It does nothing.
+    pub fn domains_are_small(&self)
+        ensures { (n : NodeId) → IsDomain (domain self.now n) }
+    {
+        let _count = self.forest.count();
+    }
+
     /// Sixteen levels are enough, so shapes and domains are those of trees of any depth. It does
     /// nothing.
     pub fn levels_suffice(&self)

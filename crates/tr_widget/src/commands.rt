@@ -1,6 +1,7 @@
 use std::alloc::Global;
 use tr_base::{Command, NoMemory};
 use w_canvas::CanvasCmd;
+use w_edit::EditorCmd;
 use w_lines::LinesCmd;
 use w_meter::MeterCmd;
 use w_plain::{BoardCmd, LabelCmd, SolidCmd};
@@ -14,6 +15,7 @@ pub enum WidgetCmd {
     Lines(LinesCmd),
     Canvas(CanvasCmd),
     Meter(MeterCmd),
+    Editor(EditorCmd),
 }
 
 impl Command for WidgetCmd {
@@ -31,6 +33,7 @@ impl Command for WidgetCmd {
             WidgetCmd::Lines(cmd) => cmd.known(),
             WidgetCmd::Canvas(cmd) => cmd.known(),
             WidgetCmd::Meter(cmd) => cmd.known(),
+            WidgetCmd::Editor(cmd) => cmd.known(),
         }
     }
 
@@ -46,6 +49,7 @@ impl Command for WidgetCmd {
             (WidgetCmd::Lines(cmd), WidgetCmd::Lines(other)) => cmd.same(other),
             (WidgetCmd::Canvas(cmd), WidgetCmd::Canvas(other)) => cmd.same(other),
             (WidgetCmd::Meter(cmd), WidgetCmd::Meter(other)) => cmd.same(other),
+            (WidgetCmd::Editor(cmd), WidgetCmd::Editor(other)) => cmd.same(other),
             _ => false,
         }
     }
@@ -58,6 +62,7 @@ impl Command for WidgetCmd {
             WidgetCmd::Lines(cmd) => cmd.print(out),
             WidgetCmd::Canvas(cmd) => cmd.print(out),
             WidgetCmd::Meter(cmd) => cmd.print(out),
+            WidgetCmd::Editor(cmd) => cmd.print(out),
         }
     }
 }

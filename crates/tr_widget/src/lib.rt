@@ -8,6 +8,3 @@ mod widgets;
 
 pub use commands::WidgetCmd;
 pub use widgets::Widget;
-
-#[cfg(test)]
-mod tests;

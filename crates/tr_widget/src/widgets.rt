@@ -6,6 +6,7 @@ use tr_base::{Command, Env, Event, Line, NoMemory, Rect, Size};
 use tr_client::Client;
 use tr_paint::Batch;
 use w_canvas::Canvas;
+use w_edit::Editor;
 use w_lines::Lines;
 use w_meter::Meter;
 use w_plain::{Board, Label, Solid};
@@ -19,6 +20,7 @@ pub enum Widget {
     Lines(Lines),
     Canvas(Canvas),
     Meter(Meter),
+    Editor(Editor),
 }
 
 impl Widget {
@@ -45,13 +47,16 @@ impl Widget {
             Widget::Meter(x) => {
                 let _heights = x.heights();
             }
+            Widget::Editor(x) => {
+                let _lines = x.lines();
+            }
         }
     }
 }
 
 impl Client for Widget {
     ghost use Rattle.tr_widget.specs.Widgets.{IsWidget, widget_pic, widget_next, widget_patch, widget_answer, widget_value, widget_keeps};
-    ghost use Rattle.tr_widget.specs.WidgetLaws.{widget_contents, widget_answers, widget_patches, widget_empty_patches, widget_keeping};
+    ghost use Rattle.tr_widget.specs.WidgetLaws.{widget_contents, widget_answers, widget_patches, widget_empty_patches, widget_keeping, widget_kinds};
 
     type Cmd = WidgetCmd;
 
@@ -77,6 +82,7 @@ impl Client for Widget {
             Widget::Lines(x) => Widget::Lines(x.copy(alloc)?),
             Widget::Canvas(x) => Widget::Canvas(x.copy(alloc)?),
             Widget::Meter(x) => Widget::Meter(x.copy(alloc)?),
+            Widget::Editor(x) => Widget::Editor(x.copy(alloc)?),
         })
     }
 
@@ -88,6 +94,7 @@ impl Client for Widget {
             (Widget::Lines(x), Widget::Lines(other)) => x.same(other),
             (Widget::Canvas(x), Widget::Canvas(other)) => x.same(other),
             (Widget::Meter(x), Widget::Meter(other)) => x.same(other),
+            (Widget::Editor(x), Widget::Editor(other)) => x.same(other),
             _ => {
                 self.known();
                 other.known();
@@ -104,6 +111,7 @@ impl Client for Widget {
             Widget::Lines(x) => x.paint(alloc, env, size, clip),
             Widget::Canvas(x) => x.paint(alloc, env, size, clip),
             Widget::Meter(x) => x.paint(alloc, env, size, clip),
+            Widget::Editor(x) => x.paint(alloc, env, size, clip),
         }
     }
 
@@ -139,6 +147,10 @@ impl Client for Widget {
                 let (next, patch) = x.change(alloc, env, size, cmd)?;
                 Ok((Widget::Meter(next), patch))
             }
+            (Widget::Editor(x), WidgetCmd::Editor(cmd)) => {
+                let (next, patch) = x.change(alloc, env, size, cmd)?;
+                Ok((Widget::Editor(next), patch))
+            }
             _ => {
                 cmd.known();
                 Ok((self.copy(alloc)?, Batch::new(alloc)))
@@ -154,6 +166,7 @@ impl Client for Widget {
             Widget::Lines(x) => x.react(alloc, event)?.map(|cmd| WidgetCmd::Lines(cmd)),
             Widget::Canvas(x) => x.react(alloc, event)?.map(|cmd| WidgetCmd::Canvas(cmd)),
             Widget::Meter(x) => x.react(alloc, event)?.map(|cmd| WidgetCmd::Meter(cmd)),
+            Widget::Editor(x) => x.react(alloc, event)?.map(|cmd| WidgetCmd::Editor(cmd)),
         })
     }
 
@@ -165,6 +178,7 @@ impl Client for Widget {
             Widget::Lines(x) => x.value(alloc),
             Widget::Canvas(x) => x.value(alloc),
             Widget::Meter(x) => x.value(alloc),
+            Widget::Editor(x) => x.value(alloc),
         }
     }
 
@@ -176,6 +190,7 @@ impl Client for Widget {
             Widget::Lines(x) => x.keeps(from, to),
             Widget::Canvas(x) => x.keeps(from, to),
             Widget::Meter(x) => x.keeps(from, to),
+            Widget::Editor(x) => x.keeps(from, to),
         }
     }
 
@@ -188,4 +203,6 @@ impl Client for Widget {
     ghost empty_patches = { widget_empty_patches };
 
     ghost keeping = { widget_keeping };
+
+    ghost kinds = { widget_kinds };
 }

@@ -16,12 +16,6 @@ changed-length f [] i = refl
 changed-length f (x ∷ xs) zero = refl
 changed-length f (x ∷ xs) (suc i) = ap suc (changed-length f xs i)
 
--- a change that changes no element
-pub unchanged : {A : Type 0} (f : A → A) (xs : List A) (i : ℕ) → ((x : A) → f x ≡ x) → changed_at i f xs ≡ xs
-unchanged f [] i same = refl
-unchanged f (x ∷ xs) zero same = ap (λ y. y ∷ xs) (same x)
-unchanged f (x ∷ xs) (suc i) same = ap (λ ys. x ∷ ys) (unchanged f xs i same)
-
 -- what holds of all elements holds after a change of one, if it holds of what becomes of that
 pub changed-all : {A : Type 0} (Q : A → Type 0) (f : A → A) (xs : List A) (i : ℕ) → ((n : ℕ) (x : A) → slice_get xs n ≡ Some x → Q x) →
     ((x : A) → slice_get xs i ≡ Some x → Q (f x)) → (n : ℕ) (y : A) → slice_get (changed_at i f xs) n ≡ Some y → Q y

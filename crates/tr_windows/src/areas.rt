@@ -1,9 +1,9 @@
-ghost use Rattle.std.specs.Prelude.{◌≡◌, true};
-ghost use Rattle.tr_base.specs.declared.Point.{Point};
-ghost use Rattle.tr_base.specs.Rects.{has_point, meet_of, whole_of};
+ghost use Rattle.std.specs.Prelude.{◌≡◌, ◌≢◌};
+ghost use Rattle.tr_base.specs.Rects.{Edges, empty_rect, has_point, meet_of, whole_of};
 ghost use Rattle.tr_paint.specs.Batches.{touches};
 ghost use Rattle.tr_paint.specs.Paints.{IsNearRect};
 ghost use Rattle.tr_client.specs.Laws.{IsWindowSize};
+ghost use Rattle.tr_windows.specs.Promises.{HasAll};
 
 use tr_base::{Rect, Size, greater, lesser};
 use tr_client::window;
@@ -18,10 +18,12 @@ pub(crate) fn part_in_window(clip: &Rect, size: Size) -> Rect
     clip.meet(&window(size))
 }
 
-/// A rectangle round all points of another, and all that the commands touch.
+/// The least rectangle round all points of another, and all that the commands touch.
 pub(crate) fn spanned(bad: Rect, batch: &Batch) -> Rect
-    ensures bad { (q : Point) → has_point bad q ≡ true → has_point result q ≡ true }
-    ensures touched { (q : Point) → touches batch.now q ≡ true → has_point result q ≡ true }
+    ensures bad { HasAll result (has_point bad) }
+    ensures touched { HasAll result (touches batch.now) }
+    ensures least { (e : Edges) → HasAll e (has_point bad) → HasAll e (touches batch.now) →
+        HasAll e (has_point result) }
 {
     let mut clip = bad;
     for paint in batch.paints() {
@@ -30,10 +32,12 @@ pub(crate) fn spanned(bad: Rect, batch: &Batch) -> Rect
     clip
 }
 
-/// A rectangle round the points of both.
+/// The least rectangle round the points of both.
 fn hull(a: &Rect, b: &Rect) -> Rect
-    ensures first { (q : Point) → has_point a.now q ≡ true → has_point result q ≡ true }
-    ensures second { (q : Point) → has_point b.now q ≡ true → has_point result q ≡ true }
+    ensures first { HasAll result (has_point a.now) }
+    ensures second { HasAll result (has_point b.now) }
+    ensures least { (e : Edges) → HasAll e (has_point a.now) → HasAll e (has_point b.now) →
+        HasAll e (has_point result) }
 {
     if a.is_empty() {
         return *b;
@@ -46,9 +50,16 @@ fn hull(a: &Rect, b: &Rect) -> Rect
 
 /// The least rectangle round two that hold points.
 fn least_round(a: &Rect, b: &Rect) -> Rect
-    ensures first { (q : Point) → has_point a.now q ≡ true → has_point result q ≡ true }
-    ensures second { (q : Point) → has_point b.now q ≡ true → has_point result q ≡ true }
+    requires one { a.now ≢ empty_rect }
+    requires other { b.now ≢ empty_rect }
+    ensures first { HasAll result (has_point a.now) }
+    ensures second { HasAll result (has_point b.now) }
+    ensures least { (e : Edges) → HasAll e (has_point a.now) → HasAll e (has_point b.now) →
+        HasAll e (has_point result) }
 {
+    // Called for what they tell the prover: that the edges are those of rectangles.
+    let _ = a.is_empty();
+    let _ = b.is_empty();
     Rect::edges(
         lesser(a.west(), b.west()),
         greater(a.east(), b.east()),

@@ -8,6 +8,3 @@ mod present;
 mod windows;
 
 pub use windows::Windows;
-
-#[cfg(test)]
-mod tests;

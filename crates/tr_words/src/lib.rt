@@ -12,6 +12,3 @@ pub use values::{
     signed, small, text, time,
 };
 pub use words::{LeafWords, ShapeWords};
-
-#[cfg(test)]
-mod tests;

@@ -1,13 +1,14 @@
 -- What follows of the arguments that the system handed out, and of what they ask for.
-use Rattle.std.proofs.Common.{◌≡◌, ℕ, List, [], drop, Result, Ok, Err, Option, Some, None, String, Global, sym, subst}
+use Rattle.std.proofs.Common.{◌≡◌, ℕ, List, drop, Result, Ok, Option, Some, None, String, Global, sym, subst}
 use Rattle.std.specs.Prelude.{IfSome}
 use Rattle.std.specs.declared.vec.IntoIter.{IntoIter}
 use Rattle.std.specs.Vec.Iter.{into_iter_items}
-use Rattle.std.specs.IoError.{error_kind}
 use Rattle.std.specs.declared.io.Error.{Error}
+use Rattle.tr_arguments.specs.declared.Command.{Command}
+use Rattle.tr_arguments.specs.declared.Command.TheVariants as commands
 use Rattle.tr_arguments.specs.Commands.{texts_of}
-use Rattle.tr_player.specs.Answers.{Task, reads, sums_up, OfNumber}
-use Rattle.trestle.specs.Arguments.{heard, none_unless, status_without}
+use Rattle.tr_player.specs.Answers.{OfNumber}
+use Rattle.trestle.specs.Arguments.{heard}
 
 -- what the system hands out: the arguments, or why there are none
 abbrev pub Handed : Type 0
@@ -24,15 +25,7 @@ pub of_heard : (P : List (List ℕ) → Type 0) (handed : Handed) (all : IntoIte
 of_heard P handed all words is rest p =
     subst (λ (x : Handed). IfSome (heard x) P) (sym is) (subst (λ (ws : List (String Global)). P (texts_of ws)) rest p)
 
--- what holds of no words holds of those that are heard, where one of the arguments is no text
-pub of_none : (P : List (List ℕ) → Type 0) (handed : Handed) (e : Error) (words : List (String Global)) → handed ≡ Err e →
-    status_without (error_kind e) ≡ None → words ≡ [] → P (texts_of words) → IfSome (heard handed) P
-of_none P handed e words is silent none p =
-    subst (λ (x : Handed). IfSome (heard x) P) (sym is)
-    (subst (λ (s : Option ℕ). IfSome (none_unless s) P) (sym silent) (subst (λ (ws : List (String Global)). P (texts_of ws)) none p))
-
 -- the first of two facts of a number that is summed up
-pub first_of_number : (task : Option Task) (P Q : ℕ → Type 0) → OfNumber task (λ number. P number × Q number) → OfNumber task P
-first_of_number None P Q h = tt
-first_of_number (Some (reads reading)) P Q h = tt
-first_of_number (Some (sums_up number)) P Q h = h.0
+pub first_of_number : (asked : Option Command) (P Q : ℕ → Type 0) → OfNumber asked (λ number. P number × Q number) → OfNumber asked P
+first_of_number (Some (commands.Gen number)) P Q h = h.0
+first_of_number asked P Q h = tt

@@ -1,12 +1,12 @@
 -- The arguments that the system hands the program, and how it ends without them.
-use Rattle.std.specs.Prelude.{ℕ, List, [], drop, Option, Some, None, Result, Ok, Err, String}
+use Rattle.std.specs.Prelude.{ℕ, List, drop, Option, Some, None, Result, Ok, Err, String}
 use Rattle.std.specs.declared.alloc.Global.{Global}
 use Rattle.std.specs.declared.vec.IntoIter.{IntoIter}
 use Rattle.std.specs.Vec.Iter.{into_iter_items}
 use Rattle.std.specs.IoError.{error_kind}
 use Rattle.std.specs.declared.io.Error.{Error}
 use Rattle.std.specs.declared.io.ErrorKind.{ErrorKind}
-use Rattle.std.specs.declared.io.ErrorKind.TheVariants.{InvalidData, OutOfMemory}
+use Rattle.std.specs.declared.io.ErrorKind.TheVariants.{OutOfMemory}
 use Rattle.tr_player.specs.declared.statuses.Status.TheVariants.{NoMemory}
 use Rattle.tr_player.specs.Statuses.{code}
 use Rattle.tr_arguments.specs.Commands.{texts_of}
@@ -15,25 +15,18 @@ use Rattle.tr_arguments.specs.Commands.{texts_of}
 abbrev pub refused_status : ℕ
 refused_status = 7
 
--- how the program ends where the system handed it no arguments: for want of memory, or refused them; one
--- that is no text is left to the call
-abbrev pub status_without : ErrorKind → Option ℕ
-status_without InvalidData = None
-status_without OutOfMemory = Some (code NoMemory)
-status_without kind = Some refused_status
+-- how the program ends where the system handed it no arguments: for want of memory, or whatever else came in
+-- the way, as an argument that is no text
+abbrev pub status_without : ErrorKind → ℕ
+status_without OutOfMemory = code NoMemory
+status_without kind = refused_status
 
 -- the same, where the arguments may have been handed out
 abbrev pub status_unheard : Result (IntoIter (String Global) Global) Error → Option ℕ
 status_unheard (Ok all) = None
-status_unheard (Err e) = status_without (error_kind e)
+status_unheard (Err e) = Some (status_without (error_kind e))
 
--- no arguments at all, unless the program ends without them
-abbrev pub none_unless : Option ℕ → Option (List (List ℕ))
-none_unless None = Some []
-none_unless (Some status) = None
-
--- the arguments that the call hears, each as its bytes: those after the program's name; where one is no
--- text, none at all
+-- the arguments that the call hears, each as its bytes: those after the program's name
 abbrev pub heard : Result (IntoIter (String Global) Global) Error → Option (List (List ℕ))
 heard (Ok all) = Some (texts_of (drop 1 (into_iter_items all)))
-heard (Err e) = none_unless (status_without (error_kind e))
+heard (Err e) = None

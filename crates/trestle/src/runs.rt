@@ -4,10 +4,10 @@ ghost use Rattle.std.specs.Vec.Iter.{into_iter_items};
 ghost use Rattle.tr_io.specs.Faults.{HasFault};
 ghost use Rattle.tr_io.specs.Streams.{Grew};
 ghost use Rattle.tr_grammar.specs.Scripts.{script_of};
-ghost use Rattle.tr_arguments.specs.Commands.{texts_of};
 ghost use Rattle.tr_serial.specs.Outputs.{gen_text};
 ghost use Rattle.tr_player.specs.Statuses.{code};
-ghost use Rattle.tr_player.specs.Answers.{IsAllowed, OfNumber, OfScriptRead, Yields, asked_by, refusal_for, text_for};
+ghost use Rattle.tr_player.specs.Answers.{IsAllowed, OfNumber, OfScriptRead, Yields, asked_by, refusal_for};
+ghost use Rattle.tr_player.specs.Answers.{sink_change, source_change, text_for};
 ghost use Rattle.trestle.specs.Arguments.{heard, status_unheard, status_without};
 ghost use Rattle.trestle.specs.Runs.{IsEnd};
 
@@ -30,34 +30,25 @@ pub fn run<S: Source, K: Sink>(
     source: &mut S,
     sink: &mut K,
 ) -> ExitCode
-    // Without arguments: 6 for want of memory, 7 where they were refused. Nothing is read or written.
+    // Without arguments: 6 for want of memory, else 7. Nothing is read or written.
     ensures unheard { IfSome (status_unheard all) (λ status. exit_status result ≡ status) }
     ensures untouched { IfSome (status_unheard all) (λ status.
         (S.left source.new ≡ S.left source.old) × (S.faults source.new ≡ S.faults source.old)
         × (K.written sink.new ≡ K.written sink.old) × (K.faults sink.new ≡ K.faults sink.old)) }
 
     // With them: the status of the call, all of it at once, and then what matters most of it.
-    ensures answered { IfSome (heard all) (λ words. IsEnd (record {
-      task = asked_by words;
-      left = S.left source.old;
-      left_new = S.left source.new;
-      faults = S.faults source.old;
-      faults_new = S.faults source.new;
-    }) (exit_status result) (record {
-      written = K.written sink.old;
-      written_new = K.written sink.new;
-      faults = K.faults sink.old;
-      faults_new = K.faults sink.new;
-    })) }
+    ensures answered { IfSome (heard all) (λ words. IsEnd (asked_by words)
+        (source_change S.Source source.old source.new) (exit_status result)
+        (sink_change K.Sink sink.old sink.new)) }
     ensures usage { IfSome (heard all) (λ words. Yields (exit_status result)
         ((exit_status result ≡ code Status.Usage) ↔ (asked_by words ≡ None))) }
     ensures refused { IfSome (heard all) (λ words. Yields (exit_status result)
         (exit_status result ≢ code Status.ReadFault →
-        OfScriptRead (asked_by words) (S.left source.old) (λ reading bytes.
-        (exit_status result ≡ code Status.Refused) ↔ IsSome (refusal_for reading bytes)))) }
+        OfScriptRead (asked_by words) (S.left source.old) (λ command bytes.
+        (exit_status result ≡ code Status.Refused) ↔ IsSome (refusal_for command bytes)))) }
     ensures output { IfSome (heard all) (λ words. exit_status result ≡ code Status.Done →
-        OfScriptRead (asked_by words) (S.left source.old) (λ reading bytes.
-        Grew (K.written sink.old) (K.written sink.new) (text_for reading (script_of bytes)))) }
+        OfScriptRead (asked_by words) (S.left source.old) (λ command bytes.
+        Grew (K.written sink.old) (K.written sink.new) (text_for command (script_of bytes)))) }
     ensures summed_up { IfSome (heard all) (λ words. exit_status result ≡ code Status.Done →
         OfNumber (asked_by words) (λ number.
         Grew (K.written sink.old) (K.written sink.new) (gen_text number))) }
@@ -74,13 +65,10 @@ pub fn run<S: Source, K: Sink>(
 {
     match all {
         Ok(all) => match after_name(alloc, all) {
-            Ok(arguments) => play(alloc, &arguments, source, sink),
+            Ok(words) => ExitCode::from(serial_call(alloc, &words, source, sink).status),
             Err(_) => ExitCode::from(Status::NoMemory.code()),
         },
-        Err(error) => match status_without(error.kind()) {
-            Some(status) => ExitCode::from(status),
-            None => play(alloc, &Vec::new(alloc), source, sink),
-        },
+        Err(error) => ExitCode::from(status_without(error.kind())),
     }
 }
 
@@ -97,58 +85,13 @@ fn after_name(alloc: Global, all: Args) -> Result<Vec<String>, AllocError>
     Ok(arguments)
 }
 
-/// The status to end with where the system handed out no arguments, unless one of them is no text:
-/// that one asks for nothing, so the call answers it.
-fn status_without(kind: ErrorKind) -> Option<u8>
+/// The status to end with where the system handed out no arguments. One that is no text is among the
+/// reasons; which of them it was makes no difference, unless it is want of memory.
+fn status_without(kind: ErrorKind) -> u8
     ensures { result ≡ status_without kind }
 {
     match kind {
-        ErrorKind::InvalidData => None,
-        ErrorKind::OutOfMemory => Some(Status::NoMemory.code()),
-        _ => Some(REFUSED_STATUS),
+        ErrorKind::OutOfMemory => Status::NoMemory.code(),
+        _ => REFUSED_STATUS,
     }
-}
-
-/// The call with these words: the program ends with its status, and drops its stage.
-fn play<S: Source, K: Sink>(
-    alloc: Global,
-    words: &[String],
-    source: &mut S,
-    sink: &mut K,
-) -> ExitCode
-    ensures answered { IsEnd (record {
-      task = asked_by (texts_of words.now);
-      left = S.left source.old;
-      left_new = S.left source.new;
-      faults = S.faults source.old;
-      faults_new = S.faults source.new;
-    }) (exit_status result) (record {
-      written = K.written sink.old;
-      written_new = K.written sink.new;
-      faults = K.faults sink.old;
-      faults_new = K.faults sink.new;
-    }) }
-    ensures usage { Yields (exit_status result)
-        ((exit_status result ≡ code Status.Usage) ↔ (asked_by (texts_of words.now) ≡ None)) }
-    ensures refused { Yields (exit_status result) (exit_status result ≢ code Status.ReadFault →
-        OfScriptRead (asked_by (texts_of words.now)) (S.left source.old) (λ reading bytes.
-        (exit_status result ≡ code Status.Refused) ↔ IsSome (refusal_for reading bytes))) }
-    ensures output { exit_status result ≡ code Status.Done →
-        OfScriptRead (asked_by (texts_of words.now)) (S.left source.old) (λ reading bytes.
-        Grew (K.written sink.old) (K.written sink.new) (text_for reading (script_of bytes))) }
-    ensures summed_up { exit_status result ≡ code Status.Done →
-        OfNumber (asked_by (texts_of words.now)) (λ number.
-        Grew (K.written sink.old) (K.written sink.new) (gen_text number)) }
-    ensures read_fault { exit_status result ≡ code Status.ReadFault →
-        HasFault (S.faults source.old) (S.faults source.new) }
-    ensures write_fault { exit_status result ≡ code Status.WriteFault →
-        HasFault (K.faults sink.old) (K.faults sink.new) }
-    ensures no_memory { exit_status result ≡ code Status.NoMemory →
-        K.written sink.new ≡ K.written sink.old }
-    ensures complete { IsAllowed (asked_by (texts_of words.now)) (S.left source.old) →
-        (HasFault (S.faults source.old) (S.faults source.new) → ⊥) →
-        (HasFault (K.faults sink.old) (K.faults sink.new) → ⊥) →
-        (exit_status result ≡ code Status.Done) ⊎ (exit_status result ≡ code Status.NoMemory) }
-{
-    ExitCode::from(serial_call(alloc, words, source, sink).status)
 }

@@ -37,8 +37,8 @@ fn arguments_after_the_name_are_heard(rt: HostRuntime) -> Result<(), Fail> {
 #[test]
 fn arguments_may_be_missing(rt: HostRuntime) -> Result<(), Fail> {
     for (kind, text) in [
-        (ErrorKind::InvalidData, USAGE),
-        (ErrorKind::OutOfMemory, b"".as_slice()),
+        (ErrorKind::InvalidData, b"".as_slice()),
+        (ErrorKind::OutOfMemory, b""),
         (ErrorKind::PermissionDenied, b""),
     ] {
         let mut source = SteadySource::new(Vec::from_slice(rt.alloc(), SCRIPT)?);

@@ -3,7 +3,8 @@ use Rattle.std.proofs.Common.{◌≡◌, ℕ, ◌+◌, ◌-◌, ◌<◌, ◌≤�
 use Rattle.std.specs.Prelude.{nat_lt, slice_get, IfSome}
 use Rattle.std.specs.List.{fold}
 use Rattle.std.proofs.lemmas.List.{append-nil, length-append, length-take, take_all, take_more}
-use Rattle.std.proofs.lemmas.List.Elements.{All-append, All-take, All-from_recursion}
+use Rattle.std.specs.List.{All}
+use Rattle.std.proofs.lemmas.List.Elements.{All-append, All-take, All-from_recursion, All-head, All-tail}
 use Rattle.std.proofs.lemmas.List.Sums.{fold-append}
 use Rattle.std.proofs.lemmas.Int.{ints}
 use Rattle.std.proofs.lemmas.Option.{slice_get_cases}
@@ -17,7 +18,8 @@ use Rattle.tr_base.specs.declared.Event.TheVariants.{Mouse, Key}
 use Rattle.tr_base.specs.declared.Kind.{Kind}
 use Rattle.tr_base.specs.declared.Op.{Op}
 use Rattle.tr_base.specs.declared.Op.TheVariants.{Bg, Fg, Transparent, Set, Exchange as Exchanged}
-use Rattle.tr_base.specs.Ops.{eff, opaque}
+use Rattle.tr_base.specs.Ops.{resolved, eff, opaque, IsPixel}
+use Rattle.tr_base.proofs.OpLemmas.{pixel-bit, pixel-resolved, pixel-exchanged}
 use Rattle.tr_base.specs.Layouts.{longest}
 use Rattle.tr_base.specs.Rects.{Edges, between, empty_rect, has_point, meet_of, whole_of}
 use Rattle.tr_base.proofs.RectLemmas.{has_point-meet_of}
@@ -36,7 +38,7 @@ use Rattle.tr_client.proofs.PlainLemmas.{meet-inside}
 use Rattle.w_canvas.specs.declared.canvases.Figure.{Figure}
 use Rattle.w_canvas.specs.declared.commands.CanvasCmd.{CanvasCmd}
 use Rattle.w_canvas.specs.declared.commands.CanvasCmd.TheVariants.{Rect, Exchange, Undo}
-use Rattle.w_canvas.specs.Canvases.{IsFigure, IsCanvas, IsCanvasCmd, most_figures, filled, exchanging, drawn_over, canvas_pic, with_figure, without_last, canvas_next, figure_paint, canvas_paints, with_patch, gone_patch, undo_patch, canvas_patch, is_drawable, square_at, backspace, click_answer, key_answer, canvas_answer, canvas_keeps}
+use Rattle.w_canvas.specs.Canvases.{IsFigureOp, IsFigure, IsCanvas, IsCanvasCmd, most_figures, filled, exchanging, drawn_over, canvas_pic, with_figure, without_last, canvas_next, figure_paint, canvas_paints, with_patch, gone_patch, undo_patch, canvas_patch, is_drawable, square_at, backspace, click_answer, key_answer, canvas_answer, canvas_keeps}
 use Rattle.w_canvas.specs.Areas.{IsFigureEdge, IsArea}
 use Rattle.w_canvas.specs.AreaFacts.{area-rect_of}
 use Rattle.w_canvas.specs.PartPatches.{part_patch}
@@ -250,3 +252,23 @@ canvas_empty_patches look size x cmd valid known small flat = by_cmd cmd
 pub canvas_keeping : (look : Look) (from to : Size) (x : List Figure) → IsCanvas x → IsWindowSize from → IsWindowSize to →
     Survives (canvas_keeps x from to) from to (canvas_pic look from x) (canvas_pic look to x)
 canvas_keeping look from to x valid small small' = survives-meet from to (canvas_pic look from x) (canvas_pic look to x) (λ q h k. refl)
+
+-- what a figure's operation leaves of a value of the kind is one
+op-kind : (kind : Kind) (op : Op) (old : ℕ) → IsFigureOp op → IsPixel kind old → IsPixel kind (eff kind op old)
+op-kind kind (Set n) old byte known = pixel-resolved kind n byte
+op-kind kind (Exchanged a b) old bytes known =
+    pixel-exchanged kind (resolved kind a) (resolved kind b) old (pixel-resolved kind a bytes.0) (pixel-resolved kind b bytes.1) known
+op-kind kind op old never known = absurd never
+
+figures-kind : (kind : Kind) (q : Point) (old : ℕ) (figures : List Figure) → All IsFigure figures → IsPixel kind old →
+    IsPixel kind (fold (drawn_over kind q) old figures)
+figures-kind kind q old [] each known = known
+figures-kind kind q old (f ∷ figures) each known =
+    figures-kind kind q (drawn_over kind q old f) figures (All-tail IsFigure f figures each) (by_point (has_point f.area q))
+  where
+    by_point : (b : Bool) → IsPixel kind (cond b (eff kind f.op old) old)
+    by_point true = op-kind kind f.op old (All-head IsFigure f figures each).op known
+    by_point false = known
+
+pub canvas_kinds : (look : Look) (size : Size) (x : List Figure) (p : Point) → IsCanvas x → IsWindowSize size → IsPixel look.kind (canvas_pic look size x p)
+canvas_kinds look size x p valid small = figures-kind look.kind p 0 x valid.each (pixel-bit look.kind 0 (omega arith))

@@ -275,7 +275,7 @@ fn undone_by(code: u8) -> Option<CanvasCmd>
 
 impl Client for Canvas {
     ghost use Rattle.w_canvas.specs.Canvases.{IsCanvas, canvas_pic, canvas_next, canvas_patch, canvas_answer, canvas_value, canvas_keeps};
-    ghost use Rattle.w_canvas.specs.CanvasLaws.{canvas_contents, canvas_answers, canvas_patches, canvas_empty_patches, canvas_keeping};
+    ghost use Rattle.w_canvas.specs.CanvasLaws.{canvas_contents, canvas_answers, canvas_patches, canvas_empty_patches, canvas_keeping, canvas_kinds};
 
     type Cmd = CanvasCmd;
 
@@ -349,4 +349,6 @@ impl Client for Canvas {
     ghost empty_patches = { canvas_empty_patches };
 
     ghost keeping = { canvas_keeping };
+
+    ghost kinds = { canvas_kinds };
 }

@@ -9,6 +9,3 @@ mod commands;
 pub use areas::Area;
 pub use canvases::{Canvas, FIGURES, Figure};
 pub use commands::CanvasCmd;
-
-#[cfg(test)]
-mod tests;

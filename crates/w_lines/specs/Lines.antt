@@ -1,18 +1,18 @@
 -- Windows that show the last lines of a typescript.
-use Rattle.std.specs.Prelude.{ℕ, ◌-◌, ◌*◌, ◌/◌, ◌≤◌, ◌==◌, pos, neg_ℤ, nat_lt, min, Bool, if◌then◌else◌, List, [], ◌∷◌, ◌++◌, length, drop, slice_index_or, unsigned_abs, All, Option, Some, None, codes}
+use Rattle.std.specs.Prelude.{ℕ, ◌-◌, ◌≤◌, ◌==◌, nat_lt, min, if◌then◌else◌, List, [], ◌∷◌, ◌++◌, length, drop, slice_index_or, All, Option, Some, None, codes}
 use Rattle.tr_base.specs.declared.Point.{Point}
 use Rattle.tr_base.specs.declared.Size.{Size}
 use Rattle.tr_base.specs.declared.Event.{Event}
 use Rattle.tr_base.specs.declared.Event.TheVariants.{Key}
 use Rattle.tr_base.specs.declared.Op.TheVariants.{Bg}
-use Rattle.tr_base.specs.Rects.{Edges, empty_rect, has_point, meet_of, rect_of, whole_of}
+use Rattle.tr_base.specs.Rects.{Edges, empty_rect, meet_of, whole_of}
 use Rattle.tr_base.specs.Lines.{IsLine, is_printable}
 use Rattle.tr_paint.specs.declared.Paint.{Paint}
 use Rattle.tr_paint.specs.declared.Paint.TheVariants.{Tint, Text, Scroll}
-use Rattle.tr_paint.specs.Paints.{cells_of, text_bit}
 use Rattle.tr_paint.specs.Traces.{Look}
 use Rattle.tr_paint.specs.Batches.{batch_of}
-use Rattle.tr_client.specs.Plain.{plain, colour_of}
+use Rattle.tr_client.specs.Plain.{plain}
+use Rattle.tr_client.specs.Texts.{room, begin_of, colour_in, area_of, upwards, cleared}
 use Rattle.tr_client.specs.Words.{with_text}
 use Rattle.w_lines.specs.declared.commands.LinesCmd.{LinesCmd}
 use Rattle.w_lines.specs.declared.commands.LinesCmd.TheVariants.{Line, Clear}
@@ -40,28 +40,6 @@ abbrev pub lines_words : LinesCmd → List ℕ
 lines_words (Line line) = with_text (codes "line") line
 lines_words Clear = codes "clear"
 
--- how many lines, each eight points high, a window has room for
-abbrev pub room : Size → ℕ
-room size = size.high / 8
-
--- where a line begins that has so many others above it
-abbrev pub begin_of : ℕ → Point
-begin_of above = record { h = pos 0; v = pos (8 * above) }
-
--- a point lies in the cells of a line that stands below so many others
-abbrev pub in_cells : ℕ → List ℕ → Point → Bool
-in_cells above line q = has_point (cells_of (begin_of above) (length line)) q
-
--- the colour of a point by the line that stands there below so many others: the text is foreground, and what is beside it background
-abbrev pub line_colour : Look → ℕ → List ℕ → Point → ℕ
-line_colour look above line q = if in_cells above line q then colour_of (text_bit look.font (begin_of above) line q) else 0
-
--- the colour of a point where these lines stand one below the other; below the last one all is background
-abbrev pub colour_in : Look → List (List ℕ) → Point → ℕ
-colour_in look lines q =
-    let above = unsigned_abs q.v / 8 in
-    line_colour look above (slice_index_or lines above []) q
-
 -- a window shows the last lines, as many as it has room for
 abbrev pub lines_pic : Look → Size → List (List ℕ) → Point → ℕ
 lines_pic look size lines q = colour_in look (last_of (room size) lines) q
@@ -70,18 +48,6 @@ lines_pic look size lines q = colour_in look (last_of (room size) lines) q
 abbrev pub lines_next : List (List ℕ) → LinesCmd → List (List ℕ)
 lines_next lines (Line line) = last_of most_lines (lines ++ line ∷ [])
 lines_next lines Clear = []
-
--- the part of a window where those lines stand that have at least `above` and fewer than `end` others above them
-abbrev pub area_of : Size → ℕ → ℕ → Edges
-area_of size above end = rect_of (pos 0) (pos size.wide) (pos (8 * above)) (pos (8 * end))
-
--- one line upwards
-abbrev pub upwards : Point
-upwards = record { h = pos 0; v = neg_ℤ (pos 8) }
-
--- a part of a window becomes background
-abbrev pub cleared : Edges → List Paint
-cleared part = batch_of (Tint part Bg ∷ [])
 
 -- a line is written below so many others
 abbrev pub written_below : Size → ℕ → List ℕ → List Paint

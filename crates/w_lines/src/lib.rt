@@ -3,12 +3,7 @@
 #![tactic(auto)]
 
 mod commands;
-mod places;
 mod typescripts;
 
 pub use commands::LinesCmd;
-pub use places::{area_of, begin_of, room, upwards};
 pub use typescripts::{Lines, MOST_LINES};
-
-#[cfg(test)]
-mod tests;

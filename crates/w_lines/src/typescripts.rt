@@ -9,11 +9,13 @@ ghost use Rattle.tr_client.specs.Laws.{IsWindowSize};
 ghost use Rattle.w_lines.specs.Lines as spec;
 
 use crate::commands::LinesCmd;
-use crate::places::{area_of, begin_of, room, upwards};
 use std::alloc::Global;
 use std::marker::Model;
 use tr_base::{Command, Env, Event, Line, NoMemory, Op, Rect, Size, is_printable};
-use tr_client::{Client, PLAIN, keeps_nothing, kept_part, part_of_window, window};
+use tr_client::{
+    Client, PLAIN, area_of, begin_of, cleared, keeps_nothing, kept_part, paint_lines,
+    part_of_window, room, same_lines, upwards, window,
+};
 use tr_paint::{Batch, Paint};
 
 /// The most lines that are kept.
@@ -108,20 +110,10 @@ impl Lines {
     fn paints(&self, alloc: Global, size: Size, part: &Rect) -> Result<Batch, NoMemory>
         requires near { IsNearRect part.now }
         requires size { IsWindowSize size }
-        requires part { (q : Point) → has_point part.now q ≡ true → has_point (whole_of size) q ≡ true }
         ensures { (look : Look) →
             IfOk result (λ batch. IsPainting look part.now batch (spec.lines_pic look size self.now)) }
     {
-        let mut batch = cleared(alloc, *part)?;
-        for (above, line) in last_of(&self.lines, room(size)).iter().enumerate() {
-            batch.push(Paint::Text {
-                clip: *part,
-                at: begin_of(above),
-                ops: PLAIN,
-                text: *line,
-            })?;
-        }
-        Ok(batch)
+        paint_lines(alloc, *part, last_of(&self.lines, room(size)))
     }
 }
 
@@ -130,19 +122,6 @@ fn last_of(lines: &[Line], n: usize) -> &[Line]
     ensures { result.now ≡ spec.last_of n lines.now }
 {
     &lines[lines.len().saturating_sub(n)..]
-}
-
-/// A part of a window becomes background.
-fn cleared(alloc: Global, part: Rect) -> Result<Batch, NoMemory>
-    requires { IsNearRect part }
-    ensures { IfOk result (λ batch. batch ≡ spec.cleared part) }
-{
-    let mut batch = Batch::new(alloc);
-    batch.push(Paint::Tint {
-        clip: part,
-        op: Op::Bg,
-    })?;
-    Ok(batch)
 }
 
 /// A line is written below so many others.
@@ -189,7 +168,7 @@ fn moved_up(alloc: Global, size: Size, count: usize, line: &Line) -> Result<Batc
 
 impl Client for Lines {
     ghost use Rattle.w_lines.specs.Lines.{IsLines, lines_pic, lines_next, lines_patch, lines_answer, lines_value, lines_keeps};
-    ghost use Rattle.w_lines.specs.LinesLaws.{lines_contents, lines_answers, lines_patches, lines_empty_patches, lines_keeping};
+    ghost use Rattle.w_lines.specs.LinesLaws.{lines_contents, lines_answers, lines_patches, lines_empty_patches, lines_keeping, lines_kinds};
 
     type Cmd = LinesCmd;
 
@@ -273,19 +252,6 @@ impl Client for Lines {
     ghost empty_patches = { lines_empty_patches };
 
     ghost keeping = { lines_keeping };
-}
 
-/// Whether both are the same lines.
-fn same_lines(lines: &[Line], others: &[Line]) -> bool
-    ensures { IsTrue result ↔ (lines.now ≡ others.now) }
-{
-    if lines.len() != others.len() {
-        return false;
-    }
-    for (i, line) in lines.iter().enumerate() {
-        if !line.same(&others[i]) {
-            return false;
-        }
-    }
-    true
+    ghost kinds = { lines_kinds };
 }

@@ -13,6 +13,7 @@ use Rattle.tr_base.specs.declared.Event.{Event}
 use Rattle.tr_base.specs.declared.Event.TheVariants.{Key}
 use Rattle.tr_base.specs.declared.Op.{Op}
 use Rattle.tr_base.specs.declared.Op.TheVariants.{Bg, Fg}
+use Rattle.tr_base.specs.Ops.{IsPixel}
 use Rattle.tr_base.specs.Rects.{Edges, between, has_point, rect_of, whole_of, empty_rect}
 use Rattle.tr_base.proofs.RectLemmas.{has_point-rect_of, has_point-meet_of}
 use Rattle.tr_paint.specs.declared.Paint.{Paint}
@@ -23,7 +24,7 @@ use Rattle.tr_paint.specs.Batches.{kept, batch_of}
 use Rattle.tr_paint.proofs.PatchLemmas.{Gives, no_patch, kept_patch, two_patches}
 use Rattle.tr_paint.specs.Paintings.{IsPainting}
 use Rattle.tr_paint.proofs.PaintingLemmas.{Makes, painting_first, painting_more}
-use Rattle.tr_client.proofs.PlainLemmas.{meet-inside}
+use Rattle.tr_client.proofs.PlainLemmas.{meet-inside, pixel-colour_of}
 use Rattle.tr_client.specs.Laws.{IsWindowSize, is_flat, IsEvent, Survives}
 use Rattle.tr_client.specs.Plain.{colour_of}
 use Rattle.tr_client.proofs.KeepingLemmas.{both_hold, survives-nothing}
@@ -200,6 +201,9 @@ meter_empty_patches look size x (Bar bar height) valid known small flat = by_tes
 pub meter_keeping : (look : Look) (from to : Size) (x : List ℕ) → IsMeter x → IsWindowSize from → IsWindowSize to →
     Survives (meter_keeps x from to) from to (meter_pic look from x) (meter_pic look to x)
 meter_keeping look from to x valid small small' = survives-nothing from to (meter_pic look from x) (meter_pic look to x)
+
+pub meter_kinds : (look : Look) (size : Size) (x : List ℕ) (p : Point) → IsMeter x → IsWindowSize size → IsPixel look.kind (meter_pic look size x p)
+meter_kinds look size x p valid small = pixel-colour_of look.kind (in_bar size x p)
 
 -- of the first bars, a point lies in one where it lies in that bar of all
 nth-take : (size : Size) (heights : List ℕ) (n bar : ℕ) (v : ℤ) → n ≤ length heights →

@@ -6,6 +6,3 @@ mod meters;
 
 pub use bars::BarNumber;
 pub use meters::{Meter, MeterCmd};
-
-#[cfg(test)]
-mod tests;

@@ -163,7 +163,7 @@ impl Command for MeterCmd {
 
 impl Client for Meter {
     ghost use Rattle.w_meter.specs.Meters.{IsMeter, meter_pic, meter_next, meter_patch, meter_answer, meter_value, meter_keeps};
-    ghost use Rattle.w_meter.specs.MeterLaws.{meter_contents, meter_answers, meter_patches, meter_empty_patches, meter_keeping};
+    ghost use Rattle.w_meter.specs.MeterLaws.{meter_contents, meter_answers, meter_patches, meter_empty_patches, meter_keeping, meter_kinds};
 
     type Cmd = MeterCmd;
 
@@ -243,4 +243,6 @@ impl Client for Meter {
     ghost empty_patches = { meter_empty_patches };
 
     ghost keeping = { meter_keeping };
+
+    ghost kinds = { meter_kinds };
 }

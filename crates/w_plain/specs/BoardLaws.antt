@@ -1,9 +1,12 @@
 -- A Board obeys the laws of clients. These are proofs, which stand here since an impl cites nothing else of its crate; no contract cites them.
 use Rattle.std.proofs.Common.{◌≡◌, [], true, refl, ap}
-use Rattle.std.specs.Prelude.{IfSome}
+use Rattle.std.specs.Prelude.{◌-ℤ◌, IfSome}
+use Rattle.tr_base.specs.declared.Point.{Point}
 use Rattle.tr_base.specs.declared.Size.{Size}
 use Rattle.tr_base.specs.declared.Event.{Event}
+use Rattle.tr_base.specs.Ops.{IsPixel}
 use Rattle.tr_base.specs.Rects.{Edges, whole_of}
+use Rattle.tr_base.specs.Tiles.{tile_bit}
 use Rattle.tr_paint.specs.declared.Paint.TheVariants.{Texture}
 use Rattle.tr_paint.specs.Traces.{Look}
 use Rattle.tr_paint.specs.Patches.{IsPatch}
@@ -13,7 +16,7 @@ use Rattle.tr_client.specs.Laws.{IsWindowSize, is_flat, IsEvent, Survives}
 use Rattle.tr_client.specs.Plain.{plain}
 use Rattle.tr_client.proofs.KeepingLemmas.{survives-meet}
 use Rattle.tr_client.proofs.FlatLemmas.{flat-whole}
-use Rattle.tr_client.proofs.PlainLemmas.{tile-gives}
+use Rattle.tr_client.proofs.PlainLemmas.{tile-gives, pixel-colour_of}
 use Rattle.w_plain.specs.declared.boards.Board.{Board}
 use Rattle.w_plain.specs.declared.boards.BoardCmd.{BoardCmd}
 use Rattle.w_plain.specs.declared.boards.BoardCmd.TheVariants.{Tile, Shift}
@@ -43,3 +46,6 @@ board_empty_patches look size x cmd valid known small flat = ap (λ part. board_
 pub board_keeping : (look : Look) (from to : Size) (x : Board) → IsBoard x → IsWindowSize from → IsWindowSize to →
     Survives (board_keeps x from to) from to (board_pic look from x) (board_pic look to x)
 board_keeping look from to x valid small small' = survives-meet from to (board_pic look from x) (board_pic look to x) (λ q h k. refl)
+
+pub board_kinds : (look : Look) (size : Size) (x : Board) (p : Point) → IsBoard x → IsWindowSize size → IsPixel look.kind (board_pic look size x p)
+board_kinds look size x p valid small = pixel-colour_of look.kind (tile_bit x.tile (p.h -ℤ x.shift.h) (p.v -ℤ x.shift.v))

@@ -4,14 +4,16 @@ use Rattle.std.specs.Prelude.{nat_lt, IfSome}
 use Rattle.std.proofs.lemmas.List.{length-append}
 use Rattle.std.proofs.lemmas.List.Elements.{All-push}
 use borrow.Author.Tests.{ltb-true}
+use Rattle.tr_base.specs.declared.Point.{Point}
 use Rattle.tr_base.specs.declared.Size.{Size}
 use Rattle.tr_base.specs.declared.Event.{Event}
 use Rattle.tr_base.specs.declared.Event.TheVariants.{Key}
 use Rattle.tr_base.specs.declared.Op.TheVariants.{Bg}
-use Rattle.tr_base.specs.Rects.{Edges, whole_of, empty_rect}
+use Rattle.tr_base.specs.Ops.{IsPixel}
+use Rattle.tr_base.specs.Rects.{Edges, has_point, whole_of, empty_rect}
 use Rattle.tr_base.specs.Lines.{is_printable}
 use Rattle.tr_paint.specs.declared.Paint.TheVariants.{Tint, Text as Written}
-use Rattle.tr_paint.specs.Paints.{cells_of}
+use Rattle.tr_paint.specs.Paints.{cells_of, text_bit}
 use Rattle.tr_paint.specs.Traces.{Look}
 use Rattle.tr_paint.specs.Patches.{IsPatch}
 use Rattle.tr_paint.specs.Paintings.{IsPainting}
@@ -20,7 +22,7 @@ use Rattle.tr_client.specs.Laws.{IsWindowSize, is_flat, IsEvent, Survives}
 use Rattle.tr_client.specs.Plain.{plain, origin}
 use Rattle.tr_client.proofs.KeepingLemmas.{both_hold, survives-meet}
 use Rattle.tr_client.proofs.FlatLemmas.{flat-whole, meet-nothing}
-use Rattle.tr_client.proofs.PlainLemmas.{text-makes, meet-inside}
+use Rattle.tr_client.proofs.PlainLemmas.{text-makes, meet-inside, pixel-text}
 use Rattle.w_plain.specs.declared.labels.Label.{Label}
 use Rattle.w_plain.specs.declared.labels.LabelCmd.{LabelCmd}
 use Rattle.w_plain.specs.declared.labels.LabelCmd.TheVariants.{Text}
@@ -67,3 +69,7 @@ label_empty_patches look size x cmd valid known small flat = ap (λ part. label_
 pub label_keeping : (look : Look) (from to : Size) (x : Label) → IsLabel x → IsWindowSize from → IsWindowSize to →
     Survives (label_keeps x from to) from to (label_pic look from x) (label_pic look to x)
 label_keeping look from to x valid small small' = survives-meet from to (label_pic look from x) (label_pic look to x) (λ q h k. refl)
+
+pub label_kinds : (look : Look) (size : Size) (x : Label) (p : Point) → IsLabel x → IsWindowSize size → IsPixel look.kind (label_pic look size x p)
+label_kinds look size x p valid small =
+    pixel-text look.kind (has_point (cells_of origin (length x.text)) p) (text_bit look.font origin x.text p)

@@ -1,10 +1,13 @@
 -- A Solid obeys the laws of clients. These are proofs, which stand here since an impl cites nothing else of its crate; no contract cites them.
 use Rattle.std.proofs.Common.{◌≡◌, [], true, refl, ap}
 use Rattle.std.specs.Prelude.{IfSome}
+use Rattle.tr_base.specs.declared.Point.{Point}
 use Rattle.tr_base.specs.declared.Size.{Size}
 use Rattle.tr_base.specs.declared.Event.{Event}
 use Rattle.tr_base.specs.declared.Event.TheVariants.{Key}
 use Rattle.tr_base.specs.declared.Op.TheVariants.{Set}
+use Rattle.tr_base.specs.Ops.{IsPixel}
+use Rattle.tr_base.proofs.OpLemmas.{pixel-resolved}
 use Rattle.tr_base.specs.Rects.{Edges, whole_of}
 use Rattle.tr_paint.specs.declared.Paint.TheVariants.{Tint as Tinted}
 use Rattle.tr_paint.specs.Traces.{Look}
@@ -43,3 +46,6 @@ solid_empty_patches look size x cmd valid known small flat = ap (λ part. solid_
 pub solid_keeping : (look : Look) (from to : Size) (x : Solid) → IsSolid x → IsWindowSize from → IsWindowSize to →
     Survives (solid_keeps x from to) from to (solid_pic look from x) (solid_pic look to x)
 solid_keeping look from to x valid small small' = survives-meet from to (solid_pic look from x) (solid_pic look to x) (λ q h k. refl)
+
+pub solid_kinds : (look : Look) (size : Size) (x : Solid) (p : Point) → IsSolid x → IsWindowSize size → IsPixel look.kind (solid_pic look size x p)
+solid_kinds look size x p valid small = pixel-resolved look.kind x.tint valid.tint

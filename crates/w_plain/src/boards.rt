@@ -146,7 +146,7 @@ impl Command for BoardCmd {
 
 impl Client for Board {
     ghost use Rattle.w_plain.specs.Boards.{IsBoard, board_pic, board_next, board_patch, board_answer, board_value, board_keeps};
-    ghost use Rattle.w_plain.specs.BoardLaws.{board_contents, board_answers, board_patches, board_empty_patches, board_keeping};
+    ghost use Rattle.w_plain.specs.BoardLaws.{board_contents, board_answers, board_patches, board_empty_patches, board_keeping, board_kinds};
 
     type Cmd = BoardCmd;
 
@@ -221,4 +221,6 @@ impl Client for Board {
     ghost empty_patches = { board_empty_patches };
 
     ghost keeping = { board_keeping };
+
+    ghost kinds = { board_kinds };
 }

@@ -118,7 +118,7 @@ impl Command for LabelCmd {
 
 impl Client for Label {
     ghost use Rattle.w_plain.specs.Labels.{IsLabel, label_pic, label_next, label_patch, label_answer, label_value, label_keeps};
-    ghost use Rattle.w_plain.specs.LabelLaws.{label_contents, label_answers, label_patches, label_empty_patches, label_keeping};
+    ghost use Rattle.w_plain.specs.LabelLaws.{label_contents, label_answers, label_patches, label_empty_patches, label_keeping, label_kinds};
 
     type Cmd = LabelCmd;
 
@@ -198,4 +198,6 @@ impl Client for Label {
     ghost empty_patches = { label_empty_patches };
 
     ghost keeping = { label_keeping };
+
+    ghost kinds = { label_kinds };
 }

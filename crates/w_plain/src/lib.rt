@@ -12,6 +12,3 @@ pub use boards::{Board, BoardCmd};
 pub use labels::{Label, LabelCmd};
 pub use shifts::Shift;
 pub use solids::{Solid, SolidCmd};
-
-#[cfg(test)]
-mod tests;

@@ -89,7 +89,7 @@ impl Command for SolidCmd {
 
 impl Client for Solid {
     ghost use Rattle.w_plain.specs.Solids.{IsSolid, solid_pic, solid_next, solid_patch, solid_answer, solid_value, solid_keeps};
-    ghost use Rattle.w_plain.specs.SolidLaws.{solid_contents, solid_answers, solid_patches, solid_empty_patches, solid_keeping};
+    ghost use Rattle.w_plain.specs.SolidLaws.{solid_contents, solid_answers, solid_patches, solid_empty_patches, solid_keeping, solid_kinds};
 
     type Cmd = SolidCmd;
 
@@ -166,4 +166,6 @@ impl Client for Solid {
     ghost empty_patches = { solid_empty_patches };
 
     ghost keeping = { solid_keeping };
+
+    ghost kinds = { solid_kinds };
 }

@@ -16,4 +16,4 @@ returns g c =
     ∙ ap (λ (n : ℕ). old ++ lag_text_of n c.in_ok-peek.peek.bad c.in_ok-peek.peek.stale 0) number
     ∙ ap (λ (n : ℕ). old ++ lag_text_of (length s.journal) n c.in_ok-peek.peek.stale 0) c.in_ok-peek.ensures.bad
     ∙ ap (λ (n : ℕ). old ++ lag_text_of (length s.journal) (bad_count (state g.C.Client s)) n 0) c.in_ok-peek.ensures.stale
-    ∙ ap (λ t. old ++ t) (sym (lag_line-stage g.C.Client s (length s.journal) c.stands.ensures))
+    ∙ ap (λ t. old ++ t) (sym (lag_line-stage g.C.Client s (length s.journal) c.stands.ensures.invariant))

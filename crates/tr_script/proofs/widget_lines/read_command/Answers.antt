@@ -1,8 +1,8 @@
-use Rattle.std.proofs.Common.{◌≡◌, None, Option, refl, ap}
+use Rattle.std.proofs.Common.{refl}
 use Rattle.std.proofs.Math.Bool.{and-false}
-use Rattle.tr_grammar.specs.Forms.{Form, among, is_second}
-use Rattle.tr_script.specs.Reading.{act_line, command_forms, word_fault}
-use Rattle.tr_script.proofs.FormLemmas.{differs}
+use Rattle.tr_grammar.specs.Forms.{is_second}
+use Rattle.tr_script.specs.Reading.{act_line, command_forms, editor_forms}
+use Rattle.tr_script.proofs.FormLemmas.{differs, reads_by}
 use Rattle.tr_script.proofs.widget_lines.read_command.Goals as goal
 
 pub returns-in_default : goal.returns-in_default
@@ -21,6 +21,6 @@ returns-in_default c =
     let no_exchange = differs act _ c.in_default.not-exchange in
     let no_undo = differs act _ c.in_default.not-undo in
     let no_bar = differs act _ c.in_default.not-bar in
-    let none : among version command_forms (act_line words) ≡ None =
-    rw (no_tint, no_tile, no_shift, no_text, no_line, no_clear, no_rect, no_swap, no_exchange, no_undo, no_bar, and-false (is_second version)) refl in
-    ap (λ (form : Option Form). word_fault c.args.reader.now form (act_line words)) none
+    reads_by c.args.reader.now command_forms editor_forms (act_line words) c.read_editing.result
+    (rw (no_tint, no_tile, no_shift, no_text, no_line, no_clear, no_rect, no_swap, no_exchange, no_undo, no_bar, and-false (is_second version)) refl)
+    c.read_editing.ensures

@@ -1,7 +1,6 @@
-use Rattle.std.proofs.Common.{◌≡◌, ◌*◌, ◌+◌, arith, rules}
-use Rattle.tr_base.specs.Rects.{sides_of}
+use Rattle.std.proofs.Common.{◌≡◌, ◌*◌, ◌+◌, rules}
+use Rattle.tr_region.specs.Places.{place_within}
 use Rattle.tr_screen.specs.Runs.{point_in}
-use Rattle.tr_surface.specs.Puts.{place_within}
 use Rattle.tr_surface.proofs.PutLemmas.{run_fits}
 use Rattle.tr_surface.proofs.puts.start_within.Goals as goal
 

@@ -1,39 +1,76 @@
-use Rattle.std.proofs.Common.{◌≡◌, ◌⊎◌, refl, sym, ◌∙◌, ap, inl}
-use Rattle.std.specs.Prelude.{None}
+use Rattle.std.proofs.Common.{◌≡◌, ◌≢◌, ◌⊎◌, ◌↔◌, ℕ, refl, sym, ◌∙◌, subst, inl}
+use Rattle.std.specs.Prelude.{None, IsSome, IsSomeAnd}
 use Rattle.std.specs.Process.{exit_status}
-use Rattle.std.specs.IoError.{error_kind}
 use Rattle.tr_io.specs.Faults.{HasFault}
-use Rattle.tr_player.specs.Answers.{IsAllowed, asked_by}
-use Rattle.trestle.specs.Arguments.{heard, status_without}
-use Rattle.trestle.proofs.ArgumentLemmas.{of_any, of_heard, of_none}
+use Rattle.tr_io.specs.Streams.{Grew}
+use Rattle.tr_arguments.specs.Commands.{texts_of}
+use Rattle.tr_grammar.specs.Scripts.{script_of}
+use Rattle.tr_serial.specs.Outputs.{gen_text, drawn}
+use Rattle.tr_player.specs.Answers.{HasPlayed, IsAllowed, OfNumber, OfScriptRead, Yields, asked_by, refusal_for, text_for}
+use Rattle.trestle.specs.Arguments.{heard}
+use Rattle.trestle.proofs.ArgumentLemmas.{first_of_number, of_any, of_heard}
 use Rattle.trestle.proofs.runs.run.Goals as goal
+
+-- ---- with arguments: what the call answers
 
 pub returns-in-Ok-after_name-clause-answered : goal.returns-in-Ok-after_name-clause-answered
 returns-in-Ok-after_name-clause-answered g c =
-    let heard = c.deref.ensures.value ∙ c.in-Ok-after_name.ensures in
-    rw (c.in-Ok.is, sym heard) c.play.ensures.answered
+    of_heard _ c.args.all c.in-Ok.all c.deref.result.now c.in-Ok.is (c.deref.ensures.value ∙ c.in-Ok-after_name.ensures)
+    (c.serial_call.result, sym c.from.ensures, c.serial_call.ensures.answered)
+
+pub returns-in-Ok-after_name-clause-usage : goal.returns-in-Ok-after_name-clause-usage
+returns-in-Ok-after_name-clause-usage g c =
+    let status : exit_status c.from.result ≡ c.serial_call.result.status = c.from.ensures in
+    of_heard (λ words. Yields (exit_status c.from.result) ((exit_status c.from.result ≡ 2) ↔ (asked_by words ≡ None))) c.args.all c.in-Ok.all
+    c.deref.result.now c.in-Ok.is (c.deref.ensures.value ∙ c.in-Ok-after_name.ensures)
+    (subst (λ (n : ℕ). Yields n ((n ≡ 2) ↔ (asked_by (texts_of c.deref.result.now) ≡ None))) (sym status) c.serial_call.ensures.usage)
+
+pub returns-in-Ok-after_name-clause-refused : goal.returns-in-Ok-after_name-clause-refused
+returns-in-Ok-after_name-clause-refused g c =
+    let status : exit_status c.from.result ≡ c.serial_call.result.status = c.from.ensures in
+    let left = g.S.Source.left c.args.source.now in
+    of_heard (λ words. Yields (exit_status c.from.result) (exit_status c.from.result ≢ 4 → OfScriptRead (asked_by words) left
+    (λ command bytes. (exit_status c.from.result ≡ 3) ↔ IsSome (refusal_for command bytes)))) c.args.all c.in-Ok.all
+    c.deref.result.now c.in-Ok.is (c.deref.ensures.value ∙ c.in-Ok-after_name.ensures)
+    (subst (λ (n : ℕ). Yields n (n ≢ 4 → OfScriptRead (asked_by (texts_of c.deref.result.now)) left
+    (λ command bytes. (n ≡ 3) ↔ IsSome (refusal_for command bytes)))) (sym status) c.serial_call.ensures.refused)
+
+pub returns-in-Ok-after_name-clause-output : goal.returns-in-Ok-after_name-clause-output
+returns-in-Ok-after_name-clause-output g c =
+    let left = g.S.Source.left c.args.source.now in
+    let was = g.K.Sink.written c.args.sink.now in
+    let now = g.K.Sink.written c.serial_call.new.sink in
+    of_heard (λ words. exit_status c.from.result ≡ 0 → OfScriptRead (asked_by words) left
+    (λ command bytes. Grew was now (text_for command (script_of bytes)))) c.args.all c.in-Ok.all
+    c.deref.result.now c.in-Ok.is (c.deref.ensures.value ∙ c.in-Ok-after_name.ensures)
+    (λ e. c.serial_call.ensures.output (sym c.from.ensures ∙ e))
+
+pub returns-in-Ok-after_name-clause-summed_up : goal.returns-in-Ok-after_name-clause-summed_up
+returns-in-Ok-after_name-clause-summed_up g c =
+    let was = g.K.Sink.written c.args.sink.now in
+    let now = g.K.Sink.written c.serial_call.new.sink in
+    let writes : ℕ → Type 0 = λ number. Grew was now (gen_text number) in
+    let plays : ℕ → Type 0 = λ number. IsSomeAnd c.serial_call.result.stage (λ stage. HasPlayed (drawn number) stage) in
+    of_heard (λ words. exit_status c.from.result ≡ 0 → OfNumber (asked_by words) writes) c.args.all c.in-Ok.all
+    c.deref.result.now c.in-Ok.is (c.deref.ensures.value ∙ c.in-Ok-after_name.ensures)
+    (λ e. first_of_number (asked_by (texts_of c.deref.result.now)) writes plays (c.serial_call.ensures.summed_up (sym c.from.ensures ∙ e)))
 
 pub returns-in-Ok-after_name-clause-complete : goal.returns-in-Ok-after_name-clause-complete
 returns-in-Ok-after_name-clause-complete g c =
     let left = g.S.Source.left c.args.source.now in
-    let reads = HasFault (g.S.Source.faults c.args.source.now) (g.S.Source.faults c.play.new.source) in
-    let writes = HasFault (g.K.Sink.faults c.args.sink.now) (g.K.Sink.faults c.play.new.sink) in
-    let status = exit_status c.play.result in
-    of_heard (λ words. IsAllowed (asked_by words) left → (reads → ⊥) → (writes → ⊥) → (status ≡ 0) ⊎ (status ≡ 6)) c.args.all c.in-Ok.all
-    c.deref.result.now c.in-Ok.is (c.deref.ensures.value ∙ c.in-Ok-after_name.ensures) c.play.ensures.complete
+    let reads = HasFault (g.S.Source.faults c.args.source.now) (g.S.Source.faults c.serial_call.new.source) in
+    let writes = HasFault (g.K.Sink.faults c.args.sink.now) (g.K.Sink.faults c.serial_call.new.sink) in
+    let ends : ℕ → Type 0 = λ n. (n ≡ 0) ⊎ (n ≡ 6) in
+    of_heard (λ words. IsAllowed (asked_by words) left → (reads → ⊥) → (writes → ⊥) → ends (exit_status c.from.result)) c.args.all c.in-Ok.all
+    c.deref.result.now c.in-Ok.is (c.deref.ensures.value ∙ c.in-Ok-after_name.ensures)
+    (λ allowed no_read no_write. subst ends (sym c.from.ensures) (c.serial_call.ensures.complete allowed no_read no_write))
 
--- memory was wanted for the arguments: nothing is read or written
+-- ---- memory was wanted for the arguments: nothing is read or written
+
 pub returns-in-Err-after_name-clause-answered : goal.returns-in-Err-after_name-clause-answered
 returns-in-Err-after_name-clause-answered g c =
     of_any _ (heard c.args.all) (λ words. (
       record { status = 6; stage = None },
-      sym (c.from.ensures ∙ c.code.ensures),
+      sym (c.from-in-Err-after_name.ensures ∙ c.code.ensures),
       inl (refl, refl, refl, λ _. record { left = refl; faults = refl }),
     ))
-
-pub returns-in-None-clause-answered : goal.returns-in-None-clause-answered
-returns-in-None-clause-answered g c =
-    let silent : status_without (error_kind c.in-Err.error) ≡ None =
-    ap status_without (sym c.kind.ensures) ∙ (sym c.status_without.ensures ∙ c.in-None.is) in
-    let none = c.deref-in-None.ensures.value ∙ c.new.ensures.items in
-    of_none _ c.args.all c.in-Err.error c.deref-in-None.result.now c.in-Err.is silent none c.play-in-None.ensures.answered

@@ -13,11 +13,11 @@ pub invariant_of-self-2 : goal.invariant_of-self-2
 invariant_of-self-2 g c =
     let s = c.self.inside.stage in
     named_next g.C.Client (names_of g.N.NameOf c.self.inside.names.now) s c.step.new.self c.args.actor c.args.step c.self.invariant (record {
-      stands = c.stands.ensures;
+      stands = c.stands.ensures.invariant;
       like = c.tree-tree.ensures.like;
       may = c.requires.may;
       values = subst (λ (v : RunView _ _). IsStep (tree_of v.stage.opening).nodes c.args.step) (sym c.self.view_is) c.requires.values;
       opening = c.step.ensures.opening;
       journal = c.in_ok-step.ensures.ok
-          ∙ ap (λ (held : List Level). s.journal ++ line_of g.C.Client (state g.C.Client s) c.args.actor held c.args.step ∷ []) c.levels_of-level.ensures;
+          ∙ ap (λ (held : List Level). s.journal ++ line_of g.C.Client (state g.C.Client s) c.args.actor held c.args.step ∷ []) c.stated-level.ensures.value;
     })

@@ -5,6 +5,7 @@ use Rattle.tr_forest.specs.Edits.{IsCause, refusal}
 use Rattle.tr_tree.specs.Trees.{Seen}
 use Rattle.tr_journal.specs.declared.steps.Step.TheVariants.{Alter}
 use Rattle.tr_machine.specs.Replays.{replay}
+use Rattle.tr_machine.proofs.AlterLemmas.{window_size}
 use Rattle.tr_stage.specs.Stages.{Parts}
 use Rattle.tr_stage.proofs.PartLemmas.{inboxes_count, leaves_count, seen_for, windows_count}
 use Rattle.tr_stage.proofs.AlterLemmas.{IsEdited, altered_stage, edited_line, edited_next, leaves_after, refused_line, refused_next}
@@ -19,14 +20,14 @@ refit-requires-clause-before g c κs within =
 
 pub refit-requires-clause-leaves : goal.refit-requires-clause-leaves
 refit-requires-clause-leaves g c κs within =
-    let made = seen_for c.args.by.now.actor c.args.by.now.level (Alter c.args.edit) (sym c.self.view_is) c.requires.may c.requires.covers c.requires.values in
+    let made = seen_for (sym c.self.view_is) c.requires.allowed in
     leaves_after g.C.Client c.args.edit c.self.invariant c.tree.ensures.invariant.forest made.values c.in-Ok.ensures.allowed
     (c.tree-is.ensures.value ∙ c.in-Ok.ensures.tree)
     ∙ sym (windows_count g.C.Client c.self.invariant)
 
 pub edited-sent-requires-clause-leaves : goal.edited-sent-requires-clause-leaves
 edited-sent-requires-clause-leaves g c =
-    let made = seen_for c.args.by.now.actor c.args.by.now.level (Alter c.args.edit) (sym c.self.view_is) c.requires.may c.requires.covers c.requires.values in
+    let made = seen_for (sym c.self.view_is) c.requires.allowed in
     leaves_after g.C.Client c.args.edit c.self.invariant c.tree.ensures.invariant.forest made.values c.in-Ok.ensures.allowed
     (c.tree-is.ensures.value ∙ c.in-Ok.ensures.tree)
     ∙ sym (inboxes_count g.C.Client c.self.invariant)
@@ -34,7 +35,7 @@ edited-sent-requires-clause-leaves g c =
 pub invariant_of-self-in-Ok : goal.invariant_of-self-in-Ok
 invariant_of-self-in-Ok g c =
     let s = c.self.inside in
-    let made = seen_for c.args.by.now.actor c.args.by.now.level (Alter c.args.edit) (sym c.self.view_is) c.requires.may c.requires.covers c.requires.values in
+    let made = seen_for (sym c.self.view_is) c.requires.allowed in
     let old : Parts g.row.C.Denot = record { surface = s.surface; windows = s.windows; mail = s.mail } in
     let new : Parts g.row.C.Denot = record { surface = c.alter.new.self; windows = c.refit.new.self; mail = c.edited-sent.new.self } in
     let e : IsEdited g.C.Client (replay g.C.Client s.opening s.journal.lines) c.args.edit old new = record {
@@ -49,8 +50,8 @@ invariant_of-self-in-Ok g c =
       after = c.tree-is.result.now;
       before_is = c.in-Ok.ensures.was;
       after_is = c.tree-is.ensures.value;
-      old_sizes = c.sizes_are_small.ensures;
-      new_sizes = c.sizes_are_small-in-Ok.ensures;
+      old_sizes = window_size c.in-Ok.was c.domains_are_small.ensures;
+      new_sizes = window_size c.tree-is.result.now c.domains_are_small-in-Ok.ensures;
       windows = c.refit.ensures;
       sent = c.edited-sent.result;
       sending = c.edited-sent.ensures.sent;
@@ -61,7 +62,7 @@ invariant_of-self-in-Ok g c =
 
 pub invariant_of-self-in-Err-Fault : goal.invariant_of-self-in-Err-Fault
 invariant_of-self-in-Err-Fault g c =
-    let made = seen_for c.args.by.now.actor c.args.by.now.level (Alter c.args.edit) (sym c.self.view_is) c.requires.may c.requires.covers c.requires.values in
+    let made = seen_for (sym c.self.view_is) c.requires.allowed in
     let why : IsCause (refusal c.self.inside.surface.tree.nodes c.args.edit) c.in-Err-Fault.field-0 = c.in-Err-Fault.ensures.cause in
     let refused : refusal c.self.inside.surface.tree.nodes c.args.edit ≡ Some c.in-Err-Fault.fault =
     subst (λ (r : EditRefused). IsCause (refusal c.self.inside.surface.tree.nodes c.args.edit) r) c.in-Err-Fault.field-0-is why in

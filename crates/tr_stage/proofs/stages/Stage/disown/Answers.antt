@@ -18,9 +18,7 @@ invariant_of-self-in-Ok g c =
       shown = c.tree.ensures.invariant;
       view = c.args.self.now;
       same = ap (λ v. v.opening) c.self.view_is;
-      may = c.requires.may;
-      covers = c.requires.covers;
-      values = c.requires.values;
+      allowed = c.requires.allowed;
     } in
     rw (c.write.ensures.lines, c.entry-entry.ensures, c.as_slice.ensures.deliveries, c.len.ensures.count, c.reserve.ensures.lines)
     (device_sent g.C.Client b (Disown c.args.leaf c.args.selection) (disowning c.args.leaf c.args.selection) m
@@ -48,9 +46,7 @@ invariant_of-self-in-Err g c =
       shown = c.tree.ensures.invariant;
       view = c.args.self.now;
       same = ap (λ v. v.opening) c.self.view_is;
-      may = c.requires.may;
-      covers = c.requires.covers;
-      values = c.requires.values;
+      allowed = c.requires.allowed;
     } in
     rw (c.write-in-Err.ensures.lines, c.entry-entry-in-Err.ensures, c.reserve.ensures.lines)
     (device_refused g.C.Client b (Disown c.args.leaf c.args.selection) (disowning c.args.leaf c.args.selection) m

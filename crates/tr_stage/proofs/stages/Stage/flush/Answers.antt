@@ -16,7 +16,7 @@ batch-requires-after_bounds g c κs within =
       actor = c.args.by.now.actor;
       held = c.args.by.now.level;
     } in
-    leaf_within g.C.Client c.args.self.now b c.args.leaf (ap (λ v. v.opening) c.self.view_is) c.self.invariant c.requires.values
+    leaf_within g.C.Client c.args.self.now b c.args.leaf (ap (λ v. v.opening) c.self.view_is) c.self.invariant c.requires.allowed.values
 
 pub clear-requires-after_bounds : goal.clear-requires-after_bounds
 clear-requires-after_bounds g c κs within =
@@ -28,7 +28,7 @@ clear-requires-after_bounds g c κs within =
       actor = c.args.by.now.actor;
       held = c.args.by.now.level;
     } in
-    leaf_within g.C.Client c.args.self.now b c.args.leaf (ap (λ v. v.opening) c.self.view_is) c.self.invariant c.requires.values
+    leaf_within g.C.Client c.args.self.now b c.args.leaf (ap (λ v. v.opening) c.self.view_is) c.self.invariant c.requires.allowed.values
 
 pub invariant_of-self-2 : goal.invariant_of-self-2
 invariant_of-self-2 g c =
@@ -45,9 +45,7 @@ invariant_of-self-2 g c =
       shown = c.tree.ensures.invariant;
       view = c.args.self.now;
       same = ap (λ v. v.opening) c.self.view_is;
-      may = c.requires.may;
-      covers = c.requires.covers;
-      values = c.requires.values;
+      allowed = c.requires.allowed;
     } in
     let new : Parts g.row.C.Denot = record { surface = c.execute.new.self; windows = c.clear.new.self; mail = s.mail } in
     let done = c.in_ok-execute.ensures in

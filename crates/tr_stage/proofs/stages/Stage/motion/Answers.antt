@@ -18,9 +18,7 @@ invariant_of-self g c =
       shown = c.tree.ensures.invariant;
       view = c.args.self.now;
       same = ap (λ v. v.opening) c.self.view_is;
-      may = c.requires.may;
-      covers = c.requires.covers;
-      values = c.requires.values;
+      allowed = c.requires.allowed;
     } in
     rw (c.write.ensures.lines, c.entry-entry.ensures, c.as_slice.ensures.deliveries, c.len.ensures.count)
     (device_sent g.C.Client b (Motion c.args.time c.args.at) (motion c.args.time c.args.at) m
@@ -48,9 +46,7 @@ invariant_of-self-in-Err g c =
       shown = c.tree.ensures.invariant;
       view = c.args.self.now;
       same = ap (λ v. v.opening) c.self.view_is;
-      may = c.requires.may;
-      covers = c.requires.covers;
-      values = c.requires.values;
+      allowed = c.requires.allowed;
     } in
     rw (c.write-in-Err.ensures.lines, c.entry-entry-in-Err.ensures)
     (device_refused g.C.Client b (Motion c.args.time c.args.at) (motion c.args.time c.args.at) m

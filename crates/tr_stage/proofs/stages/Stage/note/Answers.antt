@@ -5,6 +5,6 @@ use Rattle.tr_stage.proofs.stages.Stage.note.Goals as goal
 
 pub invariant_of-self-2 : goal.invariant_of-self-2
 invariant_of-self-2 g c =
-    let made = seen_for c.args.by.now.actor c.args.by.now.level c.args.step (sym c.self.view_is) c.requires.may c.requires.covers c.requires.values in
+    let made = seen_for (sym c.self.view_is) c.requires.allowed in
     rw (c.write.ensures.lines, c.in_ok-reserve.ensures.lines, c.entry-entry.ensures)
     (notes g.C.Client c.self.invariant made c.tree.ensures.invariant.forest c.requires.note)

@@ -1,7 +1,7 @@
 use Rattle.std.proofs.Common.{◌≡◌, [], ◌∷◌, ◌++◌, length, take}
 use Rattle.tr_levels.specs.declared.Level.TheVariants.{Mu}
 use Rattle.tr_journal.specs.declared.steps.Actor.TheVariants.{Painter}
-use Rattle.tr_machine.specs.Settling.{lines_of}
+use Rattle.tr_machine.specs.Replays.{lines_of}
 use Rattle.tr_stage.specs.Stages.{state}
 use Rattle.tr_stage.proofs.stages.Stage.paint_all.Given as goal
 

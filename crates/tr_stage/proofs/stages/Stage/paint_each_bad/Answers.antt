@@ -8,13 +8,21 @@ use Rattle.tr_stage.proofs.stages.Stage.paint_each_bad.Goals as goal
 
 pub has_bad-requires-after_bounds : goal.has_bad-requires-after_bounds
 has_bad-requires-after_bounds g c κs within =
-    omega (arith, c.count-n-end.ensures.count, c.loop-n-test.true,
-      windows_of g.C.Client c.args.self.now c.self.invariant (record { spare = c.self.inside.journal.spare; is = c.self.view_is }))
+    omega (
+      arith,
+      c.count-n-end.ensures.count,
+      c.loop-n-test.true,
+      windows_of g.C.Client c.args.self.now c.self.invariant (record { spare = c.self.inside.journal.spare; is = c.self.view_is }),
+    )
 
 pub paint_bad-requires-clause-leaf : goal.paint_bad-requires-clause-leaf
 paint_bad-requires-clause-leaf g c κs within =
-    omega (arith, c.count-n-end.ensures.count, c.loop-n-test.true,
-      windows_of g.C.Client c.args.self.now c.self.invariant (record { spare = c.self.inside.journal.spare; is = c.self.view_is }))
+    omega (
+      arith,
+      c.count-n-end.ensures.count,
+      c.loop-n-test.true,
+      windows_of g.C.Client c.args.self.now c.self.invariant (record { spare = c.self.inside.journal.spare; is = c.self.view_is }),
+    )
 
 pub loop-n-preserved : goal.loop-n-preserved
 loop-n-preserved g c =

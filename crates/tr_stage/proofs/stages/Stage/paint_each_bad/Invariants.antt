@@ -1,4 +1,5 @@
-use Rattle.tr_stage.specs.Sharing.{ArePainted, bad_leaves}
+use Rattle.tr_machine.specs.Sharing.{bad_leaves}
+use Rattle.tr_stage.specs.Sharing.{ArePainted}
 use Rattle.tr_stage.specs.Stages.{state}
 use Rattle.tr_stage.proofs.stages.Stage.paint_each_bad.Given as goal
 

@@ -25,9 +25,7 @@ invariant_of-self-2 g c =
       shown = c.tree.ensures.invariant;
       view = c.args.self.now;
       same = ap (λ v. v.opening) c.self.view_is;
-      may = c.requires.may;
-      covers = c.requires.covers;
-      values = c.requires.values;
+      allowed = c.requires.allowed;
     } in
     let new : Parts g.row.C.Denot = record { surface = c.paint_frame.new.self; windows = s.windows; mail = s.mail } in
     let done = c.in_ok-paint_frame.ensures in

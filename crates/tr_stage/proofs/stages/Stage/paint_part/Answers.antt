@@ -25,7 +25,7 @@ content-content-requires-after_bounds g c κs within =
 pub execute-requires-clause-visible : goal.execute-requires-clause-visible
 execute-requires-clause-visible g c =
     part_on g.C.Client (state g.C.Client c.args.self.now) c.args.leaf c.args.part.now c.args.wanted.now.size
-    (c.requires.size ∙ c.stands.ensures.agrees.size) c.requires.part
+    (c.requires.size ∙ c.stands.ensures.invariant.agrees.size) c.requires.part
 
 pub returns-clause-painted : goal.returns-clause-painted
 returns-clause-painted g c =
@@ -45,7 +45,8 @@ returns-clause-painted g c =
           c.whole.ensures.edges
           c.in_ok-painting.ensures.painting;
     } in
-    let sees = subst (λ (v : StageView _ _). (p : Point) → holds c.args.part.now p ≡ true → is_visible (state g.C.Client v) leaf p ≡ true) (sym c.self.view_is) c.requires.part in
+    let sees = subst (λ (v : StageView _ _). (p : Point) → holds c.args.part.now p ≡ true → is_visible (state g.C.Client v) leaf p ≡ true)
+    (sym c.self.view_is) c.requires.part in
     subst (λ v. (p : Point) → holds c.args.part.now p ≡ true →
     pixel_of c.execute.new.screen p ≡ want g.C.Client (state g.C.Client v) p) c.self.view_is
     (painted_part g.C.Client c.args.part.now c.empty-unknown.result c.args.wanted.now c.execute.new.screen

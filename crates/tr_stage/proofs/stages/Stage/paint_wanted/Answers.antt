@@ -1,53 +1,29 @@
-use Rattle.std.proofs.Common.{◌≡◌, true, subst, sym, ap, ◌∙◌, arith}
+use Rattle.std.proofs.Common.{◌≡◌, true, not, sym, subst, ◌∙◌}
 use Rattle.tr_base.specs.declared.Point.{Point}
-use Rattle.tr_base.specs.Rects.{Edges, meet_of, whole_of}
-use Rattle.tr_screen.specs.Pictures.{pixel_of}
-use Rattle.tr_paint.specs.Paintings.{IsPainting}
-use Rattle.tr_paint.specs.Traces.{look_of}
-use Rattle.tr_forest.specs.Forests.{IsForest}
-use Rattle.tr_spot.specs.Leaves.{leaf_corner, leaf_size}
-use Rattle.tr_machine.specs.Pictures.{want}
+use Rattle.tr_region.specs.Points.{holds}
+use Rattle.tr_spot.proofs.WayLemmas.{and_left}
+use Rattle.tr_machine.specs.Paintings.{is_visible}
 use Rattle.tr_machine.specs.Replays.{replay}
-use Rattle.tr_windows.specs.Presents.{content_at}
-use Rattle.tr_windows.proofs.PresentLemmas.{presents-content}
 use Rattle.tr_stage.specs.Stages.{Parts, is_good_in, state}
-use Rattle.tr_stage.proofs.SettleLemmas.{windows_of}
-use Rattle.tr_stage.proofs.StaleLemmas.{IsPlan, good_is, good_on, painted_wanted}
+use Rattle.tr_stage.proofs.StaleLemmas.{good_is}
 use Rattle.tr_stage.proofs.stages.Stage.paint_wanted.Goals as goal
 
-pub content-content-requires-after_bounds : goal.content-content-requires-after_bounds
-content-content-requires-after_bounds g c κs within =
-    omega (arith, c.requires.leaf, windows_of g.C.Client c.args.self.now c.self.invariant (record { spare = c.self.inside.journal.spare; is = c.self.view_is }))
-
-pub execute-requires-clause-visible : goal.execute-requires-clause-visible
-execute-requires-clause-visible g c =
-    good_on g.C.Client (record { surface = c.self.inside.surface; windows = c.self.inside.windows; mail = c.self.inside.mail })
-    c.args.leaf c.visible.result.now c.bad.result.now
-    c.in_ok-good.good c.args.wanted.now.size c.tree-tree.ensures.invariant (c.requires.size ∙ sym (ap (λ v. v.screen.size) c.self.view_is))
-    c.visible.ensures c.in_ok-good.ensures.points
+pub paint_part-requires-clause-part : goal.paint_part-requires-clause-part
+paint_part-requires-clause-part g c =
+    let m = replay g.C.Client c.self.inside.opening c.self.inside.journal.lines in
+    let leaf = c.args.leaf in
+    let parts : Parts g.row.C.Denot = record { surface = c.self.inside.surface; windows = c.self.inside.windows; mail = c.self.inside.mail } in
+    let good = good_is g.C.Client m parts leaf c.visible.result.now c.bad.result.now c.in_ok-good.good c.self.invariant.kept c.visible.ensures c.bad.ensures
+    c.in_ok-good.ensures.points in
+    subst (λ v. (p : Point) → holds c.in_ok-good.good p ≡ true → is_visible (state g.C.Client v) leaf p ≡ true) c.self.view_is
+    (λ p h. and_left (is_visible m leaf p) (not (m.bad p)) (sym (good p) ∙ h))
 
 pub returns-clause-painted : goal.returns-clause-painted
 returns-clause-painted g c =
     let m = replay g.C.Client c.self.inside.opening c.self.inside.journal.lines in
     let leaf = c.args.leaf in
-    let how = look_of c.kind.result c.font.result.now in
-    let size = c.leaf_size-size.result in
-    let batch = c.in_ok-painting.painting in
-    let tree : c.tree-tree.result.now ≡ m.tree = c.tree-tree.ensures.value ∙ c.self.invariant.kept.tree in
-    let plan : IsPlan g.C.Client m leaf how size c.corner_of-corner.result c.content-content.result.now batch = record {
-      look = ap (λ k. look_of k c.font.result.now) (c.kind.ensures ∙ ap (λ t. t.kind) tree)
-          ∙ ap (λ f. look_of m.tree.kind f) (c.font.ensures ∙ sym c.self.invariant.like.font);
-      size = c.leaf_size-size.ensures.value ∙ ap (λ t. leaf_size t leaf) tree;
-      corner = c.corner_of-corner.ensures.value ∙ ap (λ t. leaf_corner t leaf) tree;
-      is = sym (ap (λ ws. content_at ws leaf) c.self.invariant.kept.windows ∙ presents-content g.C.Client m leaf) ∙ c.content-content.ensures.content;
-      paints = subst (λ (r : Edges). IsPainting how (meet_of (whole_of size) r) batch (g.C.Client.pic how size c.content-content.result.now))
-          c.whole.ensures.edges
-          c.in_ok-painting.ensures.painting;
-    } in
     let parts : Parts g.row.C.Denot = record { surface = c.self.inside.surface; windows = c.self.inside.windows; mail = c.self.inside.mail } in
     let good = good_is g.C.Client m parts leaf c.visible.result.now c.bad.result.now c.in_ok-good.good c.self.invariant.kept c.visible.ensures c.bad.ensures
     c.in_ok-good.ensures.points in
-    subst (λ v. (p : Point) → is_good_in (state g.C.Client v) leaf p ≡ true →
-    pixel_of c.execute.new.screen p ≡ want g.C.Client (state g.C.Client v) p) c.self.view_is
-    (painted_wanted g.C.Client c.in_ok-good.good c.empty-unknown.result c.args.wanted.now c.execute.new.screen
-    (subst (λ t. IsForest t.nodes) c.self.invariant.kept.tree c.tree-tree.ensures.invariant.forest) plan good c.in_ok-execute.ensures.known)
+    let points = subst (λ v. (p : Point) → holds c.in_ok-good.good p ≡ is_good_in (state g.C.Client v) leaf p) c.self.view_is good in
+    λ p here. c.in_ok-paint_part.ensures.painted p (points p ∙ here)

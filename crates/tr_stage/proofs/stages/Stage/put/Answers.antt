@@ -2,7 +2,7 @@ use Rattle.std.proofs.Common.{◌≡◌, ◌∙◌, [], sym, subst, ap, refl}
 use Rattle.tr_journal.specs.declared.steps.Step.TheVariants.{Repaint}
 use Rattle.tr_machine.specs.States.{batch_of}
 use Rattle.tr_stage.specs.Stages.{Parts, StageView, state}
-use Rattle.tr_stage.specs.Sharing.{IsPaintedOf}
+use Rattle.tr_machine.specs.Sharing.{IsPaintedOf}
 use Rattle.tr_stage.proofs.DeviceLemmas.{Before, IsMaking}
 use Rattle.tr_stage.proofs.PaintLemmas.{leaf_within}
 use Rattle.tr_stage.proofs.SharingLemmas.{put_made}
@@ -18,7 +18,7 @@ clear-requires-after_bounds g c κs within =
       actor = c.args.by.now.actor;
       held = c.args.by.now.level;
     } in
-    leaf_within g.C.Client c.args.self.now b c.args.leaf (ap (λ v. v.opening) c.self.view_is) c.self.invariant c.requires.values
+    leaf_within g.C.Client c.args.self.now b c.args.leaf (ap (λ v. v.opening) c.self.view_is) c.self.invariant c.requires.allowed.values
 
 pub invariant_of-self-2 : goal.invariant_of-self-2
 invariant_of-self-2 g c =
@@ -35,9 +35,7 @@ invariant_of-self-2 g c =
       shown = c.tree.ensures.invariant;
       view = c.args.self.now;
       same = ap (λ v. v.opening) c.self.view_is;
-      may = c.requires.may;
-      covers = c.requires.covers;
-      values = c.requires.values;
+      allowed = c.requires.allowed;
     } in
     let new : Parts g.row.C.Denot = record { surface = c.put.new.self; windows = c.clear.new.self; mail = s.mail } in
     let done = c.in_ok-put.ensures in
@@ -49,7 +47,8 @@ invariant_of-self-2 g c =
       idle = subst (λ (v : StageView _ _). batch_of g.C.Client (state g.C.Client v) c.args.leaf ≡ []) back c.requires.idle;
       part = c.args.part.now;
       pixels = c.args.pixels.now;
-      painted = subst (λ (v : StageView _ _). IsPaintedOf g.C.Client (state g.C.Client v) c.args.leaf c.args.part.now c.args.pixels.now) back c.requires.painted;
+      painted = subst (λ (v : StageView _ _). IsPaintedOf g.C.Client (state g.C.Client v) c.args.leaf c.args.part.now c.args.pixels.now)
+          back c.requires.painted;
       puts = done.pixels;
       left = done.bad;
       windows = c.clear.ensures;

@@ -4,9 +4,10 @@ use Rattle.std.proofs.lemmas.Iterator.Consumers.{YieldsList-end, YieldsList-turn
 use Rattle.std.proofs.lemmas.List.{length_push, take_all}
 use Rattle.tr_forest.specs.Nodes.{leaf_count}
 use Rattle.tr_journal.specs.Openings.{tree_of}
-use Rattle.tr_stage.specs.Sharing.{all_bad_leaves, share_lines}
+use Rattle.tr_machine.specs.Sharing.{all_bad_leaves, share_lines}
 use Rattle.tr_stage.specs.Stages.{state}
-use Rattle.tr_stage.proofs.SharedLemmas.{bad_apart, painted_length, put_idle, put_more, put_ready, put_within}
+use Rattle.tr_machine.proofs.SharingLemmas.{bad_apart}
+use Rattle.tr_stage.proofs.SharedLemmas.{painted_length, put_idle, put_more, put_ready, put_within}
 use Rattle.tr_stage.proofs.stages.Stage.put_all.Goals as goal
 
 pub put_painted-requires-clause-leaf : goal.put_painted-requires-clause-leaf
@@ -17,12 +18,13 @@ put_painted-requires-clause-leaf g c κs within =
     c.in-Some.painted c.in-Some.is c.next.ensures.steps in
     let m = state g.C.Client c.args.self.now in
     let low = put_within g.C.Client m (length m.windows) c.args.all.items (length c.loop-painted.yielded) c.in-Some.painted c.requires.all turn in
-    let many : length m.windows ≡ leaf_count (tree_of c.args.self.now.opening).nodes = c.stands.ensures.sound.windows ∙ c.tree.ensures.like.leaves in
+    let many : length m.windows ≡ leaf_count (tree_of c.args.self.now.opening).nodes = c.stands.ensures.invariant.sound.windows ∙ c.tree.ensures.like.leaves in
     rw c.loop-painted.invariant.opening (omega (arith, low, many))
 
 pub put_painted-requires-clause-idle : goal.put_painted-requires-clause-idle
 put_painted-requires-clause-idle g c κs within =
-    put_idle g.C.Client c.args.self.now c.loop-painted.self (all_bad_leaves (state g.C.Client c.args.self.now)) (length c.loop-painted.yielded) c.in-Some.painted.leaf
+    put_idle g.C.Client c.args.self.now c.loop-painted.self (all_bad_leaves (state g.C.Client c.args.self.now))
+    (length c.loop-painted.yielded) c.in-Some.painted.leaf
     (record { opening = c.loop-painted.invariant.opening; journal = c.loop-painted.invariant.journal }) c.requires.idle
 
 pub put_painted-requires-clause-painted : goal.put_painted-requires-clause-painted
@@ -59,6 +61,7 @@ returns-clause-ok g c =
     let end = YieldsList-end items c.loop-painted.yielded c.loop-painted.painted-iterator c.loop-painted.yielded_by c.next.result c.next.new.self
     c.in-None.is c.next.ensures.steps in
     let m = state g.C.Client c.args.self.now in
-    let all : length c.loop-painted.yielded ≡ length (all_bad_leaves m) = end.1 ∙ painted_length g.C.Client m (all_bad_leaves m) c.args.all.items c.requires.all in
+    let all : length c.loop-painted.yielded ≡ length (all_bad_leaves m) =
+    end.1 ∙ painted_length g.C.Client m (all_bad_leaves m) c.args.all.items c.requires.all in
     c.loop-painted.invariant.journal
     ∙ ap (λ ls. c.args.self.now.journal ++ share_lines g.C.Client m ls) (take_all (length c.loop-painted.yielded) (all_bad_leaves m) (omega (arith, all)))

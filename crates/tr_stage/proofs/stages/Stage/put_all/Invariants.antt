@@ -1,5 +1,5 @@
 use Rattle.std.proofs.Common.{◌≡◌, ◌++◌, length, take}
-use Rattle.tr_stage.specs.Sharing.{all_bad_leaves, share_lines}
+use Rattle.tr_machine.specs.Sharing.{all_bad_leaves, share_lines}
 use Rattle.tr_stage.specs.Stages.{state}
 use Rattle.tr_stage.proofs.stages.Stage.put_all.Given as goal
 

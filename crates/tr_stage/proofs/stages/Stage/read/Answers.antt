@@ -6,7 +6,6 @@ use Rattle.tr_stage.proofs.stages.Stage.read.Goals as goal
 
 pub invariant_of-self-3 : goal.invariant_of-self-3
 invariant_of-self-3 g c =
-    let made = seen_for c.args.by.now.actor c.args.by.now.level
-    (Read c.args.leaf c.args.selection) (sym c.self.view_is) c.requires.may c.requires.covers c.requires.values in
+    let made = seen_for (sym c.self.view_is) c.requires.allowed in
     rw (c.write.ensures.lines, c.in_ok-reserve.ensures.lines, c.entry-entry.ensures)
     (reads g.C.Client c.self.invariant made c.tree.ensures.invariant.forest (rw c.in_ok-reserve.ensures.lines at c.in_ok-answer.ensures))

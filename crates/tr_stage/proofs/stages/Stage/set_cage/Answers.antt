@@ -18,9 +18,7 @@ invariant_of-self g c =
       shown = c.tree.ensures.invariant;
       view = c.args.self.now;
       same = ap (λ v. v.opening) c.self.view_is;
-      may = c.requires.may;
-      covers = c.requires.covers;
-      values = c.requires.values;
+      allowed = c.requires.allowed;
     } in
     rw (c.write.ensures.lines, c.entry-entry.ensures, c.as_slice.ensures.deliveries, c.len.ensures.count)
     (device_sent g.C.Client b (SetCage c.args.leaf c.args.cage) (cage_of c.args.leaf c.args.cage) m

@@ -1,7 +1,7 @@
 use Rattle.std.proofs.Common.{◌≡◌, ◌∷◌, ◌++◌, [], ap, sym, ◌∙◌}
 use Rattle.tr_levels.specs.declared.Level.TheVariants.{Mu}
 use Rattle.tr_journal.specs.declared.steps.Actor.TheVariants.{Painter}
-use Rattle.tr_machine.specs.Settling.{lines_of}
+use Rattle.tr_machine.specs.Replays.{lines_of}
 use Rattle.tr_stage.specs.Stages.{state}
 use Rattle.tr_stage.proofs.SharedLemmas.{AreShared, flushed_idle, shared_good, shared_idle, shared_lines, shared_screen}
 use Rattle.tr_stage.proofs.stages.Stage.settle_shared.Given.{Over}
@@ -12,9 +12,9 @@ shared : (g : Over) (c : After-stands-4 g) → AreShared g.C.Client c.args.self.
 shared g c =
     let old = c.args.self.now in
     record {
-      stands1 = c.stands-2.ensures;
-      stands2 = c.stands-3.ensures;
-      stands3 = c.stands-4.ensures;
+      stands1 = c.stands-2.ensures.invariant;
+      stands2 = c.stands-3.ensures.invariant;
+      stands3 = c.stands-4.ensures.invariant;
       opening1 = c.paint_all.ensures.opening;
       opening2 = c.put_all.ensures.opening;
       opening3 = c.paint_all-2.ensures.opening;
@@ -22,7 +22,8 @@ shared g c =
           ∙ ap (λ steps. old.journal ++ lines_of g.C.Client Painter (Mu ∷ []) (state g.C.Client old) steps) c.in_ok-flushes.ensures.steps;
       journal2 = c.in_ok-put_all.ensures.ok;
       journal3 = c.in_ok-paint_all-2.ensures.ok
-          ∙ ap (λ steps. c.put_all.new.self.journal ++ lines_of g.C.Client Painter (Mu ∷ []) (state g.C.Client c.put_all.new.self) steps) c.in_ok-frames.ensures.steps;
+          ∙ ap (λ steps. c.put_all.new.self.journal ++ lines_of g.C.Client Painter (Mu ∷ []) (state g.C.Client c.put_all.new.self) steps)
+          c.in_ok-frames.ensures.steps;
     }
 
 pub put_all-requires-clause-idle : goal.put_all-requires-clause-idle

@@ -1,15 +1,20 @@
 use Rattle.std.proofs.Common.{◌≡◌, length, sym, ◌∙◌, arith}
-use Rattle.tr_stage.specs.Sharing.{flushing}
+use Rattle.tr_machine.specs.Sharing.{flushing}
 use Rattle.tr_stage.specs.Stages.{state}
 use Rattle.tr_stage.proofs.SettleLemmas.{windows_of}
-use Rattle.tr_stage.proofs.SharedLemmas.{flush_less, flush_more, flushes_done, flushing_painters}
+use Rattle.tr_machine.proofs.SharingLemmas.{flush_less, flush_more}
+use Rattle.tr_stage.proofs.SharedLemmas.{flushes_done, flushing_painters}
 use Rattle.tr_stage.proofs.stages.Stage.steps_to_flush.Goals.{then-waits+in_ok-push, else-waits}
 use Rattle.tr_stage.proofs.stages.Stage.steps_to_flush.Goals as goal
 
 pub waits-requires-after_bounds : goal.waits-requires-after_bounds
 waits-requires-after_bounds g c κs within =
-    omega (arith, c.count-n-end.ensures.count, c.loop-n-test.true,
-      windows_of g.C.Client c.args.self.now c.self.invariant (record { spare = c.self.inside.journal.spare; is = c.self.view_is }))
+    omega (
+      arith,
+      c.count-n-end.ensures.count,
+      c.loop-n-test.true,
+      windows_of g.C.Client c.args.self.now c.self.invariant (record { spare = c.self.inside.journal.spare; is = c.self.view_is }),
+    )
 
 pub loop-n-preserved : goal.loop-n-preserved
 loop-n-preserved g c =

@@ -18,8 +18,8 @@ take_over-requires-clause-leaf g c κs within =
     has_window g.C.Client c.self.invariant
     (subst (λ (u : StageView _ _). c.args.leaf.0 < leaf_count (tree_of u.opening).nodes) (sym c.self.view_is) c.requires.leaf)
 
-pub write_silent-requires-clause-quiet : goal.write_silent-requires-clause-quiet
-write_silent-requires-clause-quiet g c κs within = rw c.in_ok-entries.ensures (entries_quiet c.args.leaf _ _)
+pub extend-requires : goal.extend-requires
+extend-requires g c κs within = rw c.in_ok-entries.ensures (entries_quiet c.args.leaf _ _)
 
 pub invariant_of-self-2 : goal.invariant_of-self-2
 invariant_of-self-2 g c =
@@ -36,11 +36,13 @@ invariant_of-self-2 g c =
     let to = c.in_ok-content.content in
     let copied : to ≡ p.to = c.in_ok-content.ensures.copy in
     let ready = ready_at g.C.Client n leaf p.commands.items p.from to p.batch p.kind p.font p.size
-        (subst (λ (u : StageView _ _). content_of g.C.Client (state g.C.Client u) leaf ≡ Some p.from) back c.requires.from)
-        (subst (λ (u : StageView _ _). p.kind ≡ (state g.C.Client u).tree.kind) back c.requires.kind)
-        (subst (λ (u : StageView _ _). p.font ≡ (state g.C.Client u).font) back c.requires.font)
-        (subst (λ (u : StageView _ _). p.size ≡ leaf_size (state g.C.Client u).tree leaf) back c.requires.size)
-        (copied ∙ p.contents) p.patches
-        (subst (λ x. IsPatch (look_of p.kind p.font) p.size p.batch (g.C.Client.pic (look_of p.kind p.font) p.size p.from) (g.C.Client.pic (look_of p.kind p.font) p.size x)) (sym copied) p.patch) in
-    rw (c.write_silent.ensures, c.in_ok-reserve.ensures.lines, c.in_ok-entries.ensures, c.deref.ensures.value)
-    (takes_over g.C.Client p.commands.items c.args.levels.now c.self.invariant (record { within = within }) ready c.requires.counts c.in_ok-take_over.ensures.ok)
+    (subst (λ (u : StageView _ _). content_of g.C.Client (state g.C.Client u) leaf ≡ Some p.from) back c.requires.from)
+    (subst (λ (u : StageView _ _). p.kind ≡ (state g.C.Client u).tree.kind) back c.requires.kind)
+    (subst (λ (u : StageView _ _). p.font ≡ (state g.C.Client u).font) back c.requires.font)
+    (subst (λ (u : StageView _ _). p.size ≡ leaf_size (state g.C.Client u).tree leaf) back c.requires.size)
+    (copied ∙ p.contents) p.patches
+    (subst (λ x. IsPatch (look_of p.kind p.font) p.size p.batch
+    (g.C.Client.pic (look_of p.kind p.font) p.size p.from) (g.C.Client.pic (look_of p.kind p.font) p.size x)) (sym copied) p.patch) in
+    rw (c.in_ok-extend.ensures.ok, c.in_ok-reserve_silent.ensures.lines, c.in_ok-entries.ensures, c.deref.ensures.value)
+    (takes_over g.C.Client p.commands.items c.args.levels.now c.self.invariant (record { within = within }) ready
+    c.requires.levels c.in_ok-take_over.ensures.ok)

@@ -1,9 +1,9 @@
-use Rattle.std.proofs.Common.{◌≡◌, ◌==◌, Bool, true, ◌&&◌, not, List, Option, Some, None, length, sym, ap, subst, ◌∙◌}
+use Rattle.std.proofs.Common.{◌≡◌, ◌==◌, true, not, List, Option, None, length, sym, ap, subst, ◌∙◌}
 use Rattle.tr_base.specs.declared.Point.{Point}
 use Rattle.tr_base.specs.declared.NodeId.{NodeId}
 use Rattle.tr_base.specs.Rects.{Edges, before_shift}
 use Rattle.tr_region.specs.Points.{holds}
-use Rattle.tr_screen.specs.Pictures.{Picture, pixel_of}
+use Rattle.tr_screen.specs.Pictures.{pixel_of}
 use Rattle.tr_screen.specs.Runs.{Repaints}
 use Rattle.tr_repair.specs.Moves.{MovesOn}
 use Rattle.tr_forest.specs.declared.Edit.{Edit}
@@ -16,7 +16,7 @@ use Rattle.tr_spot.specs.Spots.{HasRoot, is_spot_of, spot}
 use Rattle.tr_spot.proofs.WayLemmas.{and_left}
 use Rattle.tr_surface.specs.Surfaces.{AreRegions, IsShown, IsSurface, Shown, is_on}
 use Rattle.tr_surface.specs.TreeSteps.{bad_after, good_after, moved_child, source}
-use Rattle.tr_surface.specs.Shares.{bad_by, tint_bad, IsFitted, IsLike, follows_by, good_by, in_first, way_of_moved}
+use Rattle.tr_surface.specs.Survivors.{IsFitted, IsLike, bad_by, change, follows_by, good_by, in_first, tint_bad, way_of_moved}
 use Rattle.tr_surface.proofs.KnownLemmas.{covered}
 use Rattle.tr_surface.proofs.EditLemmas.{forest_edited, like_edited, move_edited, nodes_still, rooted}
 use Rattle.tr_surface.proofs.TintLemmas.{tint_regions, tint_step}
@@ -88,7 +88,7 @@ invariant_of-self-2 g c =
       root = rooted t c.edit.new.self like root;
       size = c.move_pixels.ensures.size ∙ c.in_ok-fit_screen.ensures.ok.size;
       kind = c.move_pixels.ensures.kind ∙ c.in_ok-fit_screen.ensures.ok.kind;
-      bad = λ p h. and_left (is_on c.edit.new.self p) (not (good_by k t c.edit.new.self c.moved_child-moved.result (holds c.args.self.now.bad) p)) (sym (c.in_ok-known.ensures.bad p) ∙ h);
+      bad = λ p h. and_left (is_on c.edit.new.self p) (not (good_by k (change t c.edit.new.self c.moved_child-moved.result (holds c.args.self.now.bad)) p)) (sym (c.in_ok-known.ensures.bad p) ∙ h);
     } in
     let owned : AreRegions c.edit.new.self c.in_ok-after.after.items = record { count = c.in_ok-after.ensures.count; points = c.in_ok-after.ensures.points } in
     subst (λ (u : Seen). IsSurface u c.in_ok-after.after.items c.move_pixels.new.screen c.in_ok-known.known.bad) (sym c.replace-2.ensures.after)
@@ -114,8 +114,8 @@ returns-clause-pixels g c =
     let move : IsMove t new (moved_child t edit) = subst (λ (u : Seen). IsMove t u (moved_child t edit)) (sym is) (move_edited t edit root (like_edited t edit forest c.requires.edit allowed)) in
     let way : c.way_of_moved-way.result ≡ way_of_moved t new (moved_child t edit) =
     c.way_of_moved-way.ensures ∙ ap (λ (u : Seen). way_of_moved u new c.moved_child-moved.result) at ∙ ap (λ (o : Option NodeId). way_of_moved t new o) m in
-    let its : (p : Point) → follows p ≡ follows_by k t new (moved_child t edit) (holds s.bad) p =
-    λ p. c.in_ok-known.ensures.follows p ∙ ap (λ (o : Option NodeId). follows_by k t new o (holds s.bad) p) m in
+    let its : (p : Point) → follows p ≡ follows_by k (change t new (moved_child t edit) (holds s.bad)) p =
+    λ p. c.in_ok-known.ensures.follows p ∙ ap (λ (o : Option NodeId). follows_by k (change t new o (holds s.bad)) p) m in
     let paints : Repaints follows (λ p. pixel_of mid (before_shift p (way_of_moved t new (moved_child t edit)))) mid last =
     subst (λ (d : Point). Repaints follows (λ p. pixel_of mid (before_shift p d)) mid last) way c.move_pixels.ensures in
     let screens : AreScreens t new s.screen mid = record {
@@ -143,7 +143,7 @@ invariant_of-self g c =
     let root : HasRoot t = subst (λ (u : Seen). HasRoot u) at c.self.invariant.shown.root in
     let old : AreRegions t c.self.inside.regions.items = subst (λ (u : Seen). AreRegions u c.self.inside.regions.items) at c.self.invariant.owned in
     let within : (p : Point) → holds s.bad p ≡ true → is_on t p ≡ true = subst (λ (w : Shown). (p : Point) → holds w.bad p ≡ true → is_on w.tree p ≡ true) c.self.view_is c.self.invariant.shown.bad in
-    let bad : (p : Point) → holds c.in_ok-bad.bad p ≡ bad_by (g.K.Keeper.keeping c.args.keeper.now) t (edited_tree t (edits.Tint n tint)) None (holds s.bad) p = λ p.
+    let bad : (p : Point) → holds c.in_ok-bad.bad p ≡ bad_by (g.K.Keeper.keeping c.args.keeper.now) (change t (edited_tree t (edits.Tint n tint)) None (holds s.bad)) p = λ p.
     c.in_ok-bad.ensures p ∙ ap (λ (u : Seen). tint_bad ((node t.nodes n).tint == (node u.nodes n).tint) (holds s.bad p) (is_spot_of t n (spot t p))) is
     ∙ tint_step (g.K.Keeper.keeping c.args.keeper.now) t c.self.inside.regions.items n tint forest old root node_is allowed (holds s.bad) within p in
     let after : Seen = edited_tree t (edits.Tint n tint) in
@@ -153,7 +153,7 @@ invariant_of-self g c =
       root = rooted t after like root;
       size = c.self.invariant.shown.size ∙ ap (λ (u : Seen). u.size) at;
       kind = c.self.invariant.shown.kind ∙ ap (λ (u : Seen). u.kind) at;
-      bad = λ p h. and_left (is_on after p) (not (good_by (g.K.Keeper.keeping c.args.keeper.now) t after None (holds s.bad) p)) (sym (bad p) ∙ h);
+      bad = λ p h. and_left (is_on after p) (not (good_by (g.K.Keeper.keeping c.args.keeper.now) (change t after None (holds s.bad)) p)) (sym (bad p) ∙ h);
     } in
     subst (λ (u : Seen). IsSurface u c.self.inside.regions.items c.self.inside.screen c.in_ok-bad.bad) (sym (c.replace.ensures.after ∙ is))
     (record { shown = shown; owned = tint_regions t c.self.inside.regions.items n tint forest old node_is allowed })

@@ -6,7 +6,7 @@ use Rattle.tr_region.specs.Points.{holds}
 use Rattle.tr_spot.specs.Spots.{HasRoot}
 use Rattle.tr_spot.specs.Leaves.{same_kind}
 use Rattle.tr_surface.specs.Surfaces.{Shown, is_on}
-use Rattle.tr_surface.specs.Shares.{good_by, is_carried}
+use Rattle.tr_surface.specs.Survivors.{change, good_by, is_below_moved}
 use Rattle.tr_surface.proofs.KnownLemmas.{none_good, and_false}
 use Rattle.tr_surface.proofs.EditLemmas.{rooted}
 use Rattle.tr_surface.proofs.surfaces.Surface.known.Goals as goal
@@ -24,7 +24,7 @@ returns-then-is_other-clause-bad g c = λ p.
     let other : same_kind s.tree.kind is.kind ≡ false =
     ap (λ (x : Kind). same_kind x is.kind) (sym (c.kind.ensures ∙ ap (λ (w : Shown). w.tree.kind) c.self.view_is))
     ∙ ap (λ (x : Kind). same_kind c.kind.result x) (sym c.kind-2.ensures) ∙ c.is_other.ensures.other c.if-is_other.true in
-    let none : good_by k s.tree is c.args.moved (holds s.bad) p ≡ false = none_good k s.tree is c.args.moved (holds s.bad) root other p in
+    let none : good_by k (change s.tree is c.args.moved (holds s.bad)) p ≡ false = none_good k s.tree is c.args.moved (holds s.bad) root other p in
     c.in_ok-bad.ensures.points p ∙ ap (λ (e : Edges). has_point e p) c.whole.ensures.edges ∙ ap (λ (z : Size). has_point (whole_of z) p) c.size.ensures
     ∙ sym (ap (λ b. is_on is p && not b) none ∙ and_true (is_on is p))
 
@@ -37,6 +37,6 @@ returns-then-is_other-clause-follows g c = λ p.
     let other : same_kind s.tree.kind is.kind ≡ false =
     ap (λ (x : Kind). same_kind x is.kind) (sym (c.kind.ensures ∙ ap (λ (w : Shown). w.tree.kind) c.self.view_is))
     ∙ ap (λ (x : Kind). same_kind c.kind.result x) (sym c.kind-2.ensures) ∙ c.is_other.ensures.other c.if-is_other.true in
-    let none : good_by k s.tree is c.args.moved (holds s.bad) p ≡ false = none_good k s.tree is c.args.moved (holds s.bad) root other p in
+    let none : good_by k (change s.tree is c.args.moved (holds s.bad)) p ≡ false = none_good k s.tree is c.args.moved (holds s.bad) root other p in
     ap (λ (r : List Edges). holds r p) c.empty-follows.ensures
-    ∙ sym (ap (λ b. is_carried is c.args.moved p && b) none ∙ and_false (is_carried is c.args.moved p))
+    ∙ sym (ap (λ b. is_below_moved is c.args.moved p && b) none ∙ and_false (is_below_moved is c.args.moved p))

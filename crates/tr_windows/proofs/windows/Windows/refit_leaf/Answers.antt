@@ -1,7 +1,7 @@
 use Rattle.std.proofs.Common.{◌≡◌, false, refl, sym, ◌∙◌}
 use Rattle.tr_mail.specs.Deliveries.{is_reshaped}
+use Rattle.tr_machine.proofs.ListLemmas.{unchanged}
 use Rattle.tr_windows.specs.Presents.{refitted}
-use Rattle.tr_windows.proofs.ChangeLemmas.{unchanged}
 use Rattle.tr_windows.proofs.windows.Windows.refit_leaf.Goals as goal
 
 pub returns-else-is_reshaped : goal.returns-else-is_reshaped

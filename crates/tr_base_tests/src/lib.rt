@@ -1,0 +1,17 @@
+//! Tests of the values, streams, kernels, regions and screens at the bottom. Nothing but tests is in here.
+#![tactic(auto)]
+
+#[cfg(test)]
+mod kernels;
+#[cfg(test)]
+mod regions;
+#[cfg(test)]
+mod rows;
+#[cfg(test)]
+mod runs;
+#[cfg(test)]
+mod screens;
+#[cfg(test)]
+mod streams;
+#[cfg(test)]
+mod values;

@@ -1,0 +1,280 @@
+//! Regions, held against the points that they have.
+ghost use Rattle.std.specs.Prelude.{IsTrue};
+ghost use Rattle.std.specs.List.{AllByRecursion};
+ghost use Rattle.tr_region.specs.Points.{IsInSquare};
+
+use std::alloc::Global;
+use std::collections::BTreeSet;
+use std::test::Fail;
+use tr_base::{NoMemory, Point, Rect};
+use tr_region::Region;
+
+// The edges of rectangles in a square of 4 by 4, along one axis.
+const SIDES: [(i8, i8); 10] = [
+    (0, 1),
+    (0, 2),
+    (0, 3),
+    (0, 4),
+    (1, 2),
+    (1, 3),
+    (1, 4),
+    (2, 3),
+    (2, 4),
+    (3, 4),
+];
+
+fn rect(west: i8, east: i8, north: i8, south: i8) -> Rect {
+    Rect::edges(
+        i32::from(west),
+        i32::from(east),
+        i32::from(north),
+        i32::from(south),
+    )
+}
+
+fn is_in(rect: &Rect) -> bool
+    ensures { IsTrue result → IsInSquare rect.now }
+{
+    rect.west() >= 0 && rect.east() <= 1024 && rect.north() >= 0 && rect.south() <= 1024
+}
+
+fn is_in_square(region: &Region) -> bool
+    ensures { IsTrue result → AllByRecursion IsInSquare region.now }
+{
+    for rect in region.rects() {
+        if !is_in(rect) {
+            return false;
+        }
+    }
+    true
+}
+
+/// Whether a region has just these rectangles.
+fn has_rects(region: &Region, want: &[Rect]) -> bool {
+    region.rects() == want
+}
+
+/// Whether rectangles are cut, and joined where they touch.
+fn are_cut_and_joined(alloc: Global) -> Result<bool, NoMemory> {
+    let square = Region::of_rect(alloc, rect(0, 2, 0, 2))?;
+    let corner = Region::of_rect(alloc, rect(0, 1, 0, 1))?;
+    let rest = square.minus(&corner)?;
+    let all = rest.union(&corner)?;
+    let common = rest.meet(&Region::of_rect(alloc, rect(1, 3, 0, 1))?)?;
+    Ok(
+        has_rects(&rest, &[rect(1, 2, 0, 1), rect(0, 2, 1, 2)])
+            && has_rects(&all, &[rect(0, 2, 0, 2)])
+            && has_rects(&common, &[rect(1, 2, 0, 1)])
+            && common.has(Point { h: 1, v: 0 })
+            && !common.has(Point { h: 2, v: 0 })
+            && all.same(&square)
+            && !all.same(&rest)
+            && rest.copy()?.same(&rest),
+    )
+}
+
+/// Whether bands of rows are joined where they have the same rectangles.
+fn are_bands_joined(alloc: Global) -> Result<bool, NoMemory> {
+    let west = Region::of_rect(alloc, rect(0, 1, 0, 1))?;
+    let two = west.union(&Region::of_rect(alloc, rect(1, 2, 1, 2))?)?;
+    let three = two.union(&Region::of_rect(alloc, rect(1, 2, 0, 1))?)?;
+    let four = three.union(&Region::of_rect(alloc, rect(0, 1, 1, 2))?)?;
+    let diagonal = [rect(0, 1, 0, 1), rect(1, 2, 1, 2)];
+    Ok(has_rects(&two, &diagonal) && has_rects(&four, &[rect(0, 2, 0, 2)]))
+}
+
+/// A square without the square in its middle.
+fn ring(alloc: Global) -> Result<Region, NoMemory> {
+    let outer = Region::of_rect(alloc, rect(0, 4, 0, 4))?;
+    outer.minus(&Region::of_rect(alloc, rect(1, 3, 1, 3))?)
+}
+
+/// A region moved by one point; none where it reaches beyond the square.
+fn east_of(region: &Region) -> Result<Option<Region>, NoMemory> {
+    if !is_in_square(region) {
+        return Ok(None);
+    }
+    Ok(Some(one_east(region)?))
+}
+
+fn one_east(region: &Region) -> Result<Region, NoMemory>
+    requires { AllByRecursion IsInSquare region.now }
+{
+    region.shift(Point { h: 1, v: 0 })
+}
+
+/// The number of points of a region; none where it reaches beyond the square.
+fn count_of(region: &Region) -> Option<u64> {
+    if is_in_square(region) {
+        Some(counted(region))
+    } else {
+        None
+    }
+}
+
+fn counted(region: &Region) -> u64
+    requires { AllByRecursion IsInSquare region.now }
+{
+    region.count()
+}
+
+/// Whether a ring is moved and counted.
+fn is_ring_moved(alloc: Global) -> Result<bool, NoMemory> {
+    let ring = ring(alloc)?;
+    let Some(east) = east_of(&ring)? else {
+        return Ok(false);
+    };
+    let want = [
+        rect(1, 5, 0, 1),
+        rect(1, 2, 1, 3),
+        rect(4, 5, 1, 3),
+        rect(1, 5, 3, 4),
+    ];
+    Ok(has_rects(&east, &want) && count_of(&ring) == Some(12))
+}
+
+/// Whether no rectangle is no point.
+fn is_none_empty(alloc: Global) -> Result<bool, NoMemory> {
+    let none = Region::empty(alloc);
+    let flat = Region::of_rect(alloc, rect(3, 3, 0, 9))?;
+    let some = Region::of_rect(alloc, rect(3, 4, 0, 9))?;
+    let is_counted = none.is_empty() && count_of(&none) == Some(0);
+    Ok(is_counted && flat.same(&none) && !some.is_empty() && some.minus(&some)?.is_empty())
+}
+
+#[test]
+fn regions_are_lists_of_rectangles(rt: HostRuntime) -> Result<(), Fail> {
+    assert!(rt; are_cut_and_joined(rt.alloc())?, "cut and joined");
+    assert!(rt; are_bands_joined(rt.alloc())?, "bands");
+    assert!(rt; is_ring_moved(rt.alloc())?, "a ring");
+    assert!(rt; is_none_empty(rt.alloc())?, "no rectangle");
+    Ok(())
+}
+
+fn place(cell: u8) -> Point {
+    Point {
+        h: i32::from(cell % 4),
+        v: i32::from(cell / 4),
+    }
+}
+
+// The points of the square that the region holds, by rows from the lowest bit on.
+fn points_of(region: &Region) -> u16 {
+    let mut points = 0;
+    for cell in 0..16u8 {
+        if region.has(place(cell)) {
+            points |= 1u16 << cell;
+        }
+    }
+    points
+}
+
+// The regions of all sets of points of the square, each built of its points.
+fn built(alloc: Global) -> Result<Vec<Region>, NoMemory> {
+    let mut regions = Vec::new(alloc);
+    regions.push(Region::empty(alloc))?;
+    for v in 0..4i8 {
+        for h in 0..4i8 {
+            let point = Region::of_rect(alloc, rect(h, h + 1, v, v + 1))?;
+            double(&mut regions, &point)?;
+        }
+    }
+    Ok(regions)
+}
+
+// Adds each region once more, with a point.
+fn double(regions: &mut Vec<Region>, point: &Region) -> Result<(), NoMemory> {
+    for i in 0..regions.len() {
+        if let Some(region) = regions.get(i) {
+            let more = region.union(point)?;
+            regions.push(more)?;
+        }
+    }
+    Ok(())
+}
+
+// The points of each rectangle in the square, and of none.
+fn rect_points(alloc: Global) -> Result<Vec<u16>, NoMemory> {
+    let mut points = Vec::new(alloc);
+    points.push(0)?;
+    for (west, east) in SIDES {
+        for (north, south) in SIDES {
+            let region = Region::of_rect(alloc, rect(west, east, north, south))?;
+            points.push(points_of(&region))?;
+        }
+    }
+    Ok(points)
+}
+
+// The unions of one set of each list, each once.
+fn unions(alloc: Global, first: &[u16], second: &[u16]) -> Result<Vec<u16>, NoMemory> {
+    let mut sets = BTreeSet::new(alloc);
+    for a in first {
+        for b in second {
+            sets.insert(*a | *b)?;
+        }
+    }
+    let mut list = Vec::new(alloc);
+    for set in &sets {
+        list.push(*set)?;
+    }
+    Ok(list)
+}
+
+fn is_built(regions: &[Region], region: &Region, points: u16) -> bool {
+    match regions.get(usize::from(points)) {
+        Some(want) => region.same(want),
+        None => false,
+    }
+}
+
+fn agrees(regions: &[Region], first: u16, second: u16) -> Result<bool, NoMemory> {
+    let (Some(a), Some(b)) = (
+        regions.get(usize::from(first)),
+        regions.get(usize::from(second)),
+    ) else {
+        return Ok(false);
+    };
+    Ok(
+        is_built(regions, &a.union(b)?, first | second)
+            && is_built(regions, &a.meet(b)?, first & second)
+            && is_built(regions, &a.minus(b)?, first & !second),
+    )
+}
+
+/// Whether each region has the points of its place.
+fn have_their_points(regions: &[Region]) -> bool {
+    for (points, region) in regions.iter().enumerate() {
+        if usize::from(points_of(region)) != points {
+            return false;
+        }
+    }
+    true
+}
+
+/// Whether a region agrees with each of others.
+fn agrees_with_all(regions: &[Region], first: u16, others: &[u16]) -> Result<bool, NoMemory> {
+    for second in others {
+        if !agrees(regions, first, *second)? {
+            return Ok(false);
+        }
+    }
+    Ok(true)
+}
+
+#[test]
+fn answers_are_those_of_the_points(rt: HostRuntime) -> Result<(), Fail> {
+    let regions = built(rt.alloc())?;
+    assert!(rt; regions.len() == 65_536 && have_their_points(&regions));
+    let ones = rect_points(rt.alloc())?;
+    let twos = unions(rt.alloc(), &ones, &ones)?;
+    let threes = unions(rt.alloc(), &twos, &ones)?;
+    assert!(rt; twos.len() == 2_126 && threes.len() == 14_712);
+    for first in &twos {
+        assert!(rt;
+            agrees_with_all(&regions, *first, &threes)?,
+            "at {first:#06x}"
+        );
+    }
+    Ok(())
+}

@@ -1,0 +1,188 @@
+//! Operations, rectangles, tiles, fonts, pixmaps and lines.
+ghost use Rattle.std.specs.Prelude.{◌≤◌, length};
+ghost use Rattle.std.specs.List.{AllPass};
+ghost use Rattle.tr_base.specs.Lines.{is_printable};
+
+use std::alloc::Global;
+use std::test::Fail;
+use tr_base::{
+    Command, Font, Kind, LINE, Line, NoMemory, Op, Pixmap, Point, REACH, Rect, Size, Tile, eff,
+    is_set, place_of, tile_bit, whole,
+};
+
+#[test]
+fn operations_leave_their_pixels(rt: HostRuntime) {
+    for (kind, op, old, want) in [
+        (Kind::Map8, Op::Bg, 9, 0),
+        (Kind::Map8, Op::Fg, 9, 1),
+        (Kind::Map8, Op::Transparent, 9, 9),
+        (Kind::Map8, Op::Set(200), 9, 200),
+        (Kind::Map4, Op::Set(200), 9, 15),
+        (Kind::Mono, Op::Set(200), 0, 1),
+        (Kind::Mono, Op::Set(0), 1, 0),
+        (Kind::Map8, Op::Exchange(3, 9), 9, 3),
+        (Kind::Map8, Op::Exchange(3, 9), 3, 9),
+        (Kind::Map8, Op::Exchange(3, 9), 4, 4),
+        (Kind::Map4, Op::Exchange(3, 200), 15, 3),
+        (Kind::Map4, Op::Exchange(16, 0), 0, 15),
+        (Kind::Mono, Op::Exchange(0, 7), 0, 1),
+    ] {
+        assert!(rt; eff(kind, op, old) == want, "{op:?} of {old}");
+    }
+}
+
+/// Whether a rectangle has these edges: west, east, north, south.
+fn has_edges(rect: &Rect, want: (i32, i32, i32, i32)) -> bool {
+    (rect.west(), rect.east(), rect.north(), rect.south()) == want
+}
+
+#[test]
+fn rectangles_hold_their_points(rt: HostRuntime) {
+    let rect = Rect::edges(-2, 3, 1, 5);
+    assert!(rt; REACH == 1_048_576 && has_edges(&rect, (-2, 3, 1, 5)) && !rect.is_empty());
+    assert!(rt; rect.size() == (5, 4) && rect.corner() == Point { h: -2, v: 1 });
+    for (h, v, want) in [
+        (-2, 1, true),
+        (2, 4, true),
+        (-3, 1, false),
+        (3, 1, false),
+        (0, 0, false),
+        (0, 5, false),
+    ] {
+        assert!(rt; rect.has(Point { h, v }) == want, "at {h} {v}");
+    }
+}
+
+#[test]
+fn rectangles_meet_and_move(rt: HostRuntime) {
+    let empty = Rect::edges(4, 4, 0, 9);
+    let left = Rect::edges(0, 4, 0, 4);
+    let right = Rect::edges(2, 9, 1, 3);
+    for (found, want) in [
+        (empty, (0, 0, 0, 0)),
+        (Rect::edges(7, 2, 0, 9), (0, 0, 0, 0)),
+        (empty.shift(Point { h: 5, v: 6 }), (0, 0, 0, 0)),
+        (left.meet(&right), (2, 4, 1, 3)),
+        (left.meet(&Rect::edges(4, 9, 1, 3)), (0, 0, 0, 0)),
+        (right.shift(Point { h: -3, v: 10 }), (-1, 6, 11, 13)),
+        (whole(Size { wide: 3, high: 2 }), (0, 3, 0, 2)),
+        (whole(Size { wide: 3, high: 0 }), (0, 0, 0, 0)),
+    ] {
+        assert!(rt; has_edges(&found, want), "{found:?} in place of {want:?}");
+    }
+}
+
+#[test]
+fn tiles_repeat_in_all_directions(rt: HostRuntime) {
+    let tile = Tile {
+        rows: [0x80, 0x40, 0x20, 0x10, 8, 4, 2, 1],
+    };
+    for (h, v, want) in [
+        (0, 0, true),
+        (7, 7, true),
+        (1, 0, false),
+        (0, 1, false),
+        (8, 16, true),
+        (-1, -1, true),
+        (-8, 0, true),
+        (-1, 0, false),
+        (i32::MIN, 0, true),
+    ] {
+        assert!(rt; tile_bit(&tile, h, v) == want, "at {h} {v}");
+    }
+    assert!(rt; place_of(-3) == 5 && place_of(13) == 5);
+    assert!(rt; is_set(0x81, 0) && !is_set(0x81, 1) && is_set(0x81, 7));
+}
+
+/// Whether all bytes of a table have this glyph.
+fn have_glyph(font: &Font, bytes: &[u8], glyph: [u8; 8]) -> bool {
+    for byte in bytes {
+        if font.glyph_of(*byte) != glyph {
+            return false;
+        }
+    }
+    true
+}
+
+/// Whether a font keeps the glyph that it is given, and no other one.
+fn keeps_its_glyph(alloc: Global) -> Result<bool, NoMemory> {
+    let boxed = [255, 129, 129, 129, 129, 129, 129, 255];
+    let glyph = [1, 2, 3, 4, 5, 6, 7, 8];
+    let mut font = Font::empty(alloc)?;
+    let empty = font.copy()?;
+    let is_empty = have_glyph(&font, &[0, 31, 32, 65, 126, 127, 255], boxed);
+    font.set(65, glyph);
+    let copy = font.copy()?;
+    let is_kept = have_glyph(&font, &[65], glyph) && have_glyph(&font, &[66], boxed);
+    let is_new = font.same(&copy) && !font.same(&empty);
+    font.set(65, boxed);
+    Ok(is_empty && is_kept && is_new && font.same(&empty))
+}
+
+/// Whether a pixmap has the pixels that it is given, row after row.
+fn has_its_pixels(alloc: Global) -> Result<bool, NoMemory> {
+    let bytes = [3, 4, 5, 6, 7, 8];
+    let pixmap = Pixmap::new(Size { wide: 2, high: 3 }, Vec::from_slice(alloc, &bytes)?);
+    let other = Pixmap::new(Size { wide: 3, high: 2 }, Vec::from_slice(alloc, &bytes)?);
+    let copy = pixmap.copy()?;
+    let points = pixmap.at(Point { h: 1, v: 2 }) == 8 && pixmap.at(Point { h: 1, v: 0 }) == 4;
+    Ok(points && pixmap.row(1) == [5, 6].as_slice() && pixmap.same(&copy) && !pixmap.same(&other))
+}
+
+/// Whether a line of text has the bytes that it is given.
+fn has_its_bytes(bytes: &[u8]) -> Result<bool, NoMemory>
+    requires short { length bytes.now ≤ LINE }
+    requires printable { AllPass is_printable bytes.now }
+{
+    let line = Line::of(bytes)?;
+    Ok(line.bytes() == bytes && line.same(&line.copy()?))
+}
+
+#[test]
+fn fonts_pixmaps_and_lines_keep_what_they_were_given(rt: HostRuntime) -> Result<(), Fail> {
+    assert!(rt; keeps_its_glyph(rt.alloc())?);
+    assert!(rt; has_its_pixels(rt.alloc())?);
+    assert!(rt; has_its_bytes(b"")? && has_its_bytes(b" ~")?);
+    assert!(rt; has_its_bytes(&[126; 79])? && has_its_bytes(&[126; LINE])?);
+    Ok(())
+}
+
+/// A command with a number below 10.
+#[derive(Drop)]
+struct Digit(u8);
+
+impl Command for Digit {
+    ghost use Rattle.std.specs.Prelude.{◌≡◌, ◌∷◌, []};
+
+    ghost valid = { λ d. Unit {0} };
+
+    ghost words = { λ d. d.0 ∷ [] };
+
+    fn known(&self) {}
+
+    fn copy(&self, _alloc: Global) -> Result<Digit, NoMemory> {
+        Ok(Digit(self.0))
+    }
+
+    fn same(&self, other: &Digit) -> bool {
+        self.0 == other.0
+    }
+
+    fn print(&self, out: &mut Vec<u8>) -> Result<(), NoMemory> {
+        Ok(out.push(self.0)?)
+    }
+}
+
+/// Whether a command is copied, compared and printed, through the bound.
+fn is_printed<M: Command>(alloc: Global, command: &M, words: &[u8]) -> Result<bool, NoMemory> {
+    command.known();
+    let mut out = Vec::new(alloc);
+    command.print(&mut out)?;
+    Ok(command.copy(alloc)?.same(command) && out.as_slice() == words)
+}
+
+#[test]
+fn commands_are_copied_compared_and_printed(rt: HostRuntime) -> Result<(), Fail> {
+    assert!(rt; is_printed(rt.alloc(), &Digit(7), &[7])?);
+    Ok(())
+}

@@ -1,0 +1,115 @@
+ghost use Rattle.std.specs.Prelude.{◌≡◌, ◌≤◌, ◌*◌, ◌↔◌, pos, length, IfOk, IsTrue};
+ghost use Rattle.tr_base.specs.Rects.{InReach};
+ghost use Rattle.tr_base.specs.Layouts.{longest};
+ghost use Rattle.tr_paint.specs.Paints.{IsNearPoint, IsNearRect};
+ghost use Rattle.tr_paint.specs.Traces.{Look};
+ghost use Rattle.tr_paint.specs.Paintings.{IsPainting};
+ghost use Rattle.tr_client.specs.Laws.{IsWindowSize};
+ghost use Rattle.tr_client.specs.Texts as spec;
+
+use crate::areas::PLAIN;
+use std::alloc::Global;
+use tr_base::{Line, NoMemory, Op, Point, Rect, Size};
+use tr_paint::{Batch, Paint};
+
+/// How many lines a window has room for, each in a strip that is eight points high.
+pub fn room(size: Size) -> usize
+    ensures { result ≡ spec.room size }
+{
+    usize::from(size.high / 8)
+}
+
+/// Where the line of a strip begins that has so many others above it.
+pub fn begin_of(above: usize) -> Point
+    requires { 8 * above ≤ longest }
+    ensures value { result ≡ spec.begin_of above }
+    ensures near { IsNearPoint result }
+{
+    Point {
+        h: 0,
+        v: north_of(above),
+    }
+}
+
+/// The strips of a window that have at least `above` and fewer than `end` others above them.
+pub fn area_of(size: Size, above: usize, end: usize) -> Rect
+    requires size { IsWindowSize size }
+    requires above { 8 * above ≤ longest }
+    requires end { 8 * end ≤ longest }
+    ensures edges { result ≡ spec.area_of size above end }
+    ensures near { IsNearRect result }
+{
+    Rect::edges(0, i32::from(size.wide), north_of(above), north_of(end))
+}
+
+/// One line upwards.
+pub fn upwards() -> Point
+    ensures value { result ≡ spec.upwards }
+    ensures near { IsNearPoint result }
+{
+    Point { h: 0, v: -8 }
+}
+
+/// One line downwards.
+pub fn downwards() -> Point
+    ensures value { result ≡ spec.downwards }
+    ensures near { IsNearPoint result }
+{
+    Point { h: 0, v: 8 }
+}
+
+/// A part of a window becomes background.
+pub fn cleared(alloc: Global, part: Rect) -> Result<Batch, NoMemory>
+    requires { IsNearRect part }
+    ensures { IfOk result (λ batch. batch ≡ spec.cleared part) }
+{
+    let mut batch = Batch::new(alloc);
+    batch.push(Paint::Tint {
+        clip: part,
+        op: Op::Bg,
+    })?;
+    Ok(batch)
+}
+
+/// Paints a part of a window in which these lines stand one below the other: the background, and each
+/// line over it.
+pub fn paint_lines(alloc: Global, part: Rect, lines: &[Line]) -> Result<Batch, NoMemory>
+    requires part { IsNearRect part }
+    requires lines { 8 * length lines.now ≤ longest }
+    ensures { (look : Look) → IfOk result (λ batch. IsPainting look part batch (spec.colour_in look lines.now)) }
+{
+    let mut batch = cleared(alloc, part)?;
+    for (above, line) in lines.iter().enumerate() {
+        batch.push(Paint::Text {
+            clip: part,
+            at: begin_of(above),
+            ops: PLAIN,
+            text: *line,
+        })?;
+    }
+    Ok(batch)
+}
+
+/// Whether both are the same lines.
+pub fn same_lines(lines: &[Line], others: &[Line]) -> bool
+    ensures { IsTrue result ↔ (lines.now ≡ others.now) }
+{
+    if lines.len() != others.len() {
+        return false;
+    }
+    for (i, line) in lines.iter().enumerate() {
+        if !line.same(&others[i]) {
+            return false;
+        }
+    }
+    true
+}
+
+/// The first row of points of a strip.
+fn north_of(above: usize) -> i32
+    requires { 8 * above ≤ longest }
+    ensures value { result ≡ pos (8 * above) }
+    ensures reach { InReach result }
+{
+    8 * above as i32
+}

@@ -1,6 +1,0 @@
-use Rattle.std.proofs.Common.{length}
-use Rattle.tr_exec.proofs.slow_tests.Ground.+traced.Given as goal
-
--- it looks at fewer commands each time
-abbrev pub decreases-traced : goal.decreases-traced
-decreases-traced l = length l.paints.now

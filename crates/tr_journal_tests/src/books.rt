@@ -1,0 +1,82 @@
+//! Books of commands that wait.
+use std::alloc::Global;
+use std::test::Fail;
+use tr_base::{Font, Kind, NoMemory, Size};
+use tr_book::Book;
+use tr_client::Prepared;
+use tr_levels::{Held, Level};
+use w_plain::{Solid, SolidCmd};
+
+const SMALL: Size = Size { wide: 3, high: 2 };
+
+const OTHER: Size = Size { wide: 1, high: 4 };
+
+/// A book over a window of this colour.
+fn book(alloc: Global, tint: u8) -> Result<Book<Solid>, NoMemory> {
+    let font = Font::empty(alloc)?;
+    Book::fresh(alloc, Solid::new(tint), &font, SMALL, Kind::Map8)
+}
+
+/// Whether a book has these levels, and was handed over so many commands.
+fn has(book: &Book<Solid>, levels: &[Held], handed: u64) -> bool {
+    book.waiting() == levels.len() && book.levels() == levels && book.handed() == handed
+}
+
+/// Whether a book leads from one colour to another one by these commands.
+fn leads(book: &Book<Solid>, from: u8, to: u8, commands: &[SolidCmd]) -> bool {
+    let prepared = book.prepared();
+    let is_prepared = prepared.from.tint() == from && prepared.to.tint() == to;
+    is_prepared && prepared.commands.as_slice() == commands
+}
+
+/// Whether commands wait in their order, also once they are fitted anew.
+fn keeps_its_commands(alloc: Global) -> Result<bool, NoMemory> {
+    let mut book = book(alloc, 5)?;
+    let is_fresh = has(&book, &[], 0) && leads(&book, 5, 5, &[]);
+    let mu = Held::none().with(Level::Mu);
+    book.post(mu, SolidCmd::Tint(7))?;
+    book.post(Held::none(), SolidCmd::Tint(8))?;
+    let commands = [SolidCmd::Tint(7), SolidCmd::Tint(8)];
+    let is_posted = has(&book, &[mu, Held::none()], 0) && leads(&book, 5, 8, &commands);
+    let font = Font::empty(alloc)?;
+    book.refit(Solid::new(1), &font, OTHER, Kind::Mono)?;
+    let is_refitted = has(&book, &[mu, Held::none()], 0) && leads(&book, 1, 8, &commands);
+    let prepared = book.prepared();
+    Ok(
+        is_fresh
+            && is_posted
+            && is_refitted
+            && prepared.size == OTHER
+            && prepared.kind == Kind::Mono,
+    )
+}
+
+/// What waits is handed over, and the next commands are prepared over what it leaves. False where too much was
+/// handed over.
+fn hand_over(alloc: Global, book: &mut Book<Solid>) -> Result<bool, NoMemory> {
+    let font = Font::empty(alloc)?;
+    let content = book.prepared().to;
+    let fresh = Prepared::fresh(alloc, content, &font, SMALL, Kind::Map8)?;
+    if book.handed() >= 100 || book.waiting() >= 100 {
+        return Ok(false);
+    }
+    book.renew(fresh);
+    Ok(true)
+}
+
+/// Whether what was handed over is counted, and doesn't wait any more.
+fn counts_what_it_hands_over(alloc: Global) -> Result<bool, NoMemory> {
+    let mut book = book(alloc, 5)?;
+    book.post(Held::none(), SolidCmd::Tint(7))?;
+    book.post(Held::none(), SolidCmd::Tint(8))?;
+    let is_first = hand_over(alloc, &mut book)? && has(&book, &[], 2) && leads(&book, 8, 8, &[]);
+    book.post(Held::none(), SolidCmd::Tint(9))?;
+    Ok(is_first && hand_over(alloc, &mut book)? && has(&book, &[], 3))
+}
+
+#[test]
+fn books_keep_and_count_commands(rt: HostRuntime) -> Result<(), Fail> {
+    assert!(rt; keeps_its_commands(rt.alloc())?);
+    assert!(rt; counts_what_it_hands_over(rt.alloc())?);
+    Ok(())
+}

@@ -1,0 +1,81 @@
+-- A piece is read front after front, up to its first cut.
+use Rattle.std.proofs.Common.{◌≡◌, ℕ, ◌+◌, ◌<◌, ◌-◌, ◌==◌, List, [], ◌++◌, length, take, refl, sym, ap, ◌∙◌, arith, if◌then◌else◌, append_assoc, length-append, is_some, true, ◌≢◌, ◌⊎◌, inl, inr, None, IsSome}
+use Rattle.std.proofs.lemmas.Bool.{cases_eq}
+use Rattle.std.proofs.Math.Seq.{take-append_seam}
+use Rattle.tr_mirror.specs.Standings.{Standing}
+use Rattle.tr_mirror.specs.Readings.{Reading, read, listed, cut_between, shown_from}
+use Rattle.tr_mirror.specs.Pieces.{TakesFront}
+use Rattle.tr_mirror.proofs.ReadingLemmas.{read-append, read_failed, read_none}
+use Rattle.tr_mirror.proofs.ShownLemmas.{no_cut, shown_from-append}
+
+-- some front of a piece was read, of which at most the last byte ended a cut, and the rest wasn't
+pub record HasRead (old new : Reading) (piece rest : List ℕ) : Type 0 where
+  pub front : List ℕ
+  pub parts : front ++ rest ≡ piece
+  pub came : read old front ≡ new
+  pub shown : shown_from old front ≡ cut_between old.standing new.standing
+  pub screen : new.standing.cuts ≢ old.standing.cuts → IsSome new.standing.screen
+
+pub HasRead-none : (m : Reading) (piece : List ℕ) → HasRead m m piece piece
+HasRead-none m piece = record {
+  front = [];
+  parts = refl;
+  came = refl;
+  shown = sym (no_cut m.standing m.standing refl);
+  screen = λ more. absurd (more refl);
+}
+
+-- what came from a standing with as many cuts came from the other one, too
+cut_from : (s t u : Standing) → s.cuts ≡ t.cuts → cut_between s u ≡ cut_between t u
+cut_from s t u same = ap (λ (n : ℕ). if n == u.cuts then [] else listed u.screen) same
+
+-- before a cut one front more is read
+pub HasRead-more : (old m new : Reading) (piece rest after : List ℕ) → m.standing.cuts ≡ old.standing.cuts → HasRead old m piece rest →
+    TakesFront m new rest after → HasRead old new piece after
+HasRead-more old m new piece rest after same h t = record {
+  front = h.front ++ t.front;
+  parts = append_assoc h.front t.front after ∙ ap (λ l. h.front ++ l) t.parts ∙ h.parts;
+  came = read-append old h.front t.front ∙ ap (λ r. read r t.front) h.came ∙ t.came;
+  shown = shown_from-append old h.front t.front
+      ∙ ap (λ l. l ++ shown_from (read old h.front) t.front) (h.shown ∙ no_cut old.standing m.standing (sym same))
+      ∙ ap (λ r. shown_from r t.front) h.came ∙ t.shown ∙ cut_from m.standing old.standing new.standing same;
+  screen = λ more. t.screen (λ e. more (e ∙ same));
+}
+
+module _ (old new : Reading) (piece rest : List ℕ) (h : HasRead old new piece rest) where
+  whole : length piece ≡ length h.front + length rest
+  whole = ap (λ l. length l) (sym h.parts) ∙ length-append h.front rest
+
+  pub count_read : length piece - length rest ≡ length h.front
+  count_read = omega (arith, whole)
+
+  -- so many bytes of the piece were read
+  pub front_is : take (length piece - length rest) piece ≡ h.front
+  front_is = ap (λ (n : ℕ). take n piece) count_read ∙ ap (λ l. take (length h.front) l) (sym h.parts) ∙ take-append_seam h.front rest
+
+  pub read_is : new ≡ read old (take (length piece - length rest) piece)
+  read_is = sym h.came ∙ ap (λ l. read old l) (sym front_is)
+
+  pub shown_is : shown_from old (take (length piece - length rest) piece) ≡ cut_between old.standing new.standing
+  shown_is = ap (λ l. shown_from old l) front_is ∙ h.shown
+
+  -- after a fault the rest changes nothing
+  pub all_is : is_some new.fault ≡ true → new ≡ read old piece
+  all_is failed =
+      sym (read_failed new rest failed) ∙ ap (λ r. read r rest) (sym h.came) ∙ sym (read-append old h.front rest)
+      ∙ ap (λ l. read old l) h.parts
+
+  -- so far it was read, since none is left, or there was a fault or a cut
+  abbrev pub Ends : Type 0
+  Ends = (length rest ≡ 0) ⊎ (new.fault ≡ None → new.standing.cuts ≢ old.standing.cuts)
+
+  pub stops : Ends → new.fault ≡ None → length piece - length rest < length piece → new.standing.cuts ≢ old.standing.cuts
+  stops (inl none) free less = absurd (omega arith)
+  stops (inr other) free less = other free
+
+  pub some_read : Ends → new.fault ≡ None → 0 < length piece → 0 < length piece - length rest
+  some_read (inl none) free some = omega arith
+  some_read (inr other) free some = elim (cases_eq (length h.front) 0) [
+    | inl e ↦ absurd (other free (ap (λ (r : Reading). r.standing.cuts) (sym h.came ∙ read_none old h.front e)))
+    | inr n ↦ let apart : length h.front ≢ 0 = n in omega (arith, count_read)
+  ]

@@ -1,0 +1,237 @@
+-- Records that are spelled are read, one after the other.
+use Rattle.std.proofs.Common.{◌≡◌, ℕ, ◌+◌, ◌<◌, ◌≤◌, false, List, [], ◌∷◌, ◌++◌, length, take, drop, None, refl, sym, ap, subst, ◌∙◌, arith, inl, inr, append_assoc, length-append}
+use Rattle.std.proofs.lemmas.Bool.{ne_eqb, eq-eqb, cases_eq}
+use Rattle.std.proofs.lemmas.List.{append-nil, drop_at, take-append-drop, length-take-le, length-drop}
+use Rattle.std.proofs.lemmas.Nat.{from_be_bytes-to_be_bytes_2, from_be_bytes-to_be_bytes_4}
+use Rattle.tr_screen.specs.Pictures.{Picture}
+use Rattle.tr_mirror.specs.declared.headers.Segment.{Segment}
+use Rattle.tr_mirror.specs.declared.headers.Header.{Header}
+use Rattle.tr_mirror.specs.declared.headers.Header.TheVariants.{Screen, Run, Fill, Cut}
+use Rattle.tr_mirror.specs.Headers.{header_len, header_of, header_bytes, record_len, pixel_count, short_at, long_at}
+use Rattle.tr_mirror.specs.Standings.{Standing, after, header_fault, pixel_fault}
+use Rattle.tr_mirror.specs.Readings.{Reading, fault_of, is_unknown, taken, unfinished, tried, next, read, try_len, cut_between, shown_from}
+use Rattle.tr_mirror.specs.Streams.{Record, record_bytes, spelled}
+use Rattle.tr_mirror.specs.Faults.{Fits, IsSound, after_all, AreSound}
+use Rattle.tr_mirror.proofs.ReadingLemmas.{header_len_range, header_len-append, waits, gathers, next_free, read-append, IsQuiet, IsQuiet-append, try_first, try_header, try_record, tried_again}
+use Rattle.tr_mirror.proofs.ShownLemmas.{len_of, header_len-is, no_cut, shown_from-append}
+
+-- ---- a header is read as it was spelled
+
+same_screen : (a b c d k : ℕ) → a ≡ c → b ≡ d → Screen a b k ≡ Screen c d k
+same_screen a b c d k e f = ap (λ x. Screen x b k) e ∙ ap (λ x. Screen c x k) f
+
+same_segment : (s : Segment) (a b c : ℕ) → a ≡ s.west → b ≡ s.v → c ≡ s.count → record { west = a; v = b; count = c } ≡ s
+same_segment s a b c e f g = ap (λ x. record { west = x; v = b; count = c }) e ∙ ap (λ x. record { west = s.west; v = x; count = c }) f
+    ∙ ap (λ x. record { west = s.west; v = s.v; count = x }) g
+
+pub header_again : (h : Header) (rest : List ℕ) → Fits h → header_of (header_bytes h ++ rest) ≡ h
+unfolding header_of header_bytes short_at long_at
+header_again (Screen wide high kind) rest f = same_screen _ _ wide high kind (from_be_bytes-to_be_bytes_2 wide f.0) (from_be_bytes-to_be_bytes_2 high f.1)
+header_again (Run s) rest f = ap (λ x. Run x) (same_segment s _ _ _ (from_be_bytes-to_be_bytes_2 s.west f.west) (from_be_bytes-to_be_bytes_2 s.v f.v)
+    (from_be_bytes-to_be_bytes_2 s.count f.count))
+header_again (Fill s) rest f = ap (λ x. Fill x) (same_segment s _ _ _ (from_be_bytes-to_be_bytes_2 s.west f.west) (from_be_bytes-to_be_bytes_2 s.v f.v)
+    (from_be_bytes-to_be_bytes_2 s.count f.count))
+header_again (Cut number) rest f = ap (λ x. Cut x) (from_be_bytes-to_be_bytes_4 number f)
+
+pub length-header_bytes : (h : Header) → length (header_bytes h) ≡ len_of h
+unfolding header_bytes
+length-header_bytes (Screen wide high kind) = refl
+length-header_bytes (Run segment) = refl
+length-header_bytes (Fill segment) = refl
+length-header_bytes (Cut number) = refl
+
+known : (h : Header) → is_unknown (take 1 (header_bytes h)) ≡ false
+unfolding header_bytes
+known (Screen wide high kind) = refl
+known (Run segment) = refl
+known (Fill segment) = refl
+known (Cut number) = refl
+
+-- ---- bytes that are read, of which at most the last ends a record
+
+pub record Reads (m : Reading) (bytes : List ℕ) (n : Reading) : Type 0 where
+  pub read : read m bytes ≡ n
+  pub shown : shown_from m bytes ≡ cut_between m.standing n.standing
+
+pub gathers_shown : (m : Reading) (front : List ℕ) → m.fault ≡ None → 0 < length front → length m.begun + length front ≤ try_len m.begun →
+    shown_from m front ≡ cut_between m.standing (tried m (m.begun ++ front)).standing
+gathers_shown m [] free some reach = absurd (omega arith)
+gathers_shown m (b ∷ []) free some reach =
+    append-nil (cut_between m.standing (next m b).standing) ∙ ap (λ n. cut_between m.standing n.standing) (next_free m b free)
+gathers_shown m (b ∷ c ∷ rest) free some reach =
+    let a : List ℕ = m.begun in
+    let one : List ℕ = b ∷ [] in
+    let begins : 0 < length a = elim (cases_eq (length a) 0) as (λ _. 0 < length a) [ inl e ↦ absurd (omega (arith, try_first a e)) | inr n ↦ omega arith ] in
+    let q : IsQuiet a one = IsQuiet-append a one begins (omega arith) (omega arith) in
+    let n : Reading = unfinished m (a ++ one) in
+    let step : next m b ≡ n = next_free m b free ∙ waits m (a ++ one) q.long q.no_header q.no_record in
+    let ih = gathers_shown n (c ∷ rest) free (omega arith) (omega (arith, length-append a one, q.next)) in
+    ap (λ x. cut_between m.standing x.standing ++ shown_from x (c ∷ rest)) step
+    ∙ ap (λ l. l ++ shown_from n (c ∷ rest)) (no_cut m.standing m.standing refl)
+    ∙ ih ∙ ap (λ x. cut_between m.standing x.standing) (tried_again m (a ++ one) ((a ++ one) ++ (c ∷ rest))
+    ∙ ap (λ l. tried m l) (append_assoc a one (c ∷ rest)))
+
+Reads-front : (m : Reading) (front : List ℕ) → m.fault ≡ None → 0 < length front → length m.begun + length front ≤ try_len m.begun →
+    Reads m front (tried m (m.begun ++ front))
+Reads-front m front free some reach = record { read = gathers m front free some reach; shown = gathers_shown m front free some reach }
+
+Reads-then : (m n o : Reading) (xs ys : List ℕ) → Reads m xs n → n.standing ≡ m.standing → Reads n ys o → Reads m (xs ++ ys) o
+Reads-then m n o xs ys f same g = record {
+  read = read-append m xs ys ∙ ap (λ x. read x ys) f.read ∙ g.read;
+  shown = shown_from-append m xs ys
+      ∙ ap (λ l. l ++ shown_from (read m xs) ys) (f.shown ∙ no_cut m.standing n.standing (ap (λ (s : Standing). s.cuts) (sym same)))
+      ∙ ap (λ x. shown_from x ys) f.read ∙ g.shown ∙ ap (λ (s : Standing). cut_between s o.standing) same;
+}
+
+-- ---- the faults that a record's bytes show
+
+fault_first : (s : Standing) (bytes : List ℕ) → length bytes ≡ 1 → is_unknown bytes ≡ false → fault_of s bytes ≡ None
+unfolding fault_of
+fault_first s bytes one known = rw (eq-eqb (length bytes) 1 one, known) refl
+
+fault_header : (s : Standing) (bytes : List ℕ) → 1 < length bytes → length bytes ≡ header_len bytes → fault_of s bytes ≡ header_fault s (header_of bytes)
+unfolding fault_of
+fault_header s bytes long whole = rw (ne_eqb (length bytes) 1 (λ e. omega arith), eq-eqb (length bytes) (header_len bytes) whole) refl
+
+fault_pixels : (s : Standing) (bytes : List ℕ) → header_len bytes < length bytes → length bytes ≡ record_len bytes →
+    fault_of s bytes ≡ pixel_fault s (drop (header_len bytes) bytes)
+unfolding fault_of
+fault_pixels s bytes long whole =
+    let least = (header_len_range bytes).0 in
+    rw (
+      ne_eqb (length bytes) 1 (λ e. omega arith),
+      ne_eqb (length bytes) (header_len bytes) (λ e. omega arith),
+      eq-eqb (length bytes) (record_len bytes) whole,
+    ) refl
+
+takes : (m : Reading) (bytes : List ℕ) → fault_of m.standing bytes ≡ None → length bytes ≡ record_len bytes → tried m bytes ≡ taken m bytes
+unfolding tried
+takes m bytes none whole = rw (none, eq-eqb (length bytes) (record_len bytes) whole) refl
+
+waits_for : (m : Reading) (bytes : List ℕ) → fault_of m.standing bytes ≡ None → (length bytes ≡ record_len bytes → ⊥) → tried m bytes ≡ unfinished m bytes
+unfolding tried
+waits_for m bytes none part = rw (none, ne_eqb (length bytes) (record_len bytes) part) refl
+
+-- ---- a whole record
+
+-- where a stream stands between its records
+abbrev pub ready : Standing → ℕ → Reading
+ready s fed = record { standing = s; begun = []; fed = fed; fault = None }
+
+none_left : (xs : List ℕ) → length xs ≡ 0 → xs ≡ []
+none_left [] e = refl
+none_left (x ∷ xs) e = absurd (omega arith)
+
+module _ (s : Standing) (fed : ℕ) (r : Record) (k : IsSound s r) where
+  to_header : Reads (ready s fed) (header_bytes r.header) (tried (ready s fed) (header_bytes r.header))
+  to_header =
+      let m : Reading = ready s fed in
+      let hb : List ℕ = header_bytes r.header in
+      let a : List ℕ = take 1 hb in
+      let b : List ℕ = drop 1 hb in
+      let again : header_of hb ≡ r.header = ap (λ l. header_of l) (sym (append-nil hb)) ∙ header_again r.header [] k.fits in
+      let long : length hb ≡ header_len hb = length-header_bytes r.header ∙ sym (header_len-is hb ∙ ap (λ x. len_of x) again) in
+      let least = (header_len_range hb).0 in
+      let one : length a ≡ 1 = length-take-le 1 hb (omega arith) in
+      let rest = length-drop 1 hb in
+      let whole : a ++ b ≡ hb = take-append-drop 1 hb in
+      let same : header_len a ≡ header_len hb = sym (ap (λ l. header_len l) (sym whole) ∙ header_len-append a b (omega arith)) in
+      let quiet = fault_first s a one (known r.header) in
+      let first : Reads m a (unfinished m a) = subst (λ n. Reads m a n) (waits_for m a quiet (λ e. omega arith))
+      (Reads-front m a refl (omega arith) (omega arith)) in
+      let second : Reads (unfinished m a) b (tried (unfinished m a) (a ++ b)) =
+      Reads-front (unfinished m a) b refl (omega arith) (omega (arith, try_header a (omega arith) (omega arith))) in
+      let second_is : Reads (unfinished m a) b (tried m hb) =
+      subst (λ n. Reads (unfinished m a) b n) (tried_again m a (a ++ b) ∙ ap (λ l. tried m l) whole) second in
+      subst (λ l. Reads m l (tried m hb)) whole (Reads-then m (unfinished m a) (tried m hb) a b first refl second_is)
+
+  -- what is known of its bytes
+  record IsWhole : Type 0 where
+    tried : Reads (ready s fed) (record_bytes r) (tried (ready s fed) (record_bytes r))
+    clean : fault_of s (record_bytes r) ≡ None
+
+  to_end : IsWhole
+  to_end =
+      let m : Reading = ready s fed in
+      let h : Header = r.header in
+      let px : List ℕ = r.pixels in
+      let hb : List ℕ = header_bytes h in
+      let all : List ℕ = hb ++ px in
+      let again : header_of hb ≡ h = ap (λ l. header_of l) (sym (append-nil hb)) ∙ header_again h [] k.fits in
+      let long : length hb ≡ header_len hb = length-header_bytes h ∙ sym (header_len-is hb ∙ ap (λ x. len_of x) again) in
+      let least = (header_len_range hb).0 in
+      let count : pixel_count (header_of hb) ≡ length px = ap (λ x. pixel_count x) again ∙ sym k.count in
+      let sound : fault_of s hb ≡ None = fault_header s hb (omega arith) long ∙ ap (λ x. header_fault s x) again ∙ k.header in
+      elim (cases_eq (length px) 0) [
+        | inl e ↦
+            let same : hb ≡ all = sym (ap (λ l. hb ++ l) (none_left px e) ∙ append-nil hb) in
+            record { tried = subst (λ l. Reads m l (tried m l)) same to_header; clean = ap (λ l. fault_of s l) (sym same) ∙ sound }
+        | inr n ↦
+            let again' : header_of all ≡ h = header_again h px k.fits in
+            let len : header_len all ≡ length hb = header_len-append hb px (omega arith) ∙ sym long in
+            let whole = length-append hb px in
+            let first : Reads m hb (unfinished m hb) = subst (λ x. Reads m hb x) (waits_for m hb sound (λ e. omega arith)) to_header in
+            let second : Reads (unfinished m hb) px (tried (unfinished m hb) all) =
+            Reads-front (unfinished m hb) px refl (omega arith) (omega (arith, try_record hb (omega arith) (omega arith))) in
+            let second_is : Reads (unfinished m hb) px (tried m all) = subst (λ x. Reads (unfinished m hb) px x) (tried_again m hb all) second in
+            let left : drop (header_len all) all ≡ px = drop_at hb px (header_len all) (sym len) in
+            record {
+              tried = Reads-then m (unfinished m hb) (tried m all) hb px first refl second_is;
+              clean = fault_pixels s all (omega arith) (omega (arith, ap (λ x. pixel_count x) again', k.count)) ∙ ap (λ l. pixel_fault s l) left ∙ k.pixels;
+            }
+      ]
+
+  -- a record is put on
+  pub Reads-record : Reads (ready s fed) (record_bytes r) (ready (after s r.header r.pixels) (fed + length (record_bytes r)))
+  Reads-record =
+      let m : Reading = ready s fed in
+      let h : Header = r.header in
+      let px : List ℕ = r.pixels in
+      let hb : List ℕ = header_bytes h in
+      let all : List ℕ = hb ++ px in
+      let again : header_of all ≡ h = header_again h px k.fits in
+      let len : header_len all ≡ length hb = header_len-is all ∙ ap (λ x. len_of x) again ∙ sym (length-header_bytes h) in
+      let left : drop (header_len all) all ≡ px = drop_at hb px (header_len all) (sym len) in
+      let whole : length all ≡ record_len all = omega (arith, length-append hb px, ap (λ x. pixel_count x) again, k.count) in
+      let is : taken m all ≡ ready (after s h px) (fed + length all) =
+      ap (λ x. ready (after s x (drop (header_len all) all)) (fed + length all)) again ∙ ap (λ l. ready (after s h l) (fed + length all)) left in
+      subst (λ x. Reads m all x) (takes m all to_end.clean whole ∙ is) to_end.tried
+
+-- ---- records one after the other
+
+-- the screens at their cuts
+abbrev pub shown_by : Standing → List Record → List Picture
+shown_by s [] = []
+shown_by s (r ∷ rs) = cut_between s (after s r.header r.pixels) ++ shown_by (after s r.header r.pixels) rs
+
+pub reads_all : (s : Standing) (fed : ℕ) (rs : List Record) → AreSound s rs →
+    read (ready s fed) (spelled rs) ≡ ready (after_all s rs) (fed + length (spelled rs))
+reads_all s fed [] k = ap (λ n. ready s n) (omega arith)
+reads_all s fed (r ∷ rs) k =
+    let t : Standing = after s r.header r.pixels in
+    let one : List ℕ = record_bytes r in
+    read-append (ready s fed) one (spelled rs) ∙ ap (λ m. read m (spelled rs)) (Reads-record s fed r k.0).read ∙ reads_all t (fed + length one) rs k.1
+    ∙ ap (λ n. ready (after_all t rs) n) (omega (arith, length-append one (spelled rs)))
+
+pub shown_all : (s : Standing) (fed : ℕ) (rs : List Record) → AreSound s rs → shown_from (ready s fed) (spelled rs) ≡ shown_by s rs
+shown_all s fed [] k = refl
+shown_all s fed (r ∷ rs) k =
+    let t : Standing = after s r.header r.pixels in
+    let one : List ℕ = record_bytes r in
+    let here = Reads-record s fed r k.0 in
+    shown_from-append (ready s fed) one (spelled rs) ∙ ap (λ l. l ++ shown_from (read (ready s fed) one) (spelled rs)) here.shown
+    ∙ ap (λ m. cut_between s t ++ shown_from m (spelled rs)) here.read ∙ ap (λ l. cut_between s t ++ l) (shown_all t (fed + length one) rs k.1)
+
+pub after_all-append : (s : Standing) (xs ys : List Record) → after_all s (xs ++ ys) ≡ after_all (after_all s xs) ys
+after_all-append s [] ys = refl
+after_all-append s (x ∷ xs) ys = after_all-append (after s x.header x.pixels) xs ys
+
+pub AreSound-append : (s : Standing) (xs ys : List Record) → AreSound s xs → AreSound (after_all s xs) ys → AreSound s (xs ++ ys)
+AreSound-append s [] ys a b = b
+AreSound-append s (x ∷ xs) ys a b = (a.0, AreSound-append (after s x.header x.pixels) xs ys a.1 b)
+
+pub shown_by-append : (s : Standing) (xs ys : List Record) → shown_by s (xs ++ ys) ≡ shown_by s xs ++ shown_by (after_all s xs) ys
+shown_by-append s [] ys = refl
+shown_by-append s (x ∷ xs) ys =
+    let t : Standing = after s x.header x.pixels in
+    ap (λ l. cut_between s t ++ l) (shown_by-append t xs ys) ∙ sym (append_assoc (cut_between s t) (shown_by t xs) (shown_by (after_all t xs) ys))

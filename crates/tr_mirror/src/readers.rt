@@ -1,0 +1,195 @@
+ghost use Rattle.std.specs.Prelude.{◌≡◌, ◌+◌, ◌≤◌, ◌<◌, ◌==◌, ◌++◌, ◌↔◌, length, drop, None, IfOk, IsTrue};
+ghost use Rattle.tr_mirror.specs.Standings.{header_fault};
+ghost use Rattle.tr_mirror.specs.Headers.{header_len, header_of, record_len};
+ghost use Rattle.tr_mirror.specs.Readings as spec;
+ghost use Rattle.tr_mirror.specs.Readings.{IsReading, at_first, failed, taken, tried, read, longest_stream};
+ghost use Rattle.tr_mirror.specs.Pieces.{TakesFront};
+
+use crate::begun::Begun;
+use crate::faults::MirrorFault;
+use crate::headers::{header_len, header_of, pixel_count};
+use crate::replicas::Replica;
+use std::alloc::Global;
+use std::marker::Model;
+use tr_base::NoMemory;
+
+/// How far a stream is read.
+#[derive(Debug, Drop)]
+pub struct Reader {
+    replica: Replica,
+    begun: Begun,
+    fed: u64,
+    fault: Option<MirrorFault>,
+}
+
+impl Model for Reader {
+    ghost use Rattle.tr_mirror.specs.Readings.{Reading};
+
+    ghost Value = { Reading };
+
+    ghost view = { λ r. record { standing = r.replica; begun = r.begun; fed = r.fed; fault = r.fault } };
+}
+
+/// How many bytes the record has that begins with these.
+fn record_len(bytes: &[u8]) -> usize
+    requires some { 0 < length bytes.now }
+    requires whole { header_len bytes.now ≤ length bytes.now }
+    ensures { result ≡ record_len bytes.now }
+{
+    header_len(bytes) + pixel_count(header_of(bytes))
+}
+
+/// At how many bytes of a record, of which these have come, the next faults are tried.
+fn try_len(bytes: &[u8]) -> usize
+    ensures { result ≡ spec.try_len bytes.now }
+{
+    if bytes.is_empty() {
+        1
+    } else if bytes.len() < header_len(bytes) {
+        header_len(bytes)
+    } else {
+        record_len(bytes)
+    }
+}
+
+/// Whether the record is whole that has these bytes so far.
+fn is_whole(bytes: &[u8]) -> bool
+    requires { 0 < length bytes.now }
+    ensures { result ≡ (length bytes.now == record_len bytes.now) }
+{
+    header_len(bytes) <= bytes.len() && bytes.len() == record_len(bytes)
+}
+
+/// The code of the fault that the last of a record's bytes so far shows.
+#[tactic(auto, unfolding(crate::specs::Readings::fault_of))]
+fn fault_of(replica: &Replica, bytes: &[u8]) -> Option<u8>
+    requires { 0 < length bytes.now }
+    ensures { result ≡ spec.fault_of replica.now bytes.now }
+{
+    let header = header_len(bytes);
+    if bytes.len() == 1 {
+        if (1..=4).contains(&bytes[0]) {
+            None
+        } else {
+            Some(1)
+        }
+    } else if bytes.len() == header {
+        replica.header_fault(header_of(bytes))
+    } else if is_whole(bytes) {
+        replica.pixel_fault(&bytes[header..])
+    } else {
+        None
+    }
+}
+
+impl Reader {
+    /// The reading of no bytes. It takes all memory that reading needs.
+    pub fn new(alloc: Global) -> Result<Reader, NoMemory>
+        ensures { IfOk result (λ r. r ≡ at_first) }
+    {
+        Ok(Reader {
+            replica: Replica::new(alloc)?,
+            begun: Begun::new(alloc)?,
+            fed: 0,
+            fault: None,
+        })
+    }
+
+    pub fn replica(&self) -> &Replica
+        ensures { result.now ≡ self.now.standing }
+    {
+        &self.replica
+    }
+
+    pub fn fed(&self) -> u64
+        ensures { result ≡ self.now.fed }
+    {
+        self.fed
+    }
+
+    pub fn fault(&self) -> Option<MirrorFault>
+        ensures { result ≡ self.now.fault }
+    {
+        self.fault
+    }
+
+    /// The last whole record was a Cut, or there was none, and no record has begun.
+    pub fn is_between(&self) -> bool
+        ensures { result ≡ spec.is_between self.now }
+    {
+        !self.replica.is_within() && self.begun.as_slice().is_empty()
+    }
+
+    /// Whether there was no fault, and so many cuts.
+    pub fn goes_on(&self, cuts: u32) -> bool
+        ensures { IsTrue result ↔ ((self.now.fault ≡ None) × (self.now.standing.cuts ≡ cuts)) }
+    {
+        self.fault.is_none() && self.replica.cuts() == cuts
+    }
+
+    /// Takes bytes from the front of a piece, up to the next place where faults are tried. It gives
+    /// the rest of the piece.
+    pub fn take_front<'a>(&mut self, piece: &'a [u8]) -> &'a [u8]
+        requires some { 0 < length piece.now }
+        requires free { self.old.fault ≡ None }
+        requires reading { IsReading self.old }
+        requires limit { self.old.fed + length self.old.begun + length piece.now ≤ longest_stream }
+        ensures read { read self.new result.now ≡ read self.old piece.now }
+        ensures front { TakesFront self.old self.new piece.now result.now }
+        ensures shorter { length result.now < length piece.now }
+        ensures reading { IsReading self.new }
+        ensures count { self.new.fed + length self.new.begun + length result.now
+            ≤ self.old.fed + length self.old.begun + length piece.now }
+    {
+        let begun = self.begun.as_slice();
+        let wanted = try_len(begun) - begun.len();
+        let (front, rest) = piece.split_at(wanted.min(piece.len()));
+        self.gather(front);
+        rest
+    }
+
+    /// Adds bytes to the record that has begun, and tries it.
+    #[tactic(auto, unfolding(crate::specs::Readings::tried))]
+    fn gather(&mut self, front: &[u8])
+        requires some { 0 < length front.now }
+        requires reach { length self.old.begun + length front.now ≤ spec.try_len self.old.begun }
+        requires reading { IsReading self.old }
+        requires limit { self.old.fed + length self.old.begun + length front.now ≤ longest_stream }
+        ensures { self.new ≡ tried self.old (self.old.begun ++ front.now) }
+    {
+        self.begun.push_all(front);
+        match fault_of(&self.replica, self.begun.as_slice()) {
+            Some(code) => self.fail(code),
+            None => {
+                if is_whole(self.begun.as_slice()) {
+                    self.take_record();
+                }
+            }
+        }
+    }
+
+    fn fail(&mut self, code: u8)
+        ensures { self.new ≡ failed self.old code }
+    {
+        self.begun.clear();
+        self.fault = Some(MirrorFault {
+            place: self.fed,
+            code,
+        });
+    }
+
+    /// Puts the record on that has begun and is whole.
+    fn take_record(&mut self)
+        requires some { 0 < length self.old.begun }
+        requires whole { length self.old.begun ≡ record_len self.old.begun }
+        requires sound { header_fault self.old.standing (header_of self.old.begun) ≡ None }
+        requires limit { self.old.fed + length self.old.begun ≤ longest_stream }
+        ensures { self.new ≡ taken self.old self.old.begun }
+    {
+        let bytes = self.begun.as_slice();
+        self.replica
+            .put(header_of(bytes), &bytes[header_len(bytes)..]);
+        self.fed += bytes.len() as u64;
+        self.begun.clear();
+    }
+}

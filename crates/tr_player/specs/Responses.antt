@@ -1,0 +1,36 @@
+-- Private contracts alone cite this file.
+-- The responses that the code makes, as the answers that are due.
+use Rattle.std.specs.Prelude.{◌≡◌, ⊤, ℕ, List, Option, Some, None}
+use Rattle.tr_arguments.specs.declared.Command.{Command}
+use Rattle.tr_arguments.specs.declared.Command.TheVariants as commands
+use Rattle.tr_grammar.specs.Scripts.{Refusal, Script, script_of}
+use Rattle.tr_serial.specs.Outputs.{out_text, check_text}
+use Rattle.tr_player.specs.declared.responses.Response.{Response}
+use Rattle.tr_player.specs.declared.responses.Response.TheVariants as responses
+use Rattle.tr_player.specs.Checks.{check_refusal}
+use Rattle.tr_player.specs.Answers.{Due, usage, read_fault, refused, played, refusal_for, text_for, refused_text, HasPlayed}
+
+-- what is due for a text: its refusal, or the text of the script that it is
+abbrev pub IsDueOfText : Command → List ℕ → Due → Type 0
+IsDueOfText command bytes (refused r) = refusal_for command bytes ≡ Some r
+IsDueOfText command bytes (played s text) =
+    (refusal_for command bytes ≡ None) × (s ≡ script_of bytes) × (text ≡ text_for command s)
+IsDueOfText command bytes due = ⊥
+
+-- a refusal is due where there is one
+abbrev pub refused_or : Option Refusal → Due → Due
+refused_or (Some r) due = refused r
+refused_or None due = due
+
+-- what is due for a script: its text, unless a check of it is beyond the limits
+abbrev pub due_of_script : Command → Script → Due
+due_of_script commands.Check s = refused_or (check_refusal s) (played s (check_text s))
+due_of_script command s = played s (out_text s)
+
+-- a response is this answer: its text is the answer's, and a script's stage has played it
+abbrev pub IsResponse : Due → Response → Type 0
+IsResponse usage responses.Usage = ⊤
+IsResponse read_fault responses.ReadFault = ⊤
+IsResponse (refused r) (responses.Refused text) = text.items ≡ refused_text r
+IsResponse (played s text) (responses.Played p) = (p.text.items ≡ text) × HasPlayed s p.stage
+IsResponse due response = ⊥

@@ -1,0 +1,152 @@
+ghost use Rattle.std.specs.Prelude.{◌≡◌, ◌≤◌, IfOk};
+ghost use Rattle.tr_grammar.specs.Scripts.{IsPlayableScript};
+ghost use Rattle.tr_arguments.specs.Commands.{texts_of};
+ghost use Rattle.tr_player.specs.Answers.{Due, IsDue, IsDueOfBytes, IsStageOf, ReadsNone, asked_by, refused};
+ghost use Rattle.tr_player.specs.Answers.{source_change, status_of, text_of};
+ghost use Rattle.tr_player.specs.Responses.{IsDueOfText, IsResponse, due_of_script};
+
+use crate::checks::is_checkable;
+use crate::errors::ReadError;
+use crate::statuses::Status;
+use crate::streams::read_all;
+use std::alloc::Global;
+use tr_arguments::{Command, command_of};
+use tr_base::NoMemory;
+use tr_grammar::{Code, LONGEST_SCRIPT, ReadRefused};
+use tr_io::Source;
+use tr_reader::Script;
+use tr_script::read_script;
+use tr_serial::{Played, check, serial, summary};
+use tr_stage::Stage;
+use tr_widget::Widget;
+
+/// What is written for words that ask for nothing.
+const USAGE_TEXT: &[u8] = b"usage: trestle play|serial|check|gen N\n";
+
+/// What is written where the source had a fault.
+const READ_FAULT_TEXT: &[u8] = b"read fault\n";
+
+/// The most bytes that are read: one more shows that a script is too long.
+const MOST_READ: usize = LONGEST_SCRIPT + 1;
+
+/// What a call is to answer, before it is written.
+#[derive(Drop)]
+pub enum Response {
+    /// The words ask for nothing.
+    Usage,
+    /// A read failed.
+    ReadFault,
+    /// The script is refused: the text that says so.
+    Refused(Vec<u8>),
+    /// A script was played.
+    Played(Played),
+}
+
+impl Response {
+    /// The status that is answered once the text is written.
+    pub fn status(&self) -> Status
+        ensures { (due : Due) → IsResponse due self.now → result ≡ status_of due }
+    {
+        match self {
+            Response::Usage => Status::Usage,
+            Response::ReadFault => Status::ReadFault,
+            Response::Refused(_) => Status::Refused,
+            Response::Played(_) => Status::Done,
+        }
+    }
+
+    /// The text that is due.
+    pub fn text(&self) -> &[u8]
+        ensures { (due : Due) → IsResponse due self.now → result.now ≡ text_of due }
+    {
+        match self {
+            Response::Usage => USAGE_TEXT,
+            Response::ReadFault => READ_FAULT_TEXT,
+            Response::Refused(text) => text,
+            Response::Played(played) => &played.text,
+        }
+    }
+
+    /// The stage of a script that was played.
+    pub fn into_stage(self) -> Option<Stage<Widget>>
+        ensures { (due : Due) → IsResponse due self → IsStageOf due result }
+    {
+        match self {
+            Response::Played(played) => {
+                let Played { stage, .. } = played;
+                Some(stage)
+            }
+            _ => None,
+        }
+    }
+}
+
+/// The response to the words, and to what the source has left where they ask for a script that is read.
+pub fn response_to<S: Source>(
+    alloc: Global,
+    words: &[String],
+    source: &mut S,
+) -> Result<Response, NoMemory>
+    ensures due { IfOk result (λ response. (due : Due) × IsResponse due response
+        × IsDue (asked_by (texts_of words.now)) (source_change S.Source source.old source.new) due) }
+    ensures unread { ReadsNone (asked_by (texts_of words.now)) →
+        (S.left source.new ≡ S.left source.old) × (S.faults source.new ≡ S.faults source.old) }
+    ensures rising { S.faults source.old ≤ S.faults source.new }
+{
+    match command_of(alloc, words)? {
+        Some(Command::Serial) => response_to_source(alloc, Command::Serial, source),
+        Some(Command::Check) => response_to_source(alloc, Command::Check, source),
+        Some(Command::Gen(number)) => Ok(Response::Played(summary(alloc, number)?)),
+        Some(Command::Play) | None => Ok(Response::Usage),
+    }
+}
+
+/// The response to a script that the source has left.
+fn response_to_source<S: Source>(
+    alloc: Global,
+    command: Command,
+    source: &mut S,
+) -> Result<Response, NoMemory>
+    ensures due { IfOk result (λ response. (due : Due) × IsResponse due response
+        × IsDueOfBytes command (source_change S.Source source.old source.new) due) }
+    ensures rising { S.faults source.old ≤ S.faults source.new }
+{
+    match read_all(alloc, source, MOST_READ) {
+        Ok(bytes) => response_to_bytes(alloc, command, &bytes),
+        Err(ReadError::Failed) => Ok(Response::ReadFault),
+        Err(ReadError::NoMemory) => Err(NoMemory),
+    }
+}
+
+/// The response to the bytes of a script.
+fn response_to_bytes(alloc: Global, command: Command, bytes: &[u8]) -> Result<Response, NoMemory>
+    ensures { IfOk result (λ response.
+        (due : Due) × IsResponse due response × IsDueOfText command bytes.now due) }
+{
+    match read_script(alloc, bytes) {
+        Ok(script) => response_to_script(alloc, command, script),
+        Err(ReadRefused::Refused { line, code }) => refusal(alloc, line, code),
+        Err(ReadRefused::NoMemory) => Err(NoMemory),
+    }
+}
+
+/// The response to a script: it is played, unless a check of it is beyond the limits.
+fn response_to_script(alloc: Global, command: Command, script: Script) -> Result<Response, NoMemory>
+    requires { IsPlayableScript script }
+    ensures { IfOk result (λ response. IsResponse (due_of_script command script) response) }
+{
+    match command {
+        Command::Check if is_checkable(&script) => Ok(Response::Played(check(alloc, script)?)),
+        Command::Check => refusal(alloc, 0, Code::B7.number()),
+        _ => Ok(Response::Played(serial(alloc, script)?)),
+    }
+}
+
+/// The response to a text that isn't played.
+fn refusal(alloc: Global, line: u32, code: u8) -> Result<Response, NoMemory>
+    ensures { IfOk result (λ response.
+        IsResponse (refused (record { line = line; code = code })) response) }
+{
+    let text = format!(in alloc; "refused: line {line} B{code}\n")?;
+    Ok(Response::Refused(text.into_bytes()))
+}

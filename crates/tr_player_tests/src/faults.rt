@@ -1,0 +1,198 @@
+//! Which cause is answered where several stand together, and what is written and read then.
+use std::alloc::{AllocError, Global};
+use std::test::Fail;
+use tr_base::NoMemory;
+use tr_io::{Failed, MemorySink, MemorySource, Sink, Source, SteadySource};
+use tr_player::{Outcome, serial_call};
+
+const USAGE: &[u8] = b"usage: trestle play|serial|check|gen N\n";
+
+const READ_FAULT: &[u8] = b"read fault\n";
+
+const TOO_LARGE: &[u8] = b"refused: line 0 B7\n";
+
+/// One window of one pixel, and a dump of it.
+const PIXEL: &[u8] =
+    b"trestle 1\nscreen 1 1 map8\nleaf a 1 1 1 1 1 1 solid 7\nroot a\nbegin\ndump\nend\n";
+
+/// What it prints.
+const DUMP: &[u8] = b"dump 1 1 map8\n07\n";
+
+/// What a check of it prints.
+const CHECKED: &[u8] = b"step 1 bad 0 stale 0 outside 0\ndump 1 1 map8\n07\n";
+
+/// A script that ends too early.
+const NO_END: &[u8] = b"trestle 1\nscreen 1 1 map8\n";
+
+/// Why it is refused.
+const NO_END_TEXT: &[u8] = b"refused: line 3 B8\n";
+
+fn words_of(alloc: Global, texts: &[&str]) -> Result<Vec<String>, AllocError> {
+    let mut words = Vec::new(alloc);
+    for text in texts {
+        words.push(String::from_str(alloc, text)?)?;
+    }
+    Ok(words)
+}
+
+/// The status that a call ends in, and how many entries the journal of its stage has, if it hands one out.
+fn end_of<S: Source, K: Sink>(
+    alloc: Global,
+    texts: &[&str],
+    source: &mut S,
+    sink: &mut K,
+) -> Result<(u8, Option<usize>), AllocError> {
+    let words = words_of(alloc, texts)?;
+    let Outcome { status, stage } = serial_call(alloc, &words, source, sink);
+    match stage {
+        Some(stage) => Ok((status, Some(stage.journal().len()))),
+        None => Ok((status, None)),
+    }
+}
+
+/// A call: its words, the script, the reads and the writes that fail. A write takes 4 bytes at most.
+#[derive(Clone, Copy)]
+struct Call<'a> {
+    texts: &'a [&'a str],
+    script: &'a [u8],
+    reads: &'a [u64],
+    writes: &'a [u64],
+}
+
+/// What it ends in: its status, what is written, and how many bytes of the script are left unread.
+#[derive(Clone, Copy)]
+struct End<'a> {
+    status: u8,
+    text: &'a [u8],
+    left: usize,
+}
+
+/// Whether a call ends so, with a stage exactly where its status is 0.
+fn ends(alloc: Global, call: &Call, want: &End) -> Result<bool, AllocError> {
+    let mut source = MemorySource::new(
+        Vec::from_slice(alloc, call.script)?,
+        Vec::from_slice(alloc, call.reads)?,
+    );
+    let mut sink = MemorySink::new(alloc, 4, Vec::from_slice(alloc, call.writes)?);
+    let (status, entries) = end_of(alloc, call.texts, &mut source, &mut sink)?;
+    let is_due = status == want.status && entries.is_some() == (status == 0);
+    Ok(is_due && sink.written() == want.text && source.left().len() == want.left)
+}
+
+#[test]
+fn causes_are_looked_at_in_their_order(rt: HostRuntime) -> Result<(), Fail> {
+    let none = [].as_slice();
+    for (place, (word, script, reads, writes, status, text)) in [
+        // The usage before a read fault, with nothing read.
+        ("paint", PIXEL, [1].as_slice(), none, 2, USAGE),
+        ("paint", PIXEL, none, [11].as_slice(), 2, USAGE),
+        // A read fault before the script: at the first read, and at the one that finds the end.
+        ("serial", PIXEL, &[1], none, 4, READ_FAULT),
+        ("serial", PIXEL, &[2], none, 4, READ_FAULT),
+        ("serial", PIXEL, &[3], none, 0, DUMP),
+        ("serial", NO_END, &[2], none, 4, READ_FAULT),
+        ("check", NO_END, none, none, 3, NO_END_TEXT),
+        // A write fault at last, with a prefix of what is due.
+        ("paint", PIXEL, none, &[1], 5, b""),
+        ("paint", PIXEL, none, &[10], 5, &USAGE[..36]),
+        ("check", PIXEL, &[2], &[1], 5, b""),
+        ("check", PIXEL, &[2], &[3], 5, b"read fau"),
+        ("serial", NO_END, none, &[2], 5, b"refu"),
+        ("serial", PIXEL, none, &[1], 5, b""),
+        ("serial", PIXEL, none, &[2], 5, b"dump"),
+        ("serial", PIXEL, none, &[5], 5, b"dump 1 1 map8\n07"),
+        ("serial", PIXEL, none, &[6], 0, DUMP),
+        ("check", PIXEL, none, &[9], 5, &CHECKED[..32]),
+    ]
+    .iter()
+    .enumerate()
+    {
+        let is_read = *word != "paint" && *reads != [1].as_slice();
+        let left = if is_read { 0 } else { PIXEL.len() };
+        let call = Call {
+            texts: &[*word],
+            script,
+            reads,
+            writes,
+        };
+        let end = End {
+            status: *status,
+            text,
+            left,
+        };
+        assert!(rt; ends(rt.alloc(), &call, &end)?, "at {place}");
+    }
+    Ok(())
+}
+
+/// Whether a text of so many bytes is refused in this way, and so many bytes are left unread.
+fn is_refused(alloc: Global, bytes: usize, text: &[u8], left: usize) -> Result<bool, AllocError> {
+    let script = vec![in alloc; b'#'; bytes]?;
+    let call = Call {
+        texts: &["serial"],
+        script: &script,
+        reads: &[],
+        writes: &[],
+    };
+    let end = End {
+        status: 3,
+        text,
+        left,
+    };
+    ends(alloc, &call, &end)
+}
+
+#[test]
+fn too_long_a_text_is_not_read_to_its_end(rt: HostRuntime) -> Result<(), Fail> {
+    for (bytes, text, left) in [
+        (4_194_304, b"refused: line 1 B9\n".as_slice(), 0),
+        (4_194_305, TOO_LARGE, 0),
+        (4_194_310, TOO_LARGE, 5),
+    ] {
+        assert!(rt; is_refused(rt.alloc(), bytes, text, left)?, "{bytes} bytes");
+    }
+    Ok(())
+}
+
+#[test]
+fn a_number_is_summed_up_and_nothing_is_read(rt: HostRuntime) -> Result<(), Fail> {
+    let mut source = SteadySource::new(Vec::from_slice(rt.alloc(), PIXEL)?);
+    let mut sink = MemorySink::new(rt.alloc(), 4, Vec::new(rt.alloc()));
+    let (status, entries) = end_of(rt.alloc(), &["gen", "1"], &mut source, &mut sink)?;
+    let is_read = source.left().len() != PIXEL.len();
+    let is_summed = sink.written().starts_with(b"gen 1\nlines 2039\nentries ");
+    assert!(rt; status == 0 && entries.is_some() && is_summed && !is_read);
+    Ok(())
+}
+
+/// A sink that has no memory for what is written.
+#[derive(Drop)]
+struct FullSink;
+
+impl Sink for FullSink {
+    ghost use Rattle.std.specs.Prelude.{None};
+
+    ghost written = { λ _. None };
+
+    ghost room = { λ _. 0 };
+
+    ghost faults = { λ _. 0 };
+
+    fn reserve(&mut self, _n: usize) -> Result<(), NoMemory> {
+        Err(NoMemory)
+    }
+
+    fn write(&mut self, piece: &[u8]) -> Result<usize, Failed> {
+        Ok(piece.len())
+    }
+}
+
+#[test]
+fn want_of_memory_has_a_status(rt: HostRuntime) -> Result<(), Fail> {
+    for word in ["serial", "check", "paint"] {
+        let mut source = SteadySource::new(Vec::from_slice(rt.alloc(), PIXEL)?);
+        let (status, entries) = end_of(rt.alloc(), &[word], &mut source, &mut FullSink)?;
+        assert!(rt; status == 6 && entries.is_none(), "{word}");
+    }
+    Ok(())
+}

@@ -1,0 +1,38 @@
+use Rattle.std.proofs.Common.{◌≡◌, Bool, ◌&&◌, ◌||◌, not, List, ap, ◌∙◌}
+use Rattle.tr_base.specs.declared.Point.{Point}
+use Rattle.tr_base.specs.Rects.{Edges}
+use Rattle.tr_region.specs.Points.{holds}
+use Rattle.tr_spot.specs.Spots.{region_of}
+use Rattle.tr_surface.specs.Survivors.{IsAlike, bad_below, survivors_from, stays_good, way_from}
+use Rattle.tr_surface.specs.TreeChanges.{change_of}
+use Rattle.tr_surface.proofs.TreeChangeLemmas.{alike_more, anew_more}
+use Rattle.tr_surface.proofs.tree_changes.TreeChange.with_node.Goals as goal
+
+pub returns-then-is_alike : goal.returns-then-is_alike
+returns-then-is_alike g c = λ p.
+    let s = c.args.self.now in
+    let n = c.args.n in
+    let way = c.way-by.ensures.value in
+    let alike : IsAlike (way_from s.was.now s.is.now s.moved n) c.survivors-survivors.result (region_of s.before.now n) (region_of s.after.now n) =
+    rw (← way) (c.is_alike.ensures.0 c.if-is_alike.true) in
+    let its : c.survivors-survivors.result ≡ survivors_from s.was.now s.is.now (way_from s.was.now s.is.now s.moved n) n =
+    c.survivors-survivors.ensures.value ∙ ap (λ (d : Point). survivors_from s.was.now s.is.now d n) way in
+    c.requires.bad p ∙ alike_more (g.K.Keeper.keeping c.args.keeper.now) s.was.now s.is.now s.before.now s.after.now
+    (record { before = c.count.ensures.invariant; after = c.count-2.ensures.invariant }) s.sides s.moved (holds s.bad.now) n c.requires.node c.survivors-survivors.result its alike p
+
+pub returns : goal.returns
+returns g c = λ p.
+    let s = c.args.self.now in
+    let n = c.args.n in
+    let k = g.K.Keeper.keeping c.args.keeper.now in
+    let held = holds (region_of s.after.now n) p in
+    let done = bad_below k (change_of s) s.after.now n.0 p in
+    let stays : Point → Bool = λ d. stays_good k (change_of s) (region_of s.before.now n) n d p in
+    let good : holds c.in_ok-good.good p ≡ (held && stays (way_from s.was.now s.is.now s.moved n)) =
+    c.in_ok-good.ensures p ∙ ap (λ (d : Point). held && stays d) c.way-by.ensures.value in
+    let lost : holds c.in_ok-lost.lost p ≡ (held && not (held && stays (way_from s.was.now s.is.now s.moved n))) =
+    c.in_ok-lost.ensures.points p ∙ ap (λ (r : List Edges). holds r p && not (holds c.in_ok-good.good p)) c.region_after.ensures ∙ ap (λ b. held && not b) good in
+    let others : holds c.in_ok-others.others p ≡ (done && not held) =
+    c.in_ok-others.ensures.points p ∙ ap (λ (r : List Edges). holds c.args.bad p && not (holds r p)) c.region_after-2.ensures ∙ ap (λ b. b && not held) (c.requires.bad p) in
+    c.in_ok-bad.ensures.points p ∙ ap (λ b. b || holds c.in_ok-lost.lost p) others ∙ ap (λ b. (done && not held) || b) lost
+    ∙ anew_more k s.was.now s.is.now s.before.now s.after.now (record { before = c.count.ensures.invariant; after = c.count-2.ensures.invariant }) s.sides s.moved (holds s.bad.now) n c.requires.node p

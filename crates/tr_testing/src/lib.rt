@@ -1,0 +1,11 @@
+//! Tools for tests: numbers that look random, and a plain and slow reading of what clients paint, point by
+//! point. Only crates of tests stand on this.
+#![tactic(auto)]
+
+mod grids;
+mod numbers;
+mod pictures;
+
+pub use grids::{Grid, after};
+pub use numbers::Numbers;
+pub use pictures::{painted, patched, text_bit};

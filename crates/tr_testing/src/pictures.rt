@@ -1,0 +1,56 @@
+//! What a client's commands leave, read point by point.
+ghost use Rattle.tr_client.specs.Laws.{IsWindowSize};
+
+use crate::grids::{Grid, after};
+use std::alloc::Global;
+use tr_base::{Env, Font, NoMemory, Point, Rect, Size, is_set};
+use tr_client::Client;
+
+/// The content after a command, and what is known after its patch, over a part of the old picture.
+pub fn patched<C: Client>(
+    alloc: Global,
+    env: &Env,
+    size: Size,
+    content: &C,
+    cmd: &C::Cmd,
+    base: Grid,
+) -> Result<(C, Grid), NoMemory>
+    requires { IsWindowSize size }
+{
+    let (next, patch) = content.change(alloc, env, size, cmd)?;
+    let grid = after(alloc, env, &patch, base)?;
+    Ok((next, grid))
+}
+
+/// What is known after a part of the content is painted, over nothing known.
+pub fn painted<C: Client>(
+    alloc: Global,
+    env: &Env,
+    size: Size,
+    clip: Rect,
+    content: &C,
+) -> Result<Grid, NoMemory>
+    requires { IsWindowSize size }
+{
+    let batch = content.paint(alloc, env, size, clip)?;
+    after(alloc, env, &batch, Grid::unknown(alloc, size)?)
+}
+
+/// The point that lies so much before another one.
+pub(crate) fn earlier(q: Point, by: Point) -> Point {
+    Point {
+        h: q.h.wrapping_sub(by.h),
+        v: q.v.wrapping_sub(by.v),
+    }
+}
+
+/// The bit of a text at a point, counted from the text's corner; outside its cells there is none.
+pub fn text_bit(font: &Font, text: &[u8], q: Point) -> bool {
+    if q.h < 0 || q.v < 0 || q.v >= 8 {
+        return false;
+    }
+    let Some(byte) = text.get((q.h / 8) as usize) else {
+        return false;
+    };
+    is_set(font.glyph_of(*byte)[q.v as usize], (q.h % 8) as u8)
+}

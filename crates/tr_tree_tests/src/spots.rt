@@ -1,0 +1,223 @@
+//! Whose each point is, by its spot and by the regions of nodes.
+ghost use Rattle.std.specs.Prelude.{◌≡◌, ◌<◌, ◌≤◌, false, length, None, IfOk};
+ghost use Rattle.tr_forest.specs.Nodes.{IsNode, IsNodeKind, shown_by, is_leaf};
+ghost use Rattle.tr_forest.specs.Edits.{IsEdit, IsScreenSize};
+ghost use Rattle.tr_spot.specs.Spots.{HasRoot};
+
+use std::process::Abort;
+use std::test::Fail;
+use tr_base::{Kind, LeafId, NoMemory, NodeId, Point, Shape, Shapes, Size};
+use tr_region::Region;
+use tr_spot::{Spot, frame, regions, spot_at, visible};
+use tr_testing::Numbers;
+use tr_tree::{Edit, NodeKind, Tree};
+
+const HERE: Point = Point { h: 0, v: 0 };
+
+fn lengths(lo: u16, pref: u16, hi: u16) -> Shape
+    requires pref { lo ≤ pref }
+    requires hi { pref ≤ hi }
+    requires longest { hi ≤ 100 }
+{
+    Shape { lo, pref, hi }
+}
+
+fn shapes(across: Shape, down: Shape) -> Shapes {
+    Shapes { across, down }
+}
+
+/// A leaf of two points side by side.
+fn pair() -> Shapes {
+    shapes(lengths(2, 2, 2), lengths(1, 1, 1))
+}
+
+/// A leaf that would have two points each way.
+fn square() -> Shapes {
+    shapes(lengths(1, 2, 4), lengths(1, 2, 4))
+}
+
+/// What an edit does, if it isn't refused.
+fn change(tree: &mut Tree, edit: Edit)
+    requires { IsEdit tree.old.nodes edit }
+    ensures { length tree.new.nodes.entries ≡ length tree.old.nodes.entries }
+{
+    let _ = tree.edit(&edit);
+}
+
+/// A root of a kind, with the tint 9, and leaves as its children.
+fn tree_of(
+    rt: &(impl Abort + AllocGlobal),
+    size: Size,
+    kind: &NodeKind,
+    leaves: &[Shapes],
+) -> Result<Tree, NoMemory>
+    requires size { IsScreenSize size }
+    requires kind { IsNodeKind kind.now }
+    requires shown { shown_by kind.now ≡ None }
+    requires split { is_leaf kind.now ≡ false }
+    ensures { IfOk result (λ t. 0 < length t.nodes.entries) }
+{
+    let mut tree = Tree::new(rt.alloc(), size, Kind::Map8)?;
+    let root = tree.add(*kind, 9)?;
+    tree.set_root(root);
+    for shapes in leaves {
+        add_leaf(rt, &mut tree, *shapes)?;
+    }
+    assert!(rt; tree.count() > 0);
+    Ok(tree)
+}
+
+/// Adds a leaf as the last child of node 0, or the first one of a Z.
+fn add_leaf(
+    rt: &(impl Abort + AllocGlobal),
+    tree: &mut Tree,
+    shapes: Shapes,
+) -> Result<(), NoMemory> {
+    let leaf = LeafId(tree.leaves());
+    assert!(rt; leaf.0 < 32 && tree.count() < 256);
+    let child = tree.add(NodeKind::Leaf { leaf, shapes }, 0)?;
+    let parent = NodeId(0);
+    let at = HERE;
+    change(tree, Edit::Attach { child, parent, at });
+    Ok(())
+}
+
+/// Seven nodes of several kinds, of which the first is the root, and four leaves.
+fn loose(rt: &(impl Abort + AllocGlobal)) -> Result<Tree, NoMemory> {
+    let by = Point { h: 1, v: -1 };
+    let others = [
+        NodeKind::Z,
+        NodeKind::H,
+        NodeKind::T { shown: None },
+        NodeKind::Border { width: 1 },
+        NodeKind::Translate { by },
+        NodeKind::Page { per: 2, page: 0 },
+    ];
+    let leaves = [square(), pair(), square(), pair()];
+    let size = Size { wide: 6, high: 5 };
+    let mut tree = tree_of(rt, size, &NodeKind::Z, &leaves)?;
+    for kind in &others {
+        assert!(rt; tree.count() < 256);
+        tree.add(*kind, 1)?;
+    }
+    Ok(tree)
+}
+
+/// Changes a tree of eleven nodes in one of several ways, where that isn't refused.
+fn shuffle(numbers: &mut Numbers, tree: &mut Tree)
+    requires { 11 ≤ length tree.old.nodes.entries }
+    ensures { length tree.new.nodes.entries ≡ length tree.old.nodes.entries }
+{
+    let node = NodeId(numbers.below(11));
+    let child = NodeId(numbers.below(11));
+    let at = Point {
+        h: i32::from(numbers.below(6)) - 2,
+        v: i32::from(numbers.below(4)) - 1,
+    };
+    match numbers.below(8) {
+        0 => change(tree, Edit::Detach { child }),
+        1 => change(tree, Edit::Move { child, at }),
+        2 => change(tree, Edit::Lift { child }),
+        3 => change(tree, Edit::Show { node, child }),
+        _ => {
+            let parent = node;
+            change(tree, Edit::Attach { child, parent, at });
+        }
+    }
+}
+
+/// Whether a node's region, frame and visible points are those that have it as their spot, also beyond the
+/// screen.
+fn agrees(
+    rt: &(impl Abort + AllocGlobal),
+    tree: &Tree,
+    n: NodeId,
+    region: &Region,
+) -> Result<bool, NoMemory>
+    requires root { HasRoot tree.now }
+    requires node { IsNode tree.now.nodes n }
+{
+    let frame = frame(rt.alloc(), tree, n)?;
+    let shown = shown(rt, tree, n)?;
+    for place in 0..56 {
+        let p = Point {
+            h: i32::from(place % 8) - 1,
+            v: i32::from(place / 8) - 1,
+        };
+        let spot = spot_at(tree, p);
+        let in_frame = is_frame(spot, n);
+        let in_leaf = is_leaf_of(spot, tree.kind_of(n));
+        if frame.has(p) != in_frame || shown.has(p) != in_leaf {
+            return Ok(false);
+        }
+        if region.has(p) != (in_frame || in_leaf) {
+            return Ok(false);
+        }
+    }
+    Ok(true)
+}
+
+/// The points of a leaf. Another node has none.
+fn shown(rt: &(impl Abort + AllocGlobal), tree: &Tree, n: NodeId) -> Result<Region, NoMemory>
+    requires { IsNode tree.now.nodes n }
+{
+    match tree.kind_of(n) {
+        NodeKind::Leaf { leaf, .. } => {
+            assert!(rt; leaf.0 < tree.leaves());
+            visible(rt.alloc(), tree, leaf)
+        }
+        _ => Ok(Region::empty(rt.alloc())),
+    }
+}
+
+fn is_frame(spot: Spot, n: NodeId) -> bool {
+    match spot {
+        Spot::Frame { node, .. } => node == n,
+        _ => false,
+    }
+}
+
+fn is_leaf_of(spot: Spot, kind: NodeKind) -> bool {
+    match (spot, kind) {
+        (Spot::Leaf { leaf, .. }, NodeKind::Leaf { leaf: own, .. }) => leaf == own,
+        _ => false,
+    }
+}
+
+/// Whether the regions of all nodes agree with the spots.
+fn all_agree(rt: &(impl Abort + AllocGlobal), tree: &Tree) -> Result<bool, NoMemory> {
+    assert!(rt; tree.root().is_some());
+    let all = regions(rt.alloc(), tree)?;
+    for n in 0..11 {
+        assert!(rt; usize::from(n) < all.len());
+        if !agrees(rt, tree, NodeId(n), &all[usize::from(n)])? {
+            return Ok(false);
+        }
+    }
+    Ok(true)
+}
+
+/// Whether that is so of a tree after each of 40 edits.
+fn agrees_after_each_edit(
+    rt: &(impl Abort + AllocGlobal),
+    numbers: &mut Numbers,
+) -> Result<bool, NoMemory> {
+    let mut tree = loose(rt)?;
+    for _edit in 0..40 {
+        assert!(rt; tree.count() == 11);
+        shuffle(numbers, &mut tree);
+        if !all_agree(rt, &tree)? {
+            return Ok(false);
+        }
+    }
+    Ok(true)
+}
+
+#[test]
+fn regions_agree_with_spots(rt: HostRuntime) -> Result<(), Fail> {
+    let mut numbers = Numbers::new(1);
+    for count in 0..20 {
+        assert!(rt; agrees_after_each_edit(&rt, &mut numbers)?, "tree {count}");
+    }
+    Ok(())
+}

@@ -1,0 +1,12 @@
+//! Tests of the widgets, by their pictures. Nothing but tests is in here: what they answer to events, and the words
+//! of their commands, are tried by scripts.
+#![tactic(auto)]
+
+#[cfg(test)]
+mod draws;
+#[cfg(test)]
+mod laws;
+#[cfg(test)]
+mod pictures;
+#[cfg(test)]
+mod widgets;

@@ -1,0 +1,9 @@
+pub mod Numbers
+pub mod Contents
+pub mod Flat
+pub mod Pictures
+pub mod ContentsLaws
+pub mod FlatLaws
+pub mod PatchLaws
+pub mod CaseLaws
+pub mod EditorLaws

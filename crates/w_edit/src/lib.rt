@@ -1,0 +1,16 @@
+//! A window with a text that is edited line by line: commands put bytes at its caret, erase them,
+//! break lines and join them, and move the caret. A part of the caret's line can be copied, and put
+//! elsewhere.
+#![tactic(auto)]
+
+mod clients;
+mod commands;
+mod editors;
+mod edits;
+mod patches;
+mod places;
+mod rows;
+
+pub use commands::EditorCmd;
+pub use editors::Editor;
+pub use rows::{ColumnNumber, RowNumber};

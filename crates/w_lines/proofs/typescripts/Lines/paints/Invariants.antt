@@ -1,9 +1,0 @@
-use Rattle.std.proofs.Common.{take}
-use Rattle.tr_paint.specs.Traces.{Look}
-use Rattle.tr_paint.specs.Paintings.{IsPainting}
-use Rattle.w_lines.specs.Lines.{colour_in}
-use Rattle.w_lines.proofs.typescripts.Lines.paints.Given as goal
-
--- the lines so far are painted
-abbrev pub invariant-loop-above : goal.invariant-loop-above
-invariant-loop-above l = (look : Look) → IsPainting look l.part l.batch (colour_in look (take l.above l.line-items))

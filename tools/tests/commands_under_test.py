@@ -1,0 +1,25 @@
+"""How the tests call the commands: as a user does, with the program that TRESTLE names, or ./trestle."""
+
+import os
+import subprocess
+from pathlib import Path
+from typing import List, NamedTuple
+
+HERE = Path(__file__).resolve().parent
+TOP = HERE.parents[1]
+
+
+class Ended(NamedTuple):
+    """What a command wrote, standard error last, and its status."""
+
+    status: int
+    text: str
+
+
+def call(command: str, words: List[str], folder: Path = HERE, given: bytes = b"") -> Ended:
+    """Calls a command in a folder."""
+    environment = {**os.environ, "PYTHONDONTWRITEBYTECODE": "1"}
+    ran = subprocess.run(
+        [str(TOP / command), *words], input=given, cwd=folder, env=environment, capture_output=True, check=False
+    )
+    return Ended(ran.returncode, (ran.stdout + ran.stderr).decode("utf-8"))

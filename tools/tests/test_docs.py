@@ -1,0 +1,66 @@
+"""That the documents say what is so: the excerpts of docs/TESTING.md, the palette, the font and its use."""
+
+import re
+import sys
+import unittest
+from typing import Iterator, List, Tuple
+
+from commands_under_test import TOP, call
+
+sys.path.insert(0, str(TOP / "tools"))
+
+from trestle_tools.pictures import palette  # noqa: E402
+
+
+def lines_of(name: str) -> List[str]:
+    """The lines of a file of the repository."""
+    return (TOP / name).read_text("utf-8").splitlines()
+
+
+def excerpts() -> Iterator[Tuple[str, List[str]]]:
+    """The blocks of docs/TESTING.md, each with the example that its section names."""
+    for section in (TOP / "docs/TESTING.md").read_text("utf-8").split("\n## ")[1:]:
+        example = re.search(r"`docs/examples/(\w+)\.txt`", section)
+        for block in re.findall(r"```\n(.*?)\n```", section, re.S):
+            assert example, section[:40]
+            yield f"docs/examples/{example[1]}", block.split("\n")
+
+
+def stand_in_order(wanted: List[str], lines: List[str]) -> bool:
+    """Whether lines stand among others in their order."""
+    rest = iter(lines)
+    return all(line in rest for line in wanted)
+
+
+class Docs(unittest.TestCase):
+    """The documents."""
+
+    def test_excerpts_are_of_the_examples(self) -> None:
+        for example, block in excerpts():
+            with self.subTest(f"{example}: {block[0]}"):
+                script, output = lines_of(example + ".txt"), lines_of(example + ".out")
+                self.assertTrue(stand_in_order(block, script) or stand_in_order(block, output))
+
+    def test_examples_of_tests_are_meant(self) -> None:
+        for script in sorted((TOP / "docs/examples").glob("testing_*.txt")):
+            with self.subTest(script.stem):
+                self.assertEqual((0, ""), call("lint", [str(script)]))
+
+    def test_palette(self) -> None:
+        rows = re.findall(r"^\| (?:0 to 7|8 to 15) \| (.*) \|$", "\n".join(lines_of("docs/SCRIPT.md")), re.M)
+        colours = re.findall("[0-9a-f]{6}", "".join(rows))
+        self.assertEqual([colour.hex() for colour in palette()[:16]], colours)
+        self.assertEqual(256, len(palette()))
+
+    def test_font(self) -> None:
+        glyphs = [line for line in lines_of("demos/font.txt") if line.startswith("glyph ")]
+        self.assertEqual([f"{byte:02x}" for byte in range(0x20, 0x7F)], [line[6:8] for line in glyphs])
+        self.assertEqual(95, len({line[9:] for line in glyphs}))
+        for script in [*sorted((TOP / "demos").glob("*.txt")), *sorted((TOP / "docs/examples").glob("testing_*.txt"))]:
+            used = [line for line in script.read_text().splitlines() if line.startswith("glyph ")]
+            with self.subTest(script.stem):
+                self.assertEqual([], [line for line in used if line not in glyphs])
+
+
+if __name__ == "__main__":
+    unittest.main()

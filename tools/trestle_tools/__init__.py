@@ -1,0 +1,18 @@
+"""What look, why, lint and snap share: scripts and the words of their grammar, the program's outputs, pictures.
+
+Python 3.8 and its standard library. Each module begins with what it is for:
+
+    program      runs the program trestle on a script
+    outputs      takes an output apart: dumps, journals, the lines of check, refusals
+    pictures     dumps in colours: in the terminal, as .png and as .ppm files
+    comparison   what differs between two outputs
+    scripts      takes a script apart: lines, words, and where each word stands
+    grammar      the lines that a script may have, with the ranges of their values
+    windows      the names, the tree and the widgets of a script, as far as its lines say
+    contents     what a widget holds, as far as is needed to see that a command changes nothing
+    causes       why a line is refused
+    instruments  copies of a script that play as it does, with reports of their own
+    answers      what an answer of the journal means, and what to do
+    findings     what is legal in a script and yet hardly meant
+    commands     one module for each command at the top of the repository
+"""

@@ -1,0 +1,132 @@
+"""look: shows the dumps of an output as pictures."""
+
+import argparse
+import sys
+from itertools import islice
+from pathlib import Path
+from typing import List, Sequence
+
+from . import FINE, FOUND, TROUBLE, Parser, write
+from ..comparison import differing_dumps, panels, report
+from ..outputs import Output, take_apart
+from ..pictures import FORMATS, Picture, beside, picture_of, scaled, terminal_lines
+from ..program import Trouble, read_bytes
+
+WHAT = """\
+Shows the dumps of an output as pictures in the terminal, two rows of points in a line of half blocks, and
+passes on what is no dump. With -o the pictures go to files, whose names stand in their places.
+
+It ends with 2 where the input isn't whole: a refusal, a dump that is cut off, a row that isn't hex."""
+
+EXAMPLE = """\
+./trestle serial < demos/desktop.txt | ./look
+./trestle serial < demos/desktop.txt | ./look -o desktop.png --scale 8
+./look --diff demos/desktop.serial today.serial"""
+
+GREATEST_SCALE = 64
+
+
+def words() -> Parser:
+    """The words that look takes."""
+    taken = Parser("look", WHAT, EXAMPLE)
+    taken.add_argument("file", nargs="?", default="-", metavar="FILE", help="an output; without it standard input")
+    taken.add_argument(
+        "-o", dest="into", metavar="NAME", help="write pictures: NAME.png or NAME.ppm, of several NAME-1.png and so on"
+    )
+    taken.add_argument(
+        "--scale", type=scale, default=1, metavar="N", help=f"N by N points for each pixel, 1 to {GREATEST_SCALE}"
+    )
+    taken.add_argument("--together", action="store_true", help="with -o: all pictures side by side in one file")
+    taken.add_argument(
+        "--diff", nargs=2, metavar=("A", "B"), help="the dumps of two outputs side by side; ends with 1 if any differ"
+    )
+    return taken
+
+
+def scale(word: str) -> int:
+    """The number behind --scale."""
+    if not word.isdecimal() or not 1 <= int(word) <= GREATEST_SCALE:
+        raise argparse.ArgumentTypeError(f"N is 1 to {GREATEST_SCALE}, and not {word}")
+    return int(word)
+
+
+def main(arguments: List[str]) -> int:
+    """Shows one output, or what differs between two."""
+    taken = words()
+    asked = taken.parse_args(arguments)
+    if asked.into is not None and Path(asked.into).suffix not in FORMATS:
+        taken.error(f"-o takes NAME.png or NAME.ppm, and not {asked.into}")
+    if asked.together and asked.into is None:
+        taken.error("--together goes with -o NAME")
+    return show_difference(asked) if asked.diff else show(asked)
+
+
+def show(asked: argparse.Namespace) -> int:
+    """Shows an output, its dumps as pictures."""
+    output = read_output(asked.file)
+    pictures = [picture_of(dump) for dump in output.dumps()]
+    if asked.into and not pictures and not output.faults:
+        raise Trouble("the input has no dump, so nothing is written")
+    names = iter(written(asked, pictures) if asked.into else [])
+    for part in output.parts:
+        if isinstance(part, str):
+            write(part)
+            continue
+        write(part.header())
+        for line in islice(names, 1) if asked.into else terminal_lines(scaled(picture_of(part), asked.scale)):
+            write(line)
+    return TROUBLE if told(output, asked.file) else FINE
+
+
+def show_difference(asked: argparse.Namespace) -> int:
+    """Shows what differs between two outputs."""
+    names = asked.diff
+    first, second = read_output(names[0]), read_output(names[1])
+    if any([told(first, names[0]), told(second, names[1])]):
+        return TROUBLE
+    lines = report(first, second)
+    if not lines:
+        return FINE
+    write(f"A is {names[0]}, B is {names[1]}")
+    for line in lines:
+        write(line)
+    pictures = [beside(panels(one, other)) for _, one, other in differing_dumps(first, second)]
+    if asked.into and pictures:
+        for name in written(asked, pictures):
+            write(name)
+    return FOUND
+
+
+def read_output(name: str) -> Output:
+    """The output in a file."""
+    return take_apart(read_bytes(name).decode("latin-1"))
+
+
+def told(output: Output, name: str) -> bool:
+    """Whether an output has faults; each is told."""
+    sys.stdout.flush()
+    for fault in output.faults:
+        places = [name] * (name != "-") + [f"line {fault.line}"] * (fault.line > 0)
+        print("look: " + ": ".join(places + [fault.what]), file=sys.stderr)
+    return bool(output.faults)
+
+
+def written(asked: argparse.Namespace, pictures: Sequence[Picture]) -> List[str]:
+    """Writes pictures to files, and gives their names: one has the name as it is, several have numbers."""
+    path = Path(asked.into)
+    if asked.together and pictures:
+        pictures = [beside(pictures)]
+    names = [asked.into]
+    if len(pictures) != 1:
+        names = [str(path.with_name(f"{path.stem}-{number}{path.suffix}")) for number in range(1, len(pictures) + 1)]
+    for name, picture in zip(names, pictures):
+        write_file(name, FORMATS[path.suffix](picture, asked.scale))
+    return names
+
+
+def write_file(name: str, data: bytes) -> None:
+    """Writes a file."""
+    try:
+        Path(name).write_bytes(data)
+    except OSError as error:
+        raise Trouble(f"{name} cannot be written: {error.strerror}")

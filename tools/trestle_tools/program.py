@@ -1,0 +1,61 @@
+"""Runs the program trestle on a script: ./trestle, or the program that TRESTLE names in the environment."""
+
+import os
+import subprocess
+from pathlib import Path
+from typing import NamedTuple
+
+TOP = Path(__file__).resolve().parents[2]
+
+# The statuses of the program, as docs/SCRIPT.md has them. 1 is the launcher's: it could not build the program.
+PLAYED, NOT_BUILT, USAGE, REFUSED, READ_FAULT, WRITE_FAULT, NO_MEMORY, NO_ARGUMENTS = range(8)
+
+
+class Trouble(Exception):
+    """What keeps a command from doing its work. It is told in one line, and the command ends with 2."""
+
+
+class Played(NamedTuple):
+    """What the program wrote for a script, and its status."""
+
+    status: int
+    output: bytes
+
+    def text(self) -> str:
+        """The output as a text; a byte is a character of the same number."""
+        return self.output.decode("latin-1")
+
+
+def program() -> str:
+    """The path of the program."""
+    return os.environ.get("TRESTLE") or str(TOP / "trestle")
+
+
+def play(script: bytes, word: str = "serial") -> Played:
+    """Plays a script by `serial` or `check`."""
+    try:
+        ran = subprocess.run([program(), word], input=script, stdout=subprocess.PIPE, check=False)
+    except OSError as error:
+        raise Trouble(f"{program()} does not start: {error.strerror}")
+    if ran.returncode == NOT_BUILT:
+        raise Trouble(f"{program()} ended with 1: the program is not built; ./build says why")
+    if ran.returncode not in range(8):
+        raise Trouble(f"{program()} ended with {ran.returncode}, which is none of its statuses")
+    return Played(ran.returncode, ran.stdout)
+
+
+def due_status(output: str) -> int:
+    """The status that belongs to an output: each text that isn't what a script prints has its own."""
+    for status, begin in ((REFUSED, "refused: "), (USAGE, "usage: "), (READ_FAULT, "read fault")):
+        if output.startswith(begin):
+            return status
+    return PLAYED
+
+
+def read_bytes(name: str) -> bytes:
+    """The bytes of a file, or of standard input where the name is `-`."""
+    try:
+        with open(0 if name == "-" else name, "rb", closefd=name != "-") as file:
+            return file.read()
+    except OSError as error:
+        raise Trouble(f"{name} cannot be read: {error.strerror}")
