@@ -1,5 +1,5 @@
 -- What the readers of lines answer. Contracts of the crate's own functions alone cite this file.
-use Rattle.std.specs.Prelude.{◌≡◌, ℕ, List, [], ◌∷◌, ◌++◌, Bool, true, false, not, ◌||◌, codes, Option, Some, None, Result, Ok, Err, ⊤}
+use Rattle.std.specs.Prelude.{◌≡◌, ℕ, List, [], ◌∷◌, ◌++◌, Bool, true, false, not, ◌||◌, if◌then◌else◌, codes, Option, Some, None, Result, Ok, Err, ⊤}
 use Rattle.tr_grammar.specs.declared.Code.{Code}
 use Rattle.tr_grammar.specs.declared.Code.TheVariants.{B1, B2, B3, B4, B5}
 use Rattle.tr_grammar.specs.declared.LineRefused.{LineRefused}
@@ -54,7 +54,7 @@ any_or (b ∷ bs) last = b || any_or bs last
 abbrev pub Begins : {X : Type 0} → Bool → List Bool → (X → Type 0) → Result X Code → Type 0
 Begins misplaced misspelled P (Ok x) = (misplaced ≡ false) × AreFalse misspelled × P x
 Begins misplaced misspelled P (Err e) =
-    (later : Bool) (others : List (Code × Bool)) → first_of ((B5, misplaced) ∷ (B2, any_or misspelled later) ∷ others) ≡ Some e
+    (later : Bool) (others : Option Code) → (if misplaced then Some B5 else if any_or misspelled later then Some B2 else others) ≡ Some e
 
 -- the same of a line without values, whose one name wasn't declared where that is so
 abbrev pub BeginsPlain : {X : Type 0} → Bool → Bool → (X → Type 0) → Result X Code → Type 0
