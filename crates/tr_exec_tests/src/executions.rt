@@ -29,13 +29,13 @@ fn part(alloc: Global, size: Size, rect: Rect) -> Result<Region, NoMemory>
     Region::of_rect(alloc, whole(size))?.meet(&Region::of_rect(alloc, rect)?)
 }
 
-/// A screen of four points in a row, after the batch, and its bad points.
+/// The pixels of a screen of four points in a row, after the batch, and its bad points.
 fn executed(
     alloc: Global,
     before: [u8; 4],
     bad: Rect,
     batch: &Batch,
-) -> Result<(Screen, Region), NoMemory> {
+) -> Result<(Vec<u8>, Region), NoMemory> {
     let size = Size { wide: 4, high: 1 };
     let mut screen = Screen::blank(alloc, size, Kind::Map8)?;
     screen.row_mut(0).copy_from_slice(&before);
@@ -47,7 +47,7 @@ fn executed(
     let visible = part(alloc, screen.size(), whole(screen.size()))?;
     let mut bad = part(alloc, screen.size(), bad)?;
     execute(alloc, batch, &env, CORNER, &visible, &mut screen, &mut bad)?;
-    Ok((screen, bad))
+    Ok((Vec::from_slice(alloc, screen.row(0))?, bad))
 }
 
 /// A batch of one command.
@@ -114,8 +114,8 @@ fn picture(alloc: Global) -> Result<Batch, NoMemory> {
 }
 
 /// Whether each point of a row has its pixel, or is bad where none is wanted.
-fn is_left(screen: &Screen, bad: &Region, want: [Option<u8>; 4]) -> bool {
-    for ((h, pixel), shown) in (0..4).zip(want).zip(screen.row(0)) {
+fn is_left(row: &[u8], bad: &Region, want: [Option<u8>; 4]) -> bool {
+    for ((h, pixel), shown) in (0..4).zip(want).zip(row) {
         let p = Point { h, v: 0 };
         if bad.has(p) != pixel.is_none() || pixel.unwrap_or(*shown) != *shown {
             return false;
@@ -132,8 +132,8 @@ fn leaves(
     batch: &Batch,
     want: [Option<u8>; 4],
 ) -> Result<bool, NoMemory> {
-    let (screen, bad) = executed(alloc, before, bad, batch)?;
-    Ok(is_left(&screen, &bad, want))
+    let (row, bad) = executed(alloc, before, bad, batch)?;
+    Ok(is_left(&row, &bad, want))
 }
 
 #[test]

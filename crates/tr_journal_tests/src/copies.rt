@@ -4,7 +4,7 @@ use super::journals::entry;
 use super::steps::steps;
 use std::alloc::Global;
 use std::test::Fail;
-use tr_base::{Command, Event, Line, NoMemory};
+use tr_base::{Event, Line, NoMemory};
 use tr_desk::DeskFault;
 use tr_forest::NodeFault;
 use tr_journal::{Answer, Entry, Step};
@@ -26,7 +26,7 @@ impl Copied for Answer {
     }
 }
 
-impl<M: Command> Copied for Step<M> {
+impl Copied for Step<Digit> {
     fn copied(&self, alloc: Global) -> Result<Self, NoMemory> {
         self.copy(alloc)
     }
@@ -36,7 +36,7 @@ impl<M: Command> Copied for Step<M> {
     }
 }
 
-impl<M: Command> Copied for Entry<M> {
+impl Copied for Entry<Digit> {
     fn copied(&self, alloc: Global) -> Result<Self, NoMemory> {
         self.copy(alloc)
     }

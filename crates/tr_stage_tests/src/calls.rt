@@ -128,6 +128,8 @@ pub fn hand_over<C: Client>(
     let (size, kind) = (stage.leaf_size(leaf), stage.tree().kind());
     let mut book = Book::fresh(rt.alloc(), content, stage.font(), size, kind)?;
     book.post(Held::none().with(Level::Mu), cmd)?;
+    // Called for what it tells the prover: that each command has a level.
+    let _ = book.waiting();
     stage.take_over(leaf, book.prepared(), book.levels())
 }
 

@@ -1,4 +1,5 @@
 //! The places of children in rows and in packed rows.
+ghost use Rattle.tr_base.specs.Layouts.{IsDomain};
 ghost use Rattle.tr_base.specs.Shapes.{IsShape};
 
 use std::alloc::Global;
@@ -34,13 +35,17 @@ fn children() -> [Shapes; 3] {
 }
 
 /// Whether the children have these places side by side, or one above another.
-fn stand(alloc: Global, vertical: bool, rect: Rect, want: &[Rect]) -> Result<bool, NoMemory> {
+fn stand(alloc: Global, vertical: bool, rect: Rect, want: &[Rect]) -> Result<bool, NoMemory>
+    requires { IsDomain rect }
+{
     let places = tr_hv::place(alloc, vertical, rect, &children())?;
     Ok(places.as_slice() == want)
 }
 
 /// Whether the children have these places in packed rows.
-fn are_packed(alloc: Global, rect: Rect, gap: u8, want: &[Rect]) -> Result<bool, NoMemory> {
+fn are_packed(alloc: Global, rect: Rect, gap: u8, want: &[Rect]) -> Result<bool, NoMemory>
+    requires { IsDomain rect }
+{
     let places = tr_pack::pack_place(alloc, rect, false, gap, &children())?;
     Ok(places.as_slice() == want)
 }
