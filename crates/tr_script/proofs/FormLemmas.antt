@@ -1,5 +1,5 @@
 -- Which forms the words of a line can have, by its first words.
-use Rattle.std.proofs.Common.{◌≡◌, ℕ, Bool, true, false, List, [], ◌∷◌, ◌++◌, Option, Some, None, ◌≤◌, ◌-◌}
+use Rattle.std.proofs.Common.{◌≡◌, ℕ, Bool, true, false, List, [], ◌∷◌, ◌++◌, Option, Some, None, ◌≤◌, ◌<◌, ◌-◌}
 use Rattle.std.proofs.Common.{cond, eqb, length, get_or, take, drop, refl, sym, subst, ◌∙◌, arith}
 use Rattle.std.specs.Prelude.{◌&&◌, bytes_eq, codes, Result}
 use Rattle.std.specs.Borrow.{Bor}
@@ -52,6 +52,20 @@ eight_words (a ∷ b ∷ e ∷ f ∷ g ∷ []) d le = absurd (omega arith)
 eight_words (a ∷ b ∷ e ∷ f ∷ g ∷ h ∷ []) d le = absurd (omega arith)
 eight_words (a ∷ b ∷ e ∷ f ∷ g ∷ h ∷ i ∷ []) d le = absurd (omega arith)
 eight_words (a ∷ b ∷ e ∷ f ∷ g ∷ h ∷ i ∷ j ∷ ws) d le = rw (rest_is 8 (a ∷ b ∷ e ∷ f ∷ g ∷ h ∷ i ∷ j ∷ ws)) refl
+
+-- ---- too few words
+
+-- a leaf has at least eight words behind the first
+pub few_words : (v : ℕ) (ws : List (Bor (List ℕ))) → length ws < 8 → among v leaf_forms (codes "leaf" ∷ texts ws) ≡ None
+few_words v [] le = rw (and-false (is_second v)) refl
+few_words v (a ∷ []) le = rw (and-false (is_second v)) refl
+few_words v (a ∷ b ∷ []) le = rw (and-false (is_second v)) refl
+few_words v (a ∷ b ∷ e ∷ []) le = rw (and-false (is_second v)) refl
+few_words v (a ∷ b ∷ e ∷ f ∷ []) le = rw (and-false (is_second v)) refl
+few_words v (a ∷ b ∷ e ∷ f ∷ g ∷ []) le = rw (and-false (is_second v)) refl
+few_words v (a ∷ b ∷ e ∷ f ∷ g ∷ h ∷ []) le = rw (and-false (is_second v)) refl
+few_words v (a ∷ b ∷ e ∷ f ∷ g ∷ h ∷ i ∷ []) le = rw (and-false (is_second v)) refl
+few_words v (a ∷ b ∷ e ∷ f ∷ g ∷ h ∷ i ∷ j ∷ ws) le = absurd (omega arith)
 
 -- ---- fewer forms
 
