@@ -11,7 +11,8 @@ use super::openings::{Part, Sample, opening_of};
 use super::traces::same_commands;
 use std::process::Abort;
 use tr_base::{Event, LeafId, Line, NoMemory, Point, Selection, Size, whole};
-use tr_client::{Client, Prepared};
+use tr_book::Book;
+use tr_client::Client;
 use tr_forest::EditRefused;
 use tr_journal::{Delivery, Entry, Opening, Reply, Step, are_levels, covers, is_step, may};
 use tr_levels::{Held, Level};
@@ -125,9 +126,11 @@ pub fn hand_over<C: Client>(
     allow_leaf(rt, stage, leaf);
     let content = stage.content(leaf).copy(rt.alloc())?;
     let (size, kind) = (stage.leaf_size(leaf), stage.tree().kind());
-    let mut prepared = Prepared::fresh(rt.alloc(), content, stage.font(), size, kind)?;
-    prepared.add(cmd)?;
-    stage.take_over(leaf, &prepared, &[Held::none().with(Level::Mu)])
+    let mut book = Book::fresh(rt.alloc(), content, stage.font(), size, kind)?;
+    book.post(Held::none().with(Level::Mu), cmd)?;
+    // Called for what it tells the prover: that each command has a level.
+    let _ = book.waiting();
+    stage.take_over(leaf, book.prepared(), book.levels())
 }
 
 /// Paints a leaf's bad points apart from the screen, and puts them there.
