@@ -11,10 +11,10 @@ use Rattle.tr_serial.specs.Outputs.{cues, widgets}
 use Rattle.tr_serial.proofs.CueLemmas.{HasPlayed, HasStarted, played}
 use Rattle.tr_serial.proofs.plays.play.Goals as goal
 
-pub play_parts-requires : goal.play_parts-requires
-play_parts-requires c = λ κs.
+pub play_parts-requires-clause-playable : goal.play_parts-requires-clause-playable
+play_parts-requires-clause-playable c = λ κs.
     let P : Script → Type 0 = λ s. All (IsPlayablePart (tree_of s.opening).nodes) s.parts in
-    let parts = subst P (sym c.script.view_is) c.requires.parts in
+    let parts = subst P (sym c.script.view_is) c.requires.playable.parts in
     subst (λ (opened : List (Item Widget)). All (IsPlayablePart (tree_of opened).nodes) c.script.inside.parts.items) (sym c.in_ok-run.ensures.opening) parts
 
 pub returns : goal.returns

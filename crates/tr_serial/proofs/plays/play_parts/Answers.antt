@@ -13,15 +13,15 @@ use Rattle.tr_serial.specs.Outputs.{cues}
 use Rattle.tr_serial.proofs.CueLemmas.{cues_next, cues_of, goes_on, is_later_next}
 use Rattle.tr_serial.proofs.plays.play_parts.Goals as goal
 
-pub play_part-requires : goal.play_part-requires
-play_part-requires g c = λ κs lives.
+pub play_part-requires-clause-playable : goal.play_part-requires-clause-playable
+play_part-requires-clause-playable g c = λ κs lives.
     let gives = c.into_iter-part-iterator.ensures.into_iter_gives in
     let items = YieldsList-from_vec {s = c.into_iter-part-iterator.result} _ gives.0 (gives.1 ∙ c.args.parts.ok.0) in
     let turn = YieldsList-turn items c.loop-part.yielded c.loop-part.part-iterator c.loop-part.yielded_by c.next.result c.next.new.self
     c.in-Some.part c.in-Some.is c.next.ensures.steps in
     subst (λ (opened : List (Item _)). IsPlayablePart (tree_of opened).nodes c.in-Some.part) (sym c.loop-part.invariant.did.opening)
     (subst (λ (p : Part). IsPlayablePart (tree_of c.args.run.now.stage.opening).nodes p) (sym turn.1)
-    (c.requires (length c.loop-part.yielded) c.in-Some.part turn.0))
+    (c.requires.playable (length c.loop-part.yielded) c.in-Some.part turn.0))
 
 pub loop-part-preserved : goal.loop-part-preserved
 loop-part-preserved g c =
