@@ -1,3 +1,4 @@
 pub mod BeginsLemmas
 pub mod NameLemmas
 pub mod JournalLemmas
+mod Examples

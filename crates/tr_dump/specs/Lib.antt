@@ -4,3 +4,4 @@ pub mod Steps
 pub mod Reports
 pub mod Begins
 pub mod Words
+pub mod Differs

@@ -1,5 +1,5 @@
 -- Which names of nodes and leaves a text needs.
-use Rattle.std.specs.Prelude.{⊤, All}
+use Rattle.std.specs.Prelude.{⊤, All, IfSome}
 use Rattle.tr_base.specs.declared.spots.Spot.{Spot}
 use Rattle.tr_base.specs.declared.spots.Spot.TheVariants as spots
 use Rattle.tr_forest.specs.declared.edits.Edit.{Edit}
@@ -13,6 +13,9 @@ use Rattle.tr_journal.specs.declared.steps.Query.TheVariants as queries
 use Rattle.tr_journal.specs.declared.steps.Step.{Step}
 use Rattle.tr_journal.specs.declared.steps.Step.TheVariants as steps
 use Rattle.tr_journal.specs.declared.entries.Entry.{Entry}
+use Rattle.tr_journal.specs.declared.differences.Difference.{Difference}
+use Rattle.tr_journal.specs.declared.differences.Apart.{Apart}
+use Rattle.tr_journal.specs.declared.differences.Apart.TheVariants as apart
 use Rattle.tr_journal.specs.Journals.{JournalLine}
 use Rattle.tr_journal.specs.Names.{Names, HasNode, HasLeaf}
 
@@ -71,3 +74,14 @@ pub record IsNamedEntry {M : Type 0} (names : Names) (entry : Entry M) : Type 0 
 pub record IsNamedLine {M : Type 0} (names : Names) (line : JournalLine M) : Type 0 where
   pub entry : IsNamedEntry names line.entry
   pub sent : All (λ delivery. HasLeaf names delivery.leaf) line.sent
+
+-- what differs has a name, and the entries or the steps name what has one
+abbrev pub IsNamedApart : {M : Type 0} → Names → Apart M → Type 0
+IsNamedApart names apart.Opening = ⊤
+IsNamedApart names (apart.Kept made found) = IfSome made (IsNamedEntry names) × IfSome found (IsNamedEntry names)
+IsNamedApart names (apart.Own actor made found) =
+    IsNamedActor names actor × IfSome made (IsNamedStep names) × IfSome found (IsNamedStep names)
+
+-- so does all that the text of a difference names
+abbrev pub IsNamedDifference : {M : Type 0} → Names → Difference M → Type 0
+IsNamedDifference names d = IsNamedApart names d.what

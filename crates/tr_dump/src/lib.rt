@@ -1,8 +1,10 @@
-//! The texts of reports: the screen, what waits to be painted, the journal, what a point belongs to, and
-//! what waits in an inbox. Each call appends its text to `out`, or nothing where memory is wanted.
+//! The texts of reports: the screen, what waits to be painted, the journal, what a point belongs to, what
+//! waits in an inbox, and where a stage differs from what was handed in. Each call appends its text to
+//! `out`, or nothing where memory is wanted.
 #![tactic(auto)]
 
 mod answers;
+mod differs;
 mod dumps;
 mod edits;
 mod entries;
@@ -14,6 +16,7 @@ mod steps;
 mod values;
 mod words;
 
+pub use differs::differs_line;
 pub use dumps::dump;
 pub use journals::journal;
 pub use peeks::peek_line;

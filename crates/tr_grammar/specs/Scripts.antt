@@ -2,10 +2,10 @@
 use Rattle.std.specs.Prelude.{◌≡◌, ℕ, ◌+◌, nat_lt, ⊤, Bool, true, false, List, All, [], ◌∷◌, ◌++◌, length, Option, Some, None, is_some, if◌then◌else◌}
 use Rattle.tr_forest.specs.Nodes.{Nodes, leaf_count}
 use Rattle.tr_journal.specs.declared.Actor.{Actor}
-use Rattle.tr_journal.specs.declared.Actor.TheVariants as actors
 use Rattle.tr_journal.specs.declared.Step.{Step}
 use Rattle.tr_journal.specs.declared.Item.{Item}
 use Rattle.tr_journal.specs.declared.Item.TheVariants as items
+use Rattle.tr_journal.specs.Actors.{is_maker}
 use Rattle.tr_journal.specs.Openings.{tree_of}
 use Rattle.tr_journal.specs.Reports.{is_report}
 use Rattle.tr_journal.specs.Steps.{may, IsStep, IsQuery}
@@ -119,12 +119,6 @@ whole c = record { opening = c.items; names = c.names; parts = c.ended ++ c.part
 -- what a text says that is a script
 unfoldable pub script_of : List ℕ → Script
 script_of bytes = whole (after_all nothing_yet (lines_of bytes))
-
--- the lines of a script between its syncs are made by the desk, or by a leaf
-abbrev pub is_maker : Actor → Bool
-is_maker actors.Desk = true
-is_maker (actors.Leaf leaf) = true
-is_maker actor = false
 
 -- a step can be played: the desk or a leaf makes it, which may, and it is no report; its numbers are those of nodes and leaves
 pub record IsPlayable (t : Nodes) (made : Actor × Step WidgetCmd) : Type 0 where

@@ -4,3 +4,6 @@ pub mod Journals
 pub mod Names
 pub mod Openings
 pub mod Kept
+pub mod Actors
+pub mod Lists
+pub mod Differences

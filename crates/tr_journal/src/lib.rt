@@ -3,9 +3,11 @@
 #![tactic(auto)]
 
 mod answers;
+mod differences;
 mod entries;
 mod items;
 mod journals;
+mod lists;
 mod names;
 mod openings;
 mod peeks;
@@ -15,9 +17,11 @@ mod sameness;
 mod steps;
 
 pub use answers::{Answer, Reply};
+pub use differences::{Apart, Difference};
 pub use entries::Entry;
 pub use items::Item;
 pub use journals::{DELIVERIES, Journal};
+pub use lists::Lists;
 pub use names::NameOf;
 pub use openings::Opening;
 pub use peeks::Peek3;

@@ -49,7 +49,7 @@ pub fn covers<M>(held: Held, step: &Step<M>) -> bool
     }
 }
 
-/// Exactly the levels that the step must hold.
+/// The levels that a step states, Mu for a repaint.
 pub fn stated<M>(step: &Step<M>) -> Held
     ensures value { result ≡ spec.stated step.now }
     ensures levels { (t : Nodes) → IsStep t step.now → AreLevels t result }

@@ -1,5 +1,5 @@
 -- A stage after a step that paints: the pixels, the bad points and the windows change.
-use Rattle.std.proofs.Common.{◌≡◌, ℕ, ◌<◌, true, List, [], ◌++◌, Option, Some, length, refl, sym, ap, subst, ◌∙◌}
+use Rattle.std.proofs.Common.{◌≡◌, ◌⊎◌, ℕ, ◌<◌, Bool, true, false, List, [], Option, Some, inl, inr, length, refl, sym, ap, subst, ◌∙◌}
 use Rattle.std.specs.Prelude.{slice_get}
 use Rattle.tr_base.specs.declared.Point.{Point}
 use Rattle.tr_base.specs.declared.LeafId.{LeafId}
@@ -28,6 +28,7 @@ use Rattle.tr_machine.specs.Machines.{done}
 use Rattle.tr_machine.proofs.ListLemmas.{slice_get-some}
 use Rattle.tr_machine.proofs.SoundLemmas.{fits}
 use Rattle.tr_machine.proofs.FlushLemmas.{flush_shows}
+use Rattle.tr_machine.proofs.RepaintLemmas as machine
 use Rattle.tr_machine.proofs.RepaintLemmas.{repaint_shows}
 use Rattle.tr_machine.proofs.FrameLemmas.{frame_shows}
 use Rattle.tr_windows.specs.Presents.{Present, batch_at, cleared, present}
@@ -107,7 +108,7 @@ module _ {C M : Type 0} (client : Ghosts C M) where
   HasBad region t leaf bad =
       (p : Point) → is_in_leaf leaf (spot t p) ≡ true → holds region p ≡ true → has_point bad (in_leaf t leaf p) ≡ true
 
-  -- the batch has what waits for the leaf, and then a painting round a rectangle that holds its bad points
+  -- the batch repaints the leaf, by a rectangle that holds its bad points
   pub record IsRepainting (old : Parts C) (leaf : LeafId) (font : List (List ℕ)) (batch : List Paint) : Type 0 where
     pub tree : Seen
     pub same : tree ≡ old.surface.tree
@@ -134,17 +135,11 @@ module _ {C M : Type 0} (client : Ghosts C M) where
             fits = fits client m (forest_before client b (steps.Repaint leaf) making) making.is.kept.sound;
             window = window.0;
             at = window.1;
-            clip = r.clip;
-            painting = r.painting;
-            paints = r.paints;
-            bad = λ p seen is_bad. r.has_bad (in_leaf m.tree leaf p) (has_bad p seen is_bad);
-            waiting = λ q touched. r.has_touched q (ap (λ (cs : List Paint). touches cs q) (sym waits) ∙ touched);
             font = x.font;
             font_is = font_is;
             batch = x.batch;
-            batch_is = r.joined ∙ ap (λ (cs : List Paint). cs ++ r.painting) (sym waits);
             executed = x.executed;
-          });
+          }) (either r);
           windows =
               x.windows ∙ ap (λ (ws : List (Present C)). changed_at leaf.0 cleared ws) making.is.kept.windows
               ∙ sym (presents-repainted client m leaf);
@@ -179,6 +174,23 @@ module _ {C M : Type 0} (client : Ghosts C M) where
 
       waits : batch_of client m leaf ≡ own.batch
       waits = ap (λ (o : Option (Window C M)). batch_in client m leaf o) window.1
+
+      good : ((q : Point) → has_point y.bad q ≡ false) → (p : Point) → is_in_leaf leaf (spot m.tree p) ≡ true → holds b.parts.surface.bad p ≡ false
+      good none p seen = by_test (holds b.parts.surface.bad p) refl
+        where
+          by_test : (is_bad : Bool) → holds b.parts.surface.bad p ≡ is_bad → is_bad ≡ false
+          by_test true h = sym (has_bad p seen h) ∙ none (in_leaf m.tree leaf p)
+          by_test false h = refl
+
+      either : Repaints client (look m) (leaf_size m.tree leaf) y.bad own x.batch →
+          machine.IsByPainting client m b.parts.surface leaf window.0 x.batch ⊎ machine.IsByWaiting client m b.parts.surface leaf x.batch
+      either (inl r) = inl (record {
+        clip = r.clip;
+        paints = r.paints;
+        bad = λ p seen is_bad. r.has_bad (in_leaf m.tree leaf p) (has_bad p seen is_bad);
+        waiting = λ q touched. r.has_touched q (ap (λ (cs : List Paint). touches cs q) (sym waits) ∙ touched);
+      })
+      either (inr r) = inr (record { same = r.waits ∙ sym waits; good = good r.good; keeps = r.keeps })
 
   -- the parts before and after the frames are painted
   pub record IsFramed (old new : Parts C) : Type 0 where

@@ -5,6 +5,7 @@
 
 mod acts;
 mod alters;
+mod audits;
 mod counts;
 mod devices;
 mod handing;

@@ -63,8 +63,8 @@ impl<C: Client> Stage<C> {
         self.batch(leaf).len() != 0
     }
 
-    /// The flushes of the leaves for which something waits.
-    fn steps_to_flush(&self) -> Result<Vec<Step<C::Cmd>>, NoMemory>
+    /// The flushes of the leaves for which something waits. They are the painter's, under the tree's lock.
+    pub fn steps_to_flush(&self) -> Result<Vec<Step<C::Cmd>>, NoMemory>
         ensures steps { IfOk result (λ steps. steps.items ≡ flushing C.Client (state C.Client self.now)) }
         ensures painters { IfOk result (λ steps.
             All (IsPainters (tree_of self.now.opening).nodes) steps.items) }
@@ -79,8 +79,8 @@ impl<C: Client> Stage<C> {
         Ok(steps)
     }
 
-    /// The painting of the frames, if a point of one is bad.
-    fn steps_to_frame(&self) -> Result<Vec<Step<C::Cmd>>, NoMemory>
+    /// The painting of the frames, if a point of one is bad. It is the painter's, under the tree's lock.
+    pub fn steps_to_frame(&self) -> Result<Vec<Step<C::Cmd>>, NoMemory>
         ensures steps { IfOk result (λ steps. steps.items ≡ frame_steps (state C.Client self.now)) }
         ensures painters { IfOk result (λ steps.
             All (IsPainters (tree_of self.now.opening).nodes) steps.items) }

@@ -14,7 +14,10 @@ use tr_base::{Event, LeafId, Line, NoMemory, Point, Selection, Size, whole};
 use tr_book::Book;
 use tr_client::Client;
 use tr_forest::EditRefused;
-use tr_journal::{Delivery, Entry, Opening, Reply, Step, are_levels, covers, is_step, may};
+use tr_journal::{
+    Actor, Delivery, Difference, Entry, Journal, Lists, Opening, Reply, Step, are_levels, covers,
+    is_step, may,
+};
 use tr_levels::{Held, Level};
 use tr_paint::Batch;
 use tr_stage::{Peek, Stage, is_reservable};
@@ -143,6 +146,20 @@ pub fn repaint_apart<C: Client>(
     assert!(rt; stage.batch(leaf).is_empty());
     let painted = stage.paint_bad(leaf)?;
     stage.put_painted(painted)
+}
+
+/// The first difference between a stage and what is handed in: its own opening, no journal, and this one step
+/// of a leaf.
+pub fn difference<C: Client>(
+    rt: &(impl Abort + AllocGlobal),
+    stage: &Stage<C>,
+    leaf: LeafId,
+    step: Step<C::Cmd>,
+) -> Result<Option<Difference<C::Cmd>>, NoMemory> {
+    allow_leaf(rt, stage, leaf);
+    let mut lists = Lists::new(rt.alloc(), stage.opening().tree().leaves())?;
+    lists.add(Actor::Leaf(leaf), step)?;
+    stage.audit(stage.opening(), &Journal::new(rt.alloc()), &lists)
 }
 
 pub fn settle<C: Client>(stage: &mut Stage<C>) -> Result<(), NoMemory> {

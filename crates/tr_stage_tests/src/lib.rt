@@ -5,6 +5,8 @@
 #[cfg(test)]
 mod acts;
 #[cfg(test)]
+mod audits;
+#[cfg(test)]
 mod calls;
 #[cfg(test)]
 mod draws;

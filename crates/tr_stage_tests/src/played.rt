@@ -5,7 +5,7 @@ use super::openings::Part;
 use std::process::Abort;
 use tr_base::{Event, LeafId, Line, NoMemory, Point, Selection, Size};
 use tr_forest::EditRefused;
-use tr_journal::{Delivery, Entry, Reply, Step};
+use tr_journal::{Delivery, Difference, Entry, Reply, Step};
 use tr_paint::Batch;
 use tr_stage::{Peek, Stage};
 use tr_widget::{Widget, WidgetCmd};
@@ -52,6 +52,15 @@ pub trait Played: Sized + Drop {
 
     /// Paints a leaf's bad points apart from the screen, and puts them there.
     fn repaint_apart(&mut self, rt: &impl Abort, leaf: LeafId) -> Result<(), NoMemory>;
+
+    /// The first difference between the stage and what is handed in: its own opening, no journal, and this one
+    /// step of a leaf.
+    fn difference(
+        &self,
+        rt: &(impl Abort + AllocGlobal),
+        leaf: LeafId,
+        step: Step<WidgetCmd>,
+    ) -> Result<Option<Difference<WidgetCmd>>, NoMemory>;
 
     fn settle(&mut self) -> Result<(), NoMemory>;
 
@@ -165,6 +174,15 @@ impl Played for Stage<Widget> {
 
     fn repaint_apart(&mut self, rt: &impl Abort, leaf: LeafId) -> Result<(), NoMemory> {
         calls::repaint_apart(rt, self, leaf)
+    }
+
+    fn difference(
+        &self,
+        rt: &(impl Abort + AllocGlobal),
+        leaf: LeafId,
+        step: Step<WidgetCmd>,
+    ) -> Result<Option<Difference<WidgetCmd>>, NoMemory> {
+        calls::difference(rt, self, leaf, step)
     }
 
     fn settle(&mut self) -> Result<(), NoMemory> {

@@ -1,0 +1,5 @@
+pub mod PlaceLemmas
+pub mod RankLemmas
+pub mod ProgressLemmas
+pub mod AuditLemmas
+pub mod ExactLemmas
