@@ -29,7 +29,7 @@ use Rattle.tr_machine.proofs.ListLemmas.{leaf_by_number, window_here, window_the
 use Rattle.tr_machine.proofs.ShownLemmas.{IsShowing, after-base, base_sees, colour_in_leaf, colour_same, on_tree}
 
 -- what isn't nothing is something
-some_of : (o : Option ℕ) → is_none o ≡ false → (x : ℕ) × (o ≡ Some x)
+pub some_of : (o : Option ℕ) → is_none o ≡ false → (x : ℕ) × (o ≡ Some x)
 some_of None h = absurd (false-true (sym h))
 some_of (Some x) h = (x, refl)
 

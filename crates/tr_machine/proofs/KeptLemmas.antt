@@ -19,7 +19,6 @@ use Rattle.tr_spot.specs.Spots.{HasRoot}
 use Rattle.tr_desk.specs.declared.desks.DeskFault.{DeskFault}
 use Rattle.tr_desk.specs.Faults.{time_fault, mouse_fault, own_fault, disown_fault}
 use Rattle.tr_mail.specs.Mails.{Mails, Sending}
-use Rattle.tr_mail.specs.Deliveries.{is_reshaped}
 use Rattle.tr_mail.specs.Deliveries as mail
 use Rattle.tr_journal.specs.declared.items.Item.{Item}
 use Rattle.tr_journal.specs.declared.steps.Step.{Step}

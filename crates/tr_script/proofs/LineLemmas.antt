@@ -12,7 +12,7 @@ use Rattle.tr_grammar.specs.declared.Code.TheVariants.{B1}
 use Rattle.tr_grammar.specs.declared.LineRefused.{LineRefused}
 use Rattle.tr_grammar.specs.declared.LineRefused.TheVariants as refused
 use Rattle.tr_grammar.specs.declared.Meaning.{Meaning}
-use Rattle.tr_grammar.specs.Texts.{is_plain, is_silent, lines_of, ends_empty, without_empty_end}
+use Rattle.tr_grammar.specs.Texts.{is_plain, is_silent, lines_of, ends_empty}
 use Rattle.tr_grammar.specs.Words.{word_at, words_of}
 use Rattle.tr_grammar.specs.Forms.{Form, form_of}
 use Rattle.tr_grammar.specs.Meanings.{meaning_of}

@@ -3,6 +3,7 @@
 #![tactic(auto)]
 
 mod areas;
+mod costs;
 mod keepers;
 mod present;
 mod windows;

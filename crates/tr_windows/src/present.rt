@@ -5,6 +5,7 @@ ghost use Rattle.tr_windows.specs.Presents as spec;
 ghost use Rattle.tr_windows.specs.Promises.{Repaints};
 
 use crate::areas::{part_in_window, spanned};
+use crate::costs::is_cheaper;
 use std::alloc::Global;
 use std::marker::Model;
 use tr_base::{Env, NoMemory, Rect, Size};
@@ -96,8 +97,8 @@ impl<C: Client> Window<C> {
         self.batch.clear();
     }
 
-    /// The commands that wait, and behind them some that paint all points that are bad or that those
-    /// touch. It takes a copy of what waits.
+    /// A batch that repaints it: a painting of all points that are bad or that the waiting commands
+    /// would touch, or, where that is cheaper and does as well, a copy of these. Nothing is let go.
     pub fn repainting(
         &self,
         alloc: Global,
@@ -110,9 +111,11 @@ impl<C: Client> Window<C> {
             IfOk result (λ batch. Repaints C.Client look size bad self.now batch) }
     {
         let clip = spanned(bad, &self.batch);
-        let mut batch = self.batch.copy()?;
         let painting = self.content.paint(alloc, env, size, clip)?;
-        batch.extend(painting)?;
-        Ok(batch)
+        if is_cheaper(&self.batch, &painting, &bad) {
+            let waiting = self.batch.copy()?;
+            return Ok(waiting);
+        }
+        Ok(painting)
     }
 }

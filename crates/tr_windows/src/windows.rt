@@ -146,8 +146,9 @@ impl<C: Client> Windows<C> {
         }
     }
 
-    /// A batch that repaints a leaf's window, which has this size: the commands that wait, and behind
-    /// them some that paint all points that are bad or that those touch. Nothing is let go.
+    /// A batch that repaints a leaf's window, which has this size: a painting of all points that are
+    /// bad or that the waiting commands would touch, or, where that is cheaper and does as well, a copy
+    /// of these. Nothing is let go.
     pub fn repainting(
         &self,
         leaf: LeafId,

@@ -1,4 +1,4 @@
-use Rattle.std.proofs.Common.{◌∷◌, refl, lit<}
+use Rattle.std.proofs.Common.{◌∷◌, lit<}
 use Rattle.std.specs.Prelude.{codes}
 use Rattle.std.proofs.lemmas.Str.Pattern.{strip_prefix_char}
 use Rattle.tr_grammar.specs.Forms.{forms, node_forms, leaf_forms, act_forms}

@@ -1,9 +1,8 @@
-use Rattle.std.proofs.Common.{◌≡◌, ℕ, List, Err, false, sym, subst, ap, ◌∙◌, rules}
-use Rattle.std.specs.Borrow.{Bor}
+use Rattle.std.proofs.Common.{◌≡◌, ℕ, List, Err, sym, subst, ap, ◌∙◌, rules}
 use Rattle.tr_grammar.specs.Texts.{is_silent}
 use Rattle.tr_grammar.specs.Words.{words_of, word_at}
 use Rattle.tr_grammar.specs.Forms.{forms, form_of}
-use Rattle.tr_grammar.specs.Faults.{has_ended, first_of, line_faults, fault_of}
+use Rattle.tr_grammar.specs.Faults.{first_of, line_faults, fault_of}
 use Rattle.tr_grammar.specs.Scripts.{next, after}
 use Rattle.tr_words.specs.Answers.{texts}
 use Rattle.tr_reader.specs.Adding.{IsFault}

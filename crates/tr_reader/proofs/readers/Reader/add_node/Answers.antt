@@ -1,4 +1,4 @@
-use Rattle.std.proofs.Common.{[], refl, sym, ◌∙◌}
+use Rattle.std.proofs.Common.{refl, sym, ◌∙◌}
 use Rattle.tr_journal.specs.declared.Item.TheVariants as items
 use Rattle.tr_reader.proofs.Keeping.{kept_item, lost}
 use Rattle.tr_reader.proofs.readers.Reader.add_node.Goals as goal

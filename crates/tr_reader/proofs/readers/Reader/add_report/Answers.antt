@@ -1,4 +1,4 @@
-use Rattle.std.proofs.Common.{[], refl, arith}
+use Rattle.std.proofs.Common.{[], refl}
 use Rattle.tr_grammar.specs.declared.Meaning.TheVariants as meanings
 use Rattle.tr_reader.proofs.Keeping.{kept_after}
 use Rattle.tr_reader.proofs.readers.Reader.add_report.Goals as goal
