@@ -1,0 +1,2 @@
+pub mod Interleaves
+pub mod Stretches

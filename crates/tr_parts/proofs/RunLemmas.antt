@@ -1,0 +1,137 @@
+-- Steps that are made one after another, and reports.
+use Rattle.std.proofs.Common.{◌≡◌, ℕ, ◌+◌, ◌<◌, Bool, true, false, List, [], ◌∷◌, ◌++◌, length, take, get_or, refl, sym, ap, subst, ◌∙◌, append_assoc}
+use Rattle.std.proofs.lemmas.List.{take_more}
+use Rattle.tr_base.proofs.RectLemmas.{false-true}
+use Rattle.tr_client.specs.declared.clients.Client.{Ghosts}
+use Rattle.tr_forest.specs.Nodes.{leaf_count}
+use Rattle.tr_levels.specs.declared.Level.{Level}
+use Rattle.tr_levels.specs.declared.Level.TheVariants.{Mu}
+use Rattle.tr_journal.specs.declared.steps.Actor.{Actor}
+use Rattle.tr_journal.specs.declared.steps.Actor.TheVariants as actors
+use Rattle.tr_journal.specs.declared.steps.Query.{Query}
+use Rattle.tr_journal.specs.declared.steps.Query.TheVariants as queries
+use Rattle.tr_journal.specs.declared.steps.Step.{Step}
+use Rattle.tr_journal.specs.declared.steps.Step.TheVariants as steps
+use Rattle.tr_journal.specs.Actors.{is_maker, steps_of}
+use Rattle.tr_journal.specs.Journals.{JournalLine}
+use Rattle.tr_journal.specs.Steps.{stated}
+use Rattle.tr_journal.proofs.ActorLemmas.{steps_of-append}
+use Rattle.tr_machine.specs.States.{State}
+use Rattle.tr_machine.specs.Replays.{line_of, lines_of, next, replay_from}
+use Rattle.tr_machine.specs.Settling.{settling, settling_lines}
+use Rattle.tr_machine.proofs.JournalLemmas.{replay_from-lines_of}
+use Rattle.tr_machine.proofs.SettleLemmas.{settles, legal_settling}
+use Rattle.tr_machine.proofs.SettleLemmas as below
+use Rattle.tr_interleaves.specs.Interleaves.{IsSettled, steps_in}
+use Rattle.tr_interleaves.specs.Stretches.{AreReports, HasNoMaker}
+use Rattle.tr_interleaves.proofs.StretchLemmas.{AreOthers, others, reports-append, steps_in-append}
+use Rattle.tr_stage.specs.Stages.{StageView, state}
+use Rattle.tr_stage.specs.Standings.{Stands}
+use Rattle.tr_run.specs.Runs.{reporting, run_lines}
+use Rattle.tr_parts.specs.Turns.{HasRun}
+
+-- ---- one step more
+
+-- a leaf's actor or the desk isn't the player
+no_player : {M : Type 0} (actor : Actor) (step : Step M) → is_maker actor ≡ true → steps_of actors.Player ((actor, step) ∷ []) ≡ []
+no_player (actors.Leaf leaf) step is = refl
+no_player actors.Desk step is = refl
+no_player actors.Painter step is = absurd (false-true is)
+no_player actors.Player step is = absurd (false-true is)
+
+-- the step is a dump
+abbrev is_dump : {M : Type 0} → Step M → Bool
+is_dump (steps.Report queries.Dump) = true
+is_dump step = false
+
+module _ {C M : Type 0} (client : Ghosts C M) where
+  -- from one stage to the next a step was made, by a leaf's actor or the desk
+  pub record HasMade (now new : StageView C M) (made : Actor × Step M) : Type 0 where
+    pub maker : is_maker made.0 ≡ true
+    pub opening : new.opening ≡ now.opening
+    pub journal : new.journal ≡ now.journal ++ line_of client (state client now) made.0 (stated made.1) made.1 ∷ []
+
+  pub run_more : (s now new : StageView C M) (before : List (Actor × Step M)) (made : Actor × Step M) → HasRun s now before →
+      HasMade now new made → HasRun s new (before ++ made ∷ [])
+  run_more s now new before made so_far is = record {
+    lines = so_far.lines ++ line ∷ [];
+    opening = is.opening ∙ so_far.opening;
+    journal = is.journal ∙ ap (λ (ls : List (JournalLine M)). ls ++ line ∷ []) so_far.journal ∙ append_assoc s.journal so_far.lines (line ∷ []);
+    made = λ other of.
+        steps_in-append other so_far.lines (line ∷ [])
+        ∙ ap (λ (xs : List (Step M)). xs ++ steps_in other (line ∷ [])) (so_far.made other of)
+        ∙ sym (steps_of-append other before (made ∷ []));
+    player = steps_in-append actors.Player so_far.lines (line ∷ [])
+        ∙ ap (λ (xs : List (Step M)). xs ++ steps_in actors.Player (line ∷ [])) so_far.player
+        ∙ no_player made.0 made.1 is.maker;
+  }
+    where
+      line : JournalLine M
+      line = line_of client (state client now) made.0 (stated made.1) made.1
+
+  -- the steps so far, and one more
+  pub run_next : (s now new : StageView C M) (all : List (Actor × Step M)) (k : ℕ) (made : Actor × Step M) →
+      (k < length all) × (made ≡ get_or all k made) → HasRun s now (take k all) → HasMade now new made → HasRun s new (take (k + 1) all)
+  run_next s now new all k made at so_far is =
+      subst (λ (xs : List (Actor × Step M)). HasRun s new xs)
+      (ap (λ (x : Actor × Step M). take k all ++ x ∷ []) at.1 ∙ sym (take_more all k made at.0))
+      (run_more s now new (take k all) made so_far is)
+
+  -- ---- reports
+
+  -- the painter's lines are no leaf's and not the desk's
+  painters_lines : (held : List Level) (m : State C M) (xs : List (Step M)) → HasNoMaker (lines_of client actors.Painter held m xs)
+  painters_lines held m [] = tt
+  painters_lines held m (x ∷ xs) = (refl, painters_lines held (next client m x) xs)
+
+  -- nor the player's
+  painters_steps : (held : List Level) (m : State C M) (xs : List (Step M)) → steps_in actors.Player (lines_of client actors.Painter held m xs) ≡ []
+  painters_steps held m [] = refl
+  painters_steps held m (x ∷ xs) = painters_steps held (next client m x) xs
+
+  -- the lines that settle a sound state report nothing
+  settling_reports : (m : State C M) → length m.windows ≡ leaf_count m.tree.nodes → AreReports client m [] (settling_lines client m)
+  settling_reports m many =
+      let none : steps_in actors.Player (settling_lines client m) ≡ [] = painters_steps (Mu ∷ []) m (settling client m) in
+      let other : AreOthers client m (settling_lines client m) =
+      others client m.tree.nodes m (settling_lines client m) (legal_settling client m.tree.nodes m many) none in
+      record { makers = painters_lines (Mu ∷ []) m (settling client m); syncs = other.syncs; player = none; dumps = other.dumps }
+
+  other_dump : (query : Query) → is_dump {M = M} (steps.Report query) ≡ false →
+      (let dumped : Step M = steps.Report queries.Dump in steps.Report query ≡ dumped) → ⊥
+  other_dump query not is = false-true (sym not ∙ ap (λ (s : Step M). is_dump s) is)
+
+  -- a report of a stage
+  pub reported : (s : StageView C M) (query : Query) → Stands client s →
+      AreReports client (state client s) (query ∷ []) (run_lines client (state client s) (reporting query))
+  reported s queries.Dump stands =
+      reports-append client m [] (queries.Dump ∷ []) (settling_lines client m) (line ∷ []) (settling_reports m stands.sound.windows) (record {
+        makers = (refl, tt);
+        syncs = (refl, tt);
+        player = refl;
+        dumps = (λ is. settled, tt);
+      })
+    where
+      m : State C M
+      m = state client s
+
+      after : State C M
+      after = replay_from client m (settling_lines client m)
+
+      line : JournalLine M
+      line = line_of client after actors.Player (Mu ∷ []) (steps.Report queries.Dump)
+
+      settled : IsSettled client after
+      settled =
+          let there : below.IsSettled client m after = subst (λ (n : State C M). below.IsSettled client m n)
+          (sym (replay_from-lines_of client actors.Painter (Mu ∷ []) m (settling client m)))
+          (settles client m stands.forest stands.root stands.sound) in
+          record { good = there.good; batches = there.batches }
+  reported s queries.Peek stands =
+      record { makers = (refl, tt); syncs = (refl, tt); player = refl; dumps = (λ is. absurd (other_dump queries.Peek refl is), tt) }
+  reported s queries.Journal stands =
+      record { makers = (refl, tt); syncs = (refl, tt); player = refl; dumps = (λ is. absurd (other_dump queries.Journal refl is), tt) }
+  reported s (queries.Where at) stands =
+      record { makers = (refl, tt); syncs = (refl, tt); player = refl; dumps = (λ is. absurd (other_dump (queries.Where at) refl is), tt) }
+  reported s (queries.Inbox leaf) stands =
+      record { makers = (refl, tt); syncs = (refl, tt); player = refl; dumps = (λ is. absurd (other_dump (queries.Inbox leaf) refl is), tt) }

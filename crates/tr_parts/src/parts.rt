@@ -1,0 +1,84 @@
+ghost use Rattle.std.specs.Prelude.{◌≡◌, ◌++◌, ◌∷◌, [], if◌then◌else◌, All, IfOk, OnOk};
+ghost use Rattle.tr_journal.specs.declared.Actor.TheVariants.{Player};
+ghost use Rattle.tr_journal.specs.declared.Step.TheVariants.{Sync};
+ghost use Rattle.tr_journal.specs.Openings.{tree_of};
+ghost use Rattle.tr_journal.specs.Steps.{IsQuery};
+ghost use Rattle.tr_machine.specs.Replays.{IsLegal};
+ghost use Rattle.tr_stage.specs.Stages.{IsOf, state};
+ghost use Rattle.tr_stage.specs.Standings.{Stands};
+ghost use Rattle.tr_run.specs.Runs.{makes};
+ghost use Rattle.tr_run.specs.Views.{Does};
+ghost use Rattle.tr_parts.specs.Plays.{played_threads};
+ghost use Rattle.tr_parts.specs.Runs.{HasBegunPart, HasReported};
+
+use tr_base::NoMemory;
+use tr_client::Client;
+use tr_journal::{Actor, NameOf, Query, Step};
+use tr_run::{Finished, Run};
+use tr_stage::Stage;
+
+/// The player begins a part, a later one with a sync, and makes its reports.
+pub fn begin_part<C: Client, N: NameOf>(
+    run: &mut Run<C, N>,
+    is_later: bool,
+    reports: &[Query],
+) -> Result<(), NoMemory>
+    requires { All (IsQuery (tree_of run.old.stage.opening).nodes) reports.now }
+    ensures { OnOk result (HasBegunPart C.Client C.Cmd.words run.old run.new is_later reports.now) }
+{
+    begin(run, is_later)?;
+    report_all(run, reports)
+}
+
+/// The player makes a sync before a later part.
+fn begin<C: Client, N: NameOf>(run: &mut Run<C, N>, is_later: bool) -> Result<(), NoMemory>
+    ensures { OnOk result (Does C.Client C.Cmd.words run.old run.new
+        (if is_later then makes Player Sync ∷ [] else [])) }
+{
+    if is_later {
+        run.make(Actor::Player, Step::Sync)
+    } else {
+        Ok(())
+    }
+}
+
+/// Makes reports, one after another.
+fn report_all<C: Client, N: NameOf>(run: &mut Run<C, N>, reports: &[Query]) -> Result<(), NoMemory>
+    requires queries { All (IsQuery (tree_of run.old.stage.opening).nodes) reports.now }
+    ensures { OnOk result (HasReported C.Client C.Cmd.words run.old run.new reports.now) }
+{
+    for query in reports {
+        report(run, *query)?;
+    }
+    Ok(())
+}
+
+/// Makes a report. The screen is settled before it is dumped.
+fn report<C: Client, N: NameOf>(run: &mut Run<C, N>, query: Query) -> Result<(), NoMemory>
+    requires { IsQuery (tree_of run.old.stage.opening).nodes query }
+    ensures { OnOk result (HasReported C.Client C.Cmd.words run.old run.new (query ∷ [])) }
+{
+    stands(run.stage());
+    run.report(query)
+}
+
+/// The end of a run in which all parts were played by threads: the text gets the line that says so.
+pub fn finish<C: Client, N: NameOf>(run: Run<'_, C, N>) -> Result<Finished<C>, NoMemory>
+    ensures stage { IfOk result (λ end. end.stage ≡ run.entry.stage) }
+    ensures text { IfOk result (λ end. end.text.items ≡ run.entry.text ++ played_threads) }
+{
+    let mut end = run.finish();
+    end.text.extend_from_slice(b"played threads\n")?;
+    Ok(end)
+}
+
+/// What holds of each stage, for what that tells the prover. It does nothing.
+pub fn stands<C: Client>(stage: &Stage<C>)
+    ensures stands { Stands C.Client stage.now }
+    ensures like { IsOf stage.now.opening (state C.Client stage.now) }
+    ensures legal { IsLegal C.Client stage.now.opening stage.now.journal }
+{
+    stage.stands();
+    let _tree = stage.tree();
+    let _journal = stage.journal();
+}

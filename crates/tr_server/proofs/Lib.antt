@@ -1,0 +1,10 @@
+pub mod CountLemmas
+pub mod LevelLemmas
+pub mod GatherLemmas
+pub mod PassLemmas
+pub mod ResultLemmas
+pub mod WindowLemmas
+pub mod CloseLemmas
+pub mod HandingLemmas
+pub mod MadeLemmas
+pub mod ShareLemmas

@@ -1,0 +1,20 @@
+-- What a contract sees of a stage that isn't as a session's passes say.
+use Rattle.std.specs.Prelude.{List}
+use Rattle.tr_journal.specs.declared.items.Item.{Item}
+use Rattle.tr_journal.specs.declared.differences.Difference.{Difference}
+use Rattle.tr_journal.specs.Differences.{IsFirst, account_of}
+use Rattle.tr_journal.specs.Journals.{JournalLine}
+use Rattle.tr_journal.specs.Lists.{ListsView}
+use Rattle.tr_stage.specs.Stages.{StageView}
+
+-- a stage, what its server began with, the steps of each pass, and what differs first between the stage and the rest
+pub record DiffersView (C M : Type 0) : Type 0 where
+  pub difference : Difference M
+  pub stage : StageView C M
+  pub opening : List (Item C)
+  pub kept : List (JournalLine M)
+  pub lists : ListsView M
+
+-- it is the first difference between the stage and the rest
+abbrev pub IsDifference : {C M : Type 0} → DiffersView C M → Type 0
+IsDifference d = IsFirst (account_of d.opening d.kept) d.lists (account_of d.stage.opening d.stage.journal) d.difference

@@ -1,0 +1,38 @@
+-- What a contract sees of a pass, and whose the passes of a session are.
+use Rattle.std.specs.Prelude.{◌≡◌, ℕ, ◌+◌, ◌<◌, ◌==◌, Bool, true, false, if◌then◌else◌, nat_lt, List, [], ◌∷◌, length, slice_index_or}
+use Rattle.tr_base.specs.declared.LeafId.{LeafId}
+use Rattle.tr_levels.specs.declared.Level.{Level}
+use Rattle.tr_levels.specs.declared.Level.TheVariants.{Mu, Win}
+use Rattle.tr_journal.specs.declared.steps.Actor.{Actor}
+use Rattle.tr_journal.specs.declared.steps.Actor.TheVariants.{Leaf, Desk, Painter}
+use Rattle.tr_journal.specs.declared.steps.Step.{Step}
+
+-- a pass: whose it is, the steps that were made with it, how many commands were posted with it since its last step under the tree's
+-- lock, and how many entries of the journal it counts
+pub record PassView (M : Type 0) : Type 0 where
+  pub actor : Actor
+  pub mine : List (Step M)
+  pub posted : ℕ
+  pub made : ℕ
+
+-- a pass with which nothing was made
+abbrev pub fresh_pass : {M : Type 0} → Actor → PassView M
+fresh_pass actor = record { actor = actor; mine = []; posted = 0; made = 0 }
+
+-- the actor is the client of a leaf
+abbrev pub is_client : Actor → Bool
+is_client (Leaf leaf) = true
+is_client actor = false
+
+-- whose the workers' passes are, by their places: the leaves' clients' by their numbers, then the desk's, then the painter's
+abbrev pub worker : ℕ → ℕ → Actor
+worker leaves i = if nat_lt i leaves then Leaf (record { 0 = i }) else if i == leaves then Desk else Painter
+
+-- the workers' passes of a session that has begun
+pub record AreFresh {M : Type 0} (leaves : ℕ) (passes : List (PassView M)) : Type 0 where
+  pub count : length passes ≡ leaves + 2
+  pub fresh : (i : ℕ) (d : PassView M) → i < leaves + 2 → slice_index_or passes i d ≡ fresh_pass (worker leaves i)
+
+-- the levels of a step that a client makes under the tree's lock
+abbrev pub both_locks : LeafId → List Level
+both_locks leaf = Mu ∷ Win leaf ∷ []

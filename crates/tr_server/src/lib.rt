@@ -1,0 +1,23 @@
+//! A stage behind a lock, on which threads make steps: the tree's lock, a lock for each window behind which
+//! its client's commands wait, and the passes with which each actor makes its steps.
+#![tactic(auto)]
+
+mod baskets;
+mod closing;
+mod locked;
+mod passes;
+mod repaints;
+mod servers;
+mod sessions;
+mod shares;
+mod spent;
+mod tree_locks;
+mod windows;
+
+pub use closing::{CloseRefused, Differs};
+pub use passes::{Pass, Passes};
+pub use servers::Server;
+pub use sessions::Session;
+pub use shares::Share;
+pub use tree_locks::Mu;
+pub use windows::Window;

@@ -1,0 +1,266 @@
+ghost use Rattle.std.specs.Prelude.{◌≡◌, ◌+◌, ◌<◌, ◌≤◌, ◌++◌, ◌∷◌, ◌⊎◌, [], true, false, Some, IsTrue, length, IfOk, OnOk, OnErr};
+ghost use Rattle.tr_forest.specs.Nodes.{leaf_count};
+ghost use Rattle.tr_spot.specs.Leaves.{leaf_size};
+ghost use Rattle.tr_journal.specs.declared.Actor.TheVariants.{Leaf};
+ghost use Rattle.tr_journal.specs.Openings.{tree_of};
+ghost use Rattle.tr_journal.specs.Steps.{AreLevels, IsStep, may, covers};
+ghost use Rattle.tr_machine.specs.States.{content_of};
+ghost use Rattle.tr_stage.specs.Stages.{KeepsOthers, line, paints, state};
+ghost use Rattle.tr_server.specs.Handing.{with_acts};
+ghost use Rattle.tr_server.specs.Passes.{both_locks};
+ghost use Rattle.tr_server.specs.Sessions.{HasIds};
+
+use crate::baskets::Basket;
+use crate::passes::Pass;
+use crate::sessions::Session;
+use std::alloc::Global;
+use std::marker::Model;
+use std::sync::ledger::{Book as Total, Share};
+use tr_base::{Font, Kind, LeafId, NoMemory, Size};
+use tr_book::Book;
+use tr_client::{Client, Prepared};
+use tr_journal::{Reply, Step};
+use tr_levels::{Held, Level};
+use tr_stage::Stage;
+
+/// What lies behind the tree's lock: the stage, and the total of the session's ledger, which is the number
+/// of entries behind those with which the session began. Contracts see the stage.
+#[derive(Drop)]
+pub(crate) struct Locked<C: Client, L: Session> {
+    pub(crate) alloc: Global,
+    pub(crate) stage: Stage<C>,
+    pub(crate) counted: Total<L>,
+}
+
+impl<C: Client, L: Session> Model for Locked<C, L> {
+    ghost use Rattle.std.specs.Prelude.{◌≡◌, ◌+◌, length};
+    ghost use Rattle.tr_stage.specs.Stages.{StageView};
+    ghost use Rattle.tr_server.specs.Sessions.{HasIds};
+
+    ghost Value = { StageView C C.Cmd };
+
+    ghost view = { λ k. k.stage };
+
+    ghost invariant = { λ k. (L.entries + k.counted.total ≡ length k.stage.journal)
+        × HasIds L.nodes L.leaves k.stage.opening };
+}
+
+impl<C: Client, L: Session> Locked<C, L> {
+    /// A stage, of whose entries none is counted that it has by now.
+    pub(crate) fn new(alloc: Global, stage: Stage<C>, counted: Total<L>) -> Locked<C, L>
+        requires counted { L.entries + counted.total ≡ length stage.journal }
+        requires ids { HasIds L.nodes L.leaves stage.opening }
+        ensures { result ≡ stage }
+    {
+        Locked {
+            alloc,
+            stage,
+            counted,
+        }
+    }
+
+    /// The stage.
+    pub(crate) fn stage(&self) -> &Stage<C>
+        ensures value { result.now ≡ self.now }
+        ensures ids { HasIds L.nodes L.leaves self.now.opening }
+    {
+        &self.stage
+    }
+
+    /// The stage, of which a part of the ledger counts no more entries than were made in the session.
+    pub(crate) fn end(self, share: Share<L>) -> Stage<C>
+        ensures value { result ≡ self }
+        ensures ids { HasIds L.nodes L.leaves result.opening }
+        ensures counted { L.entries + share.amount ≤ length result.journal }
+    {
+        let Locked {
+            alloc: _,
+            stage,
+            counted,
+        } = self;
+        let mut counted = counted;
+        let mut share = share;
+        counted.audit(&mut share);
+        stage
+    }
+
+    /// The actor of a pass makes a step. For want of memory nothing is made.
+    pub(crate) fn step(
+        &mut self,
+        pass: &mut Pass<C, L>,
+        level: Held,
+        step: Step<C::Cmd>,
+    ) -> Result<Reply, NoMemory>
+        requires may { may pass.old.actor step ≡ true }
+        requires covers { covers level step ≡ true }
+        requires levels { AreLevels (tree_of self.old.opening).nodes level }
+        requires values { IsStep (tree_of self.old.opening).nodes step }
+        ensures opening { self.new.opening ≡ self.old.opening }
+        ensures ok { OnOk result (self.new.journal ≡
+            self.old.journal ++ line C.Client self.old pass.old.actor level step ∷ []) }
+        ensures reply { IfOk result (λ r.
+            r ≡ (line C.Client self.old pass.old.actor level step).entry.reply) }
+        ensures mine { OnOk result (pass.new ≡ record pass.old {
+          mine = pass.old.mine ++ step ∷ [];
+          made = pass.old.made + 1;
+        }) }
+        ensures err_journal { OnErr result (self.new.journal ≡ self.old.journal) }
+        ensures err_screen { OnErr result (self.new.screen ≡ self.old.screen) }
+        ensures err_pass { OnErr result (pass.new ≡ pass.old) }
+        ensures screen { IfOk result (λ r. paints step r.answer ≡ false → self.new.screen ≡ self.old.screen) }
+        ensures others { let t = (state C.Client self.old).tree in
+            OnOk result (KeepsOthers t step self.old.screen self.new.screen) }
+    {
+        let mine = step.copy(*pass.mine.allocator())?;
+        pass.mine.push(mine)?;
+        match self.stage.step(pass.actor, level, step) {
+            Ok(reply) => {
+                self.counted.add(&mut pass.share, 1);
+                Ok(reply)
+            }
+            Err(e) => {
+                pass.mine.pop();
+                Err(e)
+            }
+        }
+    }
+
+    /// Hands over what waits in a leaf's book: one entry for each command, in their order, at the level
+    /// with which it was posted and the window's. For want of memory the stage is as before, and the same
+    /// commands wait.
+    pub(crate) fn hand_over(
+        &mut self,
+        leaf: LeafId,
+        basket: &mut Basket<C, L>,
+    ) -> Result<(), NoMemory>
+        requires leaf { leaf.0 < leaf_count (tree_of self.old.opening).nodes }
+        ensures opening { self.new.opening ≡ self.old.opening }
+        ensures screen { self.new.screen ≡ self.old.screen }
+        ensures ok { OnOk result (self.new.journal ≡
+            (with_acts C.Client self.old leaf basket.old.prepared.commands basket.old.levels).journal) }
+        ensures none { OnOk result (basket.new.prepared.commands ≡ []) }
+        ensures no_levels { OnOk result (basket.new.levels ≡ []) }
+        ensures handed { OnOk result (basket.new.handed ≡
+            basket.old.handed + length basket.old.prepared.commands) }
+        ensures err_journal { OnErr result (self.new.journal ≡ self.old.journal) }
+        ensures err_commands { OnErr result (basket.new.prepared.commands ≡ basket.old.prepared.commands) }
+        ensures err_levels { OnErr result (basket.new.levels ≡ basket.old.levels) }
+        ensures err_handed { OnErr result (basket.new.handed ≡ basket.old.handed) }
+    {
+        self.counted.audit(&mut basket.share);
+        fit(self.alloc, &self.stage, leaf, &mut basket.book)?;
+        let fresh = fresh_over(self.alloc, basket.book.prepared())?;
+        let more = basket.book.waiting() as u64;
+        self.stage
+            .take_over(leaf, basket.book.prepared(), basket.book.levels())?;
+        // Called for what it tells the prover: that the entries can be counted.
+        let _ = self.stage.journal().len();
+        self.counted.add(&mut basket.share, more);
+        basket.book.renew(fresh);
+        Ok(())
+    }
+
+    /// Hands over what waits in the leaf's book, and then makes a step of its client. For want of memory
+    /// the step isn't made; what was handed over stays handed over.
+    pub(crate) fn client_step(
+        &mut self,
+        leaf: LeafId,
+        basket: &mut Basket<C, L>,
+        pass: &mut Pass<C, L>,
+        step: Step<C::Cmd>,
+    ) -> Result<Reply, NoMemory>
+        requires leaf { leaf.0 < leaf_count (tree_of self.old.opening).nodes }
+        requires actor { pass.old.actor ≡ Leaf leaf }
+        requires may { may pass.old.actor step ≡ true }
+        requires values { IsStep (tree_of self.old.opening).nodes step }
+        ensures opening { self.new.opening ≡ self.old.opening }
+        ensures ok { let mid = with_acts C.Client self.old leaf basket.old.prepared.commands basket.old.levels in
+            OnOk result (self.new.journal ≡ mid.journal
+            ++ line C.Client mid (Leaf leaf) (both_locks leaf) step ∷ []) }
+        ensures reply { let mid = with_acts C.Client self.old leaf basket.old.prepared.commands basket.old.levels in
+            IfOk result (λ r. r ≡ (line C.Client mid (Leaf leaf) (both_locks leaf) step).entry.reply) }
+        ensures none { OnOk result (basket.new.prepared.commands ≡ []) }
+        ensures no_levels { OnOk result (basket.new.levels ≡ []) }
+        ensures handed { OnOk result (basket.new.handed ≡
+            basket.old.handed + length basket.old.prepared.commands) }
+        ensures mine { OnOk result (pass.new ≡ record pass.old {
+          mine = pass.old.mine ++ step ∷ [];
+          posted = 0;
+          made = pass.old.made + 1;
+        }) }
+        ensures err_pass { OnErr result (pass.new ≡ pass.old) }
+        ensures err_screen { OnErr result (self.new.screen ≡ self.old.screen) }
+
+        // For want of memory what waited still waits, or was handed over, and nothing else was made.
+        ensures err { let cmds = basket.old.prepared.commands in let levels = basket.old.levels in
+            OnErr result (((self.new.journal ≡ self.old.journal) × (basket.new.prepared.commands ≡ cmds)
+            × (basket.new.levels ≡ levels))
+            ⊎ ((self.new.journal ≡ (with_acts C.Client self.old leaf cmds levels).journal)
+            × (basket.new.prepared.commands ≡ []) × (basket.new.levels ≡ []))) }
+    {
+        self.hand_over(leaf, basket)?;
+        let level = Held::none().with(Level::Mu).with(Level::Win(leaf));
+        let reply = self.step(pass, level, step)?;
+        pass.posted = 0;
+        Ok(reply)
+    }
+}
+
+/// Sees to it that a book's commands are prepared over the leaf's present content.
+fn fit<C: Client>(
+    alloc: Global,
+    stage: &Stage<C>,
+    leaf: LeafId,
+    book: &mut Book<C>,
+) -> Result<(), NoMemory>
+    requires leaf { leaf.0 < leaf_count (tree_of stage.now.opening).nodes }
+    ensures from { OnOk result (content_of C.Client (state C.Client stage.now) leaf ≡ Some book.new.prepared.from) }
+    ensures font { OnOk result (book.new.prepared.font ≡ (state C.Client stage.now).font) }
+    ensures size { OnOk result (book.new.prepared.size ≡ leaf_size (state C.Client stage.now).tree leaf) }
+    ensures kind { OnOk result (book.new.prepared.kind ≡ (state C.Client stage.now).tree.kind) }
+    ensures commands { book.new.prepared.commands ≡ book.old.prepared.commands }
+    ensures levels { book.new.levels ≡ book.old.levels }
+    ensures handed { book.new.handed ≡ book.old.handed }
+{
+    let content = stage.content(leaf);
+    let font = stage.font();
+    let size = stage.leaf_size(leaf);
+    let kind = stage.tree().kind();
+    if !is_current(book.prepared(), content, font, size, kind) {
+        book.refit(content.copy(alloc)?, font, size, kind)?;
+    }
+    Ok(())
+}
+
+/// Whether commands were prepared over this content, for this font, size and kind.
+fn is_current<C: Client>(
+    prepared: &Prepared<C>,
+    content: &C,
+    font: &Font,
+    size: Size,
+    kind: Kind,
+) -> bool
+    ensures from { IsTrue result → prepared.now.from ≡ content.now }
+    ensures font { IsTrue result → prepared.now.font ≡ font.now }
+    ensures size { IsTrue result → prepared.now.size ≡ size }
+    ensures kind { IsTrue result → prepared.now.kind ≡ kind }
+{
+    if !prepared.from.same(content) {
+        return false;
+    }
+    if !prepared.font.same(font) {
+        return false;
+    }
+    if prepared.size != size {
+        return false;
+    }
+    prepared.kind == kind
+}
+
+/// No commands, over what prepared ones leave.
+fn fresh_over<C: Client>(alloc: Global, prepared: &Prepared<C>) -> Result<Prepared<C>, NoMemory>
+    ensures { IfOk result (λ p. p.commands.items ≡ []) }
+{
+    let content = prepared.to.copy(alloc)?;
+    Prepared::fresh(alloc, content, &prepared.font, prepared.size, prepared.kind)
+}

@@ -1,0 +1,132 @@
+ghost use Rattle.std.specs.Prelude.{◌≡◌, ◌+◌, ◌<◌, ◌++◌, ◌∷◌, [], OnOk, OnErr};
+ghost use Rattle.tr_levels.specs.Levels.{HoldsNoLeaf};
+ghost use Rattle.tr_server.specs.Passes.{fresh_pass};
+
+use crate::baskets::Basket;
+use crate::sessions::Session;
+use std::alloc::Global;
+use std::marker::Model;
+use std::sync::ledger::Share;
+use tr_base::{Command, LeafId, NoMemory};
+use tr_client::Client;
+use tr_journal::{Actor, Step};
+use tr_levels::Held;
+
+/// The token of an actor in a session, with the steps that were made with it. It must be spent, which
+/// `Server::close` does.
+pub struct Pass<C: Client, L: Session> {
+    pub(crate) actor: Actor,
+    pub(crate) mine: Vec<Step<C::Cmd>>,
+    pub(crate) posted: u8,
+    pub(crate) share: Share<L>,
+}
+
+impl<C: Client, L: Session> Model for Pass<C, L> {
+    ghost use Rattle.std.specs.Prelude.{◌≡◌};
+    ghost use Rattle.tr_server.specs.Passes.{PassView};
+
+    ghost Value = { PassView C.Cmd };
+
+    ghost view = { λ p. record {
+      actor = p.actor;
+      mine = p.mine.items;
+      posted = p.posted;
+      made = p.share.amount;
+    } };
+
+    ghost invariant = { λ p. p.share.parts ≡ 1 };
+}
+
+/// The passes of a session: in `workers` those of the leaves' clients, by the leaves' numbers, then the
+/// desk's, then the painter's.
+pub struct Passes<C: Client, L: Session> {
+    pub workers: Vec<Pass<C, L>>,
+    pub player: Pass<C, L>,
+}
+
+impl<C: Client, L: Session> Pass<C, L> {
+    /// A pass with which nothing was made.
+    pub(crate) fn fresh(alloc: Global, actor: Actor, share: Share<L>) -> Pass<C, L>
+        requires { (share.parts ≡ 1) × (share.amount ≡ 0) }
+        ensures { result ≡ fresh_pass actor }
+    {
+        Pass {
+            actor,
+            mine: Vec::new(alloc),
+            posted: 0,
+            share,
+        }
+    }
+
+    /// Whose it is.
+    pub fn actor(&self) -> Actor
+        ensures { result ≡ self.now.actor }
+    {
+        self.actor
+    }
+
+    /// The steps that were made with it, in their order.
+    pub fn mine(&self) -> &[Step<C::Cmd>]
+        ensures { result.now ≡ self.now.mine }
+    {
+        &self.mine
+    }
+
+    /// How many commands were posted with it since its last step under the tree's lock.
+    pub fn posted(&self) -> u8
+        ensures { result ≡ self.now.posted }
+    {
+        self.posted
+    }
+
+    /// Posts a command of a leaf: it waits as the last one, at the level that its caller holds. For want of
+    /// memory it is let go.
+    pub(crate) fn post_into(
+        &mut self,
+        leaf: LeafId,
+        basket: &mut Basket<C, L>,
+        level: Held,
+        cmd: C::Cmd,
+    ) -> Result<(), NoMemory>
+        requires posted { self.old.posted < 64 }
+        requires level { HoldsNoLeaf level }
+        ensures ok { OnOk result (self.new ≡ record self.old {
+          mine = self.old.mine ++ Step.Act leaf cmd ∷ [];
+          posted = self.old.posted + 1;
+        }) }
+        ensures prepared { OnOk result (basket.new.prepared ≡
+            record basket.old.prepared { commands = basket.old.prepared.commands ++ cmd ∷ [] }) }
+        ensures levels { OnOk result (basket.new.levels ≡ basket.old.levels ++ level ∷ []) }
+        ensures handed { basket.new.handed ≡ basket.old.handed }
+        ensures err { OnErr result (self.new ≡ self.old) }
+        ensures err_basket { OnErr result (basket.new ≡ basket.old) }
+    {
+        let copy = cmd.copy(*self.mine.allocator())?;
+        self.mine.push(Step::Act { leaf, cmd: copy })?;
+        match basket.book.post(level, cmd) {
+            Ok(()) => {
+                self.posted += 1;
+                Ok(())
+            }
+            Err(e) => {
+                self.mine.pop();
+                Err(e)
+            }
+        }
+    }
+
+    /// The steps that were made with it, and its part of the ledger.
+    pub(crate) fn spend(self) -> (Vec<Step<C::Cmd>>, Share<L>)
+        ensures mine { result.0.items ≡ self.mine }
+        ensures parts { result.1.parts ≡ 1 }
+        ensures made { result.1.amount ≡ self.made }
+    {
+        let Pass {
+            actor: _,
+            mine,
+            posted: _,
+            share,
+        } = self;
+        (mine, share)
+    }
+}

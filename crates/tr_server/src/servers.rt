@@ -1,0 +1,234 @@
+ghost use Rattle.std.specs.Prelude.{◌≡◌, ◌+◌, ◌*◌, ◌<◌, ◌≤◌, ◌++◌, ◌∷◌, [], length, vec_len, IfOk, IfErr, OnOk};
+ghost use Rattle.tr_forest.specs.Nodes.{leaf_count};
+ghost use Rattle.tr_journal.specs.declared.Actor.TheVariants.{Player};
+ghost use Rattle.tr_journal.specs.declared.Step.{Step};
+ghost use Rattle.tr_journal.specs.Openings.{tree_of};
+ghost use Rattle.tr_journal.specs.Steps.{AreAsMany, IsStep};
+ghost use Rattle.tr_server.specs.Passes.{AreFresh, fresh_pass};
+ghost use Rattle.tr_server.specs.Servers.{AreWindows};
+ghost use Rattle.tr_server.specs.Sessions.{HasIds};
+
+use crate::baskets::Basket;
+use crate::locked::Locked;
+use crate::passes::{Pass, Passes};
+use crate::sessions::Session;
+use crate::tree_locks::Mu;
+use crate::windows::Window;
+use std::alloc::Global;
+use std::marker::Model;
+use std::sync::ledger::{Blank, Share};
+use std::sync::{Mutex, Wait};
+use tr_base::{LeafId, NoMemory};
+use tr_book::Book;
+use tr_client::Client;
+use tr_journal::{Actor, Journal, Opening};
+use tr_levels::Ladder;
+use tr_stage::Stage;
+
+/// A stage behind the tree's lock, and for each leaf a window, behind whose lock its client's commands
+/// wait. Contracts see what it began with.
+#[derive(Drop)]
+pub struct Server<C: Client, L: Session> {
+    pub(crate) alloc: Global,
+    pub(crate) locked: Mutex<Locked<C, L>>,
+    pub(crate) windows: Vec<Window<C, L>>,
+    pub(crate) opening: Opening<C>,
+    pub(crate) kept: Journal<C::Cmd>,
+}
+
+impl<C: Client, L: Session> Model for Server<C, L> {
+    ghost use Rattle.std.specs.Prelude.{◌≡◌, length};
+    ghost use Rattle.tr_server.specs.Servers.{AreWindows, ServerView};
+    ghost use Rattle.tr_server.specs.Sessions.{HasIds};
+
+    ghost Value = { ServerView C C.Cmd };
+
+    ghost view = { λ s. record { opening = s.opening; kept = s.kept.lines } };
+
+    ghost invariant = { λ s. HasIds L.nodes L.leaves s.opening × (length s.kept.lines ≡ L.entries)
+        × AreWindows L.leaves s.windows.items };
+}
+
+impl<C: Client, L: Session> Server<C, L> {
+    /// Starts a session on a stage: nothing waits in a window, and no pass was used. For want of memory the
+    /// stage is handed back.
+    pub fn start(
+        alloc: Global,
+        blank: Blank,
+        stage: Stage<C>,
+    ) -> Result<(Server<C, L>, Passes<C, L>), Stage<C>>
+        requires name { blank.name ≡ L.name }
+        requires parts { (blank.parts ≡ L.parts) × (L.parts ≡ 2 * L.leaves + 3) }
+        requires ids { HasIds L.nodes L.leaves stage.opening }
+        requires entries { length stage.journal ≡ L.entries }
+        ensures opening { IfOk result (λ r. r.0.opening ≡ stage.opening) }
+        ensures kept { IfOk result (λ r. r.0.kept ≡ stage.journal) }
+        ensures workers { IfOk result (λ r. AreFresh L.leaves r.1.workers.items) }
+        ensures player { IfOk result (λ r. r.1.player ≡ fresh_pass Player) }
+        ensures same { IfErr result (λ s. s ≡ stage) }
+    {
+        let (counted, mut all) = blank.open::<L>();
+        let Ok(opening) = stage.opening().copy() else {
+            return Err(stage);
+        };
+        let Ok(kept) = stage.journal().copy() else {
+            return Err(stage);
+        };
+        let leaves = stage.opening().tree().leaves();
+        let Ok(windows) = windows_of(alloc, &stage, leaves, &mut all) else {
+            return Err(stage);
+        };
+        let Ok(workers) = workers_of(alloc, leaves, &mut all) else {
+            return Err(stage);
+        };
+        let player = Pass::fresh(alloc, Actor::Player, all);
+        let server = Server {
+            alloc,
+            locked: Mutex::new(Locked::new(alloc, stage, counted)),
+            windows,
+            opening,
+            kept,
+        };
+        Ok((server, Passes { workers, player }))
+    }
+
+    /// Takes the tree's lock. What is a step by the server's opening is one on the stage.
+    pub fn enter<R: Wait>(&self, rt: &R, ladder: Ladder) -> Mu<'_, C, L>
+        requires { ladder ≡ [] }
+        ensures ids { AreAsMany (tree_of self.now.opening).nodes (tree_of result.opening).nodes }
+        ensures steps { (step : Step C.Cmd) → IsStep (tree_of self.now.opening).nodes step →
+            IsStep (tree_of result.opening).nodes step }
+    {
+        ladder.end();
+        let guard = self.locked.lock(rt);
+        // Called for what they tell the prover: how many nodes and leaves the server and the stage have.
+        let _ = self.opening();
+        let _ = guard.stage();
+        Mu { guard }
+    }
+
+    /// The window of a leaf.
+    pub fn window(&self, leaf: LeafId) -> &Window<C, L>
+        requires { leaf.0 < leaf_count (tree_of self.now.opening).nodes }
+        ensures { result.now ≡ leaf }
+    {
+        &self.windows[usize::from(leaf.0)]
+    }
+
+    /// What it began with.
+    pub fn opening(&self) -> &Opening<C>
+        ensures value { result.now ≡ self.now.opening }
+        ensures invariant { HasIds L.nodes L.leaves self.now.opening }
+        ensures entries { length self.now.kept ≡ L.entries }
+    {
+        &self.opening
+    }
+}
+
+/// The windows of so many leaves, in whose books nothing waits.
+fn windows_of<C: Client, L: Session>(
+    alloc: Global,
+    stage: &Stage<C>,
+    leaves: u8,
+    all: &mut Share<L>,
+) -> Result<Vec<Window<C, L>>, NoMemory>
+    requires leaves { leaves ≡ leaf_count (tree_of stage.now.opening).nodes }
+    requires named { leaves ≡ L.leaves }
+    requires parts { leaves < all.old.parts }
+    requires none { all.old.amount ≡ 0 }
+    ensures windows { IfOk result (λ v. AreWindows leaves v.items) }
+    ensures parts { OnOk result (all.new.parts + leaves ≡ all.old.parts) }
+    ensures none { all.new.amount ≡ 0 }
+{
+    let mut windows = Vec::with_capacity(alloc, usize::from(leaves))?;
+    for n in 0..leaves {
+        let leaf = LeafId(n);
+        let book = book_of(alloc, stage, leaf)?;
+        let basket = Basket::new(book, all.split_off(1, 0));
+        windows.push(Window::new(leaf, basket))?;
+    }
+    Ok(windows)
+}
+
+/// A book for a leaf, of which nothing was handed over, with no commands over its present content.
+fn book_of<C: Client>(alloc: Global, stage: &Stage<C>, leaf: LeafId) -> Result<Book<C>, NoMemory>
+    requires { leaf.0 < leaf_count (tree_of stage.now.opening).nodes }
+    ensures { IfOk result (λ b. b.handed ≡ 0) }
+{
+    let content = stage.content(leaf).copy(alloc)?;
+    let kind = stage.tree().kind();
+    Book::fresh(alloc, content, stage.font(), stage.leaf_size(leaf), kind)
+}
+
+/// The passes of the leaves' clients, of the desk and of the painter.
+fn workers_of<C: Client, L: Session>(
+    alloc: Global,
+    leaves: u8,
+    all: &mut Share<L>,
+) -> Result<Vec<Pass<C, L>>, NoMemory>
+    requires parts { leaves + 2 < all.old.parts }
+    requires none { all.old.amount ≡ 0 }
+    ensures workers { IfOk result (λ v. AreFresh leaves v.items) }
+    ensures parts { OnOk result (all.new.parts + (leaves + 2) ≡ all.old.parts) }
+    ensures none { all.new.amount ≡ 0 }
+{
+    let mut workers = Vec::new(alloc);
+    match add_workers(alloc, leaves, all, &mut workers) {
+        Ok(()) => Ok(workers),
+        Err(e) => {
+            spend_all(workers);
+            Err(e)
+        }
+    }
+}
+
+/// Adds these passes.
+fn add_workers<C: Client, L: Session>(
+    alloc: Global,
+    leaves: u8,
+    all: &mut Share<L>,
+    workers: &mut Vec<Pass<C, L>>,
+) -> Result<(), NoMemory>
+    requires parts { leaves + 2 < all.old.parts }
+    requires none { all.old.amount ≡ 0 }
+    requires empty { workers.old.items ≡ [] }
+    ensures workers { OnOk result (AreFresh leaves workers.new.items) }
+    ensures parts { OnOk result (all.new.parts + (leaves + 2) ≡ all.old.parts) }
+    ensures none { all.new.amount ≡ 0 }
+{
+    for n in 0..leaves {
+        add_worker(alloc, Actor::Leaf(LeafId(n)), all, workers)?;
+    }
+    add_worker(alloc, Actor::Desk, all, workers)?;
+    add_worker(alloc, Actor::Painter, all, workers)
+}
+
+/// Adds a pass with which nothing was made.
+fn add_worker<C: Client, L: Session>(
+    alloc: Global,
+    actor: Actor,
+    all: &mut Share<L>,
+    workers: &mut Vec<Pass<C, L>>,
+) -> Result<(), NoMemory>
+    requires parts { 1 < all.old.parts }
+    requires none { all.old.amount ≡ 0 }
+    ensures ok { OnOk result (workers.new.items ≡ workers.old.items ++ fresh_pass actor ∷ []) }
+    ensures parts { all.new.parts + 1 ≡ all.old.parts }
+    ensures none { all.new.amount ≡ 0 }
+{
+    let pass = Pass::fresh(alloc, actor, all.split_off(1, 0));
+    if let Err(refused) = workers.push(pass) {
+        refused.value.spend();
+        return Err(NoMemory);
+    }
+    Ok(())
+}
+
+/// Spends passes.
+pub(crate) fn spend_all<C: Client, L: Session>(workers: Vec<Pass<C, L>>) {
+    let mut workers = workers;
+    while let Some(pass) = workers.pop() {
+        pass.spend();
+    }
+    workers.destroy_empty();
+}

@@ -1,0 +1,187 @@
+ghost use Rattle.std.specs.Prelude.{◌≡◌, ◌+◌, ◌<◌, ◌++◌, ◌∷◌, [], false, map, Ok, IfOk, OnOk, OnErr};
+ghost use Rattle.tr_base.specs.declared.LeafId.{LeafId};
+ghost use Rattle.tr_base.specs.declared.Point.{Point};
+ghost use Rattle.tr_forest.specs.Nodes.{leaf_count};
+ghost use Rattle.tr_levels.specs.declared.Level.TheVariants.{Share as ShareLevel};
+ghost use Rattle.tr_journal.specs.declared.Actor.TheVariants.{Painter};
+ghost use Rattle.tr_journal.specs.Openings.{tree_of};
+ghost use Rattle.tr_machine.specs.States.{batch_of};
+ghost use Rattle.tr_machine.specs.Pictures.{render};
+ghost use Rattle.tr_machine.specs.Sharing.{IsPaintedOf, sharing};
+ghost use Rattle.tr_stage.specs.Stages.{KeepsOthers, line, state};
+ghost use Rattle.tr_server.specs.Shares as spec;
+ghost use Rattle.tr_server.specs.Shares.{ArePaintedShares, HasMade, HasBegun, IsPaintedShare};
+
+use crate::passes::Pass;
+use crate::sessions::Session;
+use crate::tree_locks::Mu;
+use std::alloc::Global;
+use std::marker::Model;
+use std::thread;
+use std::thread::Threads;
+use tr_base::{LeafId, NoMemory};
+use tr_client::Client;
+use tr_journal::Step;
+use tr_stage::{Painted, Stage};
+
+/// A leaf's window, lent out to be painted apart from the screen. While it is lent out the stage stays as
+/// it is.
+#[derive(Drop)]
+pub struct Share<'a, C: Client> {
+    leaf: LeafId,
+    stage: &'a Stage<C>,
+}
+
+impl<'a, C: Client> Model for Share<'a, C> {
+    ghost use Rattle.std.specs.Prelude.{◌<◌};
+    ghost use Rattle.tr_forest.specs.Nodes.{leaf_count};
+    ghost use Rattle.tr_journal.specs.Openings.{tree_of};
+    ghost use Rattle.tr_server.specs.Shares.{ShareView};
+
+    ghost Value = { ShareView C C.Cmd };
+
+    ghost view = { λ s. record { leaf = s.leaf; stage = s.stage.now } };
+
+    ghost invariant = { λ s. s.leaf.0 < leaf_count (tree_of s.stage.now.opening).nodes };
+}
+
+impl<C: Client> Share<'_, C> {
+    /// Whose window it is.
+    pub fn leaf(&self) -> LeafId
+        ensures { result ≡ self.now.leaf }
+    {
+        self.leaf
+    }
+
+    /// Paints the window's bad points, apart from the screen.
+    pub fn paint(self) -> Result<Painted, NoMemory>
+        ensures { IfOk result (λ painted. IsPaintedShare C.Client self.entry painted) }
+    {
+        self.stage.paint_bad(self.leaf)
+    }
+
+    /// Gives it back unpainted.
+    pub fn give_back(self) {}
+}
+
+impl<C: Client, L: Session> Mu<'_, C, L> {
+    /// A share for each leaf of which a visible point is bad and for which nothing waits, in the order of
+    /// their numbers. While one of them lives no step can be made.
+    pub fn shares(&self) -> Result<Vec<Share<'_, C>>, NoMemory>
+        ensures { IfOk result (λ shares. shares.items ≡ spec.shares_of C.Client self.now) }
+    {
+        self.guard.shares()
+    }
+
+    /// Puts a leaf's bad points that were painted onto the screen: the painter's repaint, at the leaf's
+    /// share alone. For want of memory nothing is made.
+    pub fn put_painted(&mut self, pass: &mut Pass<C, L>, painted: Painted) -> Result<(), NoMemory>
+        requires painter { pass.old.actor ≡ Painter }
+        requires leaf { painted.leaf.0 < leaf_count (tree_of self.old.opening).nodes }
+        requires idle { batch_of C.Client (state C.Client self.old) painted.leaf ≡ [] }
+        requires painted { let m = state C.Client self.old in
+            IsPaintedOf C.Client m painted.leaf painted.part painted.pixels.items }
+        ensures opening { self.new.opening ≡ self.old.opening }
+        ensures ok { let made = Step.Repaint painted.leaf in
+            OnOk result (self.new.journal ≡ self.old.journal
+            ++ line C.Client self.old Painter (ShareLevel painted.leaf ∷ []) made ∷ []) }
+        ensures mine { OnOk result (pass.new ≡ record pass.old {
+          mine = pass.old.mine ++ Step.Repaint painted.leaf ∷ [];
+          made = pass.old.made + 1;
+        }) }
+        ensures err_journal { OnErr result (self.new.journal ≡ self.old.journal) }
+        ensures err_screen { OnErr result (self.new.screen ≡ self.old.screen) }
+        ensures err_pass { OnErr result (pass.new ≡ pass.old) }
+        ensures others { let t = (state C.Client self.old).tree in
+            OnOk result (KeepsOthers {M = C.Cmd} t (Step.Repaint painted.leaf) self.old.screen self.new.screen) }
+    {
+        let locked = &mut *self.guard;
+        locked.put_painted(pass, painted)
+    }
+
+    /// Brings the screen up to date by way of shares: each leaf is flushed for which something waits; then
+    /// the bad points of all leaves are painted side by side, apart from the screen, and put onto it leaf
+    /// by leaf, each at its share alone; then the frames are painted, if a point of one is bad. For want of
+    /// memory the steps made so far stand.
+    pub fn repaint_shared<R: Threads + Sync>(
+        &mut self,
+        rt: &R,
+        pass: &mut Pass<C, L>,
+    ) -> Result<(), NoMemory>
+        requires { pass.old.actor ≡ Painter }
+        ensures ok { OnOk result (HasMade C.Client self.old self.new pass.old pass.new
+            (sharing C.Client (state C.Client self.old))) }
+        ensures err { OnErr result (HasBegun C.Client self.old self.new pass.old pass.new
+            (sharing C.Client (state C.Client self.old))) }
+
+        // Then nothing waits, no point is bad, and the screen is as if it were painted from nothing.
+        ensures idle { let m = state C.Client self.new in
+            OnOk result ((leaf : LeafId) → batch_of C.Client m leaf ≡ []) }
+        ensures good { let m = state C.Client self.new in OnOk result ((p : Point) → m.bad p ≡ false) }
+        ensures screen { OnOk result (self.new.screen ≡ render C.Client (state C.Client self.new)) }
+    {
+        let locked = &mut *self.guard;
+        locked.repaint_shared(rt, pass)
+    }
+}
+
+/// A share for each leaf of which a visible point is bad and for which nothing waits, in the order of
+/// their numbers.
+pub(crate) fn shares_of<C: Client>(
+    alloc: Global,
+    stage: &Stage<C>,
+) -> Result<Vec<Share<'_, C>>, NoMemory>
+    ensures { IfOk result (λ shares. shares.items ≡ spec.shares_of C.Client stage.now) }
+{
+    // Called for what they tell the prover: that the state has the opening's leaves.
+    stage.stands();
+    let _ = stage.tree();
+    let mut shares = Vec::new(alloc);
+    for n in 0..stage.opening().tree().leaves() {
+        let leaf = LeafId(n);
+        if is_ready(stage, leaf)? {
+            shares.push(Share { leaf, stage })?;
+        }
+    }
+    Ok(shares)
+}
+
+/// Whether a leaf may be painted as a share.
+fn is_ready<C: Client>(stage: &Stage<C>, leaf: LeafId) -> Result<bool, NoMemory>
+    requires { leaf.0 < leaf_count (tree_of stage.now.opening).nodes }
+    ensures { IfOk result (λ b. b ≡ spec.is_ready C.Client (state C.Client stage.now) leaf) }
+{
+    if stage.batch(leaf).len() != 0 {
+        return Ok(false);
+    }
+    stage.has_bad(leaf)
+}
+
+/// Paints all shares side by side, each in a thread of its own where one can be made.
+pub(crate) fn paint_each<C: Client, R: Threads + Sync>(
+    rt: &R,
+    alloc: Global,
+    shares: Vec<Share<'_, C>>,
+) -> Result<Vec<Painted>, NoMemory>
+    ensures { IfOk result (λ all. ArePaintedShares C.Client shares.entry.items all.items) }
+{
+    let results = thread::map_vec(
+        rt,
+        shares,
+        &|share: Share<'_, C>| -> Result<Painted, NoMemory>
+            ensures { IfOk result (λ painted. IsPaintedShare C.Client share.entry painted) }
+        { share.paint() },
+    )?;
+    all_ok(alloc, results)
+}
+
+/// What all results have, or the first error.
+fn all_ok<T: Drop>(alloc: Global, results: Vec<Result<T, NoMemory>>) -> Result<Vec<T>, NoMemory>
+    ensures { IfOk result (λ all. map (λ x. Ok x) all.items ≡ results.items) }
+{
+    let mut all = Vec::new(alloc);
+    for one in results {
+        all.push(one?)?;
+    }
+    Ok(all)
+}

@@ -1,0 +1,133 @@
+ghost use Rattle.std.specs.Prelude.{◌≡◌, ◌+◌, ◌++◌, ◌∷◌, ◌⊎◌, [], true, false, IfOk, OnOk, OnErr};
+ghost use Rattle.tr_levels.specs.declared.Level.TheVariants.{Mu as MuLevel};
+ghost use Rattle.tr_journal.specs.declared.Actor.TheVariants.{Leaf};
+ghost use Rattle.tr_journal.specs.Openings.{tree_of};
+ghost use Rattle.tr_journal.specs.Steps.{IsStep, may};
+ghost use Rattle.tr_stage.specs.Stages.{KeepsOthers, line, paints, state};
+ghost use Rattle.tr_server.specs.Handing.{HandedOver, HandedAndStepped};
+ghost use Rattle.tr_server.specs.Passes.{is_client};
+ghost use Rattle.tr_server.specs.Sessions.{HasIds};
+
+use crate::locked::Locked;
+use crate::passes::Pass;
+use crate::sessions::Session;
+use crate::windows::Window;
+use std::marker::Model;
+use std::sync::{MutexGuard, Wait};
+use tr_base::NoMemory;
+use tr_client::Client;
+use tr_journal::{Reply, Step};
+use tr_levels::{Held, Ladder, Level};
+use tr_stage::Stage;
+
+/// The tree's lock, taken. It must be given up by `leave`. Contracts see it as the stage.
+pub struct Mu<'a, C: Client, L: Session> {
+    pub(crate) guard: MutexGuard<'a, Locked<C, L>>,
+}
+
+impl<'a, C: Client, L: Session> Model for Mu<'a, C, L> {
+    ghost use Rattle.std.specs.Sync.Mutex.{mutex_guard_value};
+    ghost use Rattle.tr_stage.specs.Stages.{StageView};
+
+    ghost Value = { StageView C C.Cmd };
+
+    ghost view = { λ m. mutex_guard_value m.guard };
+}
+
+impl<C: Client, L: Session> Mu<'_, C, L> {
+    /// The stage.
+    pub fn stage(&self) -> &Stage<C>
+        ensures value { result.now ≡ self.now }
+        ensures invariant { HasIds L.nodes L.leaves self.now.opening }
+    {
+        self.guard.stage()
+    }
+
+    /// The desk, the painter or the player makes a step, at the tree's lock alone. For want of memory
+    /// nothing is made.
+    pub fn step(&mut self, pass: &mut Pass<C, L>, step: Step<C::Cmd>) -> Result<Reply, NoMemory>
+        requires actor { is_client pass.old.actor ≡ false }
+        requires may { may pass.old.actor step ≡ true }
+        requires values { IsStep (tree_of self.old.opening).nodes step }
+        ensures opening { self.new.opening ≡ self.old.opening }
+        ensures ok { OnOk result (self.new.journal ≡
+            self.old.journal ++ line C.Client self.old pass.old.actor (MuLevel ∷ []) step ∷ []) }
+        ensures reply { IfOk result (λ r.
+            r ≡ (line C.Client self.old pass.old.actor (MuLevel ∷ []) step).entry.reply) }
+        ensures mine { OnOk result (pass.new ≡ record pass.old {
+          mine = pass.old.mine ++ step ∷ [];
+          made = pass.old.made + 1;
+        }) }
+        ensures err_journal { OnErr result (self.new.journal ≡ self.old.journal) }
+        ensures err_screen { OnErr result (self.new.screen ≡ self.old.screen) }
+        ensures err_pass { OnErr result (pass.new ≡ pass.old) }
+        ensures screen { IfOk result (λ r. paints step r.answer ≡ false → self.new.screen ≡ self.old.screen) }
+        ensures others { let t = (state C.Client self.old).tree in
+            OnOk result (KeepsOthers t step self.old.screen self.new.screen) }
+    {
+        let level = Held::none().with(Level::Mu);
+        let locked = &mut *self.guard;
+        locked.step(pass, level, step)
+    }
+
+    /// Hands over what waits in a window: each command, in their order, at the level with which it was
+    /// posted and the window's. For want of memory nothing is made, and the same commands wait.
+    pub fn hand_over<R: Wait>(&mut self, rt: &R, window: &Window<C, L>) -> Result<(), NoMemory>
+        ensures opening { self.new.opening ≡ self.old.opening }
+        ensures screen { self.new.screen ≡ self.old.screen }
+        ensures ok { OnOk result (HandedOver C.Client window.now self.old self.new) }
+        ensures err { OnErr result (self.new.journal ≡ self.old.journal) }
+    {
+        let locked = &mut *self.guard;
+        // Called, here and below, for what they tell the prover: that the window's leaf is one of the stage's,
+        // and that each command that waits has a level.
+        let _ = locked.stage();
+        let leaf = window.leaf();
+        let mut guard = window.basket.lock(rt);
+        let basket = &mut *guard;
+        let _ = basket.waiting();
+        locked.hand_over(leaf, basket)
+    }
+
+    /// Hands over what waits in a window, and makes a step of its client, at the tree's lock and the
+    /// window's. For want of memory the step isn't made; what was handed over stays handed over.
+    pub fn client_step<R: Wait>(
+        &mut self,
+        rt: &R,
+        window: &Window<C, L>,
+        pass: &mut Pass<C, L>,
+        step: Step<C::Cmd>,
+    ) -> Result<Reply, NoMemory>
+        requires actor { pass.old.actor ≡ Leaf window.now }
+        requires may { may pass.old.actor step ≡ true }
+        requires values { IsStep (tree_of self.old.opening).nodes step }
+        ensures opening { self.new.opening ≡ self.old.opening }
+        ensures ok { IfOk result (λ r. HandedAndStepped C.Client window.now step r self.old self.new) }
+        ensures mine { OnOk result (pass.new ≡ record pass.old {
+          mine = pass.old.mine ++ step ∷ [];
+          posted = 0;
+          made = pass.old.made + 1;
+        }) }
+        ensures err { OnErr result ((self.new.journal ≡ self.old.journal)
+            ⊎ HandedOver C.Client window.now self.old self.new) }
+        ensures err_screen { OnErr result (self.new.screen ≡ self.old.screen) }
+        ensures err_pass { OnErr result (pass.new ≡ pass.old) }
+    {
+        let locked = &mut *self.guard;
+        let _ = locked.stage();
+        let leaf = window.leaf();
+        let mut guard = window.basket.lock(rt);
+        let basket = &mut *guard;
+        let _ = basket.waiting();
+        locked.client_step(leaf, basket, pass, step)
+    }
+
+    /// Gives the lock up.
+    pub fn leave(self) -> Ladder
+        ensures { result ≡ [] }
+    {
+        let Mu { guard } = self;
+        drop(guard);
+        Ladder::ground()
+    }
+}
