@@ -1,4 +1,5 @@
-"""That the documents say what is so: the excerpts of docs/TESTING.md, the palette, the font and its use."""
+"""That the documents say what is so: the excerpts of docs/TESTING.md, the streams of docs/SCRIPT.md, the palette, the
+font and its use."""
 
 import re
 import sys
@@ -32,6 +33,11 @@ def stand_in_order(wanted: List[str], lines: List[str]) -> bool:
     return all(line in rest for line in wanted)
 
 
+def bytes_of(printed: List[str]) -> bytes:
+    """The bytes that lines of `xxd` have."""
+    return bytes.fromhex("".join(line[10:49] for line in printed))
+
+
 class Docs(unittest.TestCase):
     """The documents."""
 
@@ -45,6 +51,23 @@ class Docs(unittest.TestCase):
         for script in sorted((TOP / "docs/examples").glob("testing_*.txt")):
             with self.subTest(script.stem):
                 self.assertEqual((0, ""), call("lint", [str(script)]))
+
+    def test_refused_streams(self) -> None:
+        rows = re.findall(r"^\| `(m[1-5]_\w+)` \| `([0-9a-f ]*)` \| `(.*)` \|$", "\n".join(lines_of("docs/SCRIPT.md")), re.M)
+        self.assertEqual(16, len(rows))
+        for name, stream, refused in rows:
+            with self.subTest(name):
+                self.assertEqual([stream], lines_of(f"docs/examples/{name}.hex"))
+                self.assertEqual([f"refused: {refused}"], lines_of(f"docs/examples/{name}.show"))
+
+    def test_records_of_a_stream(self) -> None:
+        text = "\n".join(lines_of("docs/SCRIPT.md"))
+        stored = lines_of("docs/examples/stream.mirror")
+        self.assertIn("\n".join(stored), text)
+        records = re.findall(r"^\| ([0-9]+) \| `(0[1-4] [0-9a-f ]*)` \|", text, re.M)
+        self.assertEqual(bytes_of(stored), bytes.fromhex("".join(record for _, record in records)))
+        places = [sum(len(bytes.fromhex(it)) for _, it in records[:n]) for n in range(len(records))]
+        self.assertEqual(places, [int(place) for place, _ in records])
 
     def test_palette(self) -> None:
         rows = re.findall(r"^\| (?:0 to 7|8 to 15) \| (.*) \|$", "\n".join(lines_of("docs/SCRIPT.md")), re.M)

@@ -2,6 +2,7 @@
 
 import struct
 import tempfile
+import time
 import unittest
 import zlib
 from pathlib import Path
@@ -59,6 +60,11 @@ class Look(Folder):
         self.assertEqual((0, "dump 2 1 map8\npicture.png\ndump 1 2 mono\n"), ended)
         rows = colours_of((self.folder / "picture.png").read_bytes())
         self.assertEqual([RED, BRIGHT_RED, *[BLACK] * 4, WHITE], rows[0])
+
+    def test_playing_takes_a_tenth_of_a_second_for_each(self) -> None:
+        start = time.monotonic()
+        self.assertEqual(0, call("look", ["--play"], self.folder, 2 * DUMPS).status)
+        self.assertGreater(time.monotonic() - start, 0.3)
 
     def test_no_dump(self) -> None:
         ended = call("look", ["-o", "picture.png"], self.folder, b"journal 0\n")
@@ -123,6 +129,17 @@ class Snap(Folder):
         self.assertEqual(0, call("snap", ["--update", "--status", "3", "lamp.txt"], self.folder).status)
         self.assertEqual(b"refused: line 8 B1\n", (self.folder / "lamp.serial").read_bytes())
         self.assertEqual(0, call("snap", ["lamp.txt"], self.folder).status)
+
+    def test_streams(self) -> None:
+        stream = self.folder / "one.hex"
+        stream.write_text("01 0001 0001 01  03 0000 0000 0001 07\n04 00000001\n")
+        self.assertEqual(1, call("snap", ["one.hex"], self.folder).status)
+        self.assertEqual(0, call("snap", ["--update", "one.hex"], self.folder).status)
+        self.assertEqual("dump 1 1 map8\n07\n", (self.folder / "one.show").read_text())
+        self.assertEqual((0, "snap: 1 output of 1 stream as stored\n"), call("snap", ["one.hex"], self.folder))
+        stream.write_text("07 oops")
+        ended = call("snap", ["one.hex"], self.folder)
+        self.assertEqual((2, "snap: one.hex holds other than hex digits and blanks\n"), ended)
 
     def test_wrong_words(self) -> None:
         self.assertEqual((2, "snap: there is no lump.txt\n"), call("snap", ["lump.txt"], self.folder))

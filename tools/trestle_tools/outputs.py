@@ -66,14 +66,16 @@ def take_apart(text: str) -> Output:
 
 
 def wrong_texts(lines: List[str]) -> Iterator[Fault]:
-    """The fault of a text that isn't what a script prints."""
+    """The fault of a text that isn't what a script prints, or what is shown of a stream."""
     first = lines[0] if lines else ""
     if not lines:
         yield Fault(0, "the input is empty: the script has no report, or the program could not write")
+    elif first.startswith("refused: byte "):
+        yield Fault(1, f"the stream was {first}; docs/SCRIPT.md says what the codes mean")
     elif first.startswith("refused: "):
         yield Fault(1, f"the script was {first}; ./why FILE says why")
     elif first.startswith("usage: "):
-        yield Fault(1, "the program was called with other words than its own; it takes serial or check")
+        yield Fault(1, "the program was called with other words than its own; it takes serial, check or show")
     elif first == "read fault":
         yield Fault(1, "the program could not read its script")
     elif re.match(r"trestle [0-9]", first):

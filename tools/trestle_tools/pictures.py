@@ -97,6 +97,11 @@ def terminal_line(upper: bytes, lower: bytes) -> str:
     return "".join(line) + "\033[0m"
 
 
+def cleared(lines: int) -> str:
+    """What takes so many lines above the cursor away, and puts it where the first of them stood."""
+    return f"\033[{lines}A\033[J" if lines else ""
+
+
 def lines_beside(pictures: Sequence[Picture], titles: Sequence[str]) -> List[str]:
     """Pictures side by side in the terminal, each below its title."""
     widths = [max(picture.width, len(title)) for picture, title in zip(pictures, titles)]

@@ -39,7 +39,13 @@ flagged (w ∷ []) any = alone_first (is_flag w) refl any
     alone_first : (b : Bool) → is_flag w ≡ b → (b || false) ≡ true → None ≡ command_of (w ∷ [])
     alone_first false e h = absurd (false≢true h)
     alone_first true e h =
-        rw (no_word (codes "play") w refl e, no_word (codes "serial") w refl e, no_word (codes "check") w refl e) refl
+        rw (
+          no_word (codes "play") w refl e,
+          no_word (codes "serial") w refl e,
+          no_word (codes "check") w refl e,
+          no_word (codes "mirror") w refl e,
+          no_word (codes "show") w refl e,
+        ) refl
 flagged (w ∷ n ∷ []) any = one (is_flag w) (is_flag n) (bytes_eq w (codes "gen")) refl refl refl any
   where
     one : (b c g : Bool) → is_flag w ≡ b → is_flag n ≡ c → bytes_eq w (codes "gen") ≡ g → (b || (c || false)) ≡ true →

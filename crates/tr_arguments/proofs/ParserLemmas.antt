@@ -106,7 +106,7 @@ below s rest = or_else (level_fault s [] nothing_held rest false []) []
 refused_below : (s : Shape) (rest : List Text) (k : ErrorKind) (ks : Kinds) → walk_fault s [] start rest ≡ k ∷ ks → below s rest ≡ k ∷ ks
 refused_below s rest k ks e = ap (λ (kinds : Kinds). or_else kinds []) (level_first s rest k ks e)
 
--- ---- `play`, `serial` and `check`, which stand alone
+-- ---- the words that stand alone
 
 abbrev alone : Text → Shape
 alone name = sub (new_shape name)
@@ -143,6 +143,16 @@ check_reads : (rest : List Text) → list_any is_flag rest ≡ false → Reads (
 unfolding clap_on_literals
 check_reads rest plain =
     alone_reads (codes "check") (λ r. entered_is (codes "check") r refl refl) refl (no_number (codes "check") refl) rest plain
+
+mirror_reads : (rest : List Text) → list_any is_flag rest ≡ false → Reads (codes "mirror" ∷ rest)
+unfolding clap_on_literals
+mirror_reads rest plain =
+    alone_reads (codes "mirror") (λ r. entered_is (codes "mirror") r refl refl) refl (no_number (codes "mirror") refl) rest plain
+
+show_reads : (rest : List Text) → list_any is_flag rest ≡ false → Reads (codes "show" ∷ rest)
+unfolding clap_on_literals
+show_reads rest plain =
+    alone_reads (codes "show") (λ r. entered_is (codes "show") r refl refl) refl (no_number (codes "show") refl) rest plain
 
 -- ---- `gen`, which takes a number
 
@@ -215,41 +225,51 @@ nothing_reads = refl
 other_way : (t w : Text) → bytes_eq t w ≡ false → bytes_eq w t ≡ false
 other_way t w e = false_from_ne_true _ (λ h. false≢true (sym e ∙ (bytes_eq-Decides t w).1 (sym ((bytes_eq-Decides w t).0 h))))
 
--- the word is none of the four
+-- the word is none of the six
 record IsOther (word : Text) : Type 0 where
   play : bytes_eq (codes "play") word ≡ false
   serial : bytes_eq (codes "serial") word ≡ false
   check : bytes_eq (codes "check") word ≡ false
+  mirror : bytes_eq (codes "mirror") word ≡ false
+  show : bytes_eq (codes "show") word ≡ false
   gen : bytes_eq (codes "gen") word ≡ false
 
 no_name : (word : Text) → IsOther word → find (answers_to word) names ≡ None
-no_name word other = rw (other.play, other.serial, other.check, other.gen) refl
+no_name word other = rw (other.play, other.serial, other.check, other.mirror, other.show, other.gen) refl
 
 no_command : (word : Text) (rest : List Text) → IsOther word → command_of (word ∷ rest) ≡ None
 no_command word [] other =
-    rw (other_way (codes "play") word other.play, other_way (codes "serial") word other.serial, other_way (codes "check") word other.check) refl
+    rw (
+      other_way (codes "play") word other.play,
+      other_way (codes "serial") word other.serial,
+      other_way (codes "check") word other.check,
+      other_way (codes "mirror") word other.mirror,
+      other_way (codes "show") word other.show,
+    ) refl
 no_command word (n ∷ []) other = rw (other_way (codes "gen") word other.gen) refl
 no_command word (n ∷ m ∷ more) other = refl
 
 named : (t word : Text) (rest : List Text) → bytes_eq t word ≡ true → Reads (t ∷ rest) → Reads (word ∷ rest)
 named t word rest e = subst (λ (w : Text). Reads (w ∷ rest)) ((bytes_eq-Decides t word).0 e)
 
-by_name : (word : Text) (rest : List Text) → is_flag word ≡ false → list_any is_flag rest ≡ false → (p s c g : Bool) →
+by_name : (word : Text) (rest : List Text) → is_flag word ≡ false → list_any is_flag rest ≡ false → (p s c m w g : Bool) →
     bytes_eq (codes "play") word ≡ p → bytes_eq (codes "serial") word ≡ s → bytes_eq (codes "check") word ≡ c →
-    bytes_eq (codes "gen") word ≡ g → Reads (word ∷ rest)
-by_name word rest flag plain true s c g e f h i = named (codes "play") word rest e (play_reads rest plain)
-by_name word rest flag plain false true c g e f h i = named (codes "serial") word rest f (serial_reads rest plain)
-by_name word rest flag plain false false true g e f h i = named (codes "check") word rest h (check_reads rest plain)
-by_name word rest flag plain false false false true e f h i = named (codes "gen") word rest i (gen_reads rest plain)
-by_name word rest flag plain false false false false e f h i =
-    let other : IsOther word = record { play = e; serial = f; check = h; gen = i } in
+    bytes_eq (codes "mirror") word ≡ m → bytes_eq (codes "show") word ≡ w → bytes_eq (codes "gen") word ≡ g → Reads (word ∷ rest)
+by_name word rest flag plain true s c m w g e f h k l i = named (codes "play") word rest e (play_reads rest plain)
+by_name word rest flag plain false true c m w g e f h k l i = named (codes "serial") word rest f (serial_reads rest plain)
+by_name word rest flag plain false false true m w g e f h k l i = named (codes "check") word rest h (check_reads rest plain)
+by_name word rest flag plain false false false true w g e f h k l i = named (codes "mirror") word rest k (mirror_reads rest plain)
+by_name word rest flag plain false false false false true g e f h k l i = named (codes "show") word rest l (show_reads rest plain)
+by_name word rest flag plain false false false false false true e f h k l i = named (codes "gen") word rest i (gen_reads rest plain)
+by_name word rest flag plain false false false false false false e f h k l i =
+    let other : IsOther word = record { play = e; serial = f; check = h; mirror = k; show = l; gen = i } in
     inr (UnknownArgument, InvalidSubcommand ∷ [], unknown_fault word rest flag (no_name word other), no_command word rest other)
 
 reads : (ws : List Text) → list_any is_flag ws ≡ false → Reads ws
 reads [] plain = inr (MissingSubcommand, [], nothing_reads, refl)
 reads (word ∷ rest) plain =
     let parts = or_parts (is_flag word) (list_any is_flag rest) plain in
-    by_name word rest parts.0 parts.1 _ _ _ _ refl refl refl refl
+    by_name word rest parts.0 parts.1 _ _ _ _ _ _ refl refl refl refl refl refl
 
 -- ---- what a parse tells
 

@@ -3,7 +3,7 @@ use Rattle.std.specs.Prelude.{ℕ, List, [], ◌∷◌, Option, Some, None, if�
 use Rattle.std.specs.declared.alloc.Global.{Global}
 use Rattle.tr_grammar.specs.Words.{is_number, nat_of}
 use Rattle.tr_arguments.specs.declared.commands.Command.{Command}
-use Rattle.tr_arguments.specs.declared.commands.Command.TheVariants.{Play, Serial, Check, Gen}
+use Rattle.tr_arguments.specs.declared.commands.Command.TheVariants.{Play, Serial, Check, Mirror, Show, Gen}
 
 -- the bytes of each word
 abbrev pub texts_of : List (String Global) → List (List ℕ)
@@ -15,7 +15,9 @@ alone word =
     if bytes_eq word (codes "play") then Some Play
     else (if bytes_eq word (codes "serial") then Some Serial
     else (if bytes_eq word (codes "check") then Some Check
-    else None))
+    else (if bytes_eq word (codes "mirror") then Some Mirror
+    else (if bytes_eq word (codes "show") then Some Show
+    else None))))
 
 -- the script that is drawn from a number, which is spelled in one way
 abbrev pub numbered : List ℕ → Option Command

@@ -29,9 +29,13 @@ gen = with_rule (new_app (codes "gen")) number_rule
 abbrev pub with_name : App → Text → App
 with_name app name = with_subcommand app (new_shape name)
 
+-- the subcommands that take a script and play it
+abbrev pub playing : App
+playing = with_name (with_name (with_name bare (codes "play")) (codes "serial")) (codes "check")
+
 -- the whole parser
 abbrev pub parser : App
-parser = with_subcommand (with_name (with_name (with_name bare (codes "play")) (codes "serial")) (codes "check")) gen.top
+parser = with_subcommand (with_name (with_name playing (codes "mirror")) (codes "show")) gen.top
 
 -- a word, if there is one, as a list
 abbrev pub words_of_option : Option Text → List Text

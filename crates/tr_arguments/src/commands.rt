@@ -21,12 +21,17 @@ pub enum Command {
     Serial,
     /// Plays a script on one thread, and shows after each step how far the screen lags behind.
     Check,
+    /// Plays a script on one thread, and writes the stream of the screens that are dumped.
+    Mirror,
+    /// Reads such a stream, and shows its screens.
+    Show,
     /// Plays the script that is drawn from a number.
     Gen(u32),
 }
 
 /// What the words after the program's name ask for; `None` where they are no accepted list: `play`,
-/// `serial`, `check`, or `gen` and a number from 0 to 4294967295, in decimal digits without a zero in front.
+/// `serial`, `check`, `mirror`, `show`, or `gen` and a number from 0 to 4294967295, in decimal digits without
+/// a zero in front.
 pub fn command_of(alloc: Global, words: &[String]) -> Result<Option<Command>, NoMemory>
     ensures { IfOk result (λ command. command ≡ command_of (texts_of words.now)) }
 {
@@ -82,6 +87,8 @@ fn named(name: &str, number: Option<&str>) -> Option<Command>
         ("play", None) => Some(Command::Play),
         ("serial", None) => Some(Command::Serial),
         ("check", None) => Some(Command::Check),
+        ("mirror", None) => Some(Command::Mirror),
+        ("show", None) => Some(Command::Show),
         ("gen", Some(word)) => numbered(word),
         _ => None,
     }

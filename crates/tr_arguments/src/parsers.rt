@@ -1,5 +1,6 @@
 //! The parser of the words, which is `clap`'s: a subcommand for each accepted first word.
 ghost use Rattle.std.specs.Prelude.{◌≡◌, IfOk};
+ghost use Rattle.tr_arguments.specs.Parsers as spec;
 ghost use Rattle.tr_arguments.specs.Parsers.{parser};
 ghost use Rattle.clap.specs.Words.{app_of};
 
@@ -12,14 +13,22 @@ pub fn parser<'a>(alloc: Global) -> Result<Command<'a>, AllocError>
 {
     let number = Arg::new(alloc, "number").required(true);
     let drawn = Command::new(alloc, "gen").arg(number)?;
+    let mirroring = playing(alloc)?
+        .subcommand(Command::new(alloc, "mirror"))?
+        .subcommand(Command::new(alloc, "show"))?;
+    mirroring.subcommand(drawn)
+}
+
+/// The words with which a script is played, and its reports are written.
+fn playing<'a>(alloc: Global) -> Result<Command<'a>, AllocError>
+    ensures { IfOk result (λ made. app_of made ≡ spec.playing) }
+{
     let bare = Command::new(alloc, "trestle")
         .no_binary_name(true)
         .disable_help_flag(true)
         .disable_help_subcommand(true)
         .subcommand_required(true);
-    let played = bare
-        .subcommand(Command::new(alloc, "play"))?
+    bare.subcommand(Command::new(alloc, "play"))?
         .subcommand(Command::new(alloc, "serial"))?
-        .subcommand(Command::new(alloc, "check"))?;
-    played.subcommand(drawn)
+        .subcommand(Command::new(alloc, "check"))
 }

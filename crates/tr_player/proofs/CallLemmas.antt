@@ -4,12 +4,16 @@ use Rattle.std.specs.Prelude.{Option, Some, None, IfSome, IsSome, IsSomeAnd, if�
 use Rattle.std.specs.Option.{option_map}
 use Rattle.std.proofs.lemmas.Bool.Decides.{nat_tests}
 use Rattle.std.proofs.lemmas.Grind.{common_steps}
+use Rattle.std.proofs.lemmas.Option.{none-some}
 use Rattle.tr_io.specs.Faults.{HasFault}
 use Rattle.tr_io.specs.Streams.{Grew, GrewByPrefix}
 use Rattle.tr_grammar.specs.declared.Code.TheVariants.{B7}
 use Rattle.tr_grammar.specs.States.{nothing_yet}
 use Rattle.tr_grammar.specs.Texts.{lines_of}
-use Rattle.tr_grammar.specs.Scripts.{Refusal, Script, most_bytes, refusal_of, refused_at, first_fault, script_of}
+use Rattle.tr_grammar.specs.Scripts.{Refusal, Script, most_bytes, refusal_of, refused_at, first_fault as first_refusal, script_of}
+use Rattle.tr_mirror.specs.declared.MirrorFault.{MirrorFault}
+use Rattle.tr_mirror.specs.Readings.{fault_at_end, first_fault, longest_stream, reading_of}
+use Rattle.tr_show.specs.Shows.{shown_text}
 use Rattle.tr_serial.specs.Outputs.{gen_text, drawn}
 use Rattle.tr_arguments.specs.declared.Command.{Command}
 use Rattle.tr_arguments.specs.declared.Command.TheVariants as commands
@@ -18,8 +22,8 @@ use Rattle.tr_player.specs.declared.statuses.Status.{Status}
 use Rattle.tr_player.specs.declared.statuses.Status.TheVariants.{NoMemory, WriteFault}
 use Rattle.tr_player.specs.Statuses.{code}
 use Rattle.tr_player.specs.Checks.{check_refusal}
-use Rattle.tr_player.specs.Responses.{IsDueOfText}
-use Rattle.tr_player.specs.Answers.{most_read, OfBytesRead, IsReadThrough, or_else, refusal_for, text_for, usage_text, read_fault_text, refused_text, Due, usage, read_fault, refused, played, status_of, text_of, SourceChange, IsDueOfBytes, IsDue, SinkChange, HasPlayed, IsStageOf, IsDelivered, IsAnswered, ReadsNone, Yields, OfReader, OfScriptRead, OfNumber, IsAllowed}
+use Rattle.tr_player.specs.Responses.{IsDueOfShow, IsDueOfText}
+use Rattle.tr_player.specs.Answers.{most_read, OfBytesRead, IsReadThrough, or_else, refusal_for, text_for, usage_text, read_fault_text, refused_text, faulty_text, IsReadBack, Due, usage, read_fault, refused, faulty, played, shown, status_of, text_of, SourceChange, IsDueOfBytes, IsDueOfStream, IsDue, SinkChange, HasPlayed, IsStageOf, IsDelivered, IsAnswered, ReadsNone, Yields, OfReader, OfScriptRead, OfStreamRead, OfNumber, IsAllowed}
 
 -- ---- the bytes that were read
 
@@ -37,43 +41,62 @@ not_refused : (command : Command) (bytes : List ℕ) → refusal_for command byt
 not_refused commands.Check bytes h = none_first (refusal_of bytes) (check_refusal (script_of bytes)) h
 not_refused command bytes h = h
 
-none_else : (b : Bool) (r : Refusal) (later : Option Refusal) → (if b then Some r else later) ≡ None → b ≡ false
-none_else true r later h = let e : Some r ≡ None = h in cc
+none_else : {A : Type 0} (b : Bool) (r : A) (later : Option A) → (if b then Some r else later) ≡ None → b ≡ false
+none_else true r later h = absurd (cc)
 none_else false r later h = refl
 
 below_more : (most n : ℕ) → nat_lt most n ≡ false → n < most + 1
 below_more most n h = grind (arith, nat_tests)
 
 -- a text that isn't refused has fewer bytes than are read at most
-not_too_long : (command : Command) (bytes : List ℕ) → refusal_of bytes ≡ None → length bytes < most_read command
+short_text : (bytes : List ℕ) → refusal_of bytes ≡ None → length bytes < most_bytes + 1
 unfolding refusal_of
-not_too_long command bytes h =
+short_text bytes h =
     below_more most_bytes (length bytes)
-    (none_else (nat_lt most_bytes (length bytes)) (refused_at 0 B7) (first_fault nothing_yet 1 (lines_of bytes)) h)
+    (none_else (nat_lt most_bytes (length bytes)) (refused_at 0 B7) (first_refusal nothing_yet 1 (lines_of bytes)) h)
+
+not_too_long : (command : Command) (bytes : List ℕ) → refusal_of bytes ≡ None → length bytes < most_read command
+not_too_long commands.Show bytes h = omega (arith, short_text bytes h)
+not_too_long command bytes h = short_text bytes h
+
+-- and so has a stream
+stream_not_too_long : (bytes : List ℕ) → first_fault bytes ≡ None → length bytes < most_read commands.Show
+stream_not_too_long bytes h =
+    below_more longest_stream (length bytes)
+    (none_else (nat_lt longest_stream (length bytes)) (record { place = 0; code = 5 }) (fault_at_end (reading_of bytes) (reading_of bytes).fault) h)
 
 -- where fewer bytes are read than may be, none is left
 all_read : (most : ℕ) (xs : List ℕ) → length (take most xs) < most → drop most xs ≡ []
 all_read most xs h = grind (arith, common_steps)
 
--- a source of a script that isn't refused is read to its end
+-- a source of bytes that aren't too many is read to its end
+all_of : (command : Command) (P : List ℕ → Type 0) → ((bytes : List ℕ) → P bytes → length bytes < most_read command) → (left left_new : Option (List ℕ)) →
+    OfBytesRead command left P → IsReadThrough command left left_new → IfSome left_new (λ rest. rest ≡ [])
+all_of command P few left left_new h e = subst (λ (x : Option (List ℕ)). IfSome x (λ rest. rest ≡ [])) (sym e) (by_cases left h)
+  where
+    by_cases : (x : Option (List ℕ)) → OfBytesRead command x P → IfSome (option_map (λ bytes. drop (most_read command) bytes) x) (λ rest. rest ≡ [])
+    by_cases None h = tt
+    by_cases (Some xs) h = all_read (most_read command) xs (few (take (most_read command) xs) h)
+
+-- a source of a script that isn't refused, or of a stream
 all_of_script : (command : Command) (left left_new : Option (List ℕ)) → OfBytesRead command left (λ bytes. refusal_for command bytes ≡ None) →
     IsReadThrough command left left_new → IfSome left_new (λ rest. rest ≡ [])
-all_of_script command left left_new h e = subst (λ (x : Option (List ℕ)). IfSome x (λ rest. rest ≡ [])) (sym e) (by_cases left h)
-  where
-    by_cases : (x : Option (List ℕ)) → OfBytesRead command x (λ bytes. refusal_for command bytes ≡ None) →
-        IfSome (option_map (λ bytes. drop (most_read command) bytes) x) (λ rest. rest ≡ [])
-    by_cases None h = tt
-    by_cases (Some xs) h = all_read (most_read command) xs (not_too_long command _ (not_refused command _ h))
+all_of_script command =
+    all_of command (λ bytes. refusal_for command bytes ≡ None) (λ bytes h. not_too_long command bytes (not_refused command bytes h))
 
--- the bytes that are read aren't refused
-abbrev AreAllowed : Command → Option (List ℕ) → Type 0
-AreAllowed command left = IsSomeAnd left (λ bytes. refusal_for command (take (most_read command) bytes) ≡ None)
+all_of_stream : (left left_new : Option (List ℕ)) → OfBytesRead commands.Show left (λ bytes. first_fault bytes ≡ None) →
+    IsReadThrough commands.Show left left_new → IfSome left_new (λ rest. rest ≡ [])
+all_of_stream = all_of commands.Show (λ bytes. first_fault bytes ≡ None) stream_not_too_long
+
+-- the bytes that are read have no fault of this sort
+abbrev AreAllowed : {A : Type 0} → (List ℕ → Option A) → Command → Option (List ℕ) → Type 0
+AreAllowed fault command left = IsSomeAnd left (λ bytes. fault (take (most_read command) bytes) ≡ None)
 
 -- bytes that are refused aren't bytes that aren't
-not_both : (command : Command) (r : Refusal) (left : Option (List ℕ)) → OfBytesRead command left (λ bytes. refusal_for command bytes ≡ Some r) →
-    AreAllowed command left → ⊥
-not_both command r None h allowed = allowed
-not_both command r (Some xs) h allowed = let e : Some r ≡ None = sym h ∙ allowed in cc
+not_both : {A : Type 0} (fault : List ℕ → Option A) (command : Command) (r : A) (left : Option (List ℕ)) → OfBytesRead command left (λ bytes. fault bytes ≡ Some r) →
+    AreAllowed fault command left → ⊥
+not_both fault command r None h allowed = allowed
+not_both fault command r (Some xs) h allowed = none-some r (sym allowed ∙ h)
 
 some_is : {A : Type 0} (o : Option A) (x : A) → o ≡ Some x → IsSome o
 some_is {A = A} o x e = subst (λ (v : Option A). IsSome v) (sym e) refl
@@ -89,18 +112,30 @@ and_is (Some x) P h = refl
 abbrev IsRead : Command → Script → List ℕ → Type 0
 IsRead command s bytes = (refusal_for command bytes ≡ None) × (s ≡ script_of bytes)
 
+-- the bytes are a stream, and the text is what they show
+abbrev IsShown : List ℕ → List ℕ → Type 0
+IsShown text bytes = (first_fault bytes ≡ None) × (text ≡ shown_text bytes)
+
 -- ---- the response to what was read
 
 -- what is due for the text that was read is due for its bytes
 pub due_of_text : (command : Command) (from : SourceChange) (items : List ℕ) (due : Due) → OfBytesRead command from.left (λ bytes. items ≡ bytes) →
     IsReadThrough command from.left from.left_new → IsDueOfText command items due → IsDueOfBytes command from due
-due_of_text command from items usage e t d = absurd d
-due_of_text command from items read_fault e t d = absurd d
 due_of_text command from items (refused r) e t d =
     (t, of_read command _ _ (λ bytes (same : items ≡ bytes). subst (λ (b : List ℕ). refusal_for command b ≡ Some r) same d) from.left e)
 due_of_text command from items (played s text) e t d =
     let is : IsRead command s items = (d.0, d.1) in
-    (t, of_read command _ _ (λ bytes (same : items ≡ bytes). subst (λ (b : List ℕ). IsRead command s b) same is) from.left e, d.2)
+    (t, of_read command _ _ (λ bytes (same : items ≡ bytes). subst (λ (b : List ℕ). IsRead command s b) same is) from.left e, d.2, d.3)
+due_of_text command from items due e t d = absurd d
+
+-- the same of a stream
+pub due_of_show : (from : SourceChange) (items : List ℕ) (due : Due) → OfBytesRead commands.Show from.left (λ bytes. items ≡ bytes) →
+    IsReadThrough commands.Show from.left from.left_new → IsDueOfShow items due → IsDueOfStream from due
+due_of_show from items (faulty f) e t d =
+    (t, of_read commands.Show _ _ (λ bytes (same : items ≡ bytes). subst (λ (b : List ℕ). first_fault b ≡ Some f) same d) from.left e)
+due_of_show from items (shown text) e t d =
+    (t, of_read commands.Show _ _ (λ bytes (same : items ≡ bytes). subst (λ (b : List ℕ). IsShown text b) same d) from.left e)
+due_of_show from items due e t d = absurd d
 
 -- ---- the clauses
 
@@ -150,16 +185,23 @@ module _ (asked : Option Command) (from : SourceChange) (out : Outcome) (to : Si
   usage_due n5 n6 = let g = given n5 n6 in by_command asked g.due g.is g.status
     where
       of_bytes : (command : Command) (due : Due) → IsDueOfBytes command from due → out.status ≡ code (status_of due) → out.status ≢ 2
-      of_bytes command usage d e = absurd d
       of_bytes command read_fault d e = λ two. absurd (omega arith)
       of_bytes command (refused r) d e = λ two. absurd (omega arith)
       of_bytes command (played s text) d e = λ two. absurd (omega arith)
+      of_bytes command due d e = absurd d
+
+      of_stream : (due : Due) → IsDueOfStream from due → out.status ≡ code (status_of due) → out.status ≢ 2
+      of_stream read_fault d e = λ two. absurd (omega arith)
+      of_stream (faulty f) d e = λ two. absurd (omega arith)
+      of_stream (shown text) d e = λ two. absurd (omega arith)
+      of_stream due d e = absurd d
 
       by_command : (what : Option Command) (due : Due) → IsDue what from due → out.status ≡ code (status_of due) →
           (out.status ≡ 2) ↔ (what ≡ None)
       by_command None due d e = (λ _. refl, λ _. e ∙ ap (λ (x : Due). code (status_of x)) d.0)
       by_command (Some (commands.Gen number)) due d e =
           let zero : out.status ≡ 0 = summed_up number due d.0 e in (λ two. absurd (omega arith), λ none. cc)
+      by_command (Some commands.Show) due d e = (λ two. absurd (of_stream due d e two), λ none. cc)
       by_command (Some command) due d e = (λ two. absurd (of_bytes command due d e two), λ none. cc)
 
   -- the text of a given answer is that of its status
@@ -171,22 +213,31 @@ module _ (asked : Option Command) (from : SourceChange) (out : Outcome) (to : Si
       by_due usage is grew = grew
       by_due read_fault is grew = absurd (omega arith)
       by_due (refused r) is grew = absurd (omega arith)
+      by_due (faulty f) is grew = absurd (omega arith)
       by_due (played s text) is grew = absurd (omega arith)
+      by_due (shown text) is grew = absurd (omega arith)
 
   pub read_fault_due : out.status ≡ 4 → HasFault from.faults from.faults_new
   read_fault_due e = let g = given_at 4 e (omega arith) in by_command asked g.due g.is g.status
     where
       of_bytes : (command : Command) (due : Due) → IsDueOfBytes command from due → out.status ≡ code (status_of due) → HasFault from.faults from.faults_new
-      of_bytes command usage d is = absurd d
       of_bytes command read_fault d is = d
       of_bytes command (refused r) d is = absurd (omega arith)
       of_bytes command (played s text) d is = absurd (omega arith)
+      of_bytes command due d is = absurd d
+
+      of_stream : (due : Due) → IsDueOfStream from due → out.status ≡ code (status_of due) → HasFault from.faults from.faults_new
+      of_stream read_fault d is = d
+      of_stream (faulty f) d is = absurd (omega arith)
+      of_stream (shown text) d is = absurd (omega arith)
+      of_stream due d is = absurd d
 
       by_command : (what : Option Command) (due : Due) → IsDue what from due → out.status ≡ code (status_of due) → HasFault from.faults from.faults_new
       by_command None due d is =
           let two : code (status_of due) ≡ 2 = ap (λ (x : Due). code (status_of x)) d.0 in absurd (omega arith)
       by_command (Some (commands.Gen number)) due d is =
           let zero : out.status ≡ 0 = summed_up number due d.0 is in absurd (omega arith)
+      by_command (Some commands.Show) due d is = of_stream due d is
       by_command (Some command) due d is = of_bytes command due d is
 
   pub read_fault_written : out.status ≡ 4 → Grew to.written to.written_new read_fault_text
@@ -197,7 +248,9 @@ module _ (asked : Option Command) (from : SourceChange) (out : Outcome) (to : Si
       by_due usage is grew = absurd (omega arith)
       by_due read_fault is grew = grew
       by_due (refused r) is grew = absurd (omega arith)
+      by_due (faulty f) is grew = absurd (omega arith)
       by_due (played s text) is grew = absurd (omega arith)
+      by_due (shown text) is grew = absurd (omega arith)
 
   -- of the answers to a script that was read, 3 comes exactly where its bytes are refused
   pub refused_exactly : Yields out.status (out.status ≢ 4 →
@@ -206,18 +259,19 @@ module _ (asked : Option Command) (from : SourceChange) (out : Outcome) (to : Si
     where
       of_bytes : (command : Command) (due : Due) → IsDueOfBytes command from due → out.status ≡ code (status_of due) →
           OfBytesRead command from.left (λ bytes. (out.status ≡ 3) ↔ IsSome (refusal_for command bytes))
-      of_bytes command usage d e = absurd d
       of_bytes command read_fault d e = absurd (n4 e)
       of_bytes command (refused r) d e =
           of_read command _ _ (λ bytes (h : refusal_for command bytes ≡ Some r). (λ _. some_is _ r h, λ _. e)) from.left d.1
       of_bytes command (played s text) d e =
           of_read command _ _ (λ bytes (h : IsRead command s bytes). (λ three. absurd (omega arith), λ some. absurd (none_is_not _ h.0 some)))
           from.left d.1
+      of_bytes command due d e = absurd d
 
       by_command : (what : Option Command) (due : Due) → IsDue what from due → out.status ≡ code (status_of due) →
           OfScriptRead what from.left (λ command bytes. (out.status ≡ 3) ↔ IsSome (refusal_for command bytes))
       by_command None due d e = tt
       by_command (Some (commands.Gen number)) due d e = tt
+      by_command (Some commands.Show) due d e = tt
       by_command (Some command) due d e = of_bytes command due d e
 
   pub refused_written : out.status ≡ 3 → OfScriptRead asked from.left (λ command bytes.
@@ -227,19 +281,59 @@ module _ (asked : Option Command) (from : SourceChange) (out : Outcome) (to : Si
       of_bytes : (command : Command) (due : Due) → IsDueOfBytes command from due → out.status ≡ code (status_of due) →
           Grew to.written to.written_new (text_of due) →
           OfBytesRead command from.left (λ bytes. IsSomeAnd (refusal_for command bytes) (λ r. Grew to.written to.written_new (refused_text r)))
-      of_bytes command usage d is grew = absurd d
       of_bytes command read_fault d is grew = absurd (omega arith)
       of_bytes command (refused r) d is grew =
           let P : Option Refusal → Type 0 = λ x. IsSomeAnd x (λ r. Grew to.written to.written_new (refused_text r)) in
           of_read command _ _ (λ bytes (h : refusal_for command bytes ≡ Some r). subst P (sym h) grew) from.left d.1
       of_bytes command (played s text) d is grew = absurd (omega arith)
+      of_bytes command due d is grew = absurd d
 
       by_command : (what : Option Command) (due : Due) → IsDue what from due → out.status ≡ code (status_of due) →
           Grew to.written to.written_new (text_of due) →
           OfScriptRead what from.left (λ command bytes. IsSomeAnd (refusal_for command bytes) (λ r. Grew to.written to.written_new (refused_text r)))
       by_command None due d is grew = tt
       by_command (Some (commands.Gen number)) due d is grew = tt
+      by_command (Some commands.Show) due d is grew = tt
       by_command (Some command) due d is grew = of_bytes command due d is grew
+
+  -- the same of a stream
+  pub faulty_exactly : Yields out.status (out.status ≢ 4 →
+      OfStreamRead asked from.left (λ bytes. (out.status ≡ 3) ↔ IsSome (first_fault bytes)))
+  faulty_exactly n5 n6 n4 = let g = given n5 n6 in by_command asked g.due g.is g.status
+    where
+      of_stream : (due : Due) → IsDueOfStream from due → out.status ≡ code (status_of due) →
+          OfBytesRead commands.Show from.left (λ bytes. (out.status ≡ 3) ↔ IsSome (first_fault bytes))
+      of_stream read_fault d e = absurd (n4 e)
+      of_stream (faulty f) d e =
+          of_read commands.Show _ _ (λ bytes (h : first_fault bytes ≡ Some f). (λ _. some_is _ f h, λ _. e)) from.left d.1
+      of_stream (shown text) d e =
+          of_read commands.Show _ _ (λ bytes (h : IsShown text bytes). (λ three. absurd (omega arith), λ some. absurd (none_is_not _ h.0 some)))
+          from.left d.1
+      of_stream due d e = absurd d
+
+      by_command : (what : Option Command) (due : Due) → IsDue what from due → out.status ≡ code (status_of due) →
+          OfStreamRead what from.left (λ bytes. (out.status ≡ 3) ↔ IsSome (first_fault bytes))
+      by_command (Some commands.Show) due d e = of_stream due d e
+      by_command what due d e = tt
+
+  pub faulty_written : out.status ≡ 3 → OfStreamRead asked from.left (λ bytes.
+      IsSomeAnd (first_fault bytes) (λ f. Grew to.written to.written_new (faulty_text f)))
+  faulty_written e = let g = given_at 3 e (omega arith) in by_command asked g.due g.is g.status g.written
+    where
+      of_stream : (due : Due) → IsDueOfStream from due → out.status ≡ code (status_of due) → Grew to.written to.written_new (text_of due) →
+          OfBytesRead commands.Show from.left (λ bytes. IsSomeAnd (first_fault bytes) (λ f. Grew to.written to.written_new (faulty_text f)))
+      of_stream read_fault d is grew = absurd (omega arith)
+      of_stream (faulty f) d is grew =
+          let P : Option MirrorFault → Type 0 = λ x. IsSomeAnd x (λ f. Grew to.written to.written_new (faulty_text f)) in
+          of_read commands.Show _ _ (λ bytes (h : first_fault bytes ≡ Some f). subst P (sym h) grew) from.left d.1
+      of_stream (shown text) d is grew = absurd (omega arith)
+      of_stream due d is grew = absurd d
+
+      by_command : (what : Option Command) (due : Due) → IsDue what from due → out.status ≡ code (status_of due) →
+          Grew to.written to.written_new (text_of due) →
+          OfStreamRead what from.left (λ bytes. IsSomeAnd (first_fault bytes) (λ f. Grew to.written to.written_new (faulty_text f)))
+      by_command (Some commands.Show) due d is grew = of_stream due d is grew
+      by_command what due d is grew = tt
 
   pub number_allowed : OfNumber asked (λ number. out.status ≢ 3)
   number_allowed = by_command asked (λ due d. d)
@@ -262,15 +356,22 @@ module _ (asked : Option Command) (from : SourceChange) (out : Outcome) (to : Si
       below (inr three) = omega arith
 
       of_bytes : (command : Command) (due : Due) → IsDueOfBytes command from due → code (status_of due) < 4 → IsReadThrough command from.left from.left_new
-      of_bytes command usage d h = absurd d
       of_bytes command read_fault d h = absurd (omega arith)
       of_bytes command (refused r) d h = d.0
       of_bytes command (played s text) d h = d.0
+      of_bytes command due d h = absurd d
+
+      of_stream : (due : Due) → IsDueOfStream from due → code (status_of due) < 4 → IsReadThrough commands.Show from.left from.left_new
+      of_stream read_fault d h = absurd (omega arith)
+      of_stream (faulty f) d h = d.0
+      of_stream (shown text) d h = d.0
+      of_stream due d h = absurd d
 
       by_command : (what : Option Command) (due : Due) → IsDue what from due → code (status_of due) < 4 →
           OfReader what (λ command. IsReadThrough command from.left from.left_new)
       by_command None due d h = tt
       by_command (Some (commands.Gen number)) due d h = tt
+      by_command (Some commands.Show) due d h = of_stream due d h
       by_command (Some command) due d h = of_bytes command due d h
 
   -- at status 0 the source was read to its end
@@ -279,16 +380,24 @@ module _ (asked : Option Command) (from : SourceChange) (out : Outcome) (to : Si
     where
       of_bytes : (command : Command) (due : Due) → IsDueOfBytes command from due → out.status ≡ code (status_of due) →
           IfSome from.left_new (λ rest. rest ≡ [])
-      of_bytes command usage d is = absurd d
       of_bytes command read_fault d is = absurd (omega arith)
       of_bytes command (refused r) d is = absurd (omega arith)
       of_bytes command (played s text) d is =
           all_of_script command from.left from.left_new (of_read command _ _ (λ bytes (h : IsRead command s bytes). h.0) from.left d.1) d.0
+      of_bytes command due d is = absurd d
+
+      of_stream : (due : Due) → IsDueOfStream from due → out.status ≡ code (status_of due) → IfSome from.left_new (λ rest. rest ≡ [])
+      of_stream read_fault d is = absurd (omega arith)
+      of_stream (faulty f) d is = absurd (omega arith)
+      of_stream (shown text) d is =
+          all_of_stream from.left from.left_new (of_read commands.Show _ _ (λ bytes (h : IsShown text bytes). h.0) from.left d.1) d.0
+      of_stream due d is = absurd d
 
       by_command : (what : Option Command) (due : Due) → IsDue what from due → out.status ≡ code (status_of due) → (ReadsNone what → ⊥) →
           IfSome from.left_new (λ rest. rest ≡ [])
       by_command None due d is reads = absurd (reads tt)
       by_command (Some (commands.Gen number)) due d is reads = absurd (reads tt)
+      by_command (Some commands.Show) due d is reads = of_stream due d is
       by_command (Some command) due d is reads = of_bytes command due d is
 
   -- at status 0 the text of the script that was read is written
@@ -299,20 +408,40 @@ module _ (asked : Option Command) (from : SourceChange) (out : Outcome) (to : Si
       of_bytes : (command : Command) (due : Due) → IsDueOfBytes command from due → out.status ≡ code (status_of due) →
           Grew to.written to.written_new (text_of due) →
           OfBytesRead command from.left (λ bytes. Grew to.written to.written_new (text_for command (script_of bytes)))
-      of_bytes command usage d is grew = absurd d
       of_bytes command read_fault d is grew = absurd (omega arith)
       of_bytes command (refused r) d is grew = absurd (omega arith)
       of_bytes command (played s text) d is grew =
           let wrote : Grew to.written to.written_new (text_for command s) = subst (λ (t : List ℕ). Grew to.written to.written_new t) d.2 grew in
           let P : Script → Type 0 = λ x. Grew to.written to.written_new (text_for command x) in
           of_read command _ _ (λ bytes (h : IsRead command s bytes). subst P h.1 wrote) from.left d.1
+      of_bytes command due d is grew = absurd d
 
       by_command : (what : Option Command) (due : Due) → IsDue what from due → out.status ≡ code (status_of due) →
           Grew to.written to.written_new (text_of due) →
           OfScriptRead what from.left (λ command bytes. Grew to.written to.written_new (text_for command (script_of bytes)))
       by_command None due d is grew = tt
       by_command (Some (commands.Gen number)) due d is grew = tt
+      by_command (Some commands.Show) due d is grew = tt
       by_command (Some command) due d is grew = of_bytes command due d is grew
+
+  -- at status 0 a stream that was written is one that shows the script's dumps
+  pub script_read_back : out.status ≡ 0 → OfScriptRead asked from.left (λ command bytes. IsReadBack command (script_of bytes))
+  script_read_back e = let g = given_at 0 e (omega arith) in by_command asked g.due g.is g.status
+    where
+      of_bytes : (command : Command) (due : Due) → IsDueOfBytes command from due → out.status ≡ code (status_of due) →
+          OfBytesRead command from.left (λ bytes. IsReadBack command (script_of bytes))
+      of_bytes command read_fault d is = absurd (omega arith)
+      of_bytes command (refused r) d is = absurd (omega arith)
+      of_bytes command (played s text) d is =
+          of_read command _ _ (λ bytes (h : IsRead command s bytes). subst (λ (x : Script). IsReadBack command x) h.1 d.3) from.left d.1
+      of_bytes command due d is = absurd d
+
+      by_command : (what : Option Command) (due : Due) → IsDue what from due → out.status ≡ code (status_of due) →
+          OfScriptRead what from.left (λ command bytes. IsReadBack command (script_of bytes))
+      by_command None due d is = tt
+      by_command (Some (commands.Gen number)) due d is = tt
+      by_command (Some commands.Show) due d is = tt
+      by_command (Some command) due d is = of_bytes command due d is
 
   -- at status 0 the stage has played the script that was read
   pub script_played : out.status ≡ 0 →
@@ -321,18 +450,37 @@ module _ (asked : Option Command) (from : SourceChange) (out : Outcome) (to : Si
     where
       of_bytes : (command : Command) (due : Due) → IsDueOfBytes command from due → out.status ≡ code (status_of due) → IsStageOf due out.stage →
           OfBytesRead command from.left (λ bytes. IsSomeAnd out.stage (λ stage. HasPlayed (script_of bytes) stage))
-      of_bytes command usage d is plays = absurd d
       of_bytes command read_fault d is plays = absurd (omega arith)
       of_bytes command (refused r) d is plays = absurd (omega arith)
       of_bytes command (played s text) d is plays =
           let P : Script → Type 0 = λ x. IsSomeAnd out.stage (λ stage. HasPlayed x stage) in
           of_read command _ _ (λ bytes (h : IsRead command s bytes). subst P h.1 plays) from.left d.1
+      of_bytes command due d is plays = absurd d
 
       by_command : (what : Option Command) (due : Due) → IsDue what from due → out.status ≡ code (status_of due) → IsStageOf due out.stage →
           OfScriptRead what from.left (λ command bytes. IsSomeAnd out.stage (λ stage. HasPlayed (script_of bytes) stage))
       by_command None due d is plays = tt
       by_command (Some (commands.Gen number)) due d is plays = tt
+      by_command (Some commands.Show) due d is plays = tt
       by_command (Some command) due d is plays = of_bytes command due d is plays
+
+  -- at status 0 the screens of the stream that was read are dumped
+  pub stream_shown : out.status ≡ 0 → OfStreamRead asked from.left (λ bytes. Grew to.written to.written_new (shown_text bytes))
+  stream_shown e = let g = given_at 0 e (omega arith) in by_command asked g.due g.is g.status g.written
+    where
+      of_stream : (due : Due) → IsDueOfStream from due → out.status ≡ code (status_of due) → Grew to.written to.written_new (text_of due) →
+          OfBytesRead commands.Show from.left (λ bytes. Grew to.written to.written_new (shown_text bytes))
+      of_stream read_fault d is grew = absurd (omega arith)
+      of_stream (faulty f) d is grew = absurd (omega arith)
+      of_stream (shown text) d is grew =
+          let P : List ℕ → Type 0 = λ t. Grew to.written to.written_new t in
+          of_read commands.Show _ _ (λ bytes (h : IsShown text bytes). subst P h.1 grew) from.left d.1
+      of_stream due d is grew = absurd d
+
+      by_command : (what : Option Command) (due : Due) → IsDue what from due → out.status ≡ code (status_of due) →
+          Grew to.written to.written_new (text_of due) → OfStreamRead what from.left (λ bytes. Grew to.written to.written_new (shown_text bytes))
+      by_command (Some commands.Show) due d is grew = of_stream due d is grew
+      by_command what due d is grew = tt
 
   -- at status 0 the summary of the number's script is written, and the stage has played it
   pub number_played : out.status ≡ 0 → OfNumber asked (λ number.
@@ -347,21 +495,34 @@ module _ (asked : Option Command) (from : SourceChange) (out : Outcome) (to : Si
       )
       by_command what due d grew plays = tt
 
-  -- a stage is handed out exactly at status 0
-  pub stage_exactly : IsSome out.stage ↔ (out.status ≡ 0)
+  -- a stage is handed out exactly at status 0, but not of a stream
+  pub stage_exactly : IsSome out.stage ↔ ((out.status ≡ 0) × (asked ≢ Some commands.Show))
   stage_exactly = by_cases answered
     where
-      delivered : (due : Due) → IsDelivered due out to → IsSome out.stage ↔ (out.status ≡ 0)
-      delivered due (inr (inl v)) = (λ some. absurd (none_is_not _ v.1 some), λ e. absurd (omega arith))
-      delivered due (inr (inr v)) = (λ some. absurd (none_is_not _ v.1 some), λ e. absurd (omega arith))
-      delivered usage (inl v) = (λ some. absurd (none_is_not _ v.1 some), λ e. absurd (omega arith))
-      delivered read_fault (inl v) = (λ some. absurd (none_is_not _ v.1 some), λ e. absurd (omega arith))
-      delivered (refused r) (inl v) = (λ some. absurd (none_is_not _ v.1 some), λ e. absurd (omega arith))
-      delivered (played s text) (inl v) = (λ _. v.0, λ _. and_is _ _ v.1)
+      none : out.stage ≡ None → (out.status ≡ 0 → asked ≢ Some commands.Show → ⊥) → IsSome out.stage ↔ ((out.status ≡ 0) × (asked ≢ Some commands.Show))
+      none e other = (λ some. absurd (none_is_not _ e some), λ h. absurd (other h.0 h.1))
 
-      by_cases : IsAnswered asked from out to → IsSome out.stage ↔ (out.status ≡ 0)
-      by_cases (inl w) = (λ some. absurd (none_is_not _ w.1 some), λ e. absurd (omega arith))
-      by_cases (inr w) = delivered w.0 w.2
+      -- only a stream is shown
+      shows : (text : List ℕ) (what : Option Command) → IsDue what from (shown text) → what ≢ Some commands.Show → ⊥
+      shows text None d other = cc
+      shows text (Some (commands.Gen number)) d other = cc
+      shows text (Some commands.Show) d other = other refl
+      shows text (Some command) d other = d
+
+      delivered : (due : Due) → IsDue asked from due → IsDelivered due out to → IsSome out.stage ↔ ((out.status ≡ 0) × (asked ≢ Some commands.Show))
+      delivered due d (inr (inl v)) = none v.1 (λ e other. absurd (omega arith))
+      delivered due d (inr (inr v)) = none v.1 (λ e other. absurd (omega arith))
+      delivered usage d (inl v) = none v.1 (λ e other. absurd (omega arith))
+      delivered read_fault d (inl v) = none v.1 (λ e other. absurd (omega arith))
+      delivered (refused r) d (inl v) = none v.1 (λ e other. absurd (omega arith))
+      delivered (faulty f) d (inl v) = none v.1 (λ e other. absurd (omega arith))
+      delivered (played s text) d (inl v) =
+          (λ _. (v.0, λ show. subst (λ (what : Option Command). IsDue what from (played s text)) show d), λ _. and_is _ _ v.1)
+      delivered (shown text) d (inl v) = none v.1 (λ e other. shows text asked d other)
+
+      by_cases : IsAnswered asked from out to → IsSome out.stage ↔ ((out.status ≡ 0) × (asked ≢ Some commands.Show))
+      by_cases (inl w) = none w.1 (λ e other. absurd (omega arith))
+      by_cases (inr w) = delivered w.0 w.1 w.2
 
   pub write_fault_due : out.status ≡ 5 → HasFault to.faults to.faults_new
   write_fault_due e = by_cases answered
@@ -372,7 +533,9 @@ module _ (asked : Option Command) (from : SourceChange) (out : Outcome) (to : Si
       delivered usage (inl v) = absurd (omega arith)
       delivered read_fault (inl v) = absurd (omega arith)
       delivered (refused r) (inl v) = absurd (omega arith)
+      delivered (faulty f) (inl v) = absurd (omega arith)
       delivered (played s text) (inl v) = absurd (omega arith)
+      delivered (shown text) (inl v) = absurd (omega arith)
 
       by_cases : IsAnswered asked from out to → HasFault to.faults to.faults_new
       by_cases (inl w) = absurd (omega arith)
@@ -388,7 +551,9 @@ module _ (asked : Option Command) (from : SourceChange) (out : Outcome) (to : Si
       delivered usage (inl v) = absurd (omega arith)
       delivered read_fault (inl v) = absurd (omega arith)
       delivered (refused r) (inl v) = absurd (omega arith)
+      delivered (faulty f) (inl v) = absurd (omega arith)
       delivered (played s text) (inl v) = absurd (omega arith)
+      delivered (shown text) (inl v) = absurd (omega arith)
 
       by_cases : IsAnswered asked from out to → (due : Due) × IsDue asked from due × GrewByPrefix to.written to.written_new (text_of due)
       by_cases (inl w) = absurd (omega arith)
@@ -404,7 +569,9 @@ module _ (asked : Option Command) (from : SourceChange) (out : Outcome) (to : Si
       delivered usage (inl v) = absurd (omega arith)
       delivered read_fault (inl v) = absurd (omega arith)
       delivered (refused r) (inl v) = absurd (omega arith)
+      delivered (faulty f) (inl v) = absurd (omega arith)
       delivered (played s text) (inl v) = absurd (omega arith)
+      delivered (shown text) (inl v) = absurd (omega arith)
 
       by_cases : IsAnswered asked from out to → to.written_new ≡ to.written
       by_cases (inl w) = w.2
@@ -415,17 +582,25 @@ module _ (asked : Option Command) (from : SourceChange) (out : Outcome) (to : Si
       (HasFault to.faults to.faults_new → ⊥) → (out.status ≡ 0) ⊎ (out.status ≡ 6)
   all_played allowed reads writes = by_cases answered
     where
-      of_bytes : (command : Command) (due : Due) → IsDueOfBytes command from due → out.status ≡ code (status_of due) → AreAllowed command from.left →
-          (out.status ≡ 0) ⊎ (out.status ≡ 6)
-      of_bytes command usage d is allowed = absurd d
+      of_bytes : (command : Command) (due : Due) → IsDueOfBytes command from due → out.status ≡ code (status_of due) →
+          AreAllowed (refusal_for command) command from.left → (out.status ≡ 0) ⊎ (out.status ≡ 6)
       of_bytes command read_fault d is allowed = absurd (reads d)
-      of_bytes command (refused r) d is allowed = absurd (not_both command r from.left d.1 allowed)
+      of_bytes command (refused r) d is allowed = absurd (not_both (refusal_for command) command r from.left d.1 allowed)
       of_bytes command (played s text) d is allowed = inl is
+      of_bytes command due d is allowed = absurd d
+
+      of_stream : (due : Due) → IsDueOfStream from due → out.status ≡ code (status_of due) → AreAllowed first_fault commands.Show from.left →
+          (out.status ≡ 0) ⊎ (out.status ≡ 6)
+      of_stream read_fault d is allowed = absurd (reads d)
+      of_stream (faulty f) d is allowed = absurd (not_both first_fault commands.Show f from.left d.1 allowed)
+      of_stream (shown text) d is allowed = inl is
+      of_stream due d is allowed = absurd d
 
       by_command : (what : Option Command) (due : Due) → IsDue what from due → out.status ≡ code (status_of due) → IsAllowed what from.left →
           (out.status ≡ 0) ⊎ (out.status ≡ 6)
       by_command None due d is allowed = absurd allowed
       by_command (Some (commands.Gen number)) due d is allowed = inl (summed_up number due d.0 is)
+      by_command (Some commands.Show) due d is allowed = of_stream due d is allowed
       by_command (Some command) due d is allowed = of_bytes command due d is allowed
 
       delivered : (due : Due) → IsDue asked from due → IsDelivered due out to → (out.status ≡ 0) ⊎ (out.status ≡ 6)

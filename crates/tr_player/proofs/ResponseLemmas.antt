@@ -1,17 +1,23 @@
 -- What is due, by the words and by the bytes that were read.
 use Rattle.std.proofs.Common.{◌≡◌, ℕ, List, ◌++◌, Result, refl, sym, ap, subst, ◌∙◌}
-use Rattle.std.specs.Prelude.{Option, Some, None, IfOk, codes, decimal}
+use Rattle.std.specs.Prelude.{Option, Some, None, Ok, Err, IfOk, OnOk, codes, decimal}
 use Rattle.std.proofs.lemmas.Result.{IfOk-weaker}
 use mathlib.Core.List.{append_assoc}
 use Rattle.tr_base.specs.declared.NoMemory.{NoMemory}
 use Rattle.tr_arguments.specs.declared.Command.{Command}
 use Rattle.tr_arguments.specs.declared.Command.TheVariants as commands
 use Rattle.tr_grammar.specs.Scripts.{Refusal, Script, refusal_of, script_of}
+use Rattle.std.specs.List.{flat_map}
+use Rattle.tr_screen.specs.Pictures.{Picture}
+use Rattle.tr_mirror.specs.declared.MirrorFault.{MirrorFault}
+use Rattle.tr_mirror.specs.Readings.{IsStream, first_fault, shown}
+use Rattle.tr_dump.specs.Reports.{dump_text}
+use Rattle.tr_serial.specs.Screens.{dumped_screens, mirror_bytes}
 use Rattle.tr_serial.specs.Outputs.{check_text, gen_text, drawn}
 use Rattle.tr_player.specs.Checks.{check_refusal}
 use Rattle.tr_player.specs.declared.responses.Response.{Response}
-use Rattle.tr_player.specs.Responses.{IsDueOfText, IsResponse, due_of_script, refused_or}
-use Rattle.tr_player.specs.Answers.{SourceChange, Due, usage, refused, played, IsUnread, IsDue, refused_text}
+use Rattle.tr_player.specs.Responses.{IsDueOfShow, IsDueOfText, IsResponse, due_of_script, refused_or}
+use Rattle.tr_player.specs.Answers.{SourceChange, Due, usage, refused, faulty, played, IsUnread, IsDue, IsReadBack, refused_text, faulty_text}
 
 -- ---- by the words
 
@@ -28,14 +34,28 @@ due_for_none asked from e unread = subst (λ (c : Option Command). IsDue c from 
 -- ---- by the text
 
 -- a text that is a script
-pub due_of_valid : (command : Command) (bytes : List ℕ) (s : Script) → refusal_of bytes ≡ None → s ≡ script_of bytes →
+pub due_of_valid : (command : Command) (bytes : List ℕ) (s : Script) → refusal_of bytes ≡ None → s ≡ script_of bytes → IsReadBack command s →
     IsDueOfText command bytes (due_of_script command s)
-due_of_valid commands.Check bytes s none is = by_limits (check_refusal s) refl
+due_of_valid commands.Check bytes s none is back = by_limits (check_refusal s) refl
   where
     by_limits : (r : Option Refusal) → check_refusal s ≡ r → IsDueOfText commands.Check bytes (refused_or r (played s (check_text s)))
-    by_limits None e = (rw none (subst (λ (x : Script). check_refusal x ≡ None) is e), is, refl)
+    by_limits None e = (rw none (subst (λ (x : Script). check_refusal x ≡ None) is e), is, refl, tt)
     by_limits (Some r) e = rw none (subst (λ (x : Script). check_refusal x ≡ Some r) is e)
-due_of_valid command bytes s none is = (none, is, refl)
+due_of_valid command bytes s none is back = (none, is, refl, back)
+
+-- what `mirror` writes, where it is a stream that shows the screens that the script dumps
+pub read_back : (s : Script) (text : List ℕ) → text ≡ mirror_bytes s → IsStream text → shown text ≡ dumped_screens s → IsReadBack commands.Mirror s
+read_back s text is stream shows = (
+  subst (λ (t : List ℕ). IsStream t) is stream,
+  ap (λ (t : List ℕ). flat_map dump_text (shown t)) (sym is) ∙ ap (λ (screens : List Picture). flat_map dump_text screens) shows,
+)
+
+-- so it is with what was made of the script
+pub due_of_made : (command : Command) (bytes : List ℕ) (s : Script) (result : Result Response NoMemory) → refusal_of bytes ≡ None → s ≡ script_of bytes →
+    IfOk result (λ response. IsResponse (due_of_script command s) response) → OnOk result (IsReadBack command s) →
+    IfOk result (λ response. (due : Due) × IsResponse due response × IsDueOfText command bytes due)
+due_of_made command bytes s (Ok response) none is made back = (due_of_script command s, made, due_of_valid command bytes s none is back)
+due_of_made command bytes s (Err e) none is made back = tt
 
 -- a text that is no script
 pub due_refused : (command : Command) (bytes : List ℕ) (r : Refusal) → refusal_of bytes ≡ Some r → IsDueOfText command bytes (refused r)
@@ -54,10 +74,25 @@ refused_due command bytes r line code result same_line same_code cause made =
     (λ (response : Response). (due : Due) × IsResponse due response × IsDueOfText command bytes due)
     (λ response is. (refused r, subst (λ (s : Refusal). IsResponse (refused s) response) same is, due_refused command bytes r cause)) made
 
+-- and bytes that are no stream, with the response that names the place and the code
+pub faulty_due : (bytes : List ℕ) (f : MirrorFault) (place code : ℕ) (result : Result Response NoMemory) → place ≡ f.place → code ≡ f.code →
+    first_fault bytes ≡ Some f → IfOk result (λ response. IsResponse (faulty (record { place = place; code = code })) response) →
+    IfOk result (λ response. (due : Due) × IsResponse due response × IsDueOfShow bytes due)
+faulty_due bytes f place code result same_place same_code cause made =
+    let with_place : ℕ → MirrorFault = λ n. record { place = n; code = code } in
+    let with_code : ℕ → MirrorFault = λ n. record { place = f.place; code = n } in
+    let same : record { place = place; code = code } ≡ f = ap with_place same_place ∙ ap with_code same_code in
+    IfOk-weaker result (λ (response : Response). IsResponse (faulty (record { place = place; code = code })) response)
+    (λ (response : Response). (due : Due) × IsResponse due response × IsDueOfShow bytes due)
+    (λ response is. (faulty f, subst (λ (g : MirrorFault). IsResponse (faulty g) response) same is, cause)) made
+
 -- ---- the text of a refusal
+
+regroup : (a b c d e : List ℕ) → a ++ b ++ c ++ d ++ e ≡ a ++ (b ++ (c ++ (d ++ e)))
+regroup a b c d e = simp append_assoc
 
 pub refusal_text : (r : Refusal) → codes "refused: line " ++ (decimal r.line ++ (codes " B" ++ (decimal r.code ++ codes "\n"))) ≡ refused_text r
 refusal_text r = sym (regroup (codes "refused: line ") (decimal r.line) (codes " B") (decimal r.code) (codes "\n"))
-  where
-    regroup : (a b c d e : List ℕ) → a ++ b ++ c ++ d ++ e ≡ a ++ (b ++ (c ++ (d ++ e)))
-    regroup a b c d e = simp append_assoc
+
+pub fault_text : (f : MirrorFault) → codes "refused: byte " ++ (decimal f.place ++ (codes " M" ++ (decimal f.code ++ codes "\n"))) ≡ faulty_text f
+fault_text f = sym (regroup (codes "refused: byte ") (decimal f.place) (codes " M") (decimal f.code) (codes "\n"))

@@ -8,7 +8,11 @@ use Rattle.tr_widget.specs.declared.Widget.{Widget}
 use Rattle.tr_widget.specs.declared.WidgetCmd.{WidgetCmd}
 use Rattle.tr_grammar.specs.Scripts.{Refusal, Script, most_bytes, refusal_of, script_of}
 use Rattle.tr_stage.specs.Stages.{StageView}
+use Rattle.tr_mirror.specs.declared.MirrorFault.{MirrorFault}
+use Rattle.tr_mirror.specs.Readings.{first_fault, longest_stream}
+use Rattle.tr_show.specs.Shows.{shown_text}
 use Rattle.tr_serial.specs.Outputs.{out_text, check_text, gen_text, drawn, serial_journal}
+use Rattle.tr_serial.specs.Screens.{dump_texts, mirror_bytes}
 use Rattle.tr_arguments.specs.declared.Command.{Command}
 use Rattle.tr_arguments.specs.declared.Command.TheVariants as commands
 use Rattle.tr_arguments.specs.Commands.{command_of}
@@ -37,8 +41,9 @@ ReadsNone (Some command) = ⊥
 
 -- ---- what is read
 
--- the most bytes that are read: one more than a script may have, which shows that it is too long
+-- the most bytes that are read: one more than a stream may have, or a script, which shows that it is too long
 abbrev pub most_read : Command → ℕ
+most_read commands.Show = longest_stream + 1
 most_read command = most_bytes + 1
 
 -- a fact of the bytes that are read; where the source doesn't tell what it has left, of some bytes
@@ -62,13 +67,19 @@ refusal_for command bytes = refusal_of bytes
 -- what is written of a script
 abbrev pub text_for : Command → Script → List ℕ
 text_for commands.Check s = check_text s
+text_for commands.Mirror s = mirror_bytes s
 text_for command s = out_text s
+
+-- what `mirror` writes of a script is a stream, of which `show` writes what `serial` writes of the script's dumps
+abbrev pub IsReadBack : Command → Script → Type 0
+IsReadBack commands.Mirror s = (first_fault (mirror_bytes s) ≡ None) × (shown_text (mirror_bytes s) ≡ dump_texts s)
+IsReadBack command s = ⊤
 
 -- ---- what is due
 
 -- what is written for words that ask for nothing
 abbrev pub usage_text : List ℕ
-usage_text = codes "usage: trestle play|serial|check|gen N\n"
+usage_text = codes "usage: trestle play|serial|check|mirror|show|gen N\n"
 
 -- what is written where the source had a fault
 abbrev pub read_fault_text : List ℕ
@@ -78,26 +89,37 @@ read_fault_text = codes "read fault\n"
 abbrev pub refused_text : Refusal → List ℕ
 refused_text r = codes "refused: line " ++ decimal r.line ++ codes " B" ++ decimal r.code ++ codes "\n"
 
--- what a call is to answer before it is written: the last is a script that was played, with what is written of it
+-- what is written where the bytes are no stream: where its first fault stands, and which it is
+abbrev pub faulty_text : MirrorFault → List ℕ
+faulty_text f = codes "refused: byte " ++ decimal f.place ++ codes " M" ++ decimal f.code ++ codes "\n"
+
+-- what a call is to answer before it is written. The last two are a script that was played and a stream that was read, with what is
+-- written of them
 pub data Due : Type 0 where
   usage : Due
   read_fault : Due
   refused : Refusal → Due
+  faulty : MirrorFault → Due
   played : Script → List ℕ → Due
+  shown : List ℕ → Due
 
 -- the status of each of these answers
 abbrev pub status_of : Due → Status
 status_of usage = Usage
 status_of read_fault = ReadFault
 status_of (refused r) = Refused
+status_of (faulty f) = Refused
 status_of (played s text) = Done
+status_of (shown text) = Done
 
 -- what is written for each of them
 abbrev pub text_of : Due → List ℕ
 text_of usage = usage_text
 text_of read_fault = read_fault_text
 text_of (refused r) = refused_text r
+text_of (faulty f) = faulty_text f
 text_of (played s text) = text
+text_of (shown text) = text
 
 -- what became of a source in a call: the bytes that it had left and its count of faults, before and after
 pub record SourceChange : Type 0 where
@@ -122,18 +144,31 @@ pub record IsUnread (from : SourceChange) : Type 0 where
 
 -- where a script is read: a read fault is due where the source has one; else the refusal of the bytes, or the text of the script that they are
 abbrev pub IsDueOfBytes : Command → SourceChange → Due → Type 0
-IsDueOfBytes command from usage = ⊥
 IsDueOfBytes command from read_fault = HasFault from.faults from.faults_new
 IsDueOfBytes command from (refused r) =
     IsReadThrough command from.left from.left_new × OfBytesRead command from.left (λ bytes. refusal_for command bytes ≡ Some r)
 IsDueOfBytes command from (played s text) =
     IsReadThrough command from.left from.left_new
-    × OfBytesRead command from.left (λ bytes. (refusal_for command bytes ≡ None) × (s ≡ script_of bytes)) × (text ≡ text_for command s)
+    × OfBytesRead command from.left (λ bytes. (refusal_for command bytes ≡ None) × (s ≡ script_of bytes))
+    × (text ≡ text_for command s) × IsReadBack command s
+IsDueOfBytes command from due = ⊥
+
+-- where a stream is read: a read fault is due where the source has one; else the first fault of the bytes, or the dumps of what they show
+abbrev pub IsDueOfStream : SourceChange → Due → Type 0
+IsDueOfStream from read_fault = HasFault from.faults from.faults_new
+IsDueOfStream from (faulty f) =
+    IsReadThrough commands.Show from.left from.left_new
+    × OfBytesRead commands.Show from.left (λ bytes. first_fault bytes ≡ Some f)
+IsDueOfStream from (shown text) =
+    IsReadThrough commands.Show from.left from.left_new
+    × OfBytesRead commands.Show from.left (λ bytes. (first_fault bytes ≡ None) × (text ≡ shown_text bytes))
+IsDueOfStream from due = ⊥
 
 -- an answer is due: where nothing is asked for the usage, for a number the summary of its script, and in both cases nothing is read
 abbrev pub IsDue : Option Command → SourceChange → Due → Type 0
 IsDue None from due = (due ≡ usage) × IsUnread from
 IsDue (Some (commands.Gen number)) from due = (due ≡ played (drawn number) (gen_text number)) × IsUnread from
+IsDue (Some commands.Show) from due = IsDueOfStream from due
 IsDue (Some command) from due = IsDueOfBytes command from due
 
 -- ---- what becomes of it
@@ -193,16 +228,26 @@ OfReader (Some command) P = P command
 
 -- where a script is read, a fact of what is asked for and of the bytes that are read
 abbrev pub OfScriptRead : Option Command → Option (List ℕ) → (Command → List ℕ → Type 0) → Type 0
-OfScriptRead asked left P = OfReader asked (λ command. OfBytesRead command left (λ bytes. P command bytes))
+OfScriptRead None left P = ⊤
+OfScriptRead (Some (commands.Gen number)) left P = ⊤
+OfScriptRead (Some commands.Show) left P = ⊤
+OfScriptRead (Some command) left P = OfBytesRead command left (λ bytes. P command bytes)
+
+-- where a stream is read, a fact of the bytes that are read
+abbrev pub OfStreamRead : Option Command → Option (List ℕ) → (List ℕ → Type 0) → Type 0
+OfStreamRead (Some commands.Show) left P = OfBytesRead commands.Show left P
+OfStreamRead asked left P = ⊤
 
 -- where a number's script is summed up, a fact of the number
 abbrev pub OfNumber : Option Command → (ℕ → Type 0) → Type 0
 OfNumber (Some (commands.Gen number)) P = P number
 OfNumber command P = ⊤
 
--- something is asked for, and its script, which the source tells, isn't refused
+-- something is asked for, and its script, or its stream, which the source tells, isn't refused
 abbrev pub IsAllowed : Option Command → Option (List ℕ) → Type 0
 IsAllowed None left = ⊥
 IsAllowed (Some (commands.Gen number)) left = ⊤
+IsAllowed (Some commands.Show) left =
+    IsSomeAnd left (λ bytes. first_fault (take (most_read commands.Show) bytes) ≡ None)
 IsAllowed (Some command) left =
     IsSomeAnd left (λ bytes. refusal_for command (take (most_read command) bytes) ≡ None)

@@ -4,18 +4,27 @@ use Rattle.std.specs.Prelude.{◌≡◌, ⊤, ℕ, List, Option, Some, None}
 use Rattle.tr_arguments.specs.declared.Command.{Command}
 use Rattle.tr_arguments.specs.declared.Command.TheVariants as commands
 use Rattle.tr_grammar.specs.Scripts.{Refusal, Script, script_of}
+use Rattle.tr_mirror.specs.Readings.{first_fault}
+use Rattle.tr_show.specs.Shows.{shown_text}
 use Rattle.tr_serial.specs.Outputs.{out_text, check_text}
+use Rattle.tr_serial.specs.Screens.{mirror_bytes}
 use Rattle.tr_player.specs.declared.responses.Response.{Response}
 use Rattle.tr_player.specs.declared.responses.Response.TheVariants as responses
 use Rattle.tr_player.specs.Checks.{check_refusal}
-use Rattle.tr_player.specs.Answers.{Due, usage, read_fault, refused, played, refusal_for, text_for, refused_text, HasPlayed}
+use Rattle.tr_player.specs.Answers.{IsReadBack, Due, usage, read_fault, refused, faulty, played, shown, refusal_for, text_for, refused_text, faulty_text, HasPlayed}
 
 -- what is due for a text: its refusal, or the text of the script that it is
 abbrev pub IsDueOfText : Command → List ℕ → Due → Type 0
 IsDueOfText command bytes (refused r) = refusal_for command bytes ≡ Some r
 IsDueOfText command bytes (played s text) =
-    (refusal_for command bytes ≡ None) × (s ≡ script_of bytes) × (text ≡ text_for command s)
+    (refusal_for command bytes ≡ None) × (s ≡ script_of bytes) × (text ≡ text_for command s) × IsReadBack command s
 IsDueOfText command bytes due = ⊥
+
+-- what is due for the bytes of a stream: its first fault, or the dumps of what it shows
+abbrev pub IsDueOfShow : List ℕ → Due → Type 0
+IsDueOfShow bytes (faulty f) = first_fault bytes ≡ Some f
+IsDueOfShow bytes (shown text) = (first_fault bytes ≡ None) × (text ≡ shown_text bytes)
+IsDueOfShow bytes due = ⊥
 
 -- a refusal is due where there is one
 abbrev pub refused_or : Option Refusal → Due → Due
@@ -25,6 +34,7 @@ refused_or None due = due
 -- what is due for a script: its text, unless a check of it is beyond the limits
 abbrev pub due_of_script : Command → Script → Due
 due_of_script commands.Check s = refused_or (check_refusal s) (played s (check_text s))
+due_of_script commands.Mirror s = played s (mirror_bytes s)
 due_of_script command s = played s (out_text s)
 
 -- a response is this answer: its text is the answer's, and a script's stage has played it
@@ -32,5 +42,7 @@ abbrev pub IsResponse : Due → Response → Type 0
 IsResponse usage responses.Usage = ⊤
 IsResponse read_fault responses.ReadFault = ⊤
 IsResponse (refused r) (responses.Refused text) = text.items ≡ refused_text r
+IsResponse (faulty f) (responses.Refused text) = text.items ≡ faulty_text f
 IsResponse (played s text) (responses.Played p) = (p.text.items ≡ text) × HasPlayed s p.stage
+IsResponse (shown text) (responses.Shown out) = out.items ≡ text
 IsResponse due response = ⊥

@@ -3,12 +3,16 @@ ghost use Rattle.std.specs.Prelude.{IfSome, IsSome, IsSomeAnd};
 ghost use Rattle.tr_io.specs.Faults.{HasFault};
 ghost use Rattle.tr_io.specs.Streams.{Grew, GrewByPrefix};
 ghost use Rattle.tr_grammar.specs.Scripts.{Script, script_of};
+ghost use Rattle.tr_mirror.specs.Readings.{first_fault};
+ghost use Rattle.tr_show.specs.Shows.{shown_text};
+ghost use Rattle.tr_arguments.specs.declared.Command.{Command};
 ghost use Rattle.tr_arguments.specs.Commands.{texts_of};
 ghost use Rattle.tr_serial.specs.Outputs.{drawn, gen_text};
 ghost use Rattle.tr_player.specs.Statuses.{code};
 ghost use Rattle.tr_player.specs.Answers.{Due, HasPlayed, IsAllowed, IsAnswered, IsDelivered, IsDue};
-ghost use Rattle.tr_player.specs.Answers.{IsReadThrough, OfNumber, OfReader, OfScriptRead, ReadsNone, Yields};
-ghost use Rattle.tr_player.specs.Answers.{asked_by, read_fault_text, refusal_for, refused_text};
+ghost use Rattle.tr_player.specs.Answers.{IsReadBack, IsReadThrough, OfNumber, OfReader, OfScriptRead, OfStreamRead};
+ghost use Rattle.tr_player.specs.Answers.{ReadsNone, Yields, asked_by, faulty_text, read_fault_text};
+ghost use Rattle.tr_player.specs.Answers.{refusal_for, refused_text};
 ghost use Rattle.tr_player.specs.Answers.{sink_change, source_change, text_for, text_of, usage_text};
 ghost use Rattle.tr_player.specs.Responses.{IsResponse};
 
@@ -25,15 +29,16 @@ use tr_widget::Widget;
 pub struct Outcome {
     /// The code of a `Status`.
     pub status: u8,
-    /// The stage after all steps, where the status is 0.
+    /// The stage after all steps, where the status is 0 and a script was played.
     pub stage: Option<Stage<Widget>>,
 }
 
 /// Plays a script on one thread, and writes what is due. The words are those after the program's name. For
 /// `serial` these are the reports of the script that the source has; for `check` also, after each entry of
 /// the journal but a sync's or a report's, how many points lag behind what the windows are to show; for
-/// `gen N` a summary of the script that the number gives. Other words, and `play`, are answered with the
-/// usage. For these and for `gen` nothing is read.
+/// `mirror` the stream of the screens that the script dumps; for `gen N` a summary of the script that the
+/// number gives. For `show` the source has such a stream, and its screens are dumped. Other words, and
+/// `play`, are answered with the usage. For these and for `gen` nothing is read.
 ///
 /// The causes are looked at in this order: usage, read fault, script, run. Want of memory may take the place
 /// of each answer before the first byte is written, and a write fault afterwards.
@@ -77,6 +82,17 @@ pub fn serial_call<S: Source, K: Sink>(
         Grew (K.written sink.old) (K.written sink.new) (refused_text refusal))) }
     ensures never_refused { OfNumber (asked_by (texts_of words.now)) (λ number.
         result.status ≢ code Status.Refused) }
+
+    // The same of a stream, by the table of its faults.
+    ensures faulty { Yields result.status (result.status ≢ code Status.ReadFault →
+        OfStreamRead (asked_by (texts_of words.now)) (S.left source.old) (λ bytes.
+        (result.status ≡ code Status.Refused) ↔ IsSome (first_fault bytes))) }
+    ensures faulty_text { result.status ≡ code Status.Refused →
+        OfStreamRead (asked_by (texts_of words.now)) (S.left source.old) (λ bytes.
+        IsSomeAnd (first_fault bytes) (λ fault.
+        Grew (K.written sink.old) (K.written sink.new) (faulty_text fault))) }
+
+    // Done and refused: the source was read to its end, or until there was too much.
     ensures read_through { (result.status ≡ code Status.Done) ⊎ (result.status ≡ code Status.Refused) →
         OfReader (asked_by (texts_of words.now)) (λ command.
         IsReadThrough command (S.left source.old) (S.left source.new)) }
@@ -98,8 +114,17 @@ pub fn serial_call<S: Source, K: Sink>(
         Grew (K.written sink.old) (K.written sink.new) (gen_text number)
         × IsSomeAnd result.stage (λ stage. HasPlayed (drawn number) stage)) }
 
-    // There is a stage exactly then.
-    ensures has_stage { IsSome result.stage ↔ (result.status ≡ code Status.Done) }
+    // Of a stream the screens at its cuts are dumped. One that was written for a script shows the script's dumps.
+    ensures shown { result.status ≡ code Status.Done →
+        OfStreamRead (asked_by (texts_of words.now)) (S.left source.old) (λ bytes.
+        Grew (K.written sink.old) (K.written sink.new) (shown_text bytes)) }
+    ensures read_back { result.status ≡ code Status.Done →
+        OfScriptRead (asked_by (texts_of words.now)) (S.left source.old) (λ command bytes.
+        IsReadBack command (script_of bytes)) }
+
+    // There is a stage exactly where a script was played.
+    ensures has_stage { IsSome result.stage ↔
+        ((result.status ≡ code Status.Done) × (asked_by (texts_of words.now) ≢ Some Command.Show)) }
 
     // Write fault: only where the sink had one. What is written is a prefix of the text that is due.
     ensures write_fault { result.status ≡ code Status.WriteFault →

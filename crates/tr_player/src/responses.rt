@@ -1,9 +1,11 @@
-ghost use Rattle.std.specs.Prelude.{◌≡◌, ◌≤◌, IfOk};
+ghost use Rattle.std.specs.Prelude.{◌≡◌, ◌≤◌, IfOk, OnOk};
 ghost use Rattle.tr_grammar.specs.Scripts.{IsPlayableScript};
 ghost use Rattle.tr_arguments.specs.Commands.{texts_of};
-ghost use Rattle.tr_player.specs.Answers.{Due, IsDue, IsDueOfBytes, IsStageOf, ReadsNone, asked_by, refused};
-ghost use Rattle.tr_player.specs.Answers.{source_change, status_of, text_of};
-ghost use Rattle.tr_player.specs.Responses.{IsDueOfText, IsResponse, due_of_script};
+ghost use Rattle.tr_serial.specs.Screens.{report_count};
+ghost use Rattle.tr_player.specs.Answers as spec;
+ghost use Rattle.tr_player.specs.Answers.{Due, IsDue, IsDueOfBytes, IsDueOfStream, IsReadBack, IsStageOf};
+ghost use Rattle.tr_player.specs.Answers.{ReadsNone, asked_by, faulty, refused, source_change, status_of, text_of};
+ghost use Rattle.tr_player.specs.Responses.{IsDueOfShow, IsDueOfText, IsResponse, due_of_script};
 
 use crate::checks::is_checkable;
 use crate::errors::ReadError;
@@ -14,20 +16,19 @@ use tr_arguments::{Command, command_of};
 use tr_base::NoMemory;
 use tr_grammar::{Code, LONGEST_SCRIPT, ReadRefused};
 use tr_io::Source;
+use tr_mirror::{LONGEST_STREAM, MirrorFault};
 use tr_reader::Script;
 use tr_script::read_script;
-use tr_serial::{Played, check, serial, summary};
+use tr_serial::{Played, check, mirror, serial, summary};
+use tr_show::{ShowRefused, show};
 use tr_stage::Stage;
 use tr_widget::Widget;
 
 /// What is written for words that ask for nothing.
-const USAGE_TEXT: &[u8] = b"usage: trestle play|serial|check|gen N\n";
+const USAGE_TEXT: &[u8] = b"usage: trestle play|serial|check|mirror|show|gen N\n";
 
 /// What is written where the source had a fault.
 const READ_FAULT_TEXT: &[u8] = b"read fault\n";
-
-/// The most bytes that are read: one more shows that a script is too long.
-const MOST_READ: usize = LONGEST_SCRIPT + 1;
 
 /// What a call is to answer, before it is written.
 #[derive(Drop)]
@@ -36,10 +37,12 @@ pub enum Response {
     Usage,
     /// A read failed.
     ReadFault,
-    /// The script is refused: the text that says so.
+    /// The script, or the stream, is refused: the text that says so.
     Refused(Vec<u8>),
     /// A script was played.
     Played(Played),
+    /// A stream was read: the dumps of its screens.
+    Shown(Vec<u8>),
 }
 
 impl Response {
@@ -51,7 +54,7 @@ impl Response {
             Response::Usage => Status::Usage,
             Response::ReadFault => Status::ReadFault,
             Response::Refused(_) => Status::Refused,
-            Response::Played(_) => Status::Done,
+            Response::Played(_) | Response::Shown(_) => Status::Done,
         }
     }
 
@@ -62,7 +65,7 @@ impl Response {
         match self {
             Response::Usage => USAGE_TEXT,
             Response::ReadFault => READ_FAULT_TEXT,
-            Response::Refused(text) => text,
+            Response::Refused(text) | Response::Shown(text) => text,
             Response::Played(played) => &played.text,
         }
     }
@@ -96,6 +99,8 @@ pub fn response_to<S: Source>(
     match command_of(alloc, words)? {
         Some(Command::Serial) => response_to_source(alloc, Command::Serial, source),
         Some(Command::Check) => response_to_source(alloc, Command::Check, source),
+        Some(Command::Mirror) => response_to_source(alloc, Command::Mirror, source),
+        Some(Command::Show) => response_to_stream(alloc, source),
         Some(Command::Gen(number)) => Ok(Response::Played(summary(alloc, number)?)),
         Some(Command::Play) | None => Ok(Response::Usage),
     }
@@ -111,10 +116,20 @@ fn response_to_source<S: Source>(
         × IsDueOfBytes command (source_change S.Source source.old source.new) due) }
     ensures rising { S.faults source.old ≤ S.faults source.new }
 {
-    match read_all(alloc, source, MOST_READ) {
+    match read_all(alloc, source, most_read(command)) {
         Ok(bytes) => response_to_bytes(alloc, command, &bytes),
         Err(ReadError::Failed) => Ok(Response::ReadFault),
         Err(ReadError::NoMemory) => Err(NoMemory),
+    }
+}
+
+/// The most bytes that are read: one more than there may be shows that there are too many.
+fn most_read(command: Command) -> usize
+    ensures { result ≡ spec.most_read command }
+{
+    match command {
+        Command::Show => LONGEST_STREAM as usize + 1,
+        _ => LONGEST_SCRIPT + 1,
     }
 }
 
@@ -131,13 +146,17 @@ fn response_to_bytes(alloc: Global, command: Command, bytes: &[u8]) -> Result<Re
 }
 
 /// The response to a script: it is played, unless a check of it is beyond the limits.
+#[tactic(auto, using(crate::proofs::ResponseLemmas::read_back))]
 fn response_to_script(alloc: Global, command: Command, script: Script) -> Result<Response, NoMemory>
-    requires { IsPlayableScript script }
-    ensures { IfOk result (λ response. IsResponse (due_of_script command script) response) }
+    requires playable { IsPlayableScript script }
+    requires few { report_count script.parts ≤ 64 }
+    ensures response { IfOk result (λ response. IsResponse (due_of_script command script) response) }
+    ensures read_back { OnOk result (IsReadBack command script) }
 {
     match command {
         Command::Check if is_checkable(&script) => Ok(Response::Played(check(alloc, script)?)),
         Command::Check => refusal(alloc, 0, Code::B7.number()),
+        Command::Mirror => Ok(Response::Played(mirror(alloc, script)?)),
         _ => Ok(Response::Played(serial(alloc, script)?)),
     }
 }
@@ -148,5 +167,39 @@ fn refusal(alloc: Global, line: u32, code: u8) -> Result<Response, NoMemory>
         IsResponse (refused (record { line = line; code = code })) response) }
 {
     let text = format!(in alloc; "refused: line {line} B{code}\n")?;
+    Ok(Response::Refused(text.into_bytes()))
+}
+
+/// The response to a stream that the source has left.
+fn response_to_stream<S: Source>(alloc: Global, source: &mut S) -> Result<Response, NoMemory>
+    ensures due { IfOk result (λ response. (due : Due) × IsResponse due response
+        × IsDueOfStream (source_change S.Source source.old source.new) due) }
+    ensures rising { S.faults source.old ≤ S.faults source.new }
+{
+    match read_all(alloc, source, most_read(Command::Show)) {
+        Ok(bytes) => response_to_show(alloc, &bytes),
+        Err(ReadError::Failed) => Ok(Response::ReadFault),
+        Err(ReadError::NoMemory) => Err(NoMemory),
+    }
+}
+
+/// The response to the bytes of a stream: the dumps of its screens, unless it has a fault.
+fn response_to_show(alloc: Global, bytes: &[u8]) -> Result<Response, NoMemory>
+    ensures { IfOk result (λ response.
+        (due : Due) × IsResponse due response × IsDueOfShow bytes.now due) }
+{
+    match show(alloc, bytes) {
+        Ok(text) => Ok(Response::Shown(text)),
+        Err(ShowRefused::Fault(MirrorFault { place, code })) => stream_refusal(alloc, place, code),
+        Err(ShowRefused::NoMemory) => Err(NoMemory),
+    }
+}
+
+/// The response to a stream that isn't shown.
+fn stream_refusal(alloc: Global, place: u64, code: u8) -> Result<Response, NoMemory>
+    ensures { IfOk result (λ response.
+        IsResponse (faulty (record { place = place; code = code })) response) }
+{
+    let text = format!(in alloc; "refused: byte {place} M{code}\n")?;
     Ok(Response::Refused(text.into_bytes()))
 }

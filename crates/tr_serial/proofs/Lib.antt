@@ -1,1 +1,6 @@
 pub mod CueLemmas
+pub mod ScreenLemmas
+pub mod StreamLemmas
+pub mod ValueLemmas
+pub mod DumpLemmas
+pub mod ReportLemmas

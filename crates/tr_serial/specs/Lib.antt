@@ -1,1 +1,4 @@
 pub mod Outputs
+pub mod Screens
+pub mod Streams
+pub mod Values

@@ -2,7 +2,11 @@
 #![tactic(auto)]
 
 mod drawn;
+mod mirrors;
 mod plays;
+mod streams;
+mod values;
 
 pub use drawn::summary;
+pub use mirrors::mirror;
 pub use plays::{Played, check, serial};

@@ -103,7 +103,10 @@ fn play_part<C: Client<Cmd = WidgetCmd>, N: NameOf>(
 }
 
 /// The player makes a sync before a later part.
-fn begin<C: Client, N: NameOf>(run: &mut Run<C, N>, is_later: bool) -> Result<(), NoMemory>
+pub(crate) fn begin<C: Client, N: NameOf>(
+    run: &mut Run<C, N>,
+    is_later: bool,
+) -> Result<(), NoMemory>
     ensures { OnOk result (Does C.Client C.Cmd.words run.old run.new
         (if is_later then makes Player Sync ∷ [] else [])) }
 {
@@ -126,7 +129,7 @@ fn report_all<C: Client, N: NameOf>(run: &mut Run<C, N>, reports: &[Query]) -> R
 }
 
 /// Makes steps, one after another.
-fn make_all<C: Client, N: NameOf>(
+pub(crate) fn make_all<C: Client, N: NameOf>(
     run: &mut Run<C, N>,
     steps: Vec<(Actor, Step<C::Cmd>)>,
 ) -> Result<(), NoMemory>

@@ -3,11 +3,13 @@ ghost use Rattle.std.specs.Process.{exit_status};
 ghost use Rattle.std.specs.Vec.Iter.{into_iter_items};
 ghost use Rattle.tr_io.specs.Faults.{HasFault};
 ghost use Rattle.tr_io.specs.Streams.{Grew};
+ghost use Rattle.tr_mirror.specs.Readings.{first_fault};
+ghost use Rattle.tr_show.specs.Shows.{shown_text};
 ghost use Rattle.tr_grammar.specs.Scripts.{script_of};
 ghost use Rattle.tr_serial.specs.Outputs.{gen_text};
 ghost use Rattle.tr_player.specs.Statuses.{code};
-ghost use Rattle.tr_player.specs.Answers.{IsAllowed, OfNumber, OfScriptRead, Yields, asked_by, refusal_for};
-ghost use Rattle.tr_player.specs.Answers.{sink_change, source_change, text_for};
+ghost use Rattle.tr_player.specs.Answers.{IsAllowed, OfNumber, OfScriptRead, OfStreamRead, Yields};
+ghost use Rattle.tr_player.specs.Answers.{asked_by, refusal_for, sink_change, source_change, text_for};
 ghost use Rattle.trestle.specs.Arguments.{heard, status_unheard, status_without};
 ghost use Rattle.trestle.specs.Runs.{IsEnd};
 
@@ -49,6 +51,13 @@ pub fn run<S: Source, K: Sink>(
     ensures output { IfSome (heard all) (λ words. exit_status result ≡ code Status.Done →
         OfScriptRead (asked_by words) (S.left source.old) (λ command bytes.
         Grew (K.written sink.old) (K.written sink.new) (text_for command (script_of bytes)))) }
+    ensures faulty { IfSome (heard all) (λ words. Yields (exit_status result)
+        (exit_status result ≢ code Status.ReadFault →
+        OfStreamRead (asked_by words) (S.left source.old) (λ bytes.
+        (exit_status result ≡ code Status.Refused) ↔ IsSome (first_fault bytes)))) }
+    ensures shown { IfSome (heard all) (λ words. exit_status result ≡ code Status.Done →
+        OfStreamRead (asked_by words) (S.left source.old) (λ bytes.
+        Grew (K.written sink.old) (K.written sink.new) (shown_text bytes))) }
     ensures summed_up { IfSome (heard all) (λ words. exit_status result ≡ code Status.Done →
         OfNumber (asked_by words) (λ number.
         Grew (K.written sink.old) (K.written sink.new) (gen_text number))) }

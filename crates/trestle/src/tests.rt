@@ -4,7 +4,7 @@ use std::io::ErrorKind;
 use std::test::Fail;
 use tr_io::{MemorySource, SteadySink, SteadySource};
 
-const USAGE: &[u8] = b"usage: trestle play|serial|check|gen N\n";
+const USAGE: &[u8] = b"usage: trestle play|serial|check|mirror|show|gen N\n";
 
 const SCRIPT: &[u8] = b"trestle 1\n";
 

@@ -2,6 +2,7 @@
 
 import argparse
 import sys
+import time
 from itertools import islice
 from pathlib import Path
 from typing import List, Sequence
@@ -9,21 +10,26 @@ from typing import List, Sequence
 from . import FINE, FOUND, TROUBLE, Parser, write
 from ..comparison import differing_dumps, panels, report
 from ..outputs import Output, take_apart
-from ..pictures import FORMATS, Picture, beside, picture_of, scaled, terminal_lines
+from ..pictures import FORMATS, Picture, beside, cleared, picture_of, scaled, terminal_lines
 from ..program import Trouble, read_bytes
 
 WHAT = """\
 Shows the dumps of an output as pictures in the terminal, two rows of points in a line of half blocks, and
-passes on what is no dump. With -o the pictures go to files, whose names stand in their places.
+passes on what is no dump. With -o the pictures go to files, whose names stand in their places. With --play they
+are shown one after another in the same place.
 
 It ends with 2 where the input isn't whole: a refusal, a dump that is cut off, a row that isn't hex."""
 
 EXAMPLE = """\
 ./trestle serial < demos/desktop.txt | ./look
 ./trestle serial < demos/desktop.txt | ./look -o desktop.png --scale 8
+./trestle mirror < demos/desktop.txt | ./trestle show | ./look --play
 ./look --diff demos/desktop.serial today.serial"""
 
 GREATEST_SCALE = 64
+
+# How long a dump is shown before the next one takes its place.
+SECONDS = 0.1
 
 
 def words() -> Parser:
@@ -35,6 +41,9 @@ def words() -> Parser:
     )
     taken.add_argument(
         "--scale", type=scale, default=1, metavar="N", help=f"N by N points for each pixel, 1 to {GREATEST_SCALE}"
+    )
+    taken.add_argument(
+        "--play", action="store_true", help="the dumps one after another in the same place, a tenth of a second each"
     )
     taken.add_argument("--together", action="store_true", help="with -o: all pictures side by side in one file")
     taken.add_argument(
@@ -58,6 +67,10 @@ def main(arguments: List[str]) -> int:
         taken.error(f"-o takes NAME.png or NAME.ppm, and not {asked.into}")
     if asked.together and asked.into is None:
         taken.error("--together goes with -o NAME")
+    if asked.play and (asked.into or asked.diff):
+        taken.error("--play goes with neither -o nor --diff")
+    if asked.play:
+        return play(asked)
     return show_difference(asked) if asked.diff else show(asked)
 
 
@@ -75,6 +88,22 @@ def show(asked: argparse.Namespace) -> int:
         write(part.header())
         for line in islice(names, 1) if asked.into else terminal_lines(scaled(picture_of(part), asked.scale)):
             write(line)
+    return TROUBLE if told(output, asked.file) else FINE
+
+
+def play(asked: argparse.Namespace) -> int:
+    """Shows the dumps of an output, each in the place of the one before. What is no dump is left out."""
+    output = read_output(asked.file)
+    shown = 0
+    for dump in output.dumps():
+        if shown:
+            time.sleep(SECONDS)
+        write(cleared(shown) + dump.header())
+        lines = terminal_lines(scaled(picture_of(dump), asked.scale))
+        for line in lines:
+            write(line)
+        sys.stdout.flush()
+        shown = 1 + len(lines)
     return TROUBLE if told(output, asked.file) else FINE
 
 

@@ -1,8 +1,7 @@
-use Rattle.std.proofs.Common.{◌≡◌, ◌∙◌, rules, ap, ap₂, true}
+use Rattle.std.proofs.Common.{◌≡◌, ◌∙◌, rules, ap, ap₂}
 use Rattle.std.proofs.lemmas.Result.{IfOk-weaker}
 use Rattle.clap.specs.Words.{App, Shape, app_of, rule_of, with_rule, with_subcommand}
-use Rattle.clap.specs.Simple.{app_of_fields, on_top}
-use Rattle.tr_arguments.specs.Parsers.{bare, gen, number_rule}
+use Rattle.tr_arguments.specs.Parsers.{gen, number_rule}
 use Rattle.tr_arguments.proofs.parsers.parser.Goals as goal
 
 pub returns : goal.returns
@@ -12,18 +11,7 @@ returns c =
     c.in_ok-drawn.ensures.shape (search rules) ∙ ap₂ with_rule c.new-2.ensures.app number_is
     in
     let top : App → Shape = λ a. a.top in
-    let no_name : App → App = on_top (λ s. record s { no_binary_name = true }) in
-    let no_flag : App → App = on_top (λ s. record s { disable_help_flag = true }) in
-    let no_help : App → App = on_top (λ s. record s { disable_help_subcommand = true }) in
-    let needs : App → App = on_top (λ s. record s { subcommand_required = true }) in
-    let bare_is : app_of c.subcommand_required-bare.result ≡ bare =
-    ap app_of_fields c.subcommand_required-bare.ensures ∙ ap needs
-    (ap app_of_fields c.disable_help_subcommand.ensures ∙ ap no_help
-    (ap app_of_fields c.disable_help_flag.ensures ∙ ap no_flag
-    (ap app_of_fields c.no_binary_name.ensures ∙ ap no_name c.new-3.ensures.app)))
-    in
-    let play_is = c.in_ok-subcommand.ensures.shape (search rules) ∙ ap₂ with_subcommand bare_is (ap top c.new-4.ensures.app) in
-    let serial_is = c.in_ok-subcommand-2.ensures.shape (search rules) ∙ ap₂ with_subcommand play_is (ap top c.new-5.ensures.app) in
-    let check_is = c.in_ok-played.ensures.shape (search rules) ∙ ap₂ with_subcommand serial_is (ap top c.new-6.ensures.app) in
-    IfOk-weaker c.subcommand-4.result _ _
-    (λ made adds. adds.shape (search rules) ∙ ap₂ with_subcommand check_is (ap top drawn_is)) c.subcommand-4.ensures
+    let mirror_is = c.in_ok-subcommand.ensures.shape (search rules) ∙ ap₂ with_subcommand c.in_ok-playing.ensures (ap top c.new-3.ensures.app) in
+    let show_is = c.in_ok-mirroring.ensures.shape (search rules) ∙ ap₂ with_subcommand mirror_is (ap top c.new-4.ensures.app) in
+    IfOk-weaker c.subcommand-3.result _ _
+    (λ made adds. adds.shape (search rules) ∙ ap₂ with_subcommand show_is (ap top drawn_is)) c.subcommand-3.ensures

@@ -1,5 +1,5 @@
 use Rattle.std.proofs.Common.{refl, inl, inr}
-use Rattle.tr_player.proofs.CallLemmas.{all_played, nothing_written, number_allowed, number_played, prefix_written, read_fault_due, read_fault_written, read_through, read_to_end, refused_exactly, refused_written, script_played, script_written, stage_exactly, status_due, usage_due, usage_written, write_fault_due}
+use Rattle.tr_player.proofs.CallLemmas.{all_played, faulty_exactly, faulty_written, nothing_written, number_allowed, number_played, prefix_written, read_fault_due, read_fault_written, read_through, read_to_end, refused_exactly, refused_written, script_played, script_read_back, script_written, stage_exactly, status_due, stream_shown, usage_due, usage_written, write_fault_due}
 use Rattle.tr_player.proofs.calls.serial_call.Goals as goal
 
 -- all of it at once; each other clause follows
@@ -87,6 +87,30 @@ returns-clause-stage g c = script_played _ _ _ _ (returns-clause-answered g c)
 
 pub returns-in_default-clause-stage : goal.returns-in_default-clause-stage
 returns-in_default-clause-stage g c = script_played _ _ _ _ (returns-in_default-clause-answered g c)
+
+pub returns-clause-faulty : goal.returns-clause-faulty
+returns-clause-faulty g c = faulty_exactly _ _ _ _ (returns-clause-answered g c)
+
+pub returns-in_default-clause-faulty : goal.returns-in_default-clause-faulty
+returns-in_default-clause-faulty g c = faulty_exactly _ _ _ _ (returns-in_default-clause-answered g c)
+
+pub returns-clause-faulty_text : goal.returns-clause-faulty_text
+returns-clause-faulty_text g c = faulty_written _ _ _ _ (returns-clause-answered g c)
+
+pub returns-in_default-clause-faulty_text : goal.returns-in_default-clause-faulty_text
+returns-in_default-clause-faulty_text g c = faulty_written _ _ _ _ (returns-in_default-clause-answered g c)
+
+pub returns-clause-shown : goal.returns-clause-shown
+returns-clause-shown g c = stream_shown _ _ _ _ (returns-clause-answered g c)
+
+pub returns-in_default-clause-shown : goal.returns-in_default-clause-shown
+returns-in_default-clause-shown g c = stream_shown _ _ _ _ (returns-in_default-clause-answered g c)
+
+pub returns-clause-read_back : goal.returns-clause-read_back
+returns-clause-read_back g c = script_read_back _ _ _ _ (returns-clause-answered g c)
+
+pub returns-in_default-clause-read_back : goal.returns-in_default-clause-read_back
+returns-in_default-clause-read_back g c = script_read_back _ _ _ _ (returns-in_default-clause-answered g c)
 
 pub returns-clause-summed_up : goal.returns-clause-summed_up
 returns-clause-summed_up g c = number_played _ _ _ _ (returns-clause-answered g c)

@@ -1,21 +1,20 @@
-use Rattle.std.proofs.Common.{◌≡◌}
+use Rattle.std.proofs.Common.{◌≡◌, ◌≤◌, subst, sym}
 use Rattle.std.specs.Prelude.{Some}
-use Rattle.std.proofs.lemmas.Result.{IfOk-weaker}
-use Rattle.tr_grammar.specs.Scripts.{Refusal, refusal_of}
-use Rattle.tr_player.specs.declared.responses.Response.{Response}
-use Rattle.tr_player.specs.Answers.{Due}
-use Rattle.tr_player.specs.Responses.{IsDueOfText, IsResponse, due_of_script}
-use Rattle.tr_player.proofs.ResponseLemmas.{due_of_valid, refused_due}
+use Rattle.tr_grammar.specs.Scripts.{Refusal, Script, refusal_of}
+use Rattle.tr_serial.specs.Screens.{report_count}
+use Rattle.tr_serial.proofs.ReportLemmas.{few_reports}
+use Rattle.tr_player.proofs.ResponseLemmas.{due_of_made, refused_due}
 use Rattle.tr_player.proofs.responses.response_to_bytes.Goals as goal
+
+pub response_to_script-requires-clause-few : goal.response_to_script-requires-clause-few
+response_to_script-requires-clause-few c =
+    subst (λ (s : Script). report_count s.parts ≤ 64) (sym c.in-Ok.ensures.script) (few_reports c.args.bytes.now c.in-Ok.ensures.valid)
 
 pub returns-in-Ok : goal.returns-in-Ok
 returns-in-Ok c =
     let is = c.in-Ok.ensures in
-    let command = c.args.command in
-    let due = due_of_valid command c.args.bytes.now c.in-Ok.script is.valid is.script in
-    IfOk-weaker c.response_to_script.result (λ (response : Response). IsResponse (due_of_script command c.in-Ok.script) response)
-    (λ (response : Response). (due : Due) × IsResponse due response × IsDueOfText command c.args.bytes.now due)
-    (λ response made. (due_of_script command c.in-Ok.script, made, due)) c.response_to_script.ensures
+    let made = c.response_to_script.ensures in
+    due_of_made c.args.command c.args.bytes.now c.in-Ok.script c.response_to_script.result is.valid is.script made.response made.read_back
 
 pub returns-in-Err-Refused : goal.returns-in-Err-Refused
 returns-in-Err-Refused c =

@@ -1,11 +1,9 @@
-use Rattle.std.proofs.Common.{◌≡◌, ◌+◌, false, List, ◌++◌, length, take, sym, ap, subst, ◌∙◌}
-use Rattle.std.specs.Prelude.{All}
+use Rattle.std.proofs.Common.{◌+◌, List, ◌++◌, length, take, sym, ap, subst, ◌∙◌}
 use Rattle.std.proofs.lemmas.Iterator.Adapters.{YieldsList-from_vec}
 use Rattle.std.proofs.lemmas.Iterator.Consumers.{YieldsList-turn}
 use Rattle.std.proofs.lemmas.List.{length_push}
 use Rattle.tr_journal.specs.declared.Item.{Item}
 use Rattle.tr_journal.specs.Openings.{tree_of}
-use Rattle.tr_widget.specs.declared.WidgetCmd.{WidgetCmd}
 use Rattle.tr_widget.specs.Widgets.{widget_words}
 use Rattle.tr_grammar.specs.States.{Part}
 use Rattle.tr_grammar.specs.Scripts.{IsPlayablePart}

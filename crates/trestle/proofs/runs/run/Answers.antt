@@ -6,7 +6,9 @@ use Rattle.tr_io.specs.Streams.{Grew}
 use Rattle.tr_arguments.specs.Commands.{texts_of}
 use Rattle.tr_grammar.specs.Scripts.{script_of}
 use Rattle.tr_serial.specs.Outputs.{gen_text, drawn}
-use Rattle.tr_player.specs.Answers.{HasPlayed, IsAllowed, OfNumber, OfScriptRead, Yields, asked_by, refusal_for, text_for}
+use Rattle.tr_mirror.specs.Readings.{first_fault}
+use Rattle.tr_show.specs.Shows.{shown_text}
+use Rattle.tr_player.specs.Answers.{HasPlayed, IsAllowed, OfNumber, OfScriptRead, OfStreamRead, Yields, asked_by, refusal_for, text_for}
 use Rattle.trestle.specs.Arguments.{heard}
 use Rattle.trestle.proofs.ArgumentLemmas.{first_of_number, of_any, of_heard}
 use Rattle.trestle.proofs.runs.run.Goals as goal
@@ -44,6 +46,26 @@ returns-in-Ok-after_name-clause-output g c =
     (λ command bytes. Grew was now (text_for command (script_of bytes)))) c.args.all c.in-Ok.all
     c.deref.result.now c.in-Ok.is (c.deref.ensures.value ∙ c.in-Ok-after_name.ensures)
     (λ e. c.serial_call.ensures.output (sym c.from.ensures ∙ e))
+
+pub returns-in-Ok-after_name-clause-faulty : goal.returns-in-Ok-after_name-clause-faulty
+returns-in-Ok-after_name-clause-faulty g c =
+    let status : exit_status c.from.result ≡ c.serial_call.result.status = c.from.ensures in
+    let left = g.S.Source.left c.args.source.now in
+    of_heard (λ words. Yields (exit_status c.from.result) (exit_status c.from.result ≢ 4 → OfStreamRead (asked_by words) left
+    (λ bytes. (exit_status c.from.result ≡ 3) ↔ IsSome (first_fault bytes)))) c.args.all c.in-Ok.all
+    c.deref.result.now c.in-Ok.is (c.deref.ensures.value ∙ c.in-Ok-after_name.ensures)
+    (subst (λ (n : ℕ). Yields n (n ≢ 4 → OfStreamRead (asked_by (texts_of c.deref.result.now)) left
+    (λ bytes. (n ≡ 3) ↔ IsSome (first_fault bytes)))) (sym status) c.serial_call.ensures.faulty)
+
+pub returns-in-Ok-after_name-clause-shown : goal.returns-in-Ok-after_name-clause-shown
+returns-in-Ok-after_name-clause-shown g c =
+    let left = g.S.Source.left c.args.source.now in
+    let was = g.K.Sink.written c.args.sink.now in
+    let now = g.K.Sink.written c.serial_call.new.sink in
+    of_heard (λ words. exit_status c.from.result ≡ 0 → OfStreamRead (asked_by words) left
+    (λ bytes. Grew was now (shown_text bytes))) c.args.all c.in-Ok.all
+    c.deref.result.now c.in-Ok.is (c.deref.ensures.value ∙ c.in-Ok-after_name.ensures)
+    (λ e. c.serial_call.ensures.shown (sym c.from.ensures ∙ e))
 
 pub returns-in-Ok-after_name-clause-summed_up : goal.returns-in-Ok-after_name-clause-summed_up
 returns-in-Ok-after_name-clause-summed_up g c =

@@ -1,0 +1,13 @@
+use Rattle.std.proofs.Common.{refl}
+use Rattle.tr_player.specs.Answers.{shown}
+use Rattle.tr_player.proofs.ResponseLemmas.{faulty_due}
+use Rattle.tr_player.proofs.responses.response_to_show.Goals as goal
+
+pub returns-in-Ok : goal.returns-in-Ok
+returns-in-Ok c = (shown c.in-Ok.text.items, refl, (c.in-Ok.ensures.valid, c.in-Ok.ensures.text))
+
+pub returns-in-Err-Fault : goal.returns-in-Err-Fault
+returns-in-Err-Fault c =
+    let f = c.in-Err-Fault.field-0-0 in
+    let fault = rw c.in-Err-Fault.field-0-is at c.in-Err-Fault.ensures.cause in
+    faulty_due c.args.bytes.now f f.place f.code c.stream_refusal.result refl refl fault c.stream_refusal.ensures

@@ -1,0 +1,102 @@
+"""That the second reader of tools/hostile agrees with what is stored of the program, and that what it draws is what it
+says. bench/hostile.sh compares it with the program itself."""
+
+import sys
+import unittest
+from pathlib import Path
+from typing import Iterator, Optional, Tuple
+
+TOP = Path(__file__).resolve().parents[2]
+sys.path.insert(0, str(TOP / "tools"))
+
+from hostile.drawing import draw  # noqa: E402
+from hostile.limits import cases  # noqa: E402
+from hostile.outputs import wrong_check, wrong_output  # noqa: E402
+from hostile.reader import Refusal, refusal_of  # noqa: E402
+from hostile.worst import SCRIPTS, script  # noqa: E402
+
+# What stands behind the scripts of a folder.
+STORED = {"demos": ".serial", "docs/examples": ".out"}
+
+
+def stored() -> Iterator[Tuple[Path, bytes, bytes]]:
+    """The scripts of the repository, and what is stored of each."""
+    for folder, suffix in STORED.items():
+        for file in sorted((TOP / folder).glob("*.txt")):
+            output = file.with_suffix(suffix)
+            if output.exists():
+                yield file, file.read_bytes(), output.read_bytes()
+
+
+def opening() -> str:
+    """The opening that .ci/faults puts before its lines."""
+    text = (TOP / ".ci" / "faults").read_text()
+    return next(line for line in text.splitlines() if line.startswith("opening=")).split("'")[1]
+
+
+def bytes_of(row: str) -> bytes:
+    """A text as .ci/faults writes it."""
+    return row.replace(";", "\n").replace("\\0177", "\x7f").replace("\\t", "\t").replace("\\r", "\r").encode("ascii")
+
+
+def rows() -> Iterator[Tuple[str, Optional[Refusal]]]:
+    """The texts of .ci/faults, and why each of them is refused."""
+    for part, head, line in (("opening", opening(), 13), ("part", opening() + "begin;", 14)):
+        for row in (TOP / ".ci" / f"faults.{part}").read_text().splitlines():
+            code, text = row.split("|", 1)
+            yield head + text, Refusal(line, int(code)) if code != "0" else Refusal(line + 1, 8)
+    for row in (TOP / ".ci" / "faults.whole").read_text().splitlines():
+        (line, code), text = row.split("|", 1)[0].split(" "), row.split("|", 1)[1]
+        yield text, None if code == "0" else Refusal(int(line), int(code))
+
+
+class Readers(unittest.TestCase):
+    """The second reader beside what is known."""
+
+    def test_stored_scripts(self) -> None:
+        """Each script of the repository is refused as is stored, or what is stored has its form."""
+        for file, text, output in stored():
+            with self.subTest(file=file.name):
+                refusal = refusal_of(text)
+                if output.startswith(b"refused: "):
+                    self.assertEqual(refusal and refusal.text(), output)
+                else:
+                    self.assertIsNone(refusal)
+                    self.assertIsNone(wrong_output(text, output))
+                    self.assertIsNotNone(wrong_output(text, output + b"dump\n"))
+                checked = file.with_suffix(".check")
+                if checked.exists() and b"refused" not in checked.read_bytes():
+                    self.assertIsNone(wrong_check(output, checked.read_bytes()))
+
+    def test_faults(self) -> None:
+        """Each text of .ci/faults has the fault that stands there."""
+        for text, refusal in rows():
+            with self.subTest(text=text[-60:]):
+                self.assertEqual(refusal_of(bytes_of(text)), refusal)
+
+
+class Scripts(unittest.TestCase):
+    """What is made to be played."""
+
+    def test_limits(self) -> None:
+        """Each script at a limit is refused as its case says."""
+        for case in cases():
+            if case.word == "serial":
+                with self.subTest(case=case.name):
+                    self.assertEqual(refusal_of(case.script), case.refusal)
+
+    def test_worst(self) -> None:
+        """The dearest scripts are scripts."""
+        for name in SCRIPTS:
+            with self.subTest(script=name):
+                self.assertIsNone(refusal_of(script(name, 0.005)))
+
+    def test_drawn(self) -> None:
+        """A seed and a number give the same script each time, and some of them play."""
+        scripts = [draw("1", number, []) for number in range(40)]
+        self.assertEqual(scripts, [draw("1", number, []) for number in range(40)])
+        self.assertIn(None, map(refusal_of, scripts))
+
+
+if __name__ == "__main__":
+    unittest.main()
