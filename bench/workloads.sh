@@ -65,6 +65,21 @@ write() {
         }
         print "sync\ndump"
     }
+    # What was edited shows after each eighth command. Most lines stand in a window that has room for 96 of 200.
+    function editor(    i, what) {
+        print "trestle 2\nscreen 1024 768 map8"
+        whole("e", "edit")
+        print "@e force"
+        for (i = 1; i <= n; i++) {
+            what = draw(10)
+            if (what < 4) print "@e insert", text(draw(13))
+            else if (what < 6) print "@e split"
+            else if (what < 8) print "@e erase"
+            else print "@e goto", draw(200), draw(81)
+            if (i % 8 == 0) print "@e force"
+        }
+        print "sync\ndump"
+    }
     # Up to 40 figures stand on the canvas at once.
     function figures(    i, stand, what) {
         opening(1024, 768)
@@ -115,6 +130,7 @@ write() {
     BEGIN {
         state = 12345
         if (name == "typescript") typescript()
+        if (name == "editor") editor()
         if (name == "moves") moves()
         if (name == "figures") figures()
         if (name == "events") events()
@@ -153,6 +169,7 @@ measure() {
 }
 
 measure typescript serial 40000
+measure editor serial 20000
 measure moves serial 10000
 measure figures serial 30000
 measure events serial 45000

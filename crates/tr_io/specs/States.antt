@@ -12,6 +12,19 @@ pub record SourceState : Type 0 where
   -- how many reads failed
   pub faults : ℕ
 
+-- a source that gives a limited number of bytes at once, with planned faults
+pub record PieceState : Type 0 where
+  -- the bytes still to come
+  pub left : List ℕ
+  -- the most bytes that one read gives
+  pub piece : ℕ
+  -- how many reads there were
+  pub reads : ℕ
+  -- the numbers of the reads that fail, counted from 1
+  pub fails : List ℕ
+  -- how many reads failed
+  pub faults : ℕ
+
 -- a sink that never fails
 pub record SteadyState : Type 0 where
   -- the bytes that it has taken

@@ -11,7 +11,7 @@ mod standard_output;
 mod streams;
 
 pub use sinks::{MemorySink, SteadySink};
-pub use sources::{MemorySource, SteadySource};
+pub use sources::{MemorySource, PieceSource, SteadySource};
 pub use standard_input::StdSource;
 pub use standard_output::StdSink;
 pub use streams::{Failed, Sink, Source};

@@ -5,18 +5,18 @@ use tr_base::NoMemory;
 use tr_io::{Failed, MemorySink, MemorySource, Sink, Source, SteadySource};
 use tr_player::{Outcome, serial_call};
 
-const USAGE: &[u8] = b"usage: trestle play|serial|check|gen N\n";
+const USAGE: &[u8] = b"usage: trestle play|serial|check|mirror|show|gen N\n";
 
-const READ_FAULT: &[u8] = b"read fault\n";
+pub(crate) const READ_FAULT: &[u8] = b"read fault\n";
 
 const TOO_LARGE: &[u8] = b"refused: line 0 B7\n";
 
 /// One window of one pixel, and a dump of it.
-const PIXEL: &[u8] =
+pub(crate) const PIXEL: &[u8] =
     b"trestle 1\nscreen 1 1 map8\nleaf a 1 1 1 1 1 1 solid 7\nroot a\nbegin\ndump\nend\n";
 
 /// What it prints.
-const DUMP: &[u8] = b"dump 1 1 map8\n07\n";
+pub(crate) const DUMP: &[u8] = b"dump 1 1 map8\n07\n";
 
 /// What a check of it prints.
 const CHECKED: &[u8] = b"step 1 bad 0 stale 0 outside 0\ndump 1 1 map8\n07\n";
@@ -36,7 +36,7 @@ fn words_of(alloc: Global, texts: &[&str]) -> Result<Vec<String>, AllocError> {
 }
 
 /// The status that a call ends in, and how many entries the journal of its stage has, if it hands one out.
-fn end_of<S: Source, K: Sink>(
+pub(crate) fn end_of<S: Source, K: Sink>(
     alloc: Global,
     texts: &[&str],
     source: &mut S,

@@ -4,3 +4,5 @@
 
 #[cfg(test)]
 mod faults;
+#[cfg(test)]
+mod pieces;

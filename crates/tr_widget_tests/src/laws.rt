@@ -59,7 +59,8 @@ fn other_ones_obey(alloc: Global) -> Result<bool, NoMemory> {
     Ok(
         obeys_its_laws(alloc, &Lines::new(alloc)?, &line)?
             && obeys_its_laws(alloc, &Canvas::new(alloc)?, &figure)?
-            && obeys_its_laws(alloc, &Meter::new(alloc, 2)?, &bar)?,
+            && obeys_its_laws(alloc, &Meter::new(alloc, 2)?, &bar)?
+            && obeys_its_laws(alloc, &Editor::new(alloc)?, &inserted)?,
     )
 }
 

@@ -1,0 +1,36 @@
+#!/bin/sh
+# Treats the program as badly as its users' scripts, streams and machines can, and compares what it answers.
+#
+#     bench/hostile.sh [COUNT [SEED [PROGRAM]]]
+#
+# 1. scripts at each limit: the last value that passes, and the first that is refused;
+# 2. streams that are slow, cut, full, closed, or stopped on the way, scarce memory, and 64 programs at once;
+# 3. COUNT scripts (2,000 if left out) that are drawn from SEED, cut, joined and bent: which is refused and why is
+#    compared with what a second reader says, which knows nothing of the program;
+# 4. the dearest scripts that the limits allow, at a hundredth of their size and at twice that: time and memory.
+#
+# PROGRAM is a built trestle; where it is left out, the launcher proves and builds it. It wants Python 3.8.
+set -eu
+top=$(CDPATH= cd -P -- "$(dirname -- "$0")/.." && pwd)
+count=${1:-2000}
+seed=${2:-1}
+program=${3:-}
+if [ -z "$program" ]; then
+    "$top/trestle" serial <"$top/demos/one_pixel.txt" >/dev/null
+    program=$top/.build/trestle
+fi
+export PYTHONDONTWRITEBYTECODE=1
+failed=0
+
+# try NAME WORD..: calls what tries the program.
+try() {
+    name=$1
+    shift
+    python3 "$top/tools/hostile/$name.py" "$program" "$@" || failed=1
+}
+
+try limits
+try streams
+try fuzz "$count" "$seed"
+try worst
+exit "$failed"

@@ -1,0 +1,15 @@
+#!/bin/sh
+# Plays random scripts on threads, several at once, so that the threads' orders differ, and judges what each wrote by `serial`.
+#
+#     bench/interleavings.sh [COUNT] [PROGRAM] [SEED]
+#
+# COUNT is 2,000 if left out. PROGRAM is a built trestle; where it is left out, the launcher proves and builds it. The judging is told in
+# tools/interleavings.py.
+set -eu
+top=$(CDPATH= cd -P -- "$(dirname -- "$0")/.." && pwd)
+program=${2:-}
+if [ -z "$program" ]; then
+    "$top/trestle" serial <"$top/demos/one_pixel.txt" >/dev/null
+    program=$top/.build/trestle
+fi
+exec python3 "$top/tools/interleavings.py" "$program" "${1:-2000}" ${3:+"$3"}

@@ -1,0 +1,96 @@
+#!/bin/sh
+# Plays scripts by `serial` and by `play`, in turn, and prints the milliseconds of both and their ratio.
+#
+#     bench/threads.sh [ROUNDS] [PROGRAM]
+#
+# Each time is the best of ROUNDS (5 if left out). PROGRAM is a built trestle; where it is left out, the
+# launcher proves and builds it. It wants date with %N.
+#
+# `desktop` has seven windows with a command each in turn, moves and a change of the screen. `eight` has
+# eight windows, each with 4,000 figures or lines and a flush after each 25th, and `one` the lines of one
+# of these windows alone: what eight threads could save at most is seen by it.
+set -eu
+top=$(CDPATH= cd -P -- "$(dirname -- "$0")/.." && pwd)
+rounds=${1:-5}
+program=${2:-}
+folder=$(mktemp -d)
+trap 'rm -rf "$folder"' EXIT
+if [ -z "$program" ]; then
+    "$top/trestle" serial <"$top/demos/one_pixel.txt" >/dev/null
+    program=$top/.build/trestle
+fi
+
+# write NAME WINDOWS LINES: a script in which this many of eight windows have lines.
+write() {
+    awk -v windows="$2" -v n="$3" '
+    function draw(below) { state = state * 40014 % 2147483563; return int(state / 65536) % below }
+    function text(bytes,    t) {
+        for (t = ""; bytes > 0; bytes--) t = t sprintf("%c", 65 + draw(26))
+        return t
+    }
+    function figure(    west, north) {
+        west = draw(200)
+        north = draw(160)
+        return "rect " west " " west + 1 + draw(60) " " north " " north + 1 + draw(60) " " draw(256)
+    }
+    BEGIN {
+        state = 12345
+        print "trestle 1\nscreen 1024 768 map8\nnode desk z 24"
+        for (w = 0; w < 8; w++) print "leaf w" w, "0 240 240 0 200 200", w % 2 ? "lines" : "canvas"
+        for (w = 0; w < 8; w++) print "put w" w, "desk", 10 + 250 * (w % 4), 10 + 250 * int(w / 4)
+        print "root desk\nbegin\ndump"
+        for (i = 1; i <= n; i++)
+            for (w = 0; w < windows; w++) {
+                print "@w" w, (w % 2 ? "line " text(draw(30)) : i % 50 ? figure() : "undo")
+                if (i % 25 == 0) print "@w" w, "flush"
+            }
+        print "sync\ndump\nend"
+    }' >"$folder/$1"
+}
+
+desktop() {
+    awk '
+    BEGIN {
+        print "trestle 1\nscreen 1024 768 map8\nnode desk z 24\nnode edge border 250 4\nnode panel page 5 2"
+        print "leaf text 0 640 640 0 192 192 lines\nleaf dots 0 300 300 0 200 200 canvas\nleaf load 0 128 128 0 100 100 meter 16"
+        for (i = 0; i < 4; i++) print "leaf lamp" i, "0 60 60 0 40 40 solid", 40 + i
+        print "put text edge\nput edge desk 20 20"
+        for (i = 0; i < 4; i++) print "put lamp" i, "panel"
+        print "put dots desk 500 300\nput load desk 700 100\nput panel desk 100 400\nroot desk\nbegin\ndump"
+        for (i = 1; i <= 1000; i++) {
+            print "@text line LINE", i "\n@dots rect", i % 250, i % 250 + 40, i % 150, i % 150 + 40, i % 256
+            print "@load bar", i % 16, i % 100 "\n@lamp0 tint", i % 256 "\n@lamp1 tint", i % 128
+            if (i % 10 == 0) print "move edge", i % 300, i % 200
+            if (i % 20 == 0) print "lift dots"
+            if (i % 200 == 0) print "turn panel", i / 200 % 2
+        }
+        print "sync\ndump\nrescreen mono\nsync\ndump\nend"
+    }' >"$folder/desktop"
+}
+
+# best WORD FILE: the nanoseconds that the program takes for a script, in the best of all rounds.
+best() {
+    least=
+    round=0
+    while [ "$round" -lt "$rounds" ]; do
+        start=$(date +%s%N)
+        "$program" "$1" <"$2" >/dev/null || { echo "threads: $1 <$2 ends with status $?" >&2; exit 1; }
+        taken=$(($(date +%s%N) - start))
+        [ -n "$least" ] && [ "$least" -le "$taken" ] || least=$taken
+        round=$((round + 1))
+    done
+    echo "$least"
+}
+
+measure() {
+    echo "$1 $(best serial "$folder/$1") $(best play "$folder/$1")" | awk '{
+        printf "%-8s serial ms=%.1f play ms=%.1f ratio=%.2f\n", $1, $2 / 1e6, $3 / 1e6, $3 / $2
+    }'
+}
+
+desktop
+write eight 8 4000
+write one 1 4000
+measure desktop
+measure eight
+measure one

@@ -1,0 +1,86 @@
+//! A script of 75 bytes that comes byte by byte, and is cut: each read and each write fails in turn.
+use crate::faults::{DUMP, PIXEL, READ_FAULT, end_of};
+use std::alloc::{AllocError, Global};
+use std::test::Fail;
+use tr_io::{MemorySink, PieceSource};
+
+/// A call: its words, the script, and the read and the write that fail, 0 for none. A read gives one byte, and a
+/// write takes 4 at most.
+#[derive(Clone, Copy)]
+struct Call<'a> {
+    texts: &'a [&'a str],
+    script: &'a [u8],
+    read: u64,
+    write: u64,
+}
+
+/// Whether a call ends with this status, with this text written, and with a stage exactly where the status is 0.
+fn ends(alloc: Global, call: &Call, status: u8, text: &[u8]) -> Result<bool, AllocError> {
+    let mut source = PieceSource::new(
+        Vec::from_slice(alloc, call.script)?,
+        1,
+        Vec::from_slice(alloc, &[call.read])?,
+    );
+    let mut sink = MemorySink::new(alloc, 4, Vec::from_slice(alloc, &[call.write])?);
+    let (answered, entries) = end_of(alloc, call.texts, &mut source, &mut sink)?;
+    let is_due = answered == status && entries.is_some() == (status == 0);
+    Ok(is_due && sink.written() == text)
+}
+
+/// A script that is played, and of which this read fails.
+fn fails_at_read(read: u64) -> Call<'static> {
+    Call {
+        texts: &["serial"],
+        script: PIXEL,
+        read,
+        write: 0,
+    }
+}
+
+#[test]
+fn each_read_fails(rt: HostRuntime) -> Result<(), Fail> {
+    for read in 1..=76 {
+        assert!(rt;
+            ends(rt.alloc(), &fails_at_read(read), 4, READ_FAULT)?,
+            "read {read}"
+        );
+    }
+    assert!(rt; ends(rt.alloc(), &fails_at_read(77), 0, DUMP)?, "none");
+    Ok(())
+}
+
+#[test]
+fn each_write_fails_and_the_script_is_cut(rt: HostRuntime) -> Result<(), Fail> {
+    let serial = ["serial"].as_slice();
+    for (place, (texts, script, read, write, status, text)) in [
+        (serial, PIXEL, 0, 1, 5, b"".as_slice()),
+        (serial, PIXEL, 0, 2, 5, b"dump"),
+        (serial, PIXEL, 0, 3, 5, b"dump 1 1"),
+        (serial, PIXEL, 0, 4, 5, b"dump 1 1 map"),
+        (serial, PIXEL, 0, 5, 5, b"dump 1 1 map8\n07"),
+        (serial, PIXEL, 0, 6, 0, DUMP),
+        (serial, PIXEL, 1, 1, 5, b""),
+        (&["serial", "x"], PIXEL, 0, 1, 5, b""),
+        (serial, &PIXEL[..0], 0, 0, 3, b"refused: line 1 B8\n"),
+        (serial, &PIXEL[..1], 0, 0, 3, b"refused: line 1 B1\n"),
+        (serial, &PIXEL[..7], 0, 0, 3, b"refused: line 1 B1\n"),
+        (serial, &PIXEL[..8], 0, 0, 3, b"refused: line 1 B2\n"),
+        (serial, &PIXEL[..9], 0, 0, 3, b"refused: line 2 B8\n"),
+        (serial, &PIXEL[..10], 0, 0, 3, b"refused: line 2 B8\n"),
+        (serial, &PIXEL[..71], 0, 0, 3, b"refused: line 7 B8\n"),
+        (serial, &PIXEL[..73], 0, 0, 3, b"refused: line 7 B1\n"),
+        (serial, &PIXEL[..74], 0, 0, 0, DUMP),
+    ]
+    .iter()
+    .enumerate()
+    {
+        let call = Call {
+            texts,
+            script,
+            read: *read,
+            write: *write,
+        };
+        assert!(rt; ends(rt.alloc(), &call, *status, text)?, "at {place}");
+    }
+    Ok(())
+}

@@ -1,0 +1,10 @@
+"""What tries the program with hostile scripts; bench/hostile.sh and bench/want_of_memory.sh call it.
+
+    reader    which line of a text is refused, and with which code: a second reader, by the tables of docs/SCRIPT.md
+    drawing   scripts that are drawn at random, cut, joined and bent
+    fuzz      plays such scripts, many a second, and compares what comes with what the reader says
+    limits    scripts at each limit, the last value that passes and the first that is refused
+    worst     scripts that are as dear as a script may be, with the time and the memory that they take
+    growths   plays a script again and again, each time with another growth of memory refused
+    program   runs the program, and measures it
+"""

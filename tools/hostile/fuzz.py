@@ -1,0 +1,178 @@
+#!/usr/bin/env python3
+"""Plays scripts that are drawn at random, cut, joined and bent, and compares what comes with what a second reader says.
+
+    tools/hostile/fuzz.py PROGRAM [COUNT] [SEED] [--workers N] [--seconds N] [--from N] [--show]
+
+PROGRAM is a linked trestle. Of each script are compared: the status, 0 or 3; the text of a refusal, exactly; the form of
+what is printed, by the script's reports; standard error, which is empty; for some what `check` writes, which without
+its own lines is the same. A run has N seconds of the processor, and 64 MB beside what it reads and writes.
+
+A script that differs is shown by its number: the same call with `--from NUMBER --show` prints it. At the end stand the
+number of the scripts that were played and refused, and the slowest. The status is 1 where any differed."""
+
+import argparse
+import multiprocessing
+import sys
+from collections import Counter
+from pathlib import Path
+from typing import Iterator, List, NamedTuple, Optional, Tuple
+
+sys.path.insert(0, str(Path(__file__).resolve().parents[1]))
+
+from hostile.drawing import draw  # noqa: E402
+from hostile.outputs import check_refusal, wrong_check, wrong_output  # noqa: E402
+from hostile.program import PLAYED, REFUSED, Limits, Ran, Runner  # noqa: E402
+from hostile.reader import Refusal, refusal_of  # noqa: E402
+
+TOP = Path(__file__).resolve().parents[2]
+MEGABYTE = 1 << 20
+CHUNK = 250
+# Every so many scripts that play are checked, too.
+CHECKED = 4
+
+
+class Tried(NamedTuple):
+    """What became of a script: its fault's code, or 0; what differs, if anything; how long it took, and how much."""
+
+    number: int
+    bytes: int
+    code: int
+    problem: Optional[str]
+    seconds: float
+    spare: int
+
+
+def others() -> List[bytes]:
+    """The scripts of the repository."""
+    return [file.read_bytes() for folder in ("demos", "docs/examples") for file in sorted((TOP / folder).glob("*.txt"))]
+
+
+def wrong_end(ran: Ran, refusal: Optional[Refusal]) -> Optional[str]:
+    """What is wrong with the end of a run, whatever it prints."""
+    if ran.errors:
+        return f"standard error has {ran.errors[:200]!r}"
+    if refusal is None:
+        return None if ran.status == PLAYED else f"status {ran.status} and {ran.output[:60]!r} where it is a script"
+    if ran.status != REFUSED or ran.output != refusal.text():
+        return f"status {ran.status} and {ran.output[:60]!r} where it is {refusal.text()!r}"
+    return None
+
+
+def spare_bytes(script: bytes, ran: Ran) -> int:
+    """The memory beside what was read, and what was kept of the output, whose room grows to twice its size."""
+    return 1024 * ran.kilobytes - len(script) - 3 * len(ran.output)
+
+
+def try_script(runner: Runner, limits: Limits, number: int, script: bytes) -> Tried:
+    """Plays a script, and some of them checked."""
+    refusal = refusal_of(script)
+    ran = runner.run(["serial"], script, limits)
+    problem = wrong_end(ran, refusal)
+    if refusal is None:
+        problem = problem or wrong_output(script, ran.output)
+        if number % CHECKED == 0 and problem is None:
+            refused = check_refusal(script)
+            checked = runner.run(["check"], script, limits)
+            problem = wrong_end(checked, refused)
+            if refused is None:
+                problem = problem or wrong_check(ran.output, checked.output)
+    return Tried(number, len(script), refusal.code if refusal else 0, problem, ran.seconds, spare_bytes(script, ran))
+
+
+class Work(NamedTuple):
+    """What a worker is told: the program, the limits, the seed, and the numbers from one up to another."""
+
+    program: str
+    limits: Limits
+    seed: str
+    begin: int
+    end: int
+
+
+def try_chunk(work: Work) -> List[Tried]:
+    """Tries the scripts of some numbers."""
+    runner = Runner(work.program)
+    scripts = others()
+    try:
+        return [
+            try_script(runner, work.limits, number, draw(work.seed, number, scripts))
+            for number in range(work.begin, work.end)
+        ]
+    finally:
+        runner.close()
+
+
+class Summary:
+    """What all runs came to."""
+
+    def __init__(self, most_spare: int) -> None:
+        self.codes: Counter = Counter()
+        self.problems = 0
+        self.slowest: List[Tuple[float, int, int]] = []
+        self.greatest: Tuple[int, int] = (0, 0)
+        self.seconds = 0.0
+        self.most_spare = most_spare
+
+    def add(self, tried: Tried) -> None:
+        """Adds a script."""
+        self.codes[tried.code] += 1
+        self.seconds += tried.seconds
+        self.slowest = sorted([*self.slowest, (tried.seconds, tried.number, tried.bytes)], reverse=True)[:5]
+        self.greatest = max(self.greatest, (tried.spare, tried.number))
+        problem = tried.problem
+        if problem is None and tried.spare > self.most_spare:
+            problem = f"it takes {tried.spare // MEGABYTE} MB"
+        if problem is not None:
+            self.problems += 1
+            print(f"fuzz: script {tried.number}: {problem}", flush=True)
+
+    def lines(self) -> Iterator[str]:
+        """What is told in the end."""
+        count = sum(self.codes.values())
+        refused = ", ".join(f"B{code} {self.codes[code]}" for code in sorted(self.codes) if code)
+        yield f"fuzz: {count} scripts, {self.codes[0]} played, {count - self.codes[0]} refused ({refused})"
+        yield f"fuzz: {self.problems} differ; {self.seconds:.0f} processor seconds"
+        for seconds, number, size in self.slowest:
+            yield f"fuzz: among the slowest: script {number} of {size} bytes takes {1000 * seconds:.0f} ms"
+        yield f"fuzz: the most memory beside script and output: {self.greatest[0] // 1024} KB, script {self.greatest[1]}"
+
+
+def words() -> argparse.Namespace:
+    """The words of the call."""
+    parser = argparse.ArgumentParser(usage=__doc__, add_help=False)
+    parser.add_argument("program")
+    parser.add_argument("count", nargs="?", type=int, default=2000)
+    parser.add_argument("seed", nargs="?", default="1")
+    parser.add_argument("--workers", type=int, default=2)
+    parser.add_argument("--seconds", type=int, default=1)
+    parser.add_argument("--megabytes", type=int, default=64)
+    parser.add_argument("--from", dest="begin", type=int, default=0)
+    parser.add_argument("--show", action="store_true")
+    return parser.parse_args()
+
+
+def main() -> int:
+    """Tries all scripts, in chunks, by some workers."""
+    given = words()
+    if given.show:
+        sys.stdout.buffer.write(draw(given.seed, given.begin, others()))
+        return 0
+    summary = Summary(given.megabytes * MEGABYTE)
+    limits = Limits(seconds=given.seconds)
+    end = given.begin + given.count
+    chunks = [
+        Work(given.program, limits, given.seed, at, min(at + CHUNK, end)) for at in range(given.begin, end, CHUNK)
+    ]
+    with multiprocessing.Pool(given.workers) as pool:
+        for done, chunk in enumerate(pool.imap(try_chunk, chunks), 1):
+            for tried in chunk:
+                summary.add(tried)
+            if done % 80 == 0:
+                print(f"fuzz: {done * CHUNK} scripts, {summary.problems} differ", flush=True)
+    for line in summary.lines():
+        print(line)
+    return 1 if summary.problems else 0
+
+
+if __name__ == "__main__":
+    sys.exit(main())
