@@ -1,11 +1,11 @@
 """Scripts that are drawn at random, cut, joined and bent. A script is given by a seed and a number."""
 
 import random
-from typing import Callable, Dict, List, Sequence
+from typing import Callable, Dict, List, Sequence, Set
 
 from trestle_tools.grammar import COMMANDS, FORMS, OPENING, REPORTS, WIDGET_COMMANDS, Form, Slot
 
-from .reader import PLAYING, Reader
+from .reader import PLAYING, Reader, Window
 
 # What a number of any range is likely to be wrong at.
 ENDS = (0, 1, -1, 2, 15, 16, 17, 32, 33, 63, 64, 65, 80, 81, 199, 200, 255, 256, 1024, 1025, 2048, -2048, 2049, 4096, 4097)
@@ -16,7 +16,26 @@ WORDS += sorted({word for form in FORMS for slot in form.slots for word in slot.
 DECLARED = [form for form in FORMS if form.first in ("glyph", "node", "leaf", "put")]
 STEPS = [form for form in FORMS if form.first not in (*OPENING, *REPORTS, "sync", "end")]
 WIDGET_STEPS = [form for form in STEPS if form.choice in WIDGET_COMMANDS]
+PAINTED = [form for form in STEPS if form.choice in ("mark", "flush", "force")]
+HEARD = [form for form in STEPS if form.choice in ("take", "take", "cage", "free", "own", "disown", "read")]
+EDITS = [form for form in STEPS if form.first not in ("@", "mouse", "motion", "key")]
 REPORTED = [form for form in FORMS if form.first in REPORTS]
+
+
+# For which windows an edit is meant, and for `show` and `attach` also the second one.
+MEANT: Dict[str, Callable[[Window], bool]] = {
+    "tint": lambda it: not it.is_leaf,
+    "border": lambda it: it.kind == "border",
+    "offset": lambda it: it.kind == "translate",
+    "fix": lambda it: it.kind == "rigid",
+    "turn": lambda it: it.kind == "page",
+    "show": lambda it: it.kind == "t" or it.parent is not None and it.parent.kind == "t",
+    "move": lambda it: it.parent is not None and it.parent.kind == "z",
+    "lift": lambda it: it.parent is not None and it.parent.kind == "z",
+    "shapes": lambda it: it.is_leaf,
+    "detach": lambda it: it.parent is not None,
+    "attach": lambda it: not it.is_leaf or it.parent is None,
+}
 
 
 def form_named(first: str) -> Form:
@@ -32,6 +51,7 @@ class Pen:
         self.reader = Reader()
         self.lines: List[bytes] = []
         self.time = 1
+        self.held: Set[int] = set()
         # The longest side of the screen, and the most that a length of a shape may be.
         self.side = chance.choice((3, 8, 20, 20, 40, 40, 100, 1024 if chance.random() < 0.1 else 30))
 
@@ -77,6 +97,8 @@ class Pen:
 
     def number(self, form: Form, slot: Slot) -> int:
         """A number for a slot: mostly small, as windows and screens are; sometimes any, or one of its ends."""
+        if form.choice == "own" and slot.name == "T" and self.chance.random() < 0.8:
+            return self.time
         if slot.name == "T" and slot.high > 255:
             self.time += self.chance.choice((0, 1, 1, 1, 7, -1 if self.chance.random() < 0.1 else 1))
             return max(1, min(self.time, slot.high))
@@ -90,8 +112,13 @@ class Pen:
         return self.chance.randint(max(slot.low, -self.side // 4), min(slot.high, self.side))
 
     def name(self, form: Form) -> str:
-        """The name of a window."""
-        return self.chance.choice(list(self.reader.windows) or ["a"])
+        """The name of a window, mostly of one for which an edit is meant."""
+        windows = self.reader.windows
+        if form.first in MEANT and self.chance.random() < 0.85:
+            meant = [name for name, window in windows.items() if MEANT[form.first](window)]
+            if meant:
+                return self.chance.choice(meant)
+        return self.chance.choice(list(windows) or ["a"])
 
     def new_name(self, form: Form) -> str:
         """A name that is mostly new."""
@@ -138,10 +165,43 @@ class Pen:
             self.take(f"root {max(tops, key=lambda name: self.reader.windows[name].height())}")
         self.take("begin")
 
+    def step(self) -> None:
+        """A step: of a widget, of its painting, of an input device, of who listens to it, or an edit."""
+        way = self.chance.random()
+        if 0.5 <= way < 0.7:
+            self.device()
+            return
+        forms = WIDGET_STEPS if way < 0.35 else PAINTED if way < 0.5 else HEARD if way < 0.85 else EDITS
+        self.write(self.chance.choice(forms))
+
+    def device(self) -> None:
+        """A step of an input device, as a hand makes it: a button that is down goes up, and the cursor is near by."""
+        self.time += self.chance.choice((0, 0, 1, 1, 5))
+        way = self.chance.random()
+        if way < 0.35:
+            h, v = (self.chance.randint(-1, self.side) for _ in range(2))
+            self.take(f"motion {self.time} {h} {v}")
+        elif way < 0.8:
+            button = self.chance.choice((1, 1, 1, 2, 5))
+            is_right = self.chance.random() < 0.95
+            self.take(f"mouse {self.time} {'up' if (button in self.held) == is_right else 'down'} {button}")
+            self.held ^= {button} if is_right else set()
+            self.owners()
+        else:
+            self.take(f"key {self.time} {self.chance.choice((8, 13, 32, 65, 126, self.chance.randrange(256)))}")
+
+    def owners(self) -> None:
+        """Sometimes all leaves want to own a selection at this time, and then a key comes."""
+        if self.chance.random() < 0.3:
+            selection = self.chance.choice(("key", "key", "source", "target"))
+            for name in [name for name, window in self.reader.windows.items() if window.is_leaf][:5]:
+                self.take(f"@{name} own {selection} {self.time}")
+            self.take(f"key {self.time} {self.chance.randint(32, 126)}")
+
     def part(self) -> None:
         """Some steps, a sync and some reports."""
         for _ in range(self.chance.choice((0, 1, 2, 5, 10, 20, 20))):
-            self.write(self.chance.choice(WIDGET_STEPS if self.chance.random() < 0.4 else STEPS))
+            self.step()
         if self.lines and self.chance.random() < 0.02:
             for _ in range(self.chance.choice((10, 70, 210, 1000))):
                 self.take(self.lines[-1].decode("ascii"))

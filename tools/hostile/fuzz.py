@@ -1,34 +1,39 @@
 #!/usr/bin/env python3
 """Plays scripts that are drawn at random, cut, joined and bent, and compares what comes with what a second reader says.
 
-    tools/hostile/fuzz.py PROGRAM [COUNT] [SEED] [--workers N] [--seconds N] [--from N] [--show]
+    tools/hostile/fuzz.py PROGRAM [COUNT] [SEED] [--workers N] [--seconds N] [--megabytes N] [--checked N]
+                          [--mirrored N] [--modelled N] [--from N] [--show]
 
 PROGRAM is a linked trestle. Of each script are compared: the status, 0 or 3; the text of a refusal, exactly; the form of
-what is printed, by the script's reports; standard error, which is empty; for some what `check` writes, which without
-its own lines is the same. A run has N seconds of the processor, and 64 MB beside what it reads and writes.
+what is printed, by the script's reports; and standard error, which is empty. Of one among so many scripts, a number that
+may be set and is 0 for none, also: what `check` writes, which without its own lines is the same (4); that `show` of what
+`mirror` writes is its dumps, and that a stream that is bent is shown or refused in form (4); all that is printed, with
+what a plain model prints, where the screen is small (10). A run has one second of the processor, and 64 MB beside what
+it reads and writes.
 
 A script that differs is shown by its number: the same call with `--from NUMBER --show` prints it. At the end stand the
 number of the scripts that were played and refused, and the slowest. The status is 1 where any differed."""
 
 import argparse
 import multiprocessing
+import random
 import sys
 from collections import Counter
+from itertools import zip_longest
 from pathlib import Path
 from typing import Iterator, List, NamedTuple, Optional, Tuple
 
 sys.path.insert(0, str(Path(__file__).resolve().parents[1]))
 
-from hostile.drawing import draw  # noqa: E402
-from hostile.outputs import check_refusal, wrong_check, wrong_output  # noqa: E402
+from hostile.drawing import bend_byte, draw  # noqa: E402
+from hostile.model import output_of  # noqa: E402
+from hostile.outputs import check_refusal, dumps_of, wrong_check, wrong_output, wrong_show  # noqa: E402
 from hostile.program import PLAYED, REFUSED, Limits, Ran, Runner  # noqa: E402
 from hostile.reader import Refusal, refusal_of  # noqa: E402
 
 TOP = Path(__file__).resolve().parents[2]
 MEGABYTE = 1 << 20
 CHUNK = 250
-# Every so many scripts that play are checked, too.
-CHECKED = 4
 
 
 class Tried(NamedTuple):
@@ -63,43 +68,101 @@ def spare_bytes(script: bytes, ran: Ran) -> int:
     return 1024 * ran.kilobytes - len(script) - 3 * len(ran.output)
 
 
-def try_script(runner: Runner, limits: Limits, number: int, script: bytes) -> Tried:
-    """Plays a script, and some of them checked."""
-    refusal = refusal_of(script)
-    ran = runner.run(["serial"], script, limits)
-    problem = wrong_end(ran, refusal)
-    if refusal is None:
-        problem = problem or wrong_output(script, ran.output)
-        if number % CHECKED == 0 and problem is None:
-            refused = check_refusal(script)
-            checked = runner.run(["check"], script, limits)
-            problem = wrong_end(checked, refused)
-            if refused is None:
-                problem = problem or wrong_check(ran.output, checked.output)
-    return Tried(number, len(script), refusal.code if refusal else 0, problem, ran.seconds, spare_bytes(script, ran))
+def other_output(script: bytes, word: str, output: bytes) -> Optional[str]:
+    """Where an output differs from that of the model, if it does."""
+    try:
+        want = output_of(script, word)
+    except (ArithmeticError, AssertionError, LookupError, RecursionError, TypeError, ValueError) as error:
+        return f"the model fails: {error!r}"
+    if want is None or want == output:
+        return None
+    lines = zip_longest(output.split(b"\n"), want.split(b"\n"))
+    number, found, wanted = next((at, a, b) for at, (a, b) in enumerate(lines, 1) if a != b)
+    return f"{word}: line {number} is {found!r} where the model has {wanted!r}"
 
 
 class Work(NamedTuple):
-    """What a worker is told: the program, the limits, the seed, and the numbers from one up to another."""
+    """What a worker is told: the call's words, and the numbers from one up to another."""
 
-    program: str
-    limits: Limits
-    seed: str
+    given: argparse.Namespace
     begin: int
     end: int
+
+    def is_one(self, number: int, way: str) -> bool:
+        """Whether a script is one of those that are tried in some way."""
+        every = getattr(self.given, way)
+        return every > 0 and number % every == 0
+
+    def limits(self) -> Limits:
+        """What a run may take."""
+        return Limits(seconds=self.given.seconds)
+
+
+class Trial:
+    """Tries scripts, and each of some of them in more ways."""
+
+    def __init__(self, work: Work):
+        self.work = work
+        self.runner = Runner(work.given.program)
+
+    def run(self, word: str, script: bytes) -> Ran:
+        """A run."""
+        return self.runner.run([word], script, self.work.limits())
+
+    def script(self, number: int, script: bytes) -> Tried:
+        """Tries a script."""
+        refusal = refusal_of(script)
+        ran = self.run("serial", script)
+        problem = wrong_end(ran, refusal)
+        if refusal is None:
+            problem = problem or wrong_output(script, ran.output) or self.more(number, script, ran.output)
+        return Tried(number, len(script), refusal.code if refusal else 0, problem, ran.seconds, spare_bytes(script, ran))
+
+    def more(self, number: int, script: bytes, output: bytes) -> Optional[str]:
+        """Tries in more ways a script that plays."""
+        is_modelled = self.work.is_one(number, "modelled")
+        problem = other_output(script, "serial", output) if is_modelled else None
+        if self.work.is_one(number + 1, "mirrored"):
+            problem = problem or self.mirrored(number, script, output)
+        if problem is None and self.work.is_one(number, "checked"):
+            problem = self.checked(script, output, is_modelled)
+        return problem
+
+    def checked(self, script: bytes, output: bytes, is_modelled: bool) -> Optional[str]:
+        """Checks it."""
+        refused = check_refusal(script)
+        ran = self.run("check", script)
+        problem = wrong_end(ran, refused)
+        if problem is not None or refused is not None:
+            return problem
+        problem = wrong_check(output, ran.output)
+        return problem or (other_output(script, "check", ran.output) if is_modelled else None)
+
+    def mirrored(self, number: int, script: bytes, output: bytes) -> Optional[str]:
+        """Shows what a mirror of it writes, and that again with some bytes bent."""
+        mirror = self.run("mirror", script)
+        shown = self.run("show", mirror.output)
+        if (mirror.status, mirror.errors, shown.status, shown.errors) != (PLAYED, b"", PLAYED, b""):
+            return f"mirror ends with {mirror.status}, and show with {shown.status}"
+        if shown.output != dumps_of(script, output):
+            return "show writes other dumps than serial"
+        chance = random.Random(f"{self.work.given.seed} {number} stream")
+        stream = mirror.output
+        for _ in range(chance.randint(1, 3)):
+            stream = bend_byte(chance, stream)
+        bent = self.run("show", stream)
+        problem = wrong_show(bent.status, bent.output)
+        return f"show of a bent stream: {problem or bent.errors!r}" if problem or bent.errors else None
 
 
 def try_chunk(work: Work) -> List[Tried]:
     """Tries the scripts of some numbers."""
-    runner = Runner(work.program)
+    trial = Trial(work)
     scripts = others()
     try:
-        return [
-            try_script(runner, work.limits, number, draw(work.seed, number, scripts))
-            for number in range(work.begin, work.end)
-        ]
+        return [trial.script(it, draw(work.given.seed, it, scripts)) for it in range(work.begin, work.end)]
     finally:
-        runner.close()
+        trial.runner.close()
 
 
 class Summary:
@@ -146,6 +209,9 @@ def words() -> argparse.Namespace:
     parser.add_argument("--workers", type=int, default=2)
     parser.add_argument("--seconds", type=int, default=1)
     parser.add_argument("--megabytes", type=int, default=64)
+    parser.add_argument("--checked", type=int, default=4)
+    parser.add_argument("--mirrored", type=int, default=4)
+    parser.add_argument("--modelled", type=int, default=10)
     parser.add_argument("--from", dest="begin", type=int, default=0)
     parser.add_argument("--show", action="store_true")
     return parser.parse_args()
@@ -158,11 +224,8 @@ def main() -> int:
         sys.stdout.buffer.write(draw(given.seed, given.begin, others()))
         return 0
     summary = Summary(given.megabytes * MEGABYTE)
-    limits = Limits(seconds=given.seconds)
     end = given.begin + given.count
-    chunks = [
-        Work(given.program, limits, given.seed, at, min(at + CHUNK, end)) for at in range(given.begin, end, CHUNK)
-    ]
+    chunks = [Work(given, at, min(at + CHUNK, end)) for at in range(given.begin, end, CHUNK)]
     with multiprocessing.Pool(given.workers) as pool:
         for done, chunk in enumerate(pool.imap(try_chunk, chunks), 1):
             for tried in chunk:

@@ -45,11 +45,13 @@ def demos() -> Iterator[str]:
     return (file.stem for file in sorted((TOP / "demos").glob("*.txt")))
 
 
-# What is called: the words, and what is read, which is a demo, `LINES`, or nothing.
+# What is called: the words, and what is read, which is a demo, `LINES`, what `mirror` writes of a demo, or nothing.
 CALLS: List[Tuple[str, str]] = [
     ("serial", "LINES"),
     *(("serial", demo) for demo in demos()),
     ("check", "lag"),
+    ("mirror", "first"),
+    ("show", "mirror first"),
     ("gen 1", ""),
 ]
 
@@ -66,7 +68,8 @@ class Call(NamedTuple):
         """What is read."""
         if self.given in ("", "LINES"):
             return LINES.encode("ascii") if self.given else b""
-        return (TOP / "demos" / f"{self.given}.txt").read_bytes()
+        demo = (TOP / "demos" / f"{self.given.split()[-1]}.txt").read_bytes()
+        return Runner(self.program).run(["mirror"], demo, LIMITS).output if " " in self.given else demo
 
     def title(self) -> str:
         """The call as it is told."""

@@ -6,6 +6,7 @@ from typing import Iterator, List, Optional
 from trestle_tools.grammar import REPORTS
 from trestle_tools.scripts import CHECK_POINTS, CHECK_STEPS
 
+from .program import PLAYED, REFUSED
 from .reader import Refusal, lines_of
 
 PIXELS = {b"mono": rb"(?:0[01]){%d}", b"map4": rb"(?:0[0-9a-f]){%d}", b"map8": rb"(?:[0-9a-f]{2}){%d}"}
@@ -14,6 +15,8 @@ SPOT = re.compile(rb"leaf [a-z][a-z0-9_]{0,15} \d+ \d+|frame [a-z][a-z0-9_]{0,15
 INBOX = re.compile(rb" waiting (\d+) dropped \d+")
 ENTRY = re.compile(rb"(?:leaf:[a-z][a-z0-9_]{0,15}|desk|painter|player) [a-z][a-z0-9_:,]* .* = .*")
 STEP = re.compile(rb"step \d+ bad \d+ stale \d+ outside 0")
+HEADER = re.compile(rb"dump (\d+) (\d+) (mono|map4|map8)")
+FAULTY = re.compile(rb"refused: byte \d+ M[1-5]\n")
 
 
 class Wrong(Exception):
@@ -31,6 +34,7 @@ class Form:
         self.wide = self.high = 0
         self.kind = b""
         self.entries = 0
+        self.dumps: List[bytes] = []
         for line in lines_of(script):
             words = line.split(b" ")
             if line and not line.startswith(b"#"):
@@ -66,6 +70,7 @@ class Form:
         row = re.compile(PIXELS[self.kind] % self.wide)
         for _ in range(self.high):
             self.want(row.fullmatch(self.next()))
+        self.dumps += self.lines[self.at - self.high - 1 : self.at]
 
     def peek(self, _words: List[bytes]) -> None:
         """Three numbers."""
@@ -106,6 +111,28 @@ def wrong_output(script: bytes, output: bytes) -> Optional[str]:
     except Wrong as wrong:
         return str(wrong)
     return None
+
+
+def dumps_of(script: bytes, output: bytes) -> bytes:
+    """The dumps among what `serial` wrote in form."""
+    return b"".join(line + b"\n" for line in Form(script, output).dumps)
+
+
+def wrong_show(status: int, output: bytes) -> Optional[str]:
+    """What is wrong with what `show` wrote for some bytes, if anything: dumps, or why they are no stream."""
+    if status == REFUSED:
+        return None if FAULTY.fullmatch(output) else f"it writes {output[:80]!r}"
+    lines = lines_of(output)
+    at = 0
+    while at < len(lines):
+        found = HEADER.fullmatch(lines[at])
+        if found is None:
+            return f"line {at + 1} is {lines[at][:80]!r}"
+        row = re.compile(PIXELS[found[3]] % int(found[1]))
+        at += 1 + int(found[2])
+        if at > len(lines) or not all(row.fullmatch(line) for line in lines[at - int(found[2]) : at]):
+            return f"the dump before line {at + 1} is not in form"
+    return None if status == PLAYED else f"status {status}"
 
 
 def steps_of(script: bytes) -> Iterator[List[bytes]]:

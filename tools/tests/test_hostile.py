@@ -1,5 +1,5 @@
-"""That the second reader of tools/hostile agrees with what is stored of the program, and that what it draws is what it
-says. bench/hostile.sh compares it with the program itself."""
+"""That the second reader and the model of tools/hostile agree with what is stored of the program, and that what is drawn
+is what it says. bench/hostile.sh compares them with the program itself."""
 
 import sys
 import unittest
@@ -11,6 +11,7 @@ sys.path.insert(0, str(TOP / "tools"))
 
 from hostile.drawing import draw  # noqa: E402
 from hostile.limits import cases  # noqa: E402
+from hostile.model import output_of  # noqa: E402
 from hostile.outputs import wrong_check, wrong_output  # noqa: E402
 from hostile.reader import Refusal, refusal_of  # noqa: E402
 from hostile.worst import SCRIPTS, script  # noqa: E402
@@ -67,6 +68,16 @@ class Readers(unittest.TestCase):
                 checked = file.with_suffix(".check")
                 if checked.exists() and b"refused" not in checked.read_bytes():
                     self.assertIsNone(wrong_check(output, checked.read_bytes()))
+
+    def test_stored_outputs(self) -> None:
+        """What is stored of each example that plays is what the model prints."""
+        for file, text, output in stored():
+            with self.subTest(file=file.name):
+                if file.parent.name == "examples" and refusal_of(text) is None:
+                    self.assertIn(output_of(text), (output, None))
+                    checked = file.with_suffix(".check")
+                    if checked.exists() and b"refused" not in checked.read_bytes():
+                        self.assertIn(output_of(text, "check"), (checked.read_bytes(), None))
 
     def test_faults(self) -> None:
         """Each text of .ci/faults has the fault that stands there."""

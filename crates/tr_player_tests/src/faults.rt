@@ -85,7 +85,7 @@ fn causes_are_looked_at_in_their_order(rt: HostRuntime) -> Result<(), Fail> {
     for (place, (word, script, reads, writes, status, text)) in [
         // The usage before a read fault, with nothing read.
         ("paint", PIXEL, [1].as_slice(), none, 2, USAGE),
-        ("paint", PIXEL, none, [11].as_slice(), 2, USAGE),
+        ("paint", PIXEL, none, [14].as_slice(), 2, USAGE),
         // A read fault before the script: at the first read, and at the one that finds the end.
         ("serial", PIXEL, &[1], none, 4, READ_FAULT),
         ("serial", PIXEL, &[2], none, 4, READ_FAULT),
