@@ -155,7 +155,6 @@ class Trials:
             output += child.stdout.read(1000)
             child.send_signal(signal.SIGSTOP)
             time.sleep(0.01)
-            output += child.stdout.read(1000)
             child.send_signal(signal.SIGCONT)
         output += child.stdout.read()
         return self.finish(child, PLAYED, output, want)
@@ -215,7 +214,7 @@ class Trials:
 
     def scarce_memory(self) -> Optional[str]:
         """An address space from 20 MB upwards: want of memory, or all that is due."""
-        script, want = dumps(1024, 4)
+        script, want = dumps(1024, 12)
         answers: List[int] = []
         for megabytes in [*range(20, 60, 2), *range(60, 160, 10)]:
             limit = megabytes * MEGABYTE

@@ -173,11 +173,17 @@ def written(count: int) -> List[str]:
     return [*one("edit"), *lines, *["@a erase", "@a insert x", "@a goto 199 0", "@a goto 0 0"] * (count // 4), *END]
 
 
+def turned(count: int) -> List[str]:
+    """The same editor, whose caret goes to its end and back: each time all shown lines are painted, and wait."""
+    lines = [f"@a insert {'x' * 80}", "@a goto 0 0", "@a split"] * 199
+    return [*one("edit"), *lines, *["@a goto 199 0", "@a goto 0 0"] * (count // 2), *END]
+
+
 SCRIPTS: Dict[str, Callable[[int], List[str]]] = {
     it.__name__: it
     for it in (
         comments, feeds, commands, figures, undone, flushed, marks, waiting_marks, spotted, tinted, striped, crowd,
-        combs, sizes, journals, dumps, checked, events, written,
+        combs, sizes, journals, dumps, checked, events, written, turned,
     )
 }  # fmt: skip
 
