@@ -1,29 +1,27 @@
 -- What an audit finds.
-use Rattle.std.proofs.Common.{◌≡◌, ◌≢◌, ℕ, zero, suc, ◌+◌, ◌-◌, ◌<◌, ◌≤◌, ◌⊎◌, ◌↔◌, Bool, List, [], ◌∷◌, ◌++◌, Option, Some, None, take, drop, length, map}
+use Rattle.std.proofs.Common.{◌≡◌, ◌≢◌, ℕ, ◌+◌, ◌-◌, ◌<◌, ◌≤◌, ◌⊎◌, List, [], ◌∷◌, ◌++◌, Option, Some, None, take, drop, length}
 use Rattle.std.proofs.Common.{get_or, ap, refl, sym, ◌∙◌, arith, inl, inr, subst}
 use Rattle.std.specs.Prelude.{slice_get}
-use Rattle.std.specs.Option.{ForSome, IsNone, option_map}
-use Rattle.std.specs.List.{filter, count_by}
+use Rattle.std.specs.Option.{ForSome, option_map}
 use Rattle.std.proofs.lemmas.Bool.{cases_lt}
 use Rattle.std.proofs.lemmas.Option.{slice_get_within, slice_get_past, get_or_from_slice_get, same_Some}
-use Rattle.std.proofs.lemmas.List.{get_or_read, length-drop, length-map, length-take-le, take_all, take_more, take-take}
-use Rattle.std.proofs.lemmas.List.Sums.{length-filter, count_by-le-length}
+use Rattle.std.proofs.lemmas.List.{get_or_read, length-drop, length-take-le, take_all, take_more, take-take}
 use Rattle.tr_journal.specs.declared.steps.Actor.{Actor}
 use Rattle.tr_journal.specs.declared.steps.Step.{Step}
 use Rattle.tr_journal.specs.declared.entries.Entry.{Entry}
 use Rattle.tr_journal.specs.Openings.{DifferAt}
 use Rattle.tr_audit.specs.declared.progress.Progress.{Progress}
-use Rattle.tr_journal.specs.Lists.{ListsView, HasList, list_of}
+use Rattle.tr_journal.specs.Lists.{ListsView, list_of}
 use Rattle.tr_journal.specs.declared.differences.Difference.{Difference}
 use Rattle.tr_journal.specs.declared.differences.Apart.{Apart}
 use Rattle.tr_journal.specs.declared.differences.Apart.TheVariants.{Opening, Kept, Own}
-use Rattle.tr_journal.specs.Actors.{is_by, steps_by}
-use Rattle.tr_journal.specs.Differences.{DifferIn, IsBefore}
+use Rattle.tr_journal.specs.Actors.{steps_by}
+use Rattle.tr_journal.specs.Differences.{DifferIn}
 use Rattle.tr_journal.proofs.ActorLemmas.{steps_by-short}
-use Rattle.tr_audit.specs.Progress.{AreFirst, StopsAt, IsUpTo, IsProgress, AreFollowed, IsThrough, AreThrough, IsApartFirst, IsApartAt}
+use Rattle.tr_audit.specs.Progress.{IsUpTo, IsProgress, AreFollowed, IsThrough, AreThrough, IsApartFirst, IsApartAt}
 use Rattle.tr_audit.specs.Audits.{HaveSameSteps, IsApart, IsFirstFound, IsOwnApart, IsOwnDifference}
 use Rattle.tr_audit.specs.Progress.{actor_at, between, no_progress, rank_of, step_found}
-use Rattle.tr_audit.proofs.PlaceLemmas.{differ_unlike, here_within, slice_get-take, differ_here, differ_in_here}
+use Rattle.tr_audit.proofs.PlaceLemmas.{here_within, slice_get-take, differ_here, differ_in_here}
 use Rattle.tr_audit.proofs.RankLemmas.{actor_ranked, listed_rank, rank_before, rank_listed, rank_within, ranked_actor}
 
 -- kept entries, and those of a journal, up to one more

@@ -1,22 +1,20 @@
 -- What is known of each actor's list, entry by entry.
-use Rattle.std.proofs.Common.{◌≡◌, ◌≢◌, ℕ, zero, suc, ◌+◌, ◌<◌, ◌≤◌, Bool, true, false, List, [], ◌∷◌, ◌++◌, Option, Some, None, take, drop, length, map}
-use Rattle.std.proofs.Common.{get_or, set, ap, refl, sym, ◌∙◌, arith, inl, inr, subst}
+use Rattle.std.proofs.Common.{◌≡◌, ◌≢◌, ℕ, ◌+◌, ◌<◌, ◌≤◌, true, false, List, [], ◌∷◌, ◌++◌, Option, Some, None, take, drop, length}
+use Rattle.std.proofs.Common.{get_or, set, ap, refl, sym, ◌∙◌, arith, inl, inr}
 use Rattle.std.specs.Prelude.{slice_get, is_some}
-use Rattle.std.specs.List.{filter}
 use Rattle.std.proofs.lemmas.Bool.{cases_Bool, cases_eq}
 use Rattle.std.proofs.lemmas.Option.{slice_get_within, get_or_from_slice_get, same_Some}
-use Rattle.std.proofs.lemmas.List.{append-nil, length-append, drop-append-le, drop_all, get_or-set_other, get_or-set_same, length-set, length-take-le, length_push, map-append, take_all, take_at, take_more, take-append-le}
-use Rattle.std.proofs.lemmas.List.Elements.{filter-append}
+use Rattle.std.proofs.lemmas.List.{append-nil, length-append, drop-append-le, get_or-set_other, get_or-set_same, length-set, length-take-le, length_push, take_at, take_more, take-append-le}
 use Rattle.tr_journal.specs.declared.steps.Actor.{Actor}
 use Rattle.tr_journal.specs.declared.steps.Step.{Step}
 use Rattle.tr_journal.specs.declared.entries.Entry.{Entry}
 use Rattle.tr_audit.specs.declared.progress.Progress.{Progress}
-use Rattle.tr_journal.specs.Lists.{ListsView, HasList, list_of}
+use Rattle.tr_journal.specs.Lists.{ListsView, list_of}
 use Rattle.tr_journal.specs.Actors.{is_by, steps_by}
 use Rattle.tr_journal.proofs.ActorLemmas.{actor_same, same_actor, steps_by-append}
-use Rattle.tr_audit.specs.Progress.{AreFirst, StopsAt, IsUpTo, IsProgress, Follows, AreFollowed, IsThrough, AreThrough, IsApartFirst}
+use Rattle.tr_audit.specs.Progress.{AreFirst, StopsAt, IsProgress, Follows, AreFollowed}
 use Rattle.tr_audit.specs.Progress.{actor_at, between, no_progress, rank_of, step_found}
-use Rattle.tr_audit.proofs.PlaceLemmas.{slice_get-append, slice_get_push, differ_here, differ_in_here}
+use Rattle.tr_audit.proofs.PlaceLemmas.{slice_get-append, slice_get_push}
 use Rattle.tr_audit.proofs.RankLemmas.{actor_ranked, rank_within, ranked_actor}
 
 -- the list with the element at a place taken, too

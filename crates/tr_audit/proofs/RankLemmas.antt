@@ -1,12 +1,10 @@
 -- Actors, and their places in the order of actors.
-use Rattle.std.proofs.Common.{◌≡◌, ◌≢◌, ℕ, ◌+◌, ◌<◌, ◌≤◌, Bool, true, false, Option, Some, None, cond, eqb, ltb, inl, inr, ap, refl, sym, ◌∙◌, arith}
-use Rattle.std.proofs.lemmas.Bool.{cases_eq, cases_lt, eqb-true, eq-eqb, le-ltb, lt-ltb, ltb-true, ne_eqb}
+use Rattle.std.proofs.Common.{◌≡◌, ℕ, ◌+◌, ◌<◌, Some, ltb, inl, inr, refl, arith}
+use Rattle.std.proofs.lemmas.Bool.{cases_eq, cases_lt, eq-eqb, le-ltb, lt-ltb, ltb-true, ne_eqb}
 use Rattle.std.proofs.lemmas.Option.{cond_some, same_Some}
-use Rattle.tr_base.specs.declared.LeafId.{LeafId}
 use Rattle.tr_journal.specs.declared.steps.Actor.{Actor}
 use Rattle.tr_journal.specs.declared.steps.Actor.TheVariants.{Leaf, Desk, Painter, Player}
 use Rattle.tr_journal.specs.Lists.{HasList}
-use Rattle.tr_journal.specs.Actors.{is_by}
 use Rattle.tr_journal.specs.Differences.{IsBefore}
 use Rattle.tr_audit.specs.Progress.{rank_of, actor_at}
 

@@ -1,5 +1,5 @@
 -- The lines of differences, computed. The leaf is called `a`, and a command is the colour of a tint.
-use Rattle.std.proofs.Common.{◌≡◌, ℕ, List, [], ◌∷◌, ◌++◌, Option, Some, None, lit<, refl}
+use Rattle.std.proofs.Common.{◌≡◌, ℕ, List, [], ◌∷◌, ◌++◌, Some, None, lit<, refl}
 use Rattle.std.specs.Prelude.{codes, decimal}
 use Rattle.std.proofs.lemmas.Fmt.{decimal_digit}
 use Rattle.tr_base.specs.declared.ids.LeafId.{LeafId}
@@ -7,7 +7,6 @@ use Rattle.tr_levels.specs.declared.levels.Level.TheVariants.{Mu, Win}
 use Rattle.tr_journal.specs.declared.answers.Answer.TheVariants.{Done}
 use Rattle.tr_journal.specs.declared.entries.Entry.{Entry}
 use Rattle.tr_journal.specs.declared.steps.Actor.TheVariants as actors
-use Rattle.tr_journal.specs.declared.steps.Step.{Step}
 use Rattle.tr_journal.specs.declared.steps.Step.TheVariants.{Act, Sync}
 use Rattle.tr_journal.specs.declared.differences.Apart.{Apart}
 use Rattle.tr_journal.specs.declared.differences.Apart.TheVariants.{Opening, Kept, Own}

@@ -13,7 +13,7 @@ use Rattle.tr_journal.specs.declared.steps.Step.{Step}
 use Rattle.tr_journal.specs.declared.steps.Step.TheVariants as steps
 use Rattle.tr_journal.specs.Actors.{entries_of, is_by, made_in, steps_of}
 use Rattle.tr_journal.specs.Journals.{JournalLine}
-use Rattle.tr_journal.specs.Steps.{IsLeaf, IsStep, is_leaf, may}
+use Rattle.tr_journal.specs.Steps.{IsLeaf, IsStep, may}
 use Rattle.tr_machine.specs.States.{State}
 use Rattle.tr_machine.specs.Replays.{IsLegalFrom, line_of, next}
 use Rattle.tr_interleaves.specs.Interleaves.{steps_in}

@@ -1,6 +1,6 @@
 -- Lines in a row: the steps of an actor among them, their stretches, and that the screen is settled whenever it is dumped.
 use Rattle.std.proofs.Common.{◌≡◌, Bool, true, false, cond, List, [], ◌∷◌, ◌++◌, refl, sym, ap, subst, ◌∙◌, append_assoc}
-use Rattle.std.specs.Prelude.{⊤, map}
+use Rattle.std.specs.Prelude.{map}
 use Rattle.std.proofs.lemmas.List.{append-nil, map-append}
 use Rattle.tr_base.proofs.RectLemmas.{false-true}
 use Rattle.tr_client.specs.declared.clients.Client.{Ghosts}

@@ -1,6 +1,5 @@
 -- What the definitions say of the lists and the entries of two leaves, computed. Commands are numbers.
 use Rattle.std.proofs.Common.{◌≡◌, ℕ, zero, suc, ◌<◌, List, [], ◌∷◌, Some, None, refl, lit<, arith}
-use Rattle.tr_base.specs.declared.LeafId.{LeafId}
 use Rattle.tr_journal.specs.declared.answers.Answer.TheVariants.{Done}
 use Rattle.tr_journal.specs.declared.steps.Actor.{Actor}
 use Rattle.tr_journal.specs.declared.steps.Actor.TheVariants.{Leaf, Desk, Painter, Player}
@@ -10,8 +9,7 @@ use Rattle.tr_journal.specs.declared.entries.Entry.{Entry}
 use Rattle.tr_journal.specs.declared.differences.Apart.TheVariants.{Kept, Own}
 use Rattle.tr_journal.specs.Actors.{steps_by, steps_of}
 use Rattle.tr_journal.specs.Lists.{HasList, ListsView, list_of, no_steps, with_list, with_step}
-use Rattle.tr_journal.specs.Differences.{Account, DifferIn, IsBefore, IsFirst, Matches}
-use Rattle.tr_journal.specs.Openings.{DifferAt}
+use Rattle.tr_journal.specs.Differences.{Account, IsBefore, IsFirst, Matches}
 
 -- the client of the first leaf, and of the second
 abbrev a : Actor

@@ -4,7 +4,7 @@ use Rattle.std.specs.List.{AllByRecursion}
 use Rattle.std.proofs.lemmas.List.Elements.{All-from_recursion}
 use Rattle.tr_base.specs.declared.LeafId.{LeafId}
 use Rattle.tr_forest.specs.Nodes.{Nodes}
-use Rattle.tr_levels.specs.declared.Level.TheVariants.{Mu, Share, Win}
+use Rattle.tr_levels.specs.declared.Level.TheVariants.{Mu, Share}
 use Rattle.tr_journal.specs.declared.steps.Step.{Step}
 use Rattle.tr_journal.specs.declared.steps.Step.TheVariants as steps
 use Rattle.tr_journal.specs.Steps.{AreLevels, IsLeaf, IsLevel, IsStep, stated}

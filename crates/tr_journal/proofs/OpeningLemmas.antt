@@ -23,7 +23,7 @@ use Rattle.tr_forest.proofs.Keeping.{KeepsValues, keeps_changed, still_node}
 use Rattle.tr_tree.specs.Trees.{Seen}
 use Rattle.tr_client.specs.declared.clients.Client.{Ghosts}
 use Rattle.tr_journal.specs.declared.items.Item.{Item}
-use Rattle.tr_journal.specs.declared.items.Item.TheVariants.{Leaf, Root}
+use Rattle.tr_journal.specs.declared.items.Item.TheVariants.{Leaf}
 use Rattle.tr_journal.specs.Openings.{no_screen, with_node, tree_after, tree_of, font_after, font_of, content_in, contents_of}
 use Rattle.tr_journal.specs.Kept.{leaf_places, IsKept, loose_count}
 

@@ -1,7 +1,7 @@
 -- What a line of a journal names has a name, where each node and each leaf has one.
-use Rattle.std.proofs.Common.{◌≡◌, ℕ, ◌<◌, Bool, true, false, ◌&&◌, ◌||◌, ◌==◌, List, [], ◌∷◌, ◌++◌, Option, Some, None, length, refl, sym, ap, subst, ◌∙◌, arith}
+use Rattle.std.proofs.Common.{◌≡◌, ℕ, ◌<◌, Bool, true, false, ◌||◌, ◌==◌, List, [], ◌∷◌, ◌++◌, Option, Some, None, refl, sym, ap, subst, ◌∙◌, arith}
 use Rattle.std.specs.Prelude.{All}
-use Rattle.std.proofs.lemmas.List.Elements.{All-append, All-cons, All-head, All-nil, All-push, All-tail, All-weaker}
+use Rattle.std.proofs.lemmas.List.Elements.{All-append, All-cons, All-nil, All-push, All-weaker}
 use Rattle.tr_base.specs.declared.LeafId.{LeafId}
 use Rattle.tr_base.specs.declared.NodeId.{NodeId}
 use Rattle.tr_base.specs.declared.Event.{Event}
@@ -18,16 +18,15 @@ use Rattle.tr_forest.specs.Nodes.{Nodes, IsNode, leaf_count}
 use Rattle.tr_tree.specs.Trees.{edited_tree}
 use Rattle.tr_spot.specs.Spots.{spot}
 use Rattle.tr_spot.specs.Spots as below
-use Rattle.tr_spot.proofs.WayLemmas.{equal_numbers, equal_test}
+use Rattle.tr_spot.proofs.WayLemmas.{equal_numbers}
 use Rattle.tr_inbox.specs.declared.Delivery.{Delivery}
 use Rattle.tr_desk.specs.declared.desks.DeskFault.{DeskFault}
 use Rattle.tr_desk.specs.Faults.{time_fault, mouse_fault, own_fault, disown_fault}
-use Rattle.tr_mail.specs.Mails.{Mails, Sending}
+use Rattle.tr_mail.specs.Mails.{Sending}
 use Rattle.tr_mail.specs.Deliveries as mail
 use Rattle.tr_levels.specs.declared.Level.{Level}
 use Rattle.tr_levels.specs.declared.Level.TheVariants.{Mu, Share, Win}
 use Rattle.tr_journal.specs.declared.items.Item.{Item}
-use Rattle.tr_journal.specs.declared.answers.Answer.{Answer}
 use Rattle.tr_journal.specs.declared.steps.Actor.{Actor}
 use Rattle.tr_journal.specs.declared.steps.Actor.TheVariants as actors
 use Rattle.tr_journal.specs.declared.steps.Query.{Query}
@@ -41,9 +40,9 @@ use Rattle.tr_journal.proofs.LevelLemmas.{stated_levels}
 use Rattle.tr_machine.specs.States.{State, content_of, start}
 use Rattle.tr_machine.specs.Machines as machine
 use Rattle.tr_machine.specs.Machines.{Outcome, asked_of, edited, obeyed, taken, unless}
-use Rattle.tr_machine.specs.Replays.{IsLegal, IsLegalFrom, IsLegalLine, line_of, next, replay, replay_from}
+use Rattle.tr_machine.specs.Replays.{IsLegal, IsLegalFrom, line_of, next, replay, replay_from}
 use Rattle.tr_machine.proofs.JournalLemmas.{replay-append}
-use Rattle.tr_machine.proofs.KeptLemmas.{IsKept, as_many, kept_next, step_along}
+use Rattle.tr_machine.proofs.KeptLemmas.{IsKept, kept_next, step_along}
 use Rattle.tr_journal.specs.Names.{HasLeaf, HasNode, Names}
 use Rattle.tr_dump.specs.Names.{IsNamedActor, IsNamedEdit, IsNamedLevel, IsNamedLine, IsNamedQuery, IsNamedStep}
 use Rattle.tr_stage.specs.Stages.{IsOf, IsPainters, StageView, state}
@@ -101,7 +100,7 @@ named_query names t queries.Journal named is = tt
 named_query names t (queries.Where at) named is = tt
 
 -- what a step names
-named_step : {M : Type 0} (names : Names) (t : Nodes) (step : Step M) → AreNamed names t → IsStep t step → IsNamedStep names step
+pub named_step : {M : Type 0} (names : Names) (t : Nodes) (step : Step M) → AreNamed names t → IsStep t step → IsNamedStep names step
 named_step names t (steps.Alter edit) named is = named_edit names t edit named is
 named_step names t (steps.Flush leaf) named is = has_leaf names t leaf named is.within
 named_step names t (steps.Repaint leaf) named is = has_leaf names t leaf named is.within
@@ -132,13 +131,13 @@ own_leaf t own steps.Sync h is = absurd (false-true h)
 own_leaf t own (steps.Report query) h is = absurd (false-true h)
 
 -- the actor of a step
-named_actor : {M : Type 0} (names : Names) (t : Nodes) (actor : Actor) (step : Step M) → AreNamed names t → may actor step ≡ true →
+pub named_actor : {M : Type 0} (names : Names) (t : Nodes) (actor : Actor) (step : Step M) → AreNamed names t → may actor step ≡ true →
     IsStep t step → IsNamedActor names actor
 named_actor names t (actors.Leaf own) step named h is = has_leaf names t own named (own_leaf t own step h is)
 named_actor names t actor step named h is = tt
 
 -- levels of leaves
-named_levels : (names : Names) (t : Nodes) (levels : List Level) → AreNamed names t → AreLevels t levels → All (IsNamedLevel names) levels
+pub named_levels : (names : Names) (t : Nodes) (levels : List Level) → AreNamed names t → AreLevels t levels → All (IsNamedLevel names) levels
 named_levels names t levels named are = All-weaker (IsLevel t) (IsNamedLevel names) each levels are
   where
     each : (level : Level) → IsLevel t level → IsNamedLevel names level

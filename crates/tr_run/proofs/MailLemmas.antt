@@ -1,7 +1,7 @@
 -- Whoever is sent an event is a leaf of the tree, and so is whoever has the mouse or owns a selection afterwards.
-use Rattle.std.proofs.Common.{◌≡◌, ℕ, zero, suc, ◌<◌, ◌≤◌, Bool, true, false, cond, ◌==◌, List, [], ◌∷◌, Option, Some, None, length, refl, ◌∙◌, arith}
+use Rattle.std.proofs.Common.{ℕ, zero, suc, ◌<◌, ◌≤◌, Bool, true, false, cond, ◌==◌, Option, Some, None, length, ◌∙◌, arith}
 use Rattle.std.specs.Prelude.{All}
-use Rattle.std.proofs.lemmas.List.{length-set, length-replicate}
+use Rattle.std.proofs.lemmas.List.{length-set}
 use Rattle.std.proofs.lemmas.List.Elements.{All-nil, All-push}
 use Rattle.tr_base.specs.declared.Point.{Point}
 use Rattle.tr_base.specs.declared.LeafId.{LeafId}
@@ -22,7 +22,7 @@ use Rattle.tr_spot.specs.Spots as below
 use Rattle.tr_spot.specs.Leaves.{in_leaf, leaf_size}
 use Rattle.tr_inbox.specs.declared.Delivery.{Delivery}
 use Rattle.tr_inbox.specs.Inboxes.{Contents}
-use Rattle.tr_mail.specs.Mails.{Mails, Sending, dated, inbox_of, is_full, no_mail, nothing, put_into, send, send_input, unsent, with_inbox}
+use Rattle.tr_mail.specs.Mails.{Mails, Sending, dated, inbox_of, is_full, put_into, send, send_input, unsent, with_inbox}
 use Rattle.tr_mail.specs.Deliveries.{caged, disowned, edited, is_caged, is_gone, is_reshaped, keyed, later, moused, moved, owned}
 use Rattle.tr_mail.specs.Deliveries.{reshape, reshape_below, send_lost, taken, tell, tell_below, told, with_cage}
 use Rattle.tr_run.specs.Views.{IsKnowing}

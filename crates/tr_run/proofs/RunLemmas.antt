@@ -24,7 +24,7 @@ use Rattle.tr_stage.specs.Stages.{StageView, is_note, state}
 use Rattle.tr_run.specs.declared.modes.Mode.{Mode}
 use Rattle.tr_run.specs.declared.modes.Mode.TheVariants.{Serial, Check, Gen}
 use Rattle.tr_run.specs.Runs.{Cue, makes, settles, cue_lines, reporting, run_lines}
-use Rattle.tr_run.specs.Texts.{is_check, lag_line, report_text, told_text, sum_after, sum_from, texts_from, written}
+use Rattle.tr_run.specs.Texts.{is_check, lag_line, told_text, sum_after, sum_from, texts_from, written}
 use Rattle.tr_run.specs.Views.{Adds, Does, RunView}
 
 module _ {C M : Type 0} (client : Ghosts C M) where

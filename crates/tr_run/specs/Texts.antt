@@ -1,6 +1,5 @@
 -- What a run writes: the texts of its reports, or how far the screen lags behind after each step, too, or the sum of a screen's pixels.
 use Rattle.std.specs.Prelude.{ℕ, ◌+◌, Bool, true, false, not, ◌&&◌, if◌then◌else◌, List, [], ◌∷◌, ◌++◌, length, codes, decimal, sum_by}
-use Rattle.tr_base.specs.declared.Point.{Point}
 use Rattle.tr_base.specs.declared.Spot.{Spot}
 use Rattle.tr_base.specs.declared.Spot.TheVariants as spots
 use Rattle.tr_screen.specs.Pictures.{Picture}

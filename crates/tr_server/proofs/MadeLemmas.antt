@@ -1,7 +1,6 @@
 -- What the painter made: rows of steps one after another, the first steps of a row, and the state after them.
 use Rattle.std.proofs.Common.{◌≡◌, ℕ, zero, suc, ◌+◌, ◌<◌, List, [], ◌∷◌, ◌++◌, length, get_or, map, take, refl, sym, ap, ap₂, subst, ◌∙◌, append_assoc, length-append, arith}
-use Rattle.std.specs.Prelude.{Result, OnErr}
-use Rattle.std.proofs.lemmas.List.{append-nil, length-map, map-append, take_all, take_more}
+use Rattle.std.proofs.lemmas.List.{append-nil, length-map, map-append, take_more}
 use Rattle.tr_base.specs.declared.LeafId.{LeafId}
 use Rattle.tr_client.specs.declared.clients.Client.{Ghosts}
 use Rattle.tr_levels.specs.declared.Level.{Level}
@@ -17,7 +16,6 @@ use Rattle.tr_machine.specs.Sharing.{at_shares, repainted_each}
 use Rattle.tr_machine.proofs.JournalLemmas.{lines_by-append, replay-append, replay_from-lines_of}
 use Rattle.tr_machine.proofs.SharingLemmas.{share_replay}
 use Rattle.tr_stage.specs.Stages.{StageView, state}
-use Rattle.tr_stage.proofs.SettleLemmas.{on_err}
 use Rattle.tr_server.specs.Passes.{PassView}
 use Rattle.tr_server.specs.Shares.{HasMade, HasBegun}
 

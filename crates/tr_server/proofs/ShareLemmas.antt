@@ -2,7 +2,6 @@
 use Rattle.std.proofs.Common.{◌≡◌, ℕ, zero, suc, ◌+◌, ◌<◌, ◌==◌, Bool, true, false, cond, not, ◌&&◌, List, [], ◌∷◌, ◌++◌, length, get_or, map, take, refl, sym, ap, subst, ◌∙◌, add-one, arith}
 use Rattle.std.specs.Prelude.{Result, Ok, IfOk}
 use Rattle.std.proofs.lemmas.List.{append-nil, get_or-map, length-map, map-append, take-map}
-use Rattle.tr_base.specs.declared.Point.{Point}
 use Rattle.tr_base.specs.declared.LeafId.{LeafId}
 use Rattle.tr_client.specs.declared.clients.Client.{Ghosts}
 use Rattle.tr_levels.specs.declared.Level.{Level}
@@ -10,20 +9,18 @@ use Rattle.tr_levels.specs.declared.Level.TheVariants.{Mu, Share}
 use Rattle.tr_journal.specs.declared.steps.Actor.TheVariants.{Painter}
 use Rattle.tr_journal.specs.declared.steps.Step.{Step}
 use Rattle.tr_journal.specs.declared.steps.Step.TheVariants.{Repaint}
-use Rattle.tr_journal.specs.Journals.{JournalLine}
 use Rattle.tr_machine.specs.States.{State, batch_of}
-use Rattle.tr_machine.specs.Pictures.{render}
 use Rattle.tr_machine.specs.Replays.{after_steps, lines_by, under}
 use Rattle.tr_machine.specs.Settling.{frame_steps}
-use Rattle.tr_machine.specs.Sharing.{all_bad_leaves, at_shares, bad_leaves, flushing, has_bad, repainted_each, sharing, waits}
+use Rattle.tr_machine.specs.Sharing.{all_bad_leaves, at_shares, bad_leaves, flushing, has_bad, repainted_each, sharing}
 use Rattle.tr_machine.proofs.SharingLemmas.{flushed_all}
 use Rattle.tr_stage.specs.declared.sharing.Painted.{Painted}
 use Rattle.tr_stage.specs.Sharing.{ArePainted}
 use Rattle.tr_stage.specs.Stages.{StageView, state}
 use Rattle.tr_stage.specs.Standings.{Stands}
-use Rattle.tr_stage.proofs.SharedLemmas.{AreShared, HasPut, shared_good, shared_idle, shared_screen}
+use Rattle.tr_stage.proofs.SharedLemmas.{AreShared, HasPut}
 use Rattle.tr_server.specs.Passes.{PassView}
-use Rattle.tr_server.specs.Shares.{ArePaintedShares, HasMade, HasBegun, IsPaintedShare, ShareView, is_ready, ready_leaves, share_of}
+use Rattle.tr_server.specs.Shares.{ArePaintedShares, HasMade, HasBegun, IsPaintedShare, is_ready, ready_leaves, share_of}
 use Rattle.tr_server.proofs.MadeLemmas.{begun_more, begun_then, made_then, state_shares, state_steps}
 
 -- what holds of the value of a result, where all results are Ok

@@ -1,4 +1,4 @@
-ghost use Rattle.std.specs.Prelude.{◌≡◌, ◌<◌, ◌++◌, ◌∷◌, [], false, All, IfOk, OnOk, OnErr};
+ghost use Rattle.std.specs.Prelude.{◌≡◌, ℕ, ◌<◌, ◌++◌, ◌∷◌, [], false, take, All, IfOk, OnOk, OnErr};
 ghost use Rattle.tr_base.specs.declared.LeafId.{LeafId};
 ghost use Rattle.tr_base.specs.declared.Point.{Point};
 ghost use Rattle.tr_forest.specs.Nodes.{leaf_count};
@@ -20,7 +20,8 @@ use tr_journal::Step;
 impl<C: Client> Stage<C> {
     /// Brings the screen up to date by way of shares, on one thread: each leaf is flushed for which
     /// something waits; then the bad points of each leaf are painted apart from the screen, and put onto
-    /// it leaf by leaf, each at its share alone; then the frames are painted, if a point of one is bad.
+    /// it leaf by leaf, each at its share alone; then the frames are painted, if a point of one is bad. For
+    /// want of memory the steps made so far stand.
     pub fn settle_shared(&mut self) -> Result<(), NoMemory>
         ensures opening { self.new.opening ≡ self.old.opening }
         ensures ok { OnOk result (self.new.journal ≡
@@ -31,6 +32,10 @@ impl<C: Client> Stage<C> {
             OnOk result ((leaf : LeafId) → batch_of C.Client m leaf ≡ []) }
         ensures good { let m = state C.Client self.new in OnOk result ((p : Point) → m.bad p ≡ false) }
         ensures screen { OnOk result (self.new.screen ≡ render C.Client (state C.Client self.new)) }
+
+        // For want of memory the journal has the first of these steps.
+        ensures err { OnErr result ((n : ℕ) × (self.new.journal ≡
+            self.old.journal ++ take n (sharing_lines C.Client (state C.Client self.old)))) }
     {
         // Called, here and below, for what it tells the prover.
         self.stands();
@@ -107,7 +112,8 @@ impl<C: Client> Stage<C> {
         Ok(all)
     }
 
-    /// Puts the bad points of all leaves onto the screen, leaf by leaf.
+    /// Puts the bad points of all leaves onto the screen, leaf by leaf. For want of memory those put so far
+    /// stand.
     fn put_all(&mut self, all: Vec<Painted>) -> Result<(), NoMemory>
         requires idle { let m = state C.Client self.old in (leaf : LeafId) → batch_of C.Client m leaf ≡ [] }
         requires all { let m = state C.Client self.old in
@@ -115,6 +121,8 @@ impl<C: Client> Stage<C> {
         ensures opening { self.new.opening ≡ self.old.opening }
         ensures ok { let m = state C.Client self.old in OnOk result (self.new.journal ≡
             self.old.journal ++ share_lines C.Client m (all_bad_leaves m)) }
+        ensures err { let m = state C.Client self.old in OnErr result ((n : ℕ) × (self.new.journal ≡
+            self.old.journal ++ take n (share_lines C.Client m (all_bad_leaves m)))) }
     {
         // Called for what they tell the prover: that the state has the opening's leaves.
         self.stands();

@@ -1,10 +1,8 @@
-use Rattle.std.proofs.Common.{◌≡◌, ℕ, ◌<◌, ◌+◌, ap, sym, ◌∙◌, get_or, length, Some, None, arith, subst}
+use Rattle.std.proofs.Common.{◌≡◌, ℕ, ◌<◌, ◌+◌, ap, sym, ◌∙◌, get_or, length, Some, None, arith}
 use Rattle.std.proofs.lemmas.List.{get_or_read}
 use Rattle.tr_journal.specs.declared.steps.Actor.{Actor}
-use Rattle.tr_audit.specs.declared.progress.Progress.{Progress}
-use Rattle.tr_journal.specs.Lists.{list_of}
 use Rattle.tr_journal.specs.Actors.{entries_of}
-use Rattle.tr_audit.specs.Progress.{no_progress, rank_of, Follows}
+use Rattle.tr_audit.specs.Progress.{no_progress, rank_of}
 use Rattle.tr_audit.proofs.RankLemmas.{rank_within}
 use Rattle.tr_audit.proofs.ProgressLemmas.{followed_none, followed_more}
 use Rattle.tr_audit.proofs.progress.follow_entry.Goals as goal

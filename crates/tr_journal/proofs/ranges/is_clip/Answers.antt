@@ -1,6 +1,4 @@
-use Rattle.std.proofs.Common.{rules}
 use Rattle.tr_base.proofs.RectLemmas.{cast-in_reach}
-use Rattle.tr_journal.specs.Steps.{IsClip}
 use Rattle.tr_journal.proofs.ranges.is_clip.Goals as goal
 
 pub returns-then-are_edges : goal.returns-then-are_edges

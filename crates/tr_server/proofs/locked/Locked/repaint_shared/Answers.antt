@@ -6,7 +6,7 @@ use Rattle.tr_stage.specs.Stages.{state}
 use Rattle.tr_stage.proofs.SettleLemmas.{on_err}
 use Rattle.tr_stage.proofs.SharedLemmas.{AreShared, shared_good, shared_idle, shared_screen}
 use Rattle.tr_server.proofs.MadeLemmas.{begun_more, made_actor}
-use Rattle.tr_server.proofs.ShareLemmas.{AreRows, are_shared, begun_frames, begun_shares, flushed_none, made_sharing}
+use Rattle.tr_server.proofs.ShareLemmas.{are_shared, begun_frames, begun_shares, flushed_none, made_sharing}
 use Rattle.tr_server.proofs.locked.Locked.repaint_shared.Given.{Over}
 use Rattle.tr_server.proofs.locked.Locked.repaint_shared.Goals.{After-stands-3}
 use Rattle.tr_server.proofs.locked.Locked.repaint_shared.Goals as goal

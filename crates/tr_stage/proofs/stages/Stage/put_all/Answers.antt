@@ -7,7 +7,8 @@ use Rattle.tr_journal.specs.Openings.{tree_of}
 use Rattle.tr_machine.specs.Sharing.{all_bad_leaves, share_lines}
 use Rattle.tr_stage.specs.Stages.{state}
 use Rattle.tr_machine.proofs.SharingLemmas.{bad_apart}
-use Rattle.tr_stage.proofs.SharedLemmas.{painted_length, put_idle, put_more, put_ready, put_within}
+use Rattle.tr_stage.proofs.SettleLemmas.{on_err}
+use Rattle.tr_stage.proofs.SharedLemmas.{painted_length, put_idle, put_more, put_ready, put_within, shares_first}
 use Rattle.tr_stage.proofs.stages.Stage.put_all.Goals as goal
 
 pub put_painted-requires-clause-leaf : goal.put_painted-requires-clause-leaf
@@ -65,3 +66,13 @@ returns-clause-ok g c =
     end.1 ∙ painted_length g.C.Client m (all_bad_leaves m) c.args.all.items c.requires.all in
     c.loop-painted.invariant.journal
     ∙ ap (λ ls. c.args.self.now.journal ++ share_lines g.C.Client m ls) (take_all (length c.loop-painted.yielded) (all_bad_leaves m) (omega (arith, all)))
+
+pub returns-in_err-put_painted-clause-err : goal.returns-in_err-put_painted-clause-err
+returns-in_err-put_painted-clause-err g c =
+    let m = state g.C.Client c.args.self.now in
+    let k = length c.loop-painted.yielded in
+    on_err c.from_residual.result (
+      k,
+      c.in_err-put_painted.ensures.err_journal ∙ c.loop-painted.invariant.journal
+          ∙ ap (λ ls. c.args.self.now.journal ++ ls) (shares_first g.C.Client m (all_bad_leaves m) k),
+    )
