@@ -104,8 +104,14 @@ impl Editor {
         ensures { IfOk result (λ batch. batch ≡ batch_of (spec.repainted size self.now)) }
     {
         let mut batch = cleared(alloc, window(size))?;
-        for above in 0..self.shown(size).len() {
-            batch.push(self.written(size, above)?)?;
+        let shown = self.shown(size);
+        for (above, line) in shown.iter().enumerate() {
+            batch.push(Paint::Text {
+                clip: strip(size, above),
+                at: begin_of(above),
+                ops: PLAIN,
+                text: *line,
+            })?;
         }
         Ok(batch)
     }
