@@ -4,3 +4,4 @@ pub mod StreamLemmas
 pub mod ValueLemmas
 pub mod DumpLemmas
 pub mod ReportLemmas
+pub mod TextLemmas

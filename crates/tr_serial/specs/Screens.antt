@@ -35,7 +35,7 @@ dumped_screens s = screens_from widgets (start s.opening) (serial_journal s)
 abbrev pub mirror_bytes : Script → List ℕ
 mirror_bytes s = stream_of (dumped_screens s)
 
--- what `serial` writes of them: their texts, without those of other reports
+-- Their texts. Of the reports that `serial` writes these are the dumps, in order: `serial_reports` in proofs/TextLemmas.antt
 abbrev pub dump_texts : Script → List ℕ
 dump_texts s = flat_map dump_text (dumped_screens s)
 
