@@ -1,0 +1,57 @@
+//! Measures the writer and the reader of streams beside std's `==` and `copy_from_slice`, on screens of 1024 by
+//! 1024.
+//!
+//! Each line says how many bytes a piece of work wrote or read, which never changes. With the word `time` it ends
+//! with the speed at best, in billions of bytes of a screen a second.
+#![tactic(auto)]
+
+mod feeds;
+mod updates;
+
+use crate::feeds::feeds;
+use crate::updates::{Bench, Work, speed};
+use std::io::ErrorKind;
+use std::rt::{Clock, Env};
+use std::{env, io};
+use tr_base::NoMemory;
+
+fn main(rt: HostRuntime) -> io::Result<()> {
+    let timed = has_word(&rt)?;
+    let mut bench = Bench::new(rt.alloc()).map_err(out_of_memory)?;
+    for work in [
+        Work::TwoComparisons,
+        Work::SameScreen,
+        Work::Copy,
+        Work::CopyRows,
+        Work::OtherScreen,
+    ] {
+        line(&rt, &mut bench, work, timed)?;
+    }
+    feeds(&rt, bench.stream(), timed)
+}
+
+/// Whether the first word is `time`.
+fn has_word<R: Env + AllocGlobal>(rt: &R) -> io::Result<bool> {
+    let words = env::args(rt)?;
+    Ok(words.skip(1).any(|word| word.as_str() == "time"))
+}
+
+/// Prints a line for a piece of work.
+fn line<R: Print + Clock + AllocGlobal>(
+    rt: &R,
+    bench: &mut Bench,
+    work: Work,
+    timed: bool,
+) -> io::Result<()> {
+    let count = work.run(bench).map_err(out_of_memory)?;
+    print!(rt; "{work}: {count} bytes")?;
+    if timed {
+        let hundredths = speed(rt, bench, work)?;
+        print!(rt; " {}.{:02} GB/s", hundredths / 100, hundredths % 100)?;
+    }
+    println!(rt; "")
+}
+
+pub(crate) fn out_of_memory(_error: NoMemory) -> io::Error {
+    io::Error::from(ErrorKind::OutOfMemory)
+}
