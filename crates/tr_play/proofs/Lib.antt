@@ -1,0 +1,4 @@
+pub mod ListLemmas
+pub mod WorkerLemmas
+pub mod SessionLemmas
+pub mod PlayLemmas

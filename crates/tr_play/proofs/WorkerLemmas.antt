@@ -1,0 +1,146 @@
+-- What the workers of a session are given, and what they make of it.
+use Rattle.std.proofs.Common.{◌≡◌, ℕ, ◌+◌, ◌<◌, ◌≤◌, Bool, true, false, nat_lt, cond, List, [], ◌∷◌, length, take, get_or, refl, sym, ap, subst, ◌∙◌, arith}
+use Rattle.std.specs.Prelude.{All}
+use Rattle.std.proofs.lemmas.Bool.{ltb-false, ltb-true}
+use Rattle.std.proofs.lemmas.List.{get_or_default, get_or_past, get_or-take, length-take-le}
+use Rattle.std.proofs.lemmas.List.Elements.{All-cons, All-head, All-nil, All-tail, All-weaker}
+use Rattle.tr_base.specs.declared.LeafId.{LeafId}
+use Rattle.tr_base.proofs.RectLemmas.{false-true}
+use Rattle.tr_forest.specs.Nodes.{Nodes, leaf_count}
+use Rattle.tr_journal.specs.declared.steps.Actor.{Actor}
+use Rattle.tr_journal.specs.declared.steps.Actor.TheVariants.{Leaf, Desk, Painter, Player}
+use Rattle.tr_journal.specs.declared.steps.Step.{Step}
+use Rattle.tr_journal.specs.Actors.{is_by, is_maker, steps_of}
+use Rattle.tr_journal.specs.Lists.{HasList, ListsView, list_of}
+use Rattle.tr_journal.specs.Steps.{IsLeaf, IsStep, may}
+use Rattle.tr_journal.proofs.ActorLemmas.{same_actor}
+use Rattle.tr_interleaves.proofs.LegalLemmas.{leaf_acts}
+use Rattle.tr_parts.specs.Turns.{IsMade}
+use Rattle.tr_server.specs.Passes.{PassView}
+use Rattle.tr_play.specs.Lists.{AreListed, HaveLists}
+use Rattle.tr_play.specs.Sessions.{AreWhole}
+use Rattle.tr_play.specs.Workers.{AreReady, HasTaken, IsWorker}
+
+-- ---- steps
+
+-- whoever makes such a step has a list
+pub has_list : {M : Type 0} (t : Nodes) (made : Actor × Step M) → IsMade t made → HasList (leaf_count t) made.0
+has_list {M} t made is = of_actor made.0 made.1 is.maker is.may is.values
+  where
+    of_actor : (actor : Actor) (step : Step M) → is_maker actor ≡ true → may actor step ≡ true → IsStep t step → HasList (leaf_count t) actor
+    of_actor (Leaf leaf) step maker can values = (leaf_acts t leaf step can values).within
+    of_actor Desk step maker can values = tt
+    of_actor Painter step maker can values = absurd (false-true maker)
+    of_actor Player step maker can values = tt
+
+-- so whoever makes the steps of a part has one
+pub have_lists : {M : Type 0} (t : Nodes) (steps : List (Actor × Step M)) → All (IsMade t) steps → HaveLists (leaf_count t) steps
+have_lists t steps all = All-weaker (IsMade t) (λ made. HasList (leaf_count t) made.0) (λ made is. has_list t made is) steps all
+
+-- the steps of an actor among those that can be made can be made by it
+steps_ready : {M : Type 0} (t : Nodes) (actor : Actor) (steps : List (Actor × Step M)) → All (IsMade t) steps →
+    All (λ step. IsMade t (actor, step)) (steps_of actor steps)
+steps_ready t actor [] all = All-nil (λ step. IsMade t (actor, step))
+steps_ready {M} t actor (x ∷ xs) all = by_test (steps_ready t actor xs (All-tail (IsMade t) x xs all)) (is_by actor x.0) refl
+  where
+    P : Step M → Type 0
+    P = λ step. IsMade t (actor, step)
+
+    by_test : All P (steps_of actor xs) → (b : Bool) → is_by actor x.0 ≡ b → All P (cond b (x.1 ∷ steps_of actor xs) (steps_of actor xs))
+    by_test rest true is =
+        All-cons P x.1 (steps_of actor xs)
+        (subst (λ (a : Actor). IsMade t (a, x.1)) (sym (same_actor actor x.0 is)) (All-head (IsMade t) x xs all)) rest
+    by_test rest false is = rest
+
+-- an actor that makes steps of a script has a list, or is a leaf's that isn't there
+pub data Listed (t : Nodes) (actor : Actor) : Type 0 where
+  listed : HasList (leaf_count t) actor → Listed t actor
+  absent : (leaf : LeafId) → actor ≡ Leaf leaf → (IsLeaf t leaf → ⊥) → Listed t actor
+
+pub is_listed : (t : Nodes) (actor : Actor) → is_maker actor ≡ true → Listed t actor
+is_listed t (Leaf leaf) is = by_test (nat_lt leaf.0 (leaf_count t)) refl
+  where
+    by_test : (b : Bool) → nat_lt leaf.0 (leaf_count t) ≡ b → Listed t (Leaf leaf)
+    by_test true within = listed (ltb-true leaf.0 (leaf_count t) within)
+    by_test false beyond =
+        absent leaf refl
+        (λ there. let high : leaf_count t ≤ leaf.0 = ltb-false leaf.0 (leaf_count t) beyond in absurd (omega (arith, there.within, high)))
+is_listed t Desk is = listed tt
+is_listed t Painter is = absurd (false-true is)
+is_listed t Player is = absurd (false-true is)
+
+-- so those of their lists can
+pub lists_ready : {M : Type 0} (t : Nodes) (steps : List (Actor × Step M)) (lists : ListsView M) → AreListed (leaf_count t) steps lists →
+    All (IsMade t) steps → AreReady t lists
+lists_ready {M} t steps lists are all actor maker = by_list (is_listed t actor maker)
+  where
+    P : Step M → Type 0
+    P = λ step. IsMade t (actor, step)
+
+    by_list : Listed t actor → All P (list_of lists actor)
+    by_list (listed has) = subst (λ (xs : List (Step M)). All P xs) (sym (are.steps actor has)) (steps_ready t actor steps all)
+    by_list (absent leaf same none) =
+        let high : length lists.leaves ≤ leaf.0 = beyond leaf none in
+        subst (λ (xs : List (Step M)). All P xs)
+        (sym (ap (λ (a : Actor). list_of lists a) same ∙ get_or_past lists.leaves leaf.0 [] high)) (All-nil P)
+      where
+        beyond : (leaf : LeafId) → (IsLeaf t leaf → ⊥) → length lists.leaves ≤ leaf.0
+        beyond leaf none = by_test (nat_lt leaf.0 (leaf_count t)) refl
+          where
+            by_test : (b : Bool) → nat_lt leaf.0 (leaf_count t) ≡ b → length lists.leaves ≤ leaf.0
+            by_test true within = absurd (none (record { within = ltb-true leaf.0 (leaf_count t) within }))
+            by_test false past = let count : length lists.leaves ≡ leaf_count t = are.count in omega (arith, count, ltb-false leaf.0 (leaf_count t) past)
+
+-- none of them is the player's
+pub no_player : {M : Type 0} (t : Nodes) (steps : List (Actor × Step M)) → All (IsMade t) steps → steps_of Player steps ≡ []
+no_player t [] all = refl
+no_player {M} t (x ∷ xs) all =
+    ap (λ (b : Bool). cond b (x.1 ∷ steps_of Player xs) (steps_of Player xs)) (not_by x.0 (All-head (IsMade t) x xs all).maker)
+    ∙ no_player t xs (All-tail (IsMade t) x xs all)
+  where
+    not_by : (actor : Actor) → is_maker actor ≡ true → is_by Player actor ≡ false
+    not_by (Leaf leaf) maker = refl
+    not_by Desk maker = refl
+    not_by Painter maker = refl
+    not_by Player maker = absurd (false-true maker)
+
+-- ---- workers
+
+-- the passes so far, and one more
+pub whole_more : {M : Type 0} (passes : List (PassView M)) (k : ℕ) (lists : ListsView M) (pass : PassView M) →
+    (k < length passes) × (pass ≡ get_or passes k pass) → AreWhole (take k passes) lists →
+    (is_maker pass.actor ≡ true → length pass.mine ≡ length (list_of lists pass.actor)) → AreWhole (take (k + 1) passes) lists
+whole_more {M} passes k lists pass at so_far here = each
+  where
+    P : PassView M → Type 0
+    P = λ p. is_maker p.actor ≡ true → length p.mine ≡ length (list_of lists p.actor)
+
+    many : length (take (k + 1) passes) ≡ k + 1
+    many = let low : k < length passes = at.0 in length-take-le (k + 1) passes (omega (arith, low))
+
+    many_before : length (take k passes) ≡ k
+    many_before = let low : k < length passes = at.0 in length-take-le k passes (omega (arith, low))
+
+    each : (i : ℕ) (d : PassView M) → i < length (take (k + 1) passes) → P (get_or (take (k + 1) passes) i d)
+    each i d within = subst P (sym (get_or-take (k + 1) passes i d low)) (by_test (nat_lt i k) refl)
+      where
+        low : i < k + 1
+        low = omega (arith, within, many)
+
+        by_test : (b : Bool) → nat_lt i k ≡ b → P (get_or passes i d)
+        by_test true before =
+            let lower : i < k = ltb-true i k before in
+            subst P (get_or-take k passes i d lower) (so_far i d (omega (arith, lower, many_before)))
+        by_test false last =
+            let is : i ≡ k = omega (arith, low, ltb-false i k last) in
+            subst (λ (j : ℕ). P (get_or passes j d)) (sym is)
+            (subst P (at.1 ∙ get_or_default passes k pass d at.0) here)
+
+-- passes stay their actors'
+pub still_workers : {M : Type 0} (leaves : ℕ) (before after : List (PassView M)) (lists : ListsView M) →
+    All (λ (p : PassView M). IsWorker leaves p.actor) before → length after ≡ length before →
+    ((i : ℕ) (d : PassView M) → i < length before → HasTaken lists (get_or before i d) (get_or after i d)) →
+    All (λ (p : PassView M). IsWorker leaves p.actor) after
+still_workers {M} leaves before after lists all many taken = λ i d within.
+    let low : i < length before = omega (arith, within, many) in
+    subst (λ (actor : Actor). IsWorker leaves actor) (sym (taken i d low).actor) (all i d low)

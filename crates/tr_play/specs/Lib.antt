@@ -1,0 +1,4 @@
+pub mod Lists
+pub mod Workers
+pub mod Plays
+pub mod Sessions

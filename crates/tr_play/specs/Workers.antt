@@ -1,0 +1,33 @@
+-- Private contracts alone cite this file.
+-- What a worker does with its pass.
+use Rattle.std.specs.Prelude.{◌≡◌, ℕ, ◌<◌, ⊤, true, All, List, ◌++◌, take}
+use Rattle.tr_forest.specs.Nodes.{Nodes}
+use Rattle.tr_journal.specs.declared.steps.Actor.{Actor}
+use Rattle.tr_journal.specs.declared.steps.Actor.TheVariants as actors
+use Rattle.tr_journal.specs.declared.steps.Step.{Step}
+use Rattle.tr_journal.specs.Actors.{is_maker}
+use Rattle.tr_journal.specs.Lists.{ListsView, list_of}
+use Rattle.tr_parts.specs.Turns.{IsMade}
+use Rattle.tr_server.specs.Passes.{PassView}
+
+-- of so many leaves, the actor is one that has a thread
+abbrev pub IsWorker : ℕ → Actor → Type 0
+IsWorker leaves (actors.Leaf leaf) = leaf.0 < leaves
+IsWorker leaves actors.Desk = ⊤
+IsWorker leaves actors.Painter = ⊤
+IsWorker leaves actors.Player = ⊥
+
+-- the first so many steps of a list were made with a pass
+pub record HasWorked {M : Type 0} (before after : PassView M) (list : List (Step M)) : Type 0 where
+  pub steps : ℕ
+  pub actor : after.actor ≡ before.actor
+  pub mine : after.mine ≡ before.mine ++ take steps list
+
+-- the same of the actor's list, if the pass is a leaf's or the desk's
+pub record HasTaken {M : Type 0} (lists : ListsView M) (before after : PassView M) : Type 0 where
+  pub actor : after.actor ≡ before.actor
+  pub worked : is_maker before.actor ≡ true → HasWorked before after (list_of lists before.actor)
+
+-- the steps of each list can be made by its actor
+abbrev pub AreReady : {M : Type 0} → Nodes → ListsView M → Type 0
+AreReady t lists = (actor : Actor) → is_maker actor ≡ true → All (λ step. IsMade t (actor, step)) (list_of lists actor)

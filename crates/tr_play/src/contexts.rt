@@ -1,0 +1,13 @@
+use crate::gates::Gate;
+use std::alloc::Global;
+use tr_client::Client;
+use tr_server::{Server, Session};
+
+/// What all workers of a session share.
+#[derive(Drop)]
+pub(crate) struct Context<'a, C: Client, L: Session, R, G: Gate> {
+    pub(crate) rt: &'a R,
+    pub(crate) alloc: Global,
+    pub(crate) gate: &'a G,
+    pub(crate) server: &'a Server<C, L>,
+}

@@ -1,0 +1,17 @@
+use std::sync::Wait;
+use tr_journal::Actor;
+
+/// Is asked before each step that a worker makes, while it holds no lock. It may let the worker wait, so
+/// that one order of steps comes about and not another.
+pub trait Gate {
+    /// Is called before an actor's k-th step of a part, counted from 1.
+    fn turn<R: Wait>(&self, rt: &R, actor: Actor, k: u32);
+}
+
+/// A gate that lets nobody wait.
+#[derive(Clone, Copy, Drop)]
+pub struct OpenGate;
+
+impl Gate for OpenGate {
+    fn turn<R: Wait>(&self, _rt: &R, _actor: Actor, _k: u32) {}
+}

@@ -1,0 +1,16 @@
+//! Parts of a script that threads play: one for each leaf's client, one for the desk, and one for the
+//! painter, who brings the screen up to date meanwhile.
+#![tactic(auto)]
+
+mod contexts;
+mod gates;
+mod lists;
+mod painters;
+mod plays;
+mod sessions;
+mod steps;
+mod threads;
+
+pub use gates::{Gate, OpenGate};
+pub use plays::play;
+pub use threads::Workers;

@@ -1,0 +1,54 @@
+ghost use Rattle.std.specs.Prelude.{◌≡◌, OnOk};
+ghost use Rattle.tr_journal.specs.declared.Actor.TheVariants.{Painter};
+
+use crate::contexts::Context;
+use crate::gates::Gate;
+use std::sync::Wait;
+use std::thread::Threads;
+use tr_base::{LeafId, NoMemory};
+use tr_client::Client;
+use tr_levels::Ladder;
+use tr_server::{Mu, Pass, Session};
+
+impl<C: Client, L: Session, R: Threads + Wait + Sync, G: Gate> Context<'_, C, L, R, G> {
+    /// The painter brings the screen up to date so many times, until memory runs out.
+    pub(crate) fn paint(&self, pass: &mut Pass<C, L>, repaints: usize)
+        requires { pass.old.actor ≡ Painter }
+        ensures { pass.new.actor ≡ pass.old.actor }
+    {
+        for _repaint in 0..repaints {
+            if self.paint_once(pass).is_err() {
+                return;
+            }
+        }
+    }
+
+    /// The painter brings the screen up to date: what waits in the windows is handed over first.
+    fn paint_once(&self, pass: &mut Pass<C, L>) -> Result<(), NoMemory>
+        requires { pass.old.actor ≡ Painter }
+        ensures { pass.new.actor ≡ pass.old.actor }
+    {
+        let mut mu = self.server.enter(self.rt, Ladder::ground());
+        let painted = self.paint_under(&mut mu, pass);
+        mu.leave().end();
+        painted
+    }
+
+    /// The same, with the tree's lock taken.
+    fn paint_under(&self, mu: &mut Mu<'_, C, L>, pass: &mut Pass<C, L>) -> Result<(), NoMemory>
+        requires { pass.old.actor ≡ Painter }
+        ensures { pass.new.actor ≡ pass.old.actor }
+    {
+        self.hand_over_all(mu)?;
+        mu.repaint_shared(self.rt, pass)
+    }
+
+    /// Hands over what waits in each window.
+    fn hand_over_all(&self, mu: &mut Mu<'_, C, L>) -> Result<(), NoMemory> {
+        let leaves = self.server.opening().tree().leaves();
+        for n in 0..leaves {
+            mu.hand_over(self.rt, self.server.window(LeafId(n)))?;
+        }
+        Ok(())
+    }
+}

@@ -1,0 +1,98 @@
+ghost use Rattle.std.specs.Prelude.{◌≡◌, ◌<◌, ◌++◌, All, IfErr, IfOk, length};
+ghost use Rattle.tr_journal.specs.Openings.{tree_of};
+ghost use Rattle.tr_widget.specs.Widgets.{widget_words};
+ghost use Rattle.tr_grammar.specs.Scripts.{IsPlayablePart};
+ghost use Rattle.tr_run.specs.declared.Mode.TheVariants.{Serial};
+ghost use Rattle.tr_parts.specs.Plays.{HasInterleaved, journal_texts, played_threads};
+ghost use Rattle.tr_parts.specs.Runs.{HasBegun, HasPlayedNext, HasPlayedParts};
+ghost use Rattle.tr_server.specs.Closing.{IfDiffers};
+ghost use Rattle.tr_play.specs.Plays.{DiffersInPart, HasLeft, part_of, parts_of};
+
+use crate::gates::Gate;
+use crate::threads::{Workers, make_side_by_side};
+use std::sync::Wait;
+use std::thread::Threads;
+use tr_client::Client;
+use tr_journal::NameOf;
+use tr_parts::{begin_part, finish, stands};
+use tr_reader::Part;
+use tr_run::{Finished, Run};
+use tr_server::CloseRefused;
+use tr_widget::WidgetCmd;
+
+/// Plays the parts of a script, of which there are some, in a run before its first step. The steps of each
+/// part are made by threads, in some order, and its reports before them. What is written are the texts of
+/// the reports in the journal that this makes, and that it is the threads' own.
+pub fn play<'a, C: Client<Cmd = WidgetCmd>, N: NameOf, R: Threads + Wait + Sync, G: Gate + Sync>(
+    workers: &Workers<'_, R, G>,
+    run: Run<'a, C, N>,
+    parts: &[Part],
+) -> Result<Finished<C>, CloseRefused<C>>
+    requires begun { HasBegun run }
+    requires some { 0 < length parts.now }
+    requires playable { All (IsPlayablePart (tree_of run.stage.opening).nodes) parts.now }
+    ensures journal { IfOk result (λ end.
+        HasInterleaved C.Client run.entry.stage.opening (parts_of parts.now) end.stage) }
+    ensures text { IfOk result (λ end. end.text.items ≡ journal_texts C.Client widget_words
+        run.entry.names run.entry.stage.opening end.stage.journal ++ played_threads) }
+    ensures differs { IfErr result (λ e. IfDiffers e (λ d.
+        DiffersInPart C.Client run.entry.stage.opening (parts_of parts.now) d)) }
+{
+    let run = play_parts(workers, run, parts)?;
+    stands(run.stage());
+    match finish(run) {
+        Ok(end) => Ok(end),
+        Err(_) => Err(CloseRefused::NoMemory),
+    }
+}
+
+/// Plays parts, one after another. Each later one begins with a sync.
+fn play_parts<'a, C: Client<Cmd = WidgetCmd>, N: NameOf, R: Threads + Wait + Sync, G: Gate + Sync>(
+    workers: &Workers<'_, R, G>,
+    run: Run<'a, C, N>,
+    parts: &[Part],
+) -> Result<Run<'a, C, N>, CloseRefused<C>>
+    requires mode { run.mode ≡ Serial }
+    requires playable { All (IsPlayablePart (tree_of run.stage.opening).nodes) parts.now }
+    ensures ok { IfOk result (λ new.
+        HasPlayedParts C.Client widget_words run.entry new (parts_of parts.now)) }
+    ensures differs { IfErr result (λ e. IfDiffers e (λ d.
+        DiffersInPart C.Client run.entry.stage.opening (parts_of parts.now) d)) }
+{
+    let mut run = run;
+    let mut is_later = false;
+    for part in parts {
+        run = play_part(workers, run, is_later, part)?;
+        is_later = true;
+    }
+    Ok(run)
+}
+
+/// Plays a part: its reports, and then its steps. A later one begins with a sync.
+fn play_part<'a, C: Client<Cmd = WidgetCmd>, N: NameOf, R: Threads + Wait + Sync, G: Gate + Sync>(
+    workers: &Workers<'_, R, G>,
+    run: Run<'a, C, N>,
+    is_later: bool,
+    part: &Part,
+) -> Result<Run<'a, C, N>, CloseRefused<C>>
+    requires mode { run.mode ≡ Serial }
+    requires playable { IsPlayablePart (tree_of run.stage.opening).nodes part.now }
+    ensures ok { IfOk result (λ new.
+        HasPlayedNext C.Client widget_words run.entry new is_later (part_of part.now)) }
+    ensures differs { IfErr result (λ e. IfDiffers e (λ d.
+        HasLeft C.Client run.entry.stage.opening part.now.steps d)) }
+{
+    let mut run = run;
+    let Ok(()) = begin_part(&mut run, is_later, &part.reports) else {
+        return Err(CloseRefused::NoMemory);
+    };
+    stands(run.stage());
+    let (stage, paused) = run.pause();
+    match make_side_by_side(workers, stage, &part.steps) {
+        Ok(stage) => {
+            stands(&stage);
+            Ok(paused.resume(stage))
+        }
+        Err(refused) => Err(refused),
+    }
+}

@@ -1,0 +1,145 @@
+ghost use Rattle.std.specs.Prelude.{◌≡◌, ℕ, ◌+◌, ◌*◌, ◌<◌, [], true, All, IfOk, IfErr, IsTrue, length, vec_len, slice_index_or};
+ghost use Rattle.tr_journal.specs.Actors.{is_maker};
+ghost use Rattle.tr_journal.specs.Differences.{Matches, account_of};
+ghost use Rattle.tr_journal.specs.Lists.{list_of};
+ghost use Rattle.tr_journal.specs.Openings.{tree_of};
+ghost use Rattle.tr_server.specs.Closing.{IfDiffers};
+ghost use Rattle.tr_server.specs.Sessions.{HasIds};
+ghost use Rattle.tr_play.specs.Sessions.{AreWhole, IsLeft};
+ghost use Rattle.tr_play.specs.Workers.{AreReady, HasTaken, IsWorker};
+
+use crate::contexts::Context;
+use crate::gates::Gate;
+use crate::threads::Workers;
+use std::sync::Wait;
+use std::sync::ledger::Blank;
+use std::thread;
+use std::thread::Threads;
+use tr_client::Client;
+use tr_journal::{Actor, Lists};
+use tr_server::{CloseRefused, Pass, Server, Session};
+use tr_stage::Stage;
+
+/// A session on a stage: each actor makes the steps of its list in a thread of its own, and the painter
+/// repaints the screen so many times.
+pub(crate) fn session<C: Client, L: Session, R: Threads + Wait + Sync, G: Gate + Sync>(
+    workers: &Workers<'_, R, G>,
+    blank: Blank,
+    stage: Stage<C>,
+    lists: &Lists<C::Cmd>,
+    repaints: usize,
+) -> Result<Stage<C>, CloseRefused<C>>
+    requires name { blank.name ≡ L.name }
+    requires parts { (blank.parts ≡ L.parts) × (L.parts ≡ 2 * L.leaves + 3) }
+    requires ids { HasIds L.nodes L.leaves stage.opening }
+    requires entries { length stage.journal ≡ L.entries }
+    requires count { length lists.now.leaves ≡ L.leaves }
+    requires player { lists.now.player ≡ [] }
+    requires ready { AreReady (tree_of stage.opening).nodes lists.now }
+    ensures ok { IfOk result (λ s. Matches (account_of stage.opening stage.journal) lists.now
+        (account_of s.opening s.journal)) }
+    ensures differs { IfErr result (λ e. IfDiffers e (λ d. IsLeft stage lists.now d)) }
+{
+    let Ok((server, mut passes)) = Server::<C, L>::start(workers.alloc, blank, stage) else {
+        return Err(CloseRefused::NoMemory);
+    };
+    let context = Context {
+        rt: workers.rt,
+        alloc: workers.alloc,
+        gate: workers.gate,
+        server: &server,
+    };
+    all_at_work(&context, &mut passes.workers, lists, repaints);
+    let is_whole = are_whole(&passes.workers, lists);
+    let closed = server.close(workers.rt, passes);
+    if !is_whole {
+        return Err(CloseRefused::NoMemory);
+    }
+    closed
+}
+
+/// All workers do what is theirs, with the passes in a `Vec`.
+fn all_at_work<C: Client, L: Session, R: Threads + Wait + Sync, G: Gate + Sync>(
+    context: &Context<'_, C, L, R, G>,
+    workers: &mut Vec<Pass<C, L>>,
+    lists: &Lists<C::Cmd>,
+    repaints: usize,
+)
+    requires some { 0 < vec_len workers.old }
+    requires workers { All (λ pass. IsWorker (length lists.now.leaves) pass.actor) workers.old.items }
+    requires ready { AreReady (tree_of context.now.server.now.opening).nodes lists.now }
+    ensures count { vec_len workers.new ≡ vec_len workers.old }
+    ensures taken { (i : ℕ) (d : _) → i < vec_len workers.old →
+        HasTaken lists.now (slice_index_or workers.old.items i d) (slice_index_or workers.new.items i d) }
+{
+    all_work(context, workers.as_mut_slice(), lists, repaints);
+}
+
+/// All workers do what is theirs, each in a thread of its own.
+fn all_work<C: Client, L: Session, R: Threads + Wait + Sync, G: Gate + Sync>(
+    context: &Context<'_, C, L, R, G>,
+    workers: &mut [Pass<C, L>],
+    lists: &Lists<C::Cmd>,
+    repaints: usize,
+)
+    requires some { 0 < length workers.old }
+    requires workers { All (λ pass. IsWorker (length lists.now.leaves) pass.actor) workers.old }
+    requires ready { AreReady (tree_of context.now.server.now.opening).nodes lists.now }
+    ensures { (i : ℕ) (d : _) → i < length workers.old →
+        HasTaken lists.now (slice_index_or workers.old i d) (slice_index_or workers.new i d) }
+{
+    let threads = workers.len();
+    thread::for_each_mut(
+        context.rt,
+        workers,
+        threads,
+        &|_i: usize, pass: &mut Pass<C, L>|
+            requires { IsWorker (length lists.now.leaves) pass.now.actor
+                × AreReady (tree_of context.now.server.now.opening).nodes lists.now }
+            ensures { HasTaken lists.entry.now pass.entry.now pass.exit.now }
+        { take_part(context, pass, lists, repaints) },
+    );
+}
+
+/// A worker does what is its own: the painter repaints the screen so many times, and each other actor makes
+/// the steps of its list.
+fn take_part<C: Client, L: Session, R: Threads + Wait + Sync, G: Gate + Sync>(
+    context: &Context<'_, C, L, R, G>,
+    pass: &mut Pass<C, L>,
+    lists: &Lists<C::Cmd>,
+    repaints: usize,
+)
+    requires worker { IsWorker (length lists.now.leaves) pass.old.actor }
+    requires ready { AreReady (tree_of context.now.server.now.opening).nodes lists.now }
+    ensures { HasTaken lists.now pass.old pass.new }
+{
+    match pass.actor() {
+        Actor::Painter => context.paint(pass, repaints),
+        actor => context.work(pass, lists.of(actor)),
+    }
+}
+
+/// Whether each actor but the painter made its list whole.
+fn are_whole<C: Client, L: Session>(workers: &Vec<Pass<C, L>>, lists: &Lists<C::Cmd>) -> bool
+    requires { All (λ pass. IsWorker (length lists.now.leaves) pass.actor) workers.now.items }
+    ensures { IsTrue result → AreWhole workers.now.items lists.now }
+{
+    for pass in workers {
+        if !is_whole(pass, lists) {
+            return false;
+        }
+    }
+    true
+}
+
+/// Whether an actor made its list whole. The painter has none.
+fn is_whole<C: Client, L: Session>(pass: &Pass<C, L>, lists: &Lists<C::Cmd>) -> bool
+    requires { IsWorker (length lists.now.leaves) pass.now.actor }
+    ensures { IsTrue result → is_maker pass.now.actor ≡ true →
+        length pass.now.mine ≡ length (list_of lists.now pass.now.actor) }
+{
+    match pass.actor() {
+        Actor::Painter => true,
+        actor => pass.mine().len() == lists.of(actor).len(),
+    }
+}

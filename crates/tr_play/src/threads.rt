@@ -1,0 +1,55 @@
+ghost use Rattle.std.specs.Prelude.{◌≡◌, All, IfErr, IfOk};
+ghost use Rattle.tr_journal.specs.Openings.{tree_of};
+ghost use Rattle.tr_parts.specs.Turns.{HasRun, IsMade};
+ghost use Rattle.tr_server.specs.Closing.{IfDiffers};
+ghost use Rattle.tr_play.specs.Plays.{HasLeft};
+
+use crate::gates::Gate;
+use crate::lists::lists_of;
+use crate::sessions::session;
+use std::alloc::Global;
+use std::marker::Brand;
+use std::sync::Wait;
+use std::sync::ledger::Blank;
+use std::thread::Threads;
+use tr_client::Client;
+use tr_journal::{Actor, Step};
+use tr_parts::stands;
+use tr_server::CloseRefused;
+use tr_stage::Stage;
+
+/// What all workers have: the right to start threads and to wait, and the gate that is asked before each
+/// step.
+#[derive(Drop)]
+pub struct Workers<'a, R, G> {
+    pub rt: &'a R,
+    pub alloc: Global,
+    pub gate: &'a G,
+}
+
+/// How many steps of a part there are for one more repaint.
+const STEPS_A_REPAINT: usize = 16;
+
+/// Makes the steps of a part on a stage, each actor's in a thread of its own. Meanwhile the painter brings
+/// the screen up to date, once and once more for each 16 steps.
+pub(crate) fn make_side_by_side<C: Client, R: Threads + Wait + Sync, G: Gate + Sync>(
+    workers: &Workers<'_, R, G>,
+    stage: Stage<C>,
+    steps: &[(Actor, Step<C::Cmd>)],
+) -> Result<Stage<C>, CloseRefused<C>>
+    requires { All (IsMade (tree_of stage.opening).nodes) steps.now }
+    ensures ok { IfOk result (λ s. HasRun stage s steps.now) }
+    ensures differs { IfErr result (λ e. IfDiffers e (λ d. HasLeft C.Client stage.opening steps.now d)) }
+{
+    let leaves = stage.opening().tree().leaves();
+    let Ok(lists) = lists_of(workers.alloc, steps, leaves) else {
+        return Err(CloseRefused::NoMemory);
+    };
+    let repaints = 1 + steps.len() / STEPS_A_REPAINT;
+    let blank = Blank::new(2 * u64::from(leaves) + 3);
+    // Called, before and after, for what it tells the prover.
+    stands(&stage);
+    let stage = session::<C, Brand, R, G>(workers, blank, stage, &lists, repaints)?;
+    stands(&stage);
+    Ok(stage)
+}
