@@ -1,0 +1,173 @@
+ghost use Rattle.std.specs.Prelude.{◌≡◌, ◌<◌, ◌++◌, None, Ok, Some, IfErr, IfOk, length};
+ghost use Rattle.tr_grammar.specs.Scripts.{IsPlayableScript};
+ghost use Rattle.tr_server.specs.Closing.{IfDiffers};
+ghost use Rattle.tr_serial.specs.Outputs.{out_text, serial_journal};
+ghost use Rattle.tr_threads.specs.Threads.{IsPlayedByThreads, IsThreaded, HasDifferedIn, again_text};
+
+use std::alloc::Global;
+use std::sync::Wait;
+use std::thread::Threads;
+use tr_base::NoMemory;
+use tr_client::Client;
+use tr_dump::differs_line;
+use tr_parts::stands;
+use tr_play::{Gate, Workers, play};
+use tr_reader::Script;
+use tr_run::{Finished, Mode, Run};
+use tr_serial::{Played, serial};
+use tr_server::{CloseRefused, Differs};
+use tr_stage::Stage;
+use tr_widget::Widget;
+
+/// What a script ends in that threads played.
+#[derive(Drop)]
+pub struct Threaded {
+    /// What was written.
+    pub text: Vec<u8>,
+    /// The stage after all steps.
+    pub stage: Stage<Widget>,
+    /// What a session found that found its stage other than its passes say. Then the text and the stage are
+    /// those of one thread.
+    pub differs: Option<Differs<Widget>>,
+}
+
+/// Plays a script of some parts by threads: one for each leaf's client, one for the desk, and one for the
+/// painter. Writes the reports, and by whom the script was played.
+pub fn threads<R: Threads + Wait + Sync, G: Gate + Sync>(
+    workers: &Workers<'_, R, G>,
+    script: Script,
+) -> Result<Threaded, NoMemory>
+    requires playable { IsPlayableScript script }
+    requires some { 0 < length script.parts }
+    ensures { IfOk result (λ end. IsThreaded script end) }
+{
+    match play_side_by_side(workers, &script) {
+        Ok(end) => {
+            let_go(script);
+            Ok(by_threads(end))
+        }
+        Err(refused) => play_unless_refused(workers.alloc, script, refused),
+    }
+}
+
+/// What a script ends in that threads played.
+fn by_threads(end: Finished<Widget>) -> Threaded
+    ensures text { result.text ≡ end.text }
+    ensures stage { result.stage ≡ end.stage }
+    ensures differs { result.differs ≡ None }
+{
+    let Finished { stage, text, .. } = end;
+    Threaded {
+        text,
+        stage,
+        differs: None,
+    }
+}
+
+/// Plays a script again where a session differed, but not where memory was wanted.
+fn play_unless_refused(
+    alloc: Global,
+    script: Script,
+    refused: CloseRefused<Widget>,
+) -> Result<Threaded, NoMemory>
+    requires playable { IsPlayableScript script }
+    requires differs { IfDiffers refused (λ d. HasDifferedIn script d) }
+    ensures { IfOk result (λ end. IsThreaded script end) }
+{
+    match refused {
+        CloseRefused::Differs(differs) => play_again(alloc, script, differs),
+        CloseRefused::NoMemory => {
+            let_go(script);
+            Err(NoMemory)
+        }
+    }
+}
+
+/// Plays a script by threads.
+fn play_side_by_side<R: Threads + Wait + Sync, G: Gate + Sync>(
+    workers: &Workers<'_, R, G>,
+    script: &Script,
+) -> Result<Finished<Widget>, CloseRefused<Widget>>
+    requires playable { IsPlayableScript script.now }
+    requires some { 0 < length script.now.parts }
+    ensures ok { IfOk result (λ end. IsPlayedByThreads script.now end.stage end.text.items) }
+    ensures differs { IfErr result (λ e. IfDiffers e (λ d. HasDifferedIn script.now d)) }
+{
+    let Ok(opening) = script.opening.copy() else {
+        return Err(CloseRefused::NoMemory);
+    };
+    let Ok(run) = Run::start(workers.alloc, opening, &script.names, Mode::Serial) else {
+        return Err(CloseRefused::NoMemory);
+    };
+    play(workers, run, &script.parts)
+}
+
+/// Plays a script on one thread, since a session differed that played a part of it. Writes that, too.
+fn play_again(alloc: Global, script: Script, differs: Differs<Widget>) -> Result<Threaded, NoMemory>
+    requires playable { IsPlayableScript script }
+    requires differs { HasDifferedIn script differs }
+    ensures { IfOk result (λ end. IsThreaded script end) }
+{
+    match last_lines(alloc, &script, &differs) {
+        Ok(last) => ended(play_with(alloc, script, &last), differs),
+        Err(refused) => {
+            let_go(script);
+            let_go_of(differs);
+            Err(refused)
+        }
+    }
+}
+
+/// What a script ends in that was played on one thread after this difference.
+fn ended(played: Result<Played, NoMemory>, differs: Differs<Widget>) -> Result<Threaded, NoMemory>
+    ensures played { IfOk result (λ end. played ≡ Ok (record { text = end.text; stage = end.stage })) }
+    ensures differs { IfOk result (λ end. end.differs ≡ Some differs) }
+{
+    match played {
+        Ok(Played { text, stage }) => Ok(Threaded {
+            text,
+            stage,
+            differs: Some(differs),
+        }),
+        Err(refused) => {
+            let_go_of(differs);
+            Err(refused)
+        }
+    }
+}
+
+/// Drops a script. It has a function of its own, so that no other proof has to know how it is dropped.
+fn let_go(_script: Script) {}
+
+/// Drops a difference, likewise.
+fn let_go_of<C: Client>(_differs: Differs<C>) {}
+
+/// Plays a script on one thread, and writes its reports and then these last lines.
+fn play_with(alloc: Global, script: Script, last: &[u8]) -> Result<Played, NoMemory>
+    requires playable { IsPlayableScript script }
+    ensures text { IfOk result (λ played. played.text.items ≡ out_text script ++ last.now) }
+    ensures journal { IfOk result (λ played. played.stage.journal ≡ serial_journal script) }
+    ensures opening { IfOk result (λ played. played.stage.opening ≡ script.opening) }
+{
+    let mut played = serial(alloc, script)?;
+    played.text.extend_from_slice(last)?;
+    Ok(played)
+}
+
+/// The last two lines: what differs, and that all was played again.
+fn last_lines(
+    alloc: Global,
+    script: &Script,
+    differs: &Differs<Widget>,
+) -> Result<Vec<u8>, NoMemory>
+    requires playable { IsPlayableScript script.now }
+    requires differs { HasDifferedIn script.now differs.now }
+    ensures { IfOk result (λ text. text.items ≡ again_text script.now differs.now) }
+{
+    // Called for what it tells the prover: that the journal that was found is one of the machine.
+    stands(differs.stage());
+    let mut text = Vec::new(alloc);
+    differs_line(differs.difference(), &script.names, &mut text)?;
+    text.extend_from_slice(b"played again\n")?;
+    Ok(text)
+}
