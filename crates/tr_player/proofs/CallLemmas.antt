@@ -1,6 +1,6 @@
 -- What follows of an answered call, clause by clause.
 use Rattle.std.proofs.Common.{◌≡◌, ◌≢◌, ◌⊎◌, ◌↔◌, ℕ, ◌+◌, ◌<◌, Bool, true, false, nat_lt, List, [], length, take, drop, refl, sym, ◌∙◌, ap, subst, arith, inl, inr}
-use Rattle.std.specs.Prelude.{Option, Some, None, IfSome, IsSome, IsSomeAnd, if◌then◌else◌}
+use Rattle.std.specs.Prelude.{◌++◌, Option, Some, None, IfSome, IsNone, IsSome, IsSomeAnd, if◌then◌else◌}
 use Rattle.std.specs.Option.{option_map}
 use Rattle.std.proofs.lemmas.Bool.Decides.{nat_tests}
 use Rattle.std.proofs.lemmas.Grind.{common_steps}
@@ -14,7 +14,15 @@ use Rattle.tr_grammar.specs.Scripts.{Refusal, Script, most_bytes, refusal_of, re
 use Rattle.tr_mirror.specs.declared.MirrorFault.{MirrorFault}
 use Rattle.tr_mirror.specs.Readings.{fault_at_end, first_fault, longest_stream, reading_of}
 use Rattle.tr_show.specs.Shows.{shown_text}
-use Rattle.tr_serial.specs.Outputs.{gen_text, drawn}
+use Rattle.tr_serial.specs.Outputs.{gen_text, drawn, out_text, widgets}
+use Rattle.tr_parts.specs.Plays.{HasInterleaved}
+use Rattle.tr_play.specs.Plays.{parts_of}
+use Rattle.tr_server.specs.Differing.{DiffersView}
+use Rattle.tr_stage.specs.Stages.{StageView}
+use Rattle.tr_widget.specs.declared.Widget.{Widget}
+use Rattle.tr_widget.specs.declared.WidgetCmd.{WidgetCmd}
+use Rattle.tr_threads.specs.declared.plays.Threaded.{Threaded}
+use Rattle.tr_threads.specs.Threads.{HasDifferedIn, IsPlayed, IsThreaded, again_text, threads_text}
 use Rattle.tr_arguments.specs.declared.Command.{Command}
 use Rattle.tr_arguments.specs.declared.Command.TheVariants as commands
 use Rattle.tr_player.specs.declared.calls.Outcome.{Outcome}
@@ -23,7 +31,7 @@ use Rattle.tr_player.specs.declared.statuses.Status.TheVariants.{NoMemory, Write
 use Rattle.tr_player.specs.Statuses.{code}
 use Rattle.tr_player.specs.Checks.{check_refusal}
 use Rattle.tr_player.specs.Responses.{IsDueOfShow, IsDueOfText}
-use Rattle.tr_player.specs.Answers.{most_read, OfBytesRead, IsReadThrough, or_else, refusal_for, text_for, usage_text, read_fault_text, refused_text, faulty_text, IsReadBack, Due, usage, read_fault, refused, faulty, played, shown, status_of, text_of, SourceChange, IsDueOfBytes, IsDueOfStream, IsDue, SinkChange, HasPlayed, IsStageOf, IsDelivered, IsAnswered, ReadsNone, Yields, OfReader, OfScriptRead, OfStreamRead, OfNumber, IsAllowed}
+use Rattle.tr_player.specs.Answers.{most_read, OfBytesRead, IsReadThrough, or_else, refusal_for, text_for, usage_text, read_fault_text, refused_text, faulty_text, IsReadBack, IsWritten, IsByThreads, Due, usage, read_fault, refused, faulty, played, threaded, shown, status_of, text_of, SourceChange, IsDueOfBytes, IsDueOfStream, IsDue, SinkChange, HasPlayed, IsStageOf, IsDifferenceOf, IsDelivered, IsAnswered, ReadsNone, Yields, OfReader, OfScriptRead, OfOneThread, OfThreads, OfStreamRead, OfNumber, IsAllowed, of_one_thread}
 
 -- ---- the bytes that were read
 
@@ -125,7 +133,10 @@ due_of_text command from items (refused r) e t d =
     (t, of_read command _ _ (λ bytes (same : items ≡ bytes). subst (λ (b : List ℕ). refusal_for command b ≡ Some r) same d) from.left e)
 due_of_text command from items (played s text) e t d =
     let is : IsRead command s items = (d.0, d.1) in
-    (t, of_read command _ _ (λ bytes (same : items ≡ bytes). subst (λ (b : List ℕ). IsRead command s b) same is) from.left e, d.2, d.3)
+    (t, of_read command _ _ (λ bytes (same : items ≡ bytes). subst (λ (b : List ℕ). IsRead command s b) same is) from.left e, d.2)
+due_of_text command from items (threaded s end) e t d =
+    let is : IsRead command s items = (d.0, d.1) in
+    (t, of_read command _ _ (λ bytes (same : items ≡ bytes). subst (λ (b : List ℕ). IsRead command s b) same is) from.left e, d.2)
 due_of_text command from items due e t d = absurd d
 
 -- the same of a stream
@@ -137,6 +148,16 @@ due_of_show from items (shown text) e t d =
     (t, of_read commands.Show _ _ (λ bytes (same : items ≡ bytes). subst (λ (b : List ℕ). IsShown text b) same d) from.left e)
 due_of_show from items due e t d = absurd d
 
+-- what one thread wrote
+written_text : (command : Command) (s : Script) (text : List ℕ) → IsWritten command s text → (text ≡ text_for command s) × IsReadBack command s
+written_text commands.Play s text is = absurd is
+written_text command s text is = is
+
+-- threads do what `play` asks for, and nothing else
+for_play : (command : Command) (s : Script) (end : Threaded) → IsByThreads command s end → command ≡ commands.Play
+for_play commands.Play s end is = refl
+for_play command s end is = absurd is
+
 -- ---- the clauses
 
 -- an answer that no write fault and no want of memory took the place of
@@ -146,13 +167,14 @@ record IsGiven (asked : Option Command) (from : SourceChange) (out : Outcome) (t
   status : out.status ≡ code (status_of due)
   stage : IsStageOf due out.stage
   written : Grew to.written to.written_new (text_of due)
+  differs : IsDifferenceOf due out.differs
 
 module _ (asked : Option Command) (from : SourceChange) (out : Outcome) (to : SinkChange) (answered : IsAnswered asked from out to) where
   given : out.status ≢ 5 → out.status ≢ 6 → IsGiven asked from out to
   given n5 n6 = by_cases answered
     where
       delivered : (due : Due) → IsDue asked from due → IsDelivered due out to → IsGiven asked from out to
-      delivered due d (inl v) = record { due = due; is = d; status = v.0; stage = v.1; written = v.2 }
+      delivered due d (inl v) = record { due = due; is = d; status = v.0; stage = v.1; written = v.2; differs = v.3 }
       delivered due d (inr (inl v)) = absurd (n5 v.0)
       delivered due d (inr (inr v)) = absurd (n6 v.0)
 
@@ -188,6 +210,7 @@ module _ (asked : Option Command) (from : SourceChange) (out : Outcome) (to : Si
       of_bytes command read_fault d e = λ two. absurd (omega arith)
       of_bytes command (refused r) d e = λ two. absurd (omega arith)
       of_bytes command (played s text) d e = λ two. absurd (omega arith)
+      of_bytes command (threaded s end) d e = λ two. absurd (omega arith)
       of_bytes command due d e = absurd d
 
       of_stream : (due : Due) → IsDueOfStream from due → out.status ≡ code (status_of due) → out.status ≢ 2
@@ -215,6 +238,7 @@ module _ (asked : Option Command) (from : SourceChange) (out : Outcome) (to : Si
       by_due (refused r) is grew = absurd (omega arith)
       by_due (faulty f) is grew = absurd (omega arith)
       by_due (played s text) is grew = absurd (omega arith)
+      by_due (threaded s end) is grew = absurd (omega arith)
       by_due (shown text) is grew = absurd (omega arith)
 
   pub read_fault_due : out.status ≡ 4 → HasFault from.faults from.faults_new
@@ -224,6 +248,7 @@ module _ (asked : Option Command) (from : SourceChange) (out : Outcome) (to : Si
       of_bytes command read_fault d is = d
       of_bytes command (refused r) d is = absurd (omega arith)
       of_bytes command (played s text) d is = absurd (omega arith)
+      of_bytes command (threaded s end) d is = absurd (omega arith)
       of_bytes command due d is = absurd d
 
       of_stream : (due : Due) → IsDueOfStream from due → out.status ≡ code (status_of due) → HasFault from.faults from.faults_new
@@ -250,6 +275,7 @@ module _ (asked : Option Command) (from : SourceChange) (out : Outcome) (to : Si
       by_due (refused r) is grew = absurd (omega arith)
       by_due (faulty f) is grew = absurd (omega arith)
       by_due (played s text) is grew = absurd (omega arith)
+      by_due (threaded s end) is grew = absurd (omega arith)
       by_due (shown text) is grew = absurd (omega arith)
 
   -- of the answers to a script that was read, 3 comes exactly where its bytes are refused
@@ -263,6 +289,9 @@ module _ (asked : Option Command) (from : SourceChange) (out : Outcome) (to : Si
       of_bytes command (refused r) d e =
           of_read command _ _ (λ bytes (h : refusal_for command bytes ≡ Some r). (λ _. some_is _ r h, λ _. e)) from.left d.1
       of_bytes command (played s text) d e =
+          of_read command _ _ (λ bytes (h : IsRead command s bytes). (λ three. absurd (omega arith), λ some. absurd (none_is_not _ h.0 some)))
+          from.left d.1
+      of_bytes command (threaded s end) d e =
           of_read command _ _ (λ bytes (h : IsRead command s bytes). (λ three. absurd (omega arith), λ some. absurd (none_is_not _ h.0 some)))
           from.left d.1
       of_bytes command due d e = absurd d
@@ -286,6 +315,7 @@ module _ (asked : Option Command) (from : SourceChange) (out : Outcome) (to : Si
           let P : Option Refusal → Type 0 = λ x. IsSomeAnd x (λ r. Grew to.written to.written_new (refused_text r)) in
           of_read command _ _ (λ bytes (h : refusal_for command bytes ≡ Some r). subst P (sym h) grew) from.left d.1
       of_bytes command (played s text) d is grew = absurd (omega arith)
+      of_bytes command (threaded s end) d is grew = absurd (omega arith)
       of_bytes command due d is grew = absurd d
 
       by_command : (what : Option Command) (due : Due) → IsDue what from due → out.status ≡ code (status_of due) →
@@ -359,6 +389,7 @@ module _ (asked : Option Command) (from : SourceChange) (out : Outcome) (to : Si
       of_bytes command read_fault d h = absurd (omega arith)
       of_bytes command (refused r) d h = d.0
       of_bytes command (played s text) d h = d.0
+      of_bytes command (threaded s end) d h = d.0
       of_bytes command due d h = absurd d
 
       of_stream : (due : Due) → IsDueOfStream from due → code (status_of due) < 4 → IsReadThrough commands.Show from.left from.left_new
@@ -384,6 +415,8 @@ module _ (asked : Option Command) (from : SourceChange) (out : Outcome) (to : Si
       of_bytes command (refused r) d is = absurd (omega arith)
       of_bytes command (played s text) d is =
           all_of_script command from.left from.left_new (of_read command _ _ (λ bytes (h : IsRead command s bytes). h.0) from.left d.1) d.0
+      of_bytes command (threaded s end) d is =
+          all_of_script command from.left from.left_new (of_read command _ _ (λ bytes (h : IsRead command s bytes). h.0) from.left d.1) d.0
       of_bytes command due d is = absurd d
 
       of_stream : (due : Due) → IsDueOfStream from due → out.status ≡ code (status_of due) → IfSome from.left_new (λ rest. rest ≡ [])
@@ -400,69 +433,204 @@ module _ (asked : Option Command) (from : SourceChange) (out : Outcome) (to : Si
       by_command (Some commands.Show) due d is reads = of_stream due d is
       by_command (Some command) due d is reads = of_bytes command due d is
 
-  -- at status 0 the text of the script that was read is written
+  -- at status 0 the text of the script that was read is written, where one thread played it
   pub script_written : out.status ≡ 0 →
-      OfScriptRead asked from.left (λ command bytes. Grew to.written to.written_new (text_for command (script_of bytes)))
+      OfOneThread asked from.left (λ command bytes. Grew to.written to.written_new (text_for command (script_of bytes)))
   script_written e = let g = given_at 0 e (omega arith) in by_command asked g.due g.is g.status g.written
     where
-      of_bytes : (command : Command) (due : Due) → IsDueOfBytes command from due → out.status ≡ code (status_of due) →
+      of_bytes : (command : Command) (due : Due) → command ≢ commands.Play → IsDueOfBytes command from due → out.status ≡ code (status_of due) →
           Grew to.written to.written_new (text_of due) →
           OfBytesRead command from.left (λ bytes. Grew to.written to.written_new (text_for command (script_of bytes)))
-      of_bytes command read_fault d is grew = absurd (omega arith)
-      of_bytes command (refused r) d is grew = absurd (omega arith)
-      of_bytes command (played s text) d is grew =
-          let wrote : Grew to.written to.written_new (text_for command s) = subst (λ (t : List ℕ). Grew to.written to.written_new t) d.2 grew in
+      of_bytes command read_fault other d is grew = absurd (omega arith)
+      of_bytes command (refused r) other d is grew = absurd (omega arith)
+      of_bytes command (played s text) other d is grew =
+          let wrote : Grew to.written to.written_new (text_for command s) =
+          subst (λ (t : List ℕ). Grew to.written to.written_new t) (written_text command s text d.2).0 grew in
           let P : Script → Type 0 = λ x. Grew to.written to.written_new (text_for command x) in
           of_read command _ _ (λ bytes (h : IsRead command s bytes). subst P h.1 wrote) from.left d.1
-      of_bytes command due d is grew = absurd d
+      of_bytes command (threaded s end) other d is grew = absurd (other (for_play command s end d.2))
+      of_bytes command due other d is grew = absurd d
 
       by_command : (what : Option Command) (due : Due) → IsDue what from due → out.status ≡ code (status_of due) →
           Grew to.written to.written_new (text_of due) →
-          OfScriptRead what from.left (λ command bytes. Grew to.written to.written_new (text_for command (script_of bytes)))
+          OfOneThread what from.left (λ command bytes. Grew to.written to.written_new (text_for command (script_of bytes)))
       by_command None due d is grew = tt
       by_command (Some (commands.Gen number)) due d is grew = tt
       by_command (Some commands.Show) due d is grew = tt
-      by_command (Some command) due d is grew = of_bytes command due d is grew
+      by_command (Some commands.Play) due d is grew = tt
+      by_command (Some command) due d is grew = of_bytes command due (λ play. cc) d is grew
 
   -- at status 0 a stream that was written is one that shows the script's dumps
-  pub script_read_back : out.status ≡ 0 → OfScriptRead asked from.left (λ command bytes. IsReadBack command (script_of bytes))
+  pub script_read_back : out.status ≡ 0 → OfOneThread asked from.left (λ command bytes. IsReadBack command (script_of bytes))
   script_read_back e = let g = given_at 0 e (omega arith) in by_command asked g.due g.is g.status
     where
-      of_bytes : (command : Command) (due : Due) → IsDueOfBytes command from due → out.status ≡ code (status_of due) →
+      of_bytes : (command : Command) (due : Due) → command ≢ commands.Play → IsDueOfBytes command from due → out.status ≡ code (status_of due) →
           OfBytesRead command from.left (λ bytes. IsReadBack command (script_of bytes))
-      of_bytes command read_fault d is = absurd (omega arith)
-      of_bytes command (refused r) d is = absurd (omega arith)
-      of_bytes command (played s text) d is =
-          of_read command _ _ (λ bytes (h : IsRead command s bytes). subst (λ (x : Script). IsReadBack command x) h.1 d.3) from.left d.1
-      of_bytes command due d is = absurd d
+      of_bytes command read_fault other d is = absurd (omega arith)
+      of_bytes command (refused r) other d is = absurd (omega arith)
+      of_bytes command (played s text) other d is =
+          let back : IsReadBack command s = (written_text command s text d.2).1 in
+          of_read command _ _ (λ bytes (h : IsRead command s bytes). subst (λ (x : Script). IsReadBack command x) h.1 back) from.left d.1
+      of_bytes command (threaded s end) other d is = absurd (other (for_play command s end d.2))
+      of_bytes command due other d is = absurd d
 
       by_command : (what : Option Command) (due : Due) → IsDue what from due → out.status ≡ code (status_of due) →
-          OfScriptRead what from.left (λ command bytes. IsReadBack command (script_of bytes))
+          OfOneThread what from.left (λ command bytes. IsReadBack command (script_of bytes))
       by_command None due d is = tt
       by_command (Some (commands.Gen number)) due d is = tt
       by_command (Some commands.Show) due d is = tt
-      by_command (Some command) due d is = of_bytes command due d is
+      by_command (Some commands.Play) due d is = tt
+      by_command (Some command) due d is = of_bytes command due (λ play. cc) d is
 
-  -- at status 0 the stage has played the script that was read
+  -- at status 0 the stage has played the script that was read, where one thread did
   pub script_played : out.status ≡ 0 →
-      OfScriptRead asked from.left (λ command bytes. IsSomeAnd out.stage (λ stage. HasPlayed (script_of bytes) stage))
+      OfOneThread asked from.left (λ command bytes. IsSomeAnd out.stage (λ stage. HasPlayed (script_of bytes) stage))
   script_played e = let g = given_at 0 e (omega arith) in by_command asked g.due g.is g.status g.stage
     where
-      of_bytes : (command : Command) (due : Due) → IsDueOfBytes command from due → out.status ≡ code (status_of due) → IsStageOf due out.stage →
-          OfBytesRead command from.left (λ bytes. IsSomeAnd out.stage (λ stage. HasPlayed (script_of bytes) stage))
-      of_bytes command read_fault d is plays = absurd (omega arith)
-      of_bytes command (refused r) d is plays = absurd (omega arith)
-      of_bytes command (played s text) d is plays =
+      of_bytes : (command : Command) (due : Due) → command ≢ commands.Play → IsDueOfBytes command from due → out.status ≡ code (status_of due) →
+          IsStageOf due out.stage → OfBytesRead command from.left (λ bytes. IsSomeAnd out.stage (λ stage. HasPlayed (script_of bytes) stage))
+      of_bytes command read_fault other d is plays = absurd (omega arith)
+      of_bytes command (refused r) other d is plays = absurd (omega arith)
+      of_bytes command (played s text) other d is plays =
           let P : Script → Type 0 = λ x. IsSomeAnd out.stage (λ stage. HasPlayed x stage) in
           of_read command _ _ (λ bytes (h : IsRead command s bytes). subst P h.1 plays) from.left d.1
-      of_bytes command due d is plays = absurd d
+      of_bytes command (threaded s end) other d is plays = absurd (other (for_play command s end d.2))
+      of_bytes command due other d is plays = absurd d
 
       by_command : (what : Option Command) (due : Due) → IsDue what from due → out.status ≡ code (status_of due) → IsStageOf due out.stage →
-          OfScriptRead what from.left (λ command bytes. IsSomeAnd out.stage (λ stage. HasPlayed (script_of bytes) stage))
+          OfOneThread what from.left (λ command bytes. IsSomeAnd out.stage (λ stage. HasPlayed (script_of bytes) stage))
       by_command None due d is plays = tt
       by_command (Some (commands.Gen number)) due d is plays = tt
       by_command (Some commands.Show) due d is plays = tt
-      by_command (Some command) due d is plays = of_bytes command due d is plays
+      by_command (Some commands.Play) due d is plays = tt
+      by_command (Some command) due d is plays = of_bytes command due (λ play. cc) d is plays
+
+  -- what a script came to that threads played, by what is handed out and written of it
+  abbrev HasInterleavedHere : Script → StageView Widget WidgetCmd → Type 0
+  HasInterleavedHere s stage =
+      HasInterleaved widgets s.opening (parts_of s.parts) stage × Grew to.written to.written_new (threads_text s stage)
+
+  abbrev HasPlayedAgain : Script → Option (StageView Widget WidgetCmd) → DiffersView Widget WidgetCmd → Type 0
+  HasPlayedAgain s stage d =
+      HasDifferedIn s d × IsSomeAnd stage (λ stage. HasPlayed s stage) × Grew to.written to.written_new (out_text s ++ again_text s d)
+
+  -- at status 0 the stage has played it, the journal interleaves it, and the journal's text is written
+  pub threads_played : out.status ≡ 0 → IsNone out.differs →
+      OfThreads asked from.left (λ bytes. IsSomeAnd out.stage (λ stage. HasInterleavedHere (script_of bytes) stage))
+  threads_played e none = let g = given_at 0 e (omega arith) in by_command asked g.due g.is g.status g.stage g.written g.differs
+    where
+      by_threads : (s : Script) (differs : Option (DiffersView Widget WidgetCmd)) (stage : StageView Widget WidgetCmd) (text : List ℕ) →
+          IsPlayed s differs stage text → Grew to.written to.written_new text → IsNone differs → HasInterleavedHere s stage
+      by_threads s None stage text is grew none =
+          (is.played, subst (λ (t : List ℕ). Grew to.written to.written_new t) is.text_is grew)
+      by_threads s (Some d) stage text is grew none = absurd (cc)
+
+      of_bytes : (due : Due) → IsDueOfBytes commands.Play from due → out.status ≡ code (status_of due) → IsStageOf due out.stage →
+          Grew to.written to.written_new (text_of due) → IsDifferenceOf due out.differs →
+          OfBytesRead commands.Play from.left (λ bytes. IsSomeAnd out.stage (λ stage. HasInterleavedHere (script_of bytes) stage))
+      of_bytes read_fault d is stage grew differs = absurd (omega arith)
+      of_bytes (refused r) d is stage grew differs = absurd (omega arith)
+      of_bytes (played s text) d is stage grew differs = absurd d.2
+      of_bytes (threaded s end) d is stage grew differs =
+          let here : HasInterleavedHere s end.stage =
+          by_threads s end.differs end.stage end.text.items d.2 grew
+          (subst (λ (o : Option (DiffersView Widget WidgetCmd)). IsNone o) differs none) in
+          let P : Script → Type 0 = λ x. IsSomeAnd out.stage (λ stage. HasInterleavedHere x stage) in
+          let some : P s = subst (λ (o : Option (StageView Widget WidgetCmd)). IsSomeAnd o (λ stage. HasInterleavedHere s stage)) (sym stage) here in
+          of_read commands.Play _ _ (λ bytes (h : IsRead commands.Play s bytes). subst P h.1 some) from.left d.1
+      of_bytes due d is stage grew differs = absurd d
+
+      by_command : (what : Option Command) (due : Due) → IsDue what from due → out.status ≡ code (status_of due) → IsStageOf due out.stage →
+          Grew to.written to.written_new (text_of due) → IsDifferenceOf due out.differs →
+          OfThreads what from.left (λ bytes. IsSomeAnd out.stage (λ stage. HasInterleavedHere (script_of bytes) stage))
+      by_command (Some commands.Play) due d is stage grew differs = of_bytes due d is stage grew differs
+      by_command what due d is stage grew differs = tt
+
+  -- or a session found a difference, and all was played again
+  pub played_again : out.status ≡ 0 →
+      OfThreads asked from.left (λ bytes. IfSome out.differs (λ d. HasPlayedAgain (script_of bytes) out.stage d))
+  played_again e = let g = given_at 0 e (omega arith) in by_command asked g.due g.is g.status g.stage g.written g.differs
+    where
+      by_threads : (s : Script) (differs : Option (DiffersView Widget WidgetCmd)) (stage : StageView Widget WidgetCmd) (text : List ℕ) →
+          IsPlayed s differs stage text → Grew to.written to.written_new text → IfSome differs (λ d. HasPlayedAgain s (Some stage) d)
+      by_threads s None stage text is grew = tt
+      by_threads s (Some d) stage text is grew = (
+        is.differs,
+        record { opening = is.opening; journal = is.journal },
+        subst (λ (t : List ℕ). Grew to.written to.written_new t) is.text_is grew,
+      )
+
+      of_bytes : (due : Due) → IsDueOfBytes commands.Play from due → out.status ≡ code (status_of due) → IsStageOf due out.stage →
+          Grew to.written to.written_new (text_of due) → IsDifferenceOf due out.differs →
+          OfBytesRead commands.Play from.left (λ bytes. IfSome out.differs (λ d. HasPlayedAgain (script_of bytes) out.stage d))
+      of_bytes read_fault d is stage grew differs = absurd (omega arith)
+      of_bytes (refused r) d is stage grew differs = absurd (omega arith)
+      of_bytes (played s text) d is stage grew differs = absurd d.2
+      of_bytes (threaded s end) d is stage grew differs =
+          let here : IfSome end.differs (λ d. HasPlayedAgain s (Some end.stage) d) =
+          by_threads s end.differs end.stage end.text.items d.2 grew in
+          let staged : IfSome end.differs (λ d. HasPlayedAgain s out.stage d) =
+          subst (λ (o : Option (StageView Widget WidgetCmd)). IfSome end.differs (λ d. HasPlayedAgain s o d)) (sym stage) here in
+          let P : Script → Type 0 = λ x. IfSome out.differs (λ d. HasPlayedAgain x out.stage d) in
+          let some : P s =
+          subst (λ (o : Option (DiffersView Widget WidgetCmd)). IfSome o (λ d. HasPlayedAgain s out.stage d)) (sym differs) staged in
+          of_read commands.Play _ _ (λ bytes (h : IsRead commands.Play s bytes). subst P h.1 some) from.left d.1
+      of_bytes due d is stage grew differs = absurd d
+
+      by_command : (what : Option Command) (due : Due) → IsDue what from due → out.status ≡ code (status_of due) → IsStageOf due out.stage →
+          Grew to.written to.written_new (text_of due) → IsDifferenceOf due out.differs →
+          OfThreads what from.left (λ bytes. IfSome out.differs (λ d. HasPlayedAgain (script_of bytes) out.stage d))
+      by_command (Some commands.Play) due d is stage grew differs = of_bytes due d is stage grew differs
+      by_command what due d is stage grew differs = tt
+
+  -- in both cases what is written is what the script came to
+  pub threads_written : out.status ≡ 0 →
+      OfThreads asked from.left (λ bytes. (end : Threaded) × IsThreaded (script_of bytes) end × Grew to.written to.written_new end.text.items)
+  threads_written e = let g = given_at 0 e (omega arith) in by_command asked g.due g.is g.status g.written
+    where
+      P : Script → Type 0
+      P s = (end : Threaded) × IsThreaded s end × Grew to.written to.written_new end.text.items
+
+      of_bytes : (due : Due) → IsDueOfBytes commands.Play from due → out.status ≡ code (status_of due) →
+          Grew to.written to.written_new (text_of due) → OfBytesRead commands.Play from.left (λ bytes. P (script_of bytes))
+      of_bytes read_fault d is grew = absurd (omega arith)
+      of_bytes (refused r) d is grew = absurd (omega arith)
+      of_bytes (played s text) d is grew = absurd d.2
+      of_bytes (threaded s end) d is grew =
+          let some : P s = (end, d.2, grew) in
+          of_read commands.Play _ _ (λ bytes (h : IsRead commands.Play s bytes). subst P h.1 some) from.left d.1
+      of_bytes due d is grew = absurd d
+
+      by_command : (what : Option Command) (due : Due) → IsDue what from due → out.status ≡ code (status_of due) →
+          Grew to.written to.written_new (text_of due) → OfThreads what from.left (λ bytes. P (script_of bytes))
+      by_command (Some commands.Play) due d is grew = of_bytes due d is grew
+      by_command what due d is grew = tt
+
+  -- a difference is handed out by `play` alone, at status 0
+  pub differs_only : IsSome out.differs → (out.status ≡ 0) × (asked ≡ Some commands.Play)
+  differs_only some = by_cases answered
+    where
+      threads_only : (s : Script) (end : Threaded) (what : Option Command) → IsDue what from (threaded s end) → what ≡ Some commands.Play
+      threads_only s end None d = absurd (cc)
+      threads_only s end (Some (commands.Gen number)) d = absurd (cc)
+      threads_only s end (Some commands.Show) d = absurd d
+      threads_only s end (Some commands.Play) d = refl
+      threads_only s end (Some command) d = absurd d.2
+
+      delivered : (due : Due) → IsDue asked from due → IsDelivered due out to → (out.status ≡ 0) × (asked ≡ Some commands.Play)
+      delivered due d (inr (inl v)) = absurd (none_is_not _ v.4 some)
+      delivered due d (inr (inr v)) = absurd (none_is_not _ v.3 some)
+      delivered (threaded s end) d (inl v) = (v.0, threads_only s end asked d)
+      delivered usage d (inl v) = absurd (none_is_not _ v.3 some)
+      delivered read_fault d (inl v) = absurd (none_is_not _ v.3 some)
+      delivered (refused r) d (inl v) = absurd (none_is_not _ v.3 some)
+      delivered (faulty f) d (inl v) = absurd (none_is_not _ v.3 some)
+      delivered (played s text) d (inl v) = absurd (none_is_not _ v.3 some)
+      delivered (shown text) d (inl v) = absurd (none_is_not _ v.3 some)
+
+      by_cases : IsAnswered asked from out to → (out.status ≡ 0) × (asked ≡ Some commands.Play)
+      by_cases (inl w) = absurd (none_is_not _ w.4 some)
+      by_cases (inr w) = delivered w.0 w.1 w.2
 
   -- at status 0 the screens of the stream that was read are dumped
   pub stream_shown : out.status ≡ 0 → OfStreamRead asked from.left (λ bytes. Grew to.written to.written_new (shown_text bytes))
@@ -518,6 +686,8 @@ module _ (asked : Option Command) (from : SourceChange) (out : Outcome) (to : Si
       delivered (faulty f) d (inl v) = none v.1 (λ e other. absurd (omega arith))
       delivered (played s text) d (inl v) =
           (λ _. (v.0, λ show. subst (λ (what : Option Command). IsDue what from (played s text)) show d), λ _. and_is _ _ v.1)
+      delivered (threaded s end) d (inl v) =
+          (λ _. (v.0, λ show. subst (λ (what : Option Command). IsDue what from (threaded s end)) show d), λ _. some_is _ _ v.1)
       delivered (shown text) d (inl v) = none v.1 (λ e other. shows text asked d other)
 
       by_cases : IsAnswered asked from out to → IsSome out.stage ↔ ((out.status ≡ 0) × (asked ≢ Some commands.Show))
@@ -535,6 +705,7 @@ module _ (asked : Option Command) (from : SourceChange) (out : Outcome) (to : Si
       delivered (refused r) (inl v) = absurd (omega arith)
       delivered (faulty f) (inl v) = absurd (omega arith)
       delivered (played s text) (inl v) = absurd (omega arith)
+      delivered (threaded s end) (inl v) = absurd (omega arith)
       delivered (shown text) (inl v) = absurd (omega arith)
 
       by_cases : IsAnswered asked from out to → HasFault to.faults to.faults_new
@@ -553,6 +724,7 @@ module _ (asked : Option Command) (from : SourceChange) (out : Outcome) (to : Si
       delivered (refused r) (inl v) = absurd (omega arith)
       delivered (faulty f) (inl v) = absurd (omega arith)
       delivered (played s text) (inl v) = absurd (omega arith)
+      delivered (threaded s end) (inl v) = absurd (omega arith)
       delivered (shown text) (inl v) = absurd (omega arith)
 
       by_cases : IsAnswered asked from out to → (due : Due) × IsDue asked from due × GrewByPrefix to.written to.written_new (text_of due)
@@ -571,6 +743,7 @@ module _ (asked : Option Command) (from : SourceChange) (out : Outcome) (to : Si
       delivered (refused r) (inl v) = absurd (omega arith)
       delivered (faulty f) (inl v) = absurd (omega arith)
       delivered (played s text) (inl v) = absurd (omega arith)
+      delivered (threaded s end) (inl v) = absurd (omega arith)
       delivered (shown text) (inl v) = absurd (omega arith)
 
       by_cases : IsAnswered asked from out to → to.written_new ≡ to.written
@@ -587,6 +760,7 @@ module _ (asked : Option Command) (from : SourceChange) (out : Outcome) (to : Si
       of_bytes command read_fault d is allowed = absurd (reads d)
       of_bytes command (refused r) d is allowed = absurd (not_both (refusal_for command) command r from.left d.1 allowed)
       of_bytes command (played s text) d is allowed = inl is
+      of_bytes command (threaded s end) d is allowed = inl is
       of_bytes command due d is allowed = absurd d
 
       of_stream : (due : Due) → IsDueOfStream from due → out.status ≡ code (status_of due) → AreAllowed first_fault commands.Show from.left →
@@ -611,3 +785,16 @@ module _ (asked : Option Command) (from : SourceChange) (out : Outcome) (to : Si
       by_cases : IsAnswered asked from out to → (out.status ≡ 0) ⊎ (out.status ≡ 6)
       by_cases (inl w) = inr w.0
       by_cases (inr w) = delivered w.0 w.1 w.2
+
+-- ---- one thread
+
+-- of what one thread is asked for no difference is handed out
+pub no_difference : {A : Type 0} (asked : Option Command) (differs : Option A) →
+    (IsSome differs → of_one_thread asked ≡ Some commands.Play) → differs ≡ None
+no_difference asked None only = refl
+no_difference asked (Some d) only = absurd (never asked (only refl))
+  where
+    never : (asked : Option Command) → of_one_thread asked ≡ Some commands.Play → ⊥
+    never None e = cc
+    never (Some commands.Play) e = cc
+    never (Some command) e = cc

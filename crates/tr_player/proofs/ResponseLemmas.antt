@@ -1,12 +1,15 @@
 -- What is due, by the words and by the bytes that were read.
-use Rattle.std.proofs.Common.{◌≡◌, ℕ, List, ◌++◌, Result, refl, sym, ap, subst, ◌∙◌}
+use Rattle.std.proofs.Common.{◌≡◌, ◌≢◌, ℕ, ◌<◌, List, ◌++◌, length, Result, refl, sym, ap, subst, ◌∙◌, arith}
 use Rattle.std.specs.Prelude.{Option, Some, None, Ok, Err, IfOk, OnOk, codes, decimal}
+use Rattle.std.proofs.lemmas.List.{length_push}
 use Rattle.std.proofs.lemmas.Result.{IfOk-weaker}
 use mathlib.Core.List.{append_assoc}
 use Rattle.tr_base.specs.declared.NoMemory.{NoMemory}
 use Rattle.tr_arguments.specs.declared.Command.{Command}
 use Rattle.tr_arguments.specs.declared.Command.TheVariants as commands
-use Rattle.tr_grammar.specs.Scripts.{Refusal, Script, refusal_of, script_of}
+use Rattle.tr_grammar.specs.States.{nothing_yet}
+use Rattle.tr_grammar.specs.Texts.{lines_of}
+use Rattle.tr_grammar.specs.Scripts.{Refusal, Script, after_all, refusal_of, script_of}
 use Rattle.std.specs.List.{flat_map}
 use Rattle.tr_screen.specs.Pictures.{Picture}
 use Rattle.tr_mirror.specs.declared.MirrorFault.{MirrorFault}
@@ -33,15 +36,16 @@ due_for_none asked from e unread = subst (λ (c : Option Command). IsDue c from 
 
 -- ---- by the text
 
--- a text that is a script
-pub due_of_valid : (command : Command) (bytes : List ℕ) (s : Script) → refusal_of bytes ≡ None → s ≡ script_of bytes → IsReadBack command s →
-    IsDueOfText command bytes (due_of_script command s)
-due_of_valid commands.Check bytes s none is back = by_limits (check_refusal s) refl
+-- a text that is a script, which one thread plays
+pub due_of_valid : (command : Command) (bytes : List ℕ) (s : Script) → command ≢ commands.Play → refusal_of bytes ≡ None → s ≡ script_of bytes →
+    IsReadBack command s → IsDueOfText command bytes (due_of_script command s)
+due_of_valid commands.Check bytes s other none is back = by_limits (check_refusal s) refl
   where
     by_limits : (r : Option Refusal) → check_refusal s ≡ r → IsDueOfText commands.Check bytes (refused_or r (played s (check_text s)))
-    by_limits None e = (rw none (subst (λ (x : Script). check_refusal x ≡ None) is e), is, refl, tt)
+    by_limits None e = (rw none (subst (λ (x : Script). check_refusal x ≡ None) is e), is, (refl, tt))
     by_limits (Some r) e = rw none (subst (λ (x : Script). check_refusal x ≡ Some r) is e)
-due_of_valid command bytes s none is back = (none, is, refl, back)
+due_of_valid commands.Play bytes s other none is back = absurd (other refl)
+due_of_valid command bytes s other none is back = (none, is, (refl, back))
 
 -- what `mirror` writes, where it is a stream that shows the screens that the script dumps
 pub read_back : (s : Script) (text : List ℕ) → text ≡ mirror_bytes s → IsStream text → shown text ≡ dumped_screens s → IsReadBack commands.Mirror s
@@ -51,11 +55,17 @@ read_back s text is stream shows = (
 )
 
 -- so it is with what was made of the script
-pub due_of_made : (command : Command) (bytes : List ℕ) (s : Script) (result : Result Response NoMemory) → refusal_of bytes ≡ None → s ≡ script_of bytes →
+pub due_of_made : (command : Command) (bytes : List ℕ) (s : Script) (result : Result Response NoMemory) → command ≢ commands.Play →
+    refusal_of bytes ≡ None → s ≡ script_of bytes →
     IfOk result (λ response. IsResponse (due_of_script command s) response) → OnOk result (IsReadBack command s) →
     IfOk result (λ response. (due : Due) × IsResponse due response × IsDueOfText command bytes due)
-due_of_made command bytes s (Ok response) none is made back = (due_of_script command s, made, due_of_valid command bytes s none is back)
-due_of_made command bytes s (Err e) none is made back = tt
+due_of_made command bytes s (Ok response) other none is made back = (due_of_script command s, made, due_of_valid command bytes s other none is back)
+due_of_made command bytes s (Err e) other none is made back = tt
+
+-- a script is read from a text: it has a part
+pub some_parts : (bytes : List ℕ) (s : Script) → s ≡ script_of bytes → 0 < length s.parts
+unfolding script_of
+some_parts bytes s is = omega (arith, ap (λ (x : Script). length x.parts) is, length_push (after_all nothing_yet (lines_of bytes)).ended (after_all nothing_yet (lines_of bytes)).part)
 
 -- a text that is no script
 pub due_refused : (command : Command) (bytes : List ℕ) (r : Refusal) → refusal_of bytes ≡ Some r → IsDueOfText command bytes (refused r)

@@ -8,11 +8,14 @@ use Rattle.tr_widget.specs.declared.Widget.{Widget}
 use Rattle.tr_widget.specs.declared.WidgetCmd.{WidgetCmd}
 use Rattle.tr_grammar.specs.Scripts.{Refusal, Script, most_bytes, refusal_of, script_of}
 use Rattle.tr_stage.specs.Stages.{StageView}
+use Rattle.tr_server.specs.Differing.{DiffersView}
 use Rattle.tr_mirror.specs.declared.MirrorFault.{MirrorFault}
 use Rattle.tr_mirror.specs.Readings.{first_fault, longest_stream}
 use Rattle.tr_show.specs.Shows.{shown_text}
 use Rattle.tr_serial.specs.Outputs.{out_text, check_text, gen_text, drawn, serial_journal}
 use Rattle.tr_serial.specs.Screens.{dump_texts, mirror_bytes}
+use Rattle.tr_threads.specs.declared.plays.Threaded.{Threaded}
+use Rattle.tr_threads.specs.Threads.{IsThreaded}
 use Rattle.tr_arguments.specs.declared.Command.{Command}
 use Rattle.tr_arguments.specs.declared.Command.TheVariants as commands
 use Rattle.tr_arguments.specs.Commands.{command_of}
@@ -64,7 +67,7 @@ abbrev pub refusal_for : Command → List ℕ → Option Refusal
 refusal_for commands.Check bytes = or_else (refusal_of bytes) (check_refusal (script_of bytes))
 refusal_for command bytes = refusal_of bytes
 
--- what is written of a script
+-- what is written of a script that one thread plays
 abbrev pub text_for : Command → Script → List ℕ
 text_for commands.Check s = check_text s
 text_for commands.Mirror s = mirror_bytes s
@@ -74,6 +77,16 @@ text_for command s = out_text s
 abbrev pub IsReadBack : Command → Script → Type 0
 IsReadBack commands.Mirror s = (first_fault (mirror_bytes s) ≡ None) × (shown_text (mirror_bytes s) ≡ dump_texts s)
 IsReadBack command s = ⊤
+
+-- what one thread writes of a script by a command: its text, and of `mirror` a stream that can be read back; `play` asks for many threads
+abbrev pub IsWritten : Command → Script → List ℕ → Type 0
+IsWritten commands.Play s text = ⊥
+IsWritten command s text = (text ≡ text_for command s) × IsReadBack command s
+
+-- what a script comes to that threads play, which `play` asks for
+abbrev pub IsByThreads : Command → Script → Threaded → Type 0
+IsByThreads commands.Play s end = IsThreaded s end
+IsByThreads command s end = ⊥
 
 -- ---- what is due
 
@@ -93,14 +106,15 @@ refused_text r = codes "refused: line " ++ decimal r.line ++ codes " B" ++ decim
 abbrev pub faulty_text : MirrorFault → List ℕ
 faulty_text f = codes "refused: byte " ++ decimal f.place ++ codes " M" ++ decimal f.code ++ codes "\n"
 
--- what a call is to answer before it is written. The last two are a script that was played and a stream that was read, with what is
--- written of them
+-- what a call is to answer before it is written. The last three are a script that one thread played, one that threads played, and a stream
+-- that was read, with what is written of them
 pub data Due : Type 0 where
   usage : Due
   read_fault : Due
   refused : Refusal → Due
   faulty : MirrorFault → Due
   played : Script → List ℕ → Due
+  threaded : Script → Threaded → Due
   shown : List ℕ → Due
 
 -- the status of each of these answers
@@ -110,6 +124,7 @@ status_of read_fault = ReadFault
 status_of (refused r) = Refused
 status_of (faulty f) = Refused
 status_of (played s text) = Done
+status_of (threaded s end) = Done
 status_of (shown text) = Done
 
 -- what is written for each of them
@@ -119,6 +134,7 @@ text_of read_fault = read_fault_text
 text_of (refused r) = refused_text r
 text_of (faulty f) = faulty_text f
 text_of (played s text) = text
+text_of (threaded s end) = end.text.items
 text_of (shown text) = text
 
 -- what became of a source in a call: the bytes that it had left and its count of faults, before and after
@@ -142,7 +158,8 @@ pub record IsUnread (from : SourceChange) : Type 0 where
   pub left : from.left_new ≡ from.left
   pub faults : from.faults_new ≡ from.faults
 
--- where a script is read: a read fault is due where the source has one; else the refusal of the bytes, or the text of the script that they are
+-- where a script is read: a read fault is due where the source has one; else the refusal of the bytes, or what the script that they are
+-- comes to
 abbrev pub IsDueOfBytes : Command → SourceChange → Due → Type 0
 IsDueOfBytes command from read_fault = HasFault from.faults from.faults_new
 IsDueOfBytes command from (refused r) =
@@ -150,7 +167,11 @@ IsDueOfBytes command from (refused r) =
 IsDueOfBytes command from (played s text) =
     IsReadThrough command from.left from.left_new
     × OfBytesRead command from.left (λ bytes. (refusal_for command bytes ≡ None) × (s ≡ script_of bytes))
-    × (text ≡ text_for command s) × IsReadBack command s
+    × IsWritten command s text
+IsDueOfBytes command from (threaded s end) =
+    IsReadThrough command from.left from.left_new
+    × OfBytesRead command from.left (λ bytes. (refusal_for command bytes ≡ None) × (s ≡ script_of bytes))
+    × IsByThreads command s end
 IsDueOfBytes command from due = ⊥
 
 -- where a stream is read: a read fault is due where the source has one; else the first fault of the bytes, or the dumps of what they show
@@ -197,21 +218,29 @@ pub record HasPlayed (s : Script) (stage : StageView Widget WidgetCmd) : Type 0 
 -- the stage that an answer hands out: that of the script that was played, and none where none was
 abbrev pub IsStageOf : Due → Option (StageView Widget WidgetCmd) → Type 0
 IsStageOf (played s text) stage = IsSomeAnd stage (λ stage. HasPlayed s stage)
+IsStageOf (threaded s end) stage = stage ≡ Some end.stage
 IsStageOf due stage = stage ≡ None
 
+-- the difference that an answer hands out: one that a session of threads found
+abbrev pub IsDifferenceOf : Due → Option (DiffersView Widget WidgetCmd) → Type 0
+IsDifferenceOf (threaded s end) differs = differs ≡ end.differs
+IsDifferenceOf due differs = differs ≡ None
+
 -- what became of the text that is due, by the status that is answered: it was written, or a write fault left a prefix of it, or want of
--- memory nothing; the stage is handed out in the first case alone
+-- memory nothing; stage and difference are handed out in the first case alone
 abbrev pub IsDelivered : Due → Outcome → SinkChange → Type 0
 IsDelivered due out to =
-    ((out.status ≡ code (status_of due)) × IsStageOf due out.stage × Grew to.written to.written_new (text_of due))
+    ((out.status ≡ code (status_of due)) × IsStageOf due out.stage × Grew to.written to.written_new (text_of due)
+    × IsDifferenceOf due out.differs)
     ⊎ (((out.status ≡ code WriteFault) × (out.stage ≡ None) × HasFault to.faults to.faults_new
-    × GrewByPrefix to.written to.written_new (text_of due))
-    ⊎ ((out.status ≡ code NoMemory) × (out.stage ≡ None) × (to.written_new ≡ to.written)))
+    × GrewByPrefix to.written to.written_new (text_of due) × (out.differs ≡ None))
+    ⊎ ((out.status ≡ code NoMemory) × (out.stage ≡ None) × (to.written_new ≡ to.written) × (out.differs ≡ None)))
 
 -- all that a call does: memory was wanted before an answer was found, or one is due and was delivered
 abbrev pub IsAnswered : Option Command → SourceChange → Outcome → SinkChange → Type 0
 IsAnswered asked from out to =
-    ((out.status ≡ code NoMemory) × (out.stage ≡ None) × (to.written_new ≡ to.written) × (ReadsNone asked → IsUnread from))
+    ((out.status ≡ code NoMemory) × (out.stage ≡ None) × (to.written_new ≡ to.written) × (ReadsNone asked → IsUnread from)
+    × (out.differs ≡ None))
     ⊎ ((due : Due) × IsDue asked from due × IsDelivered due out to)
 
 -- ---- words of the clauses
@@ -232,6 +261,16 @@ OfScriptRead None left P = ⊤
 OfScriptRead (Some (commands.Gen number)) left P = ⊤
 OfScriptRead (Some commands.Show) left P = ⊤
 OfScriptRead (Some command) left P = OfBytesRead command left (λ bytes. P command bytes)
+
+-- where one thread plays a script that is read, a fact of what is asked for and of the bytes that are read
+abbrev pub OfOneThread : Option Command → Option (List ℕ) → (Command → List ℕ → Type 0) → Type 0
+OfOneThread (Some commands.Play) left P = ⊤
+OfOneThread asked left P = OfScriptRead asked left P
+
+-- where threads play it, a fact of the bytes
+abbrev pub OfThreads : Option Command → Option (List ℕ) → (List ℕ → Type 0) → Type 0
+OfThreads (Some commands.Play) left P = OfBytesRead commands.Play left P
+OfThreads asked left P = ⊤
 
 -- where a stream is read, a fact of the bytes that are read
 abbrev pub OfStreamRead : Option Command → Option (List ℕ) → (List ℕ → Type 0) → Type 0

@@ -11,13 +11,15 @@ use Rattle.tr_serial.specs.Screens.{mirror_bytes}
 use Rattle.tr_player.specs.declared.responses.Response.{Response}
 use Rattle.tr_player.specs.declared.responses.Response.TheVariants as responses
 use Rattle.tr_player.specs.Checks.{check_refusal}
-use Rattle.tr_player.specs.Answers.{IsReadBack, Due, usage, read_fault, refused, faulty, played, shown, refusal_for, text_for, refused_text, faulty_text, HasPlayed}
+use Rattle.tr_player.specs.Answers.{Due, usage, read_fault, refused, faulty, played, threaded, shown, refusal_for, IsWritten, IsByThreads, refused_text, faulty_text, HasPlayed}
 
--- what is due for a text: its refusal, or the text of the script that it is
+-- what is due for a text: its refusal, or what the script that it is comes to
 abbrev pub IsDueOfText : Command → List ℕ → Due → Type 0
 IsDueOfText command bytes (refused r) = refusal_for command bytes ≡ Some r
 IsDueOfText command bytes (played s text) =
-    (refusal_for command bytes ≡ None) × (s ≡ script_of bytes) × (text ≡ text_for command s) × IsReadBack command s
+    (refusal_for command bytes ≡ None) × (s ≡ script_of bytes) × IsWritten command s text
+IsDueOfText command bytes (threaded s end) =
+    (refusal_for command bytes ≡ None) × (s ≡ script_of bytes) × IsByThreads command s end
 IsDueOfText command bytes due = ⊥
 
 -- what is due for the bytes of a stream: its first fault, or the dumps of what it shows
@@ -31,7 +33,7 @@ abbrev pub refused_or : Option Refusal → Due → Due
 refused_or (Some r) due = refused r
 refused_or None due = due
 
--- what is due for a script: its text, unless a check of it is beyond the limits
+-- what is due for a script that one thread plays: its text, unless a check of it is beyond the limits
 abbrev pub due_of_script : Command → Script → Due
 due_of_script commands.Check s = refused_or (check_refusal s) (played s (check_text s))
 due_of_script commands.Mirror s = played s (mirror_bytes s)
@@ -44,5 +46,6 @@ IsResponse read_fault responses.ReadFault = ⊤
 IsResponse (refused r) (responses.Refused text) = text.items ≡ refused_text r
 IsResponse (faulty f) (responses.Refused text) = text.items ≡ faulty_text f
 IsResponse (played s text) (responses.Played p) = (p.text.items ≡ text) × HasPlayed s p.stage
+IsResponse (threaded s end) (responses.Threaded made) = made ≡ end
 IsResponse (shown text) (responses.Shown out) = out.items ≡ text
 IsResponse due response = ⊥

@@ -1,26 +1,36 @@
-ghost use Rattle.std.specs.Prelude.{◌≡◌, ◌≢◌, ◌⊎◌, ◌↔◌, ◌≤◌, [], List, ℕ, None, Some, take};
-ghost use Rattle.std.specs.Prelude.{IfSome, IsSome, IsSomeAnd};
+ghost use Rattle.std.specs.Prelude.{◌≡◌, ◌≢◌, ◌⊎◌, ◌↔◌, ◌≤◌, ◌++◌, [], List, ℕ, None, Some, take};
+ghost use Rattle.std.specs.Prelude.{IfErr, IfSome, IsNone, IsSome, IsSomeAnd, OnOk};
 ghost use Rattle.tr_io.specs.Faults.{HasFault};
 ghost use Rattle.tr_io.specs.Streams.{Grew, GrewByPrefix};
 ghost use Rattle.tr_grammar.specs.Scripts.{Script, script_of};
 ghost use Rattle.tr_mirror.specs.Readings.{first_fault};
 ghost use Rattle.tr_show.specs.Shows.{shown_text};
 ghost use Rattle.tr_arguments.specs.declared.Command.{Command};
-ghost use Rattle.tr_arguments.specs.Commands.{texts_of};
-ghost use Rattle.tr_serial.specs.Outputs.{drawn, gen_text};
+ghost use Rattle.tr_arguments.specs.Commands.{command_of, texts_of};
+ghost use Rattle.tr_serial.specs.Outputs.{drawn, gen_text, out_text, widgets};
+ghost use Rattle.tr_parts.specs.Plays.{HasInterleaved};
+ghost use Rattle.tr_play.specs.Plays.{parts_of};
+ghost use Rattle.tr_threads.specs.Threads.{HasDifferedIn, again_text, threads_text};
 ghost use Rattle.tr_player.specs.Statuses.{code};
 ghost use Rattle.tr_player.specs.Answers.{Due, HasPlayed, IsAllowed, IsAnswered, IsDelivered, IsDue};
-ghost use Rattle.tr_player.specs.Answers.{IsReadBack, IsReadThrough, OfNumber, OfReader, OfScriptRead, OfStreamRead};
+ghost use Rattle.tr_player.specs.Answers.{IsReadBack, IsReadThrough, OfNumber, OfOneThread, OfReader, OfScriptRead};
+ghost use Rattle.tr_player.specs.Answers.{OfStreamRead, OfThreads};
 ghost use Rattle.tr_player.specs.Answers.{ReadsNone, Yields, asked_by, faulty_text, read_fault_text};
 ghost use Rattle.tr_player.specs.Answers.{refusal_for, refused_text};
-ghost use Rattle.tr_player.specs.Answers.{sink_change, source_change, text_for, text_of, usage_text};
+ghost use Rattle.tr_player.specs.Answers.{IsDifferenceOf, IsStageOf, sink_change, source_change, status_of, text_for};
+ghost use Rattle.tr_player.specs.Answers.{text_of, usage_text};
 ghost use Rattle.tr_player.specs.Responses.{IsResponse};
 
-use crate::responses::{Response, response_to};
+use crate::responses::{Response, response_by_threads, response_on_one_thread};
 use crate::statuses::Status;
 use crate::streams::write_all;
 use std::alloc::Global;
+use std::sync::Wait;
+use std::thread::Threads;
+use tr_client::Client;
 use tr_io::{Sink, Source};
+use tr_play::{Gate, Workers};
+use tr_server::Differs;
 use tr_stage::Stage;
 use tr_widget::Widget;
 
@@ -31,6 +41,38 @@ pub struct Outcome {
     pub status: u8,
     /// The stage after all steps, where the status is 0 and a script was played.
     pub stage: Option<Stage<Widget>>,
+    /// What a session of threads found that found its stage other than its passes say, where the status is 0.
+    /// Then all was played again on one thread.
+    pub differs: Option<Differs<Widget>>,
+}
+
+impl Outcome {
+    /// The status alone: stage and difference go.
+    pub fn into_status(self) -> u8
+        ensures { result ≡ self.status }
+    {
+        let Outcome {
+            status,
+            stage,
+            differs,
+        } = self;
+        let_go(stage, differs);
+        status
+    }
+
+    /// The status and the stage: a difference goes.
+    pub fn into_stage(self) -> (u8, Option<Stage<Widget>>)
+        ensures status { result.0 ≡ self.status }
+        ensures stage { result.1 ≡ self.stage }
+    {
+        let Outcome {
+            status,
+            stage,
+            differs,
+        } = self;
+        let_go::<Widget>(None, differs);
+        (status, stage)
+    }
 }
 
 /// Plays a script on one thread, and writes what is due. The words are those after the program's name. For
@@ -102,10 +144,10 @@ pub fn serial_call<S: Source, K: Sink>(
     ensures read_to_end { result.status ≡ code Status.Done → (ReadsNone (asked_by (texts_of words.now)) → ⊥) →
         IfSome (S.left source.new) (λ rest. rest ≡ []) }
     ensures output { result.status ≡ code Status.Done →
-        OfScriptRead (asked_by (texts_of words.now)) (S.left source.old) (λ command bytes.
+        OfOneThread (asked_by (texts_of words.now)) (S.left source.old) (λ command bytes.
         Grew (K.written sink.old) (K.written sink.new) (text_for command (script_of bytes))) }
     ensures stage { result.status ≡ code Status.Done →
-        OfScriptRead (asked_by (texts_of words.now)) (S.left source.old) (λ command bytes.
+        OfOneThread (asked_by (texts_of words.now)) (S.left source.old) (λ command bytes.
         IsSomeAnd result.stage (λ stage. HasPlayed (script_of bytes) stage)) }
 
     // The same of the script that a number gives.
@@ -119,12 +161,13 @@ pub fn serial_call<S: Source, K: Sink>(
         OfStreamRead (asked_by (texts_of words.now)) (S.left source.old) (λ bytes.
         Grew (K.written sink.old) (K.written sink.new) (shown_text bytes)) }
     ensures read_back { result.status ≡ code Status.Done →
-        OfScriptRead (asked_by (texts_of words.now)) (S.left source.old) (λ command bytes.
+        OfOneThread (asked_by (texts_of words.now)) (S.left source.old) (λ command bytes.
         IsReadBack command (script_of bytes)) }
 
-    // There is a stage exactly where a script was played.
+    // There is a stage exactly where a script was played, and never a difference.
     ensures has_stage { IsSome result.stage ↔
         ((result.status ≡ code Status.Done) × (asked_by (texts_of words.now) ≢ Some Command.Show)) }
+    ensures no_difference { result.differs ≡ None }
 
     // Write fault: only where the sink had one. What is written is a prefix of the text that is due.
     ensures write_fault { result.status ≡ code Status.WriteFault →
@@ -143,34 +186,242 @@ pub fn serial_call<S: Source, K: Sink>(
         (HasFault (K.faults sink.old) (K.faults sink.new) → ⊥) →
         (result.status ≡ code Status.Done) ⊎ (result.status ≡ code Status.NoMemory) }
 {
-    let Ok(response) = response_to(alloc, words, source) else {
-        return Outcome {
-            status: Status::NoMemory.code(),
-            stage: None,
-        };
+    let Ok(response) = response_on_one_thread(alloc, words, source) else {
+        return nothing();
     };
     deliver(sink, response)
 }
 
-/// Writes the text of a response, and answers its status and its stage.
+/// Plays a script by threads where the words are `play`, and else does what `serial_call` does. For `play` a
+/// thread makes the steps of each leaf's client, one those of the desk, and one is the painter, who brings the
+/// screen up to date meanwhile; the gate is asked before each step of a script. What is written are the
+/// script's reports, and `played threads`. Should a session find its stage other than its passes say, all is
+/// played again on one thread, and what is written says so.
+///
+/// The threads take locks, so with `play` it may wait; it returns where each thread does.
+pub fn trestle_call<R: Threads + Wait + Sync, S: Source, K: Sink, G: Gate + Sync>(
+    rt: &R,
+    alloc: Global,
+    words: &[String],
+    source: &mut S,
+    sink: &mut K,
+    gate: &G,
+) -> Outcome
+    ensures statuses { (status : Status) × (result.status ≡ code status) }
+    ensures rising { (S.faults source.old ≤ S.faults source.new) × (K.faults sink.old ≤ K.faults sink.new) }
+
+    // All of it at once: one of the answers is due, and what became of it. The clauses below follow.
+    ensures answered { IsAnswered (command_of (texts_of words.now))
+        (source_change S.Source source.old source.new) result (sink_change K.Sink sink.old sink.new) }
+
+    // Usage: exactly where the words are no accepted list.
+    ensures usage { Yields result.status
+        ((result.status ≡ code Status.Usage) ↔ (command_of (texts_of words.now) ≡ None)) }
+    ensures usage_text { result.status ≡ code Status.Usage →
+        Grew (K.written sink.old) (K.written sink.new) usage_text }
+
+    // Nothing is read then, nor for a number, whatever is answered.
+    ensures unread { ReadsNone (command_of (texts_of words.now)) →
+        (S.left source.new ≡ S.left source.old) × (S.faults source.new ≡ S.faults source.old) }
+
+    // Read fault: only where the source had one.
+    ensures read_fault { result.status ≡ code Status.ReadFault →
+        HasFault (S.faults source.old) (S.faults source.new) }
+    ensures read_fault_text { result.status ≡ code Status.ReadFault →
+        Grew (K.written sink.old) (K.written sink.new) read_fault_text }
+
+    // Refused: of the answers to a script that was read, exactly where its bytes are refused, with the
+    // first fault.
+    ensures refused { Yields result.status (result.status ≢ code Status.ReadFault →
+        OfScriptRead (command_of (texts_of words.now)) (S.left source.old) (λ command bytes.
+        (result.status ≡ code Status.Refused) ↔ IsSome (refusal_for command bytes))) }
+    ensures refused_text { result.status ≡ code Status.Refused →
+        OfScriptRead (command_of (texts_of words.now)) (S.left source.old) (λ command bytes.
+        IsSomeAnd (refusal_for command bytes) (λ refusal.
+        Grew (K.written sink.old) (K.written sink.new) (refused_text refusal))) }
+    ensures never_refused { OfNumber (command_of (texts_of words.now)) (λ number.
+        result.status ≢ code Status.Refused) }
+
+    // The same of a stream, by the table of its faults.
+    ensures faulty { Yields result.status (result.status ≢ code Status.ReadFault →
+        OfStreamRead (command_of (texts_of words.now)) (S.left source.old) (λ bytes.
+        (result.status ≡ code Status.Refused) ↔ IsSome (first_fault bytes))) }
+    ensures faulty_text { result.status ≡ code Status.Refused →
+        OfStreamRead (command_of (texts_of words.now)) (S.left source.old) (λ bytes.
+        IsSomeAnd (first_fault bytes) (λ fault.
+        Grew (K.written sink.old) (K.written sink.new) (faulty_text fault))) }
+
+    // Done and refused: the source was read to its end, or until there was too much.
+    ensures read_through { (result.status ≡ code Status.Done) ⊎ (result.status ≡ code Status.Refused) →
+        OfReader (command_of (texts_of words.now)) (λ command.
+        IsReadThrough command (S.left source.old) (S.left source.new)) }
+
+    // Done: the source was read to its end. The script in the bytes read was played: what is written is its
+    // text, the stage has its opening, and the journal is the serial one.
+    ensures read_to_end { result.status ≡ code Status.Done → (ReadsNone (command_of (texts_of words.now)) → ⊥) →
+        IfSome (S.left source.new) (λ rest. rest ≡ []) }
+    ensures output { result.status ≡ code Status.Done →
+        OfOneThread (command_of (texts_of words.now)) (S.left source.old) (λ command bytes.
+        Grew (K.written sink.old) (K.written sink.new) (text_for command (script_of bytes))) }
+    ensures stage { result.status ≡ code Status.Done →
+        OfOneThread (command_of (texts_of words.now)) (S.left source.old) (λ command bytes.
+        IsSomeAnd result.stage (λ stage. HasPlayed (script_of bytes) stage)) }
+
+    // The same of the script that a number gives.
+    ensures summed_up { result.status ≡ code Status.Done →
+        OfNumber (command_of (texts_of words.now)) (λ number.
+        Grew (K.written sink.old) (K.written sink.new) (gen_text number)
+        × IsSomeAnd result.stage (λ stage. HasPlayed (drawn number) stage)) }
+
+    // Of a stream the screens at its cuts are dumped. One that was written for a script shows the script's dumps.
+    ensures shown { result.status ≡ code Status.Done →
+        OfStreamRead (command_of (texts_of words.now)) (S.left source.old) (λ bytes.
+        Grew (K.written sink.old) (K.written sink.new) (shown_text bytes)) }
+    ensures read_back { result.status ≡ code Status.Done →
+        OfOneThread (command_of (texts_of words.now)) (S.left source.old) (λ command bytes.
+        IsReadBack command (script_of bytes)) }
+
+    // `play`: threads made the steps of the script in the bytes read, in whatever order they came. The stage's
+    // journal is one of the machine and interleaves the script, and what is written is the text of this very
+    // journal.
+    ensures threads { result.status ≡ code Status.Done → IsNone result.differs →
+        OfThreads (command_of (texts_of words.now)) (S.left source.old) (λ bytes. IsSomeAnd result.stage (λ stage.
+        HasInterleaved widgets (script_of bytes).opening (parts_of (script_of bytes).parts) stage
+        × Grew (K.written sink.old) (K.written sink.new) (threads_text (script_of bytes) stage))) }
+
+    // Where a session found its stage other than its passes say, it hands out what it found, and all was
+    // played again on one thread.
+    ensures again { result.status ≡ code Status.Done →
+        OfThreads (command_of (texts_of words.now)) (S.left source.old) (λ bytes. IfSome result.differs (λ d.
+        HasDifferedIn (script_of bytes) d × IsSomeAnd result.stage (λ stage. HasPlayed (script_of bytes) stage)
+        × Grew (K.written sink.old) (K.written sink.new)
+        (out_text (script_of bytes) ++ again_text (script_of bytes) d))) }
+    ensures differs { IsSome result.differs →
+        (result.status ≡ code Status.Done) × (command_of (texts_of words.now) ≡ Some Command.Play) }
+
+    // There is a stage exactly where a script was played.
+    ensures has_stage { IsSome result.stage ↔
+        ((result.status ≡ code Status.Done) × (command_of (texts_of words.now) ≢ Some Command.Show)) }
+
+    // Write fault: only where the sink had one. What is written is a prefix of the text that is due.
+    ensures write_fault { result.status ≡ code Status.WriteFault →
+        HasFault (K.faults sink.old) (K.faults sink.new) }
+    ensures prefix { result.status ≡ code Status.WriteFault → (due : Due)
+        × IsDue (command_of (texts_of words.now)) (source_change S.Source source.old source.new) due
+        × GrewByPrefix (K.written sink.old) (K.written sink.new) (text_of due) }
+
+    // Want of memory: nothing is written.
+    ensures no_memory { result.status ≡ code Status.NoMemory →
+        K.written sink.new ≡ K.written sink.old }
+
+    // What isn't refused is played, where no fault is counted.
+    ensures complete { IsAllowed (command_of (texts_of words.now)) (S.left source.old) →
+        (HasFault (S.faults source.old) (S.faults source.new) → ⊥) →
+        (HasFault (K.faults sink.old) (K.faults sink.new) → ⊥) →
+        (result.status ≡ code Status.Done) ⊎ (result.status ≡ code Status.NoMemory) }
+{
+    let workers = Workers { rt, alloc, gate };
+    let Ok(response) = response_by_threads(&workers, words, source) else {
+        return nothing();
+    };
+    deliver(sink, response)
+}
+
+/// The answer for want of memory.
+fn nothing() -> Outcome
+    ensures status { result.status ≡ code Status.NoMemory }
+    ensures stage { result.stage ≡ None }
+    ensures differs { result.differs ≡ None }
+{
+    Outcome {
+        status: Status::NoMemory.code(),
+        stage: None,
+        differs: None,
+    }
+}
+
+/// Writes the text of a response, and answers its status, its stage, and the difference that was found.
 fn deliver<K: Sink>(sink: &mut K, response: Response) -> Outcome
     ensures delivered { (due : Due) → IsResponse due response →
         IsDelivered due result (sink_change K.Sink sink.old sink.new) }
     ensures rising { K.faults sink.old ≤ K.faults sink.new }
 {
-    let text = response.text();
-    let status = if sink.reserve(text.len()).is_err() {
-        Status::NoMemory
-    } else if write_all(sink, text).is_err() {
-        Status::WriteFault
-    } else {
-        return Outcome {
-            status: response.status().code(),
-            stage: response.into_stage(),
-        };
-    };
+    match write_out(sink, response.text()) {
+        Ok(()) => done(response),
+        Err(status) => undone(response, status),
+    }
+}
+
+/// Writes a text.
+fn write_out<K: Sink>(sink: &mut K, text: &[u8]) -> Result<(), Status>
+    ensures ok { OnOk result (Grew (K.written sink.old) (K.written sink.new) text.now) }
+    ensures err { IfErr result (λ status.
+        ((status ≡ Status.WriteFault) × HasFault (K.faults sink.old) (K.faults sink.new)
+        × GrewByPrefix (K.written sink.old) (K.written sink.new) text.now)
+        ⊎ ((status ≡ Status.NoMemory) × (K.written sink.new ≡ K.written sink.old))) }
+    ensures rising { K.faults sink.old ≤ K.faults sink.new }
+{
+    if sink.reserve(text.len()).is_err() {
+        return Err(Status::NoMemory);
+    }
+    write_all(sink, text).or(Err(Status::WriteFault))
+}
+
+/// The answer once all is written.
+fn done(response: Response) -> Outcome
+    ensures status { (due : Due) → IsResponse due response → result.status ≡ code (status_of due) }
+    ensures stage { (due : Due) → IsResponse due response → IsStageOf due result.stage }
+    ensures differs { (due : Due) → IsResponse due response → IsDifferenceOf due result.differs }
+{
+    let status = response.status().code();
+    let (stage, differs) = response.into_parts();
+    Outcome {
+        status,
+        stage,
+        differs,
+    }
+}
+
+/// The answer where not all is written: what would be handed out goes.
+fn undone(response: Response, status: Status) -> Outcome
+    ensures status { result.status ≡ code status }
+    ensures stage { result.stage ≡ None }
+    ensures differs { result.differs ≡ None }
+{
+    let (stage, differs) = response.into_parts();
+    let_go(stage, differs);
     Outcome {
         status: status.code(),
         stage: None,
+        differs: None,
     }
 }
+
+/// Lets a stage and a difference go, if they are there. Each is dropped in a function of its own, which holds
+/// of any clients, so that no other proof has to know how.
+fn let_go<C: Client>(stage: Option<Stage<C>>, differs: Option<Differs<C>>) {
+    let_stage_go(stage);
+    let_difference_go(differs);
+}
+
+/// Lets a stage go, if it is there.
+fn let_stage_go<C: Client>(stage: Option<Stage<C>>) {
+    match stage {
+        Some(stage) => drop_stage(stage),
+        None => {}
+    }
+}
+
+/// Lets a difference go, if it is there.
+fn let_difference_go<C: Client>(differs: Option<Differs<C>>) {
+    match differs {
+        Some(differs) => drop_difference(differs),
+        None => {}
+    }
+}
+
+/// Drops a stage.
+fn drop_stage<C: Client>(_stage: Stage<C>) {}
+
+/// Drops a difference.
+fn drop_difference<C: Client>(_differs: Differs<C>) {}

@@ -8,5 +8,6 @@ mod responses;
 mod statuses;
 mod streams;
 
-pub use calls::{Outcome, serial_call};
+pub use calls::{Outcome, serial_call, trestle_call};
 pub use statuses::Status;
+pub use tr_play::{Gate, OpenGate};

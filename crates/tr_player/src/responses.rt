@@ -1,10 +1,11 @@
-ghost use Rattle.std.specs.Prelude.{◌≡◌, ◌≤◌, IfOk, OnOk};
+ghost use Rattle.std.specs.Prelude.{◌≡◌, ◌≢◌, ◌≤◌, IfOk, OnOk};
 ghost use Rattle.tr_grammar.specs.Scripts.{IsPlayableScript};
-ghost use Rattle.tr_arguments.specs.Commands.{texts_of};
+ghost use Rattle.tr_arguments.specs.declared.Command.TheVariants.{Play};
+ghost use Rattle.tr_arguments.specs.Commands.{command_of as the_command_of, texts_of};
 ghost use Rattle.tr_serial.specs.Screens.{report_count};
 ghost use Rattle.tr_player.specs.Answers as spec;
-ghost use Rattle.tr_player.specs.Answers.{Due, IsDue, IsDueOfBytes, IsDueOfStream, IsReadBack, IsStageOf};
-ghost use Rattle.tr_player.specs.Answers.{ReadsNone, asked_by, faulty, refused, source_change, status_of, text_of};
+ghost use Rattle.tr_player.specs.Answers.{Due, IsDifferenceOf, IsDue, IsDueOfBytes, IsDueOfStream, IsReadBack, IsStageOf};
+ghost use Rattle.tr_player.specs.Answers.{ReadsNone, faulty, of_one_thread, refused, source_change, status_of, text_of};
 ghost use Rattle.tr_player.specs.Responses.{IsDueOfShow, IsDueOfText, IsResponse, due_of_script};
 
 use crate::checks::is_checkable;
@@ -12,16 +13,21 @@ use crate::errors::ReadError;
 use crate::statuses::Status;
 use crate::streams::read_all;
 use std::alloc::Global;
+use std::sync::Wait;
+use std::thread::Threads;
 use tr_arguments::{Command, command_of};
 use tr_base::NoMemory;
 use tr_grammar::{Code, LONGEST_SCRIPT, ReadRefused};
 use tr_io::Source;
 use tr_mirror::{LONGEST_STREAM, MirrorFault};
+use tr_play::{Gate, Workers};
 use tr_reader::Script;
 use tr_script::read_script;
 use tr_serial::{Played, check, mirror, serial, summary};
+use tr_server::Differs;
 use tr_show::{ShowRefused, show};
 use tr_stage::Stage;
+use tr_threads::{Threaded, threads};
 use tr_widget::Widget;
 
 /// What is written for words that ask for nothing.
@@ -39,8 +45,10 @@ pub enum Response {
     ReadFault,
     /// The script, or the stream, is refused: the text that says so.
     Refused(Vec<u8>),
-    /// A script was played.
+    /// A script was played on one thread.
     Played(Played),
+    /// Threads played a script.
+    Threaded(Threaded),
     /// A stream was read: the dumps of its screens.
     Shown(Vec<u8>),
 }
@@ -54,7 +62,7 @@ impl Response {
             Response::Usage => Status::Usage,
             Response::ReadFault => Status::ReadFault,
             Response::Refused(_) => Status::Refused,
-            Response::Played(_) | Response::Shown(_) => Status::Done,
+            Response::Played(_) | Response::Threaded(_) | Response::Shown(_) => Status::Done,
         }
     }
 
@@ -67,32 +75,33 @@ impl Response {
             Response::ReadFault => READ_FAULT_TEXT,
             Response::Refused(text) | Response::Shown(text) => text,
             Response::Played(played) => &played.text,
+            Response::Threaded(threaded) => &threaded.text,
         }
     }
 
-    /// The stage of a script that was played.
-    pub fn into_stage(self) -> Option<Stage<Widget>>
-        ensures { (due : Due) → IsResponse due self → IsStageOf due result }
+    /// The stage of a script that was played, and the difference that a session of threads found.
+    pub fn into_parts(self) -> (Option<Stage<Widget>>, Option<Differs<Widget>>)
+        ensures stage { (due : Due) → IsResponse due self → IsStageOf due result.0 }
+        ensures differs { (due : Due) → IsResponse due self → IsDifferenceOf due result.1 }
     {
         match self {
-            Response::Played(played) => {
-                let Played { stage, .. } = played;
-                Some(stage)
-            }
-            _ => None,
+            Response::Played(Played { stage, .. }) => (Some(stage), None),
+            Response::Threaded(Threaded { stage, differs, .. }) => (Some(stage), differs),
+            _ => (None, None),
         }
     }
 }
 
-/// The response to the words, and to what the source has left where they ask for a script that is read.
-pub fn response_to<S: Source>(
+/// The response to the words, and to what the source has left where they ask for a script that is read. One
+/// thread does what they ask for; `play` is no command for it.
+pub fn response_on_one_thread<S: Source>(
     alloc: Global,
     words: &[String],
     source: &mut S,
 ) -> Result<Response, NoMemory>
-    ensures due { IfOk result (λ response. (due : Due) × IsResponse due response
-        × IsDue (asked_by (texts_of words.now)) (source_change S.Source source.old source.new) due) }
-    ensures unread { ReadsNone (asked_by (texts_of words.now)) →
+    ensures due { let asked = of_one_thread (the_command_of (texts_of words.now)) in IfOk result (λ response.
+        (due : Due) × IsResponse due response × IsDue asked (source_change S.Source source.old source.new) due) }
+    ensures unread { ReadsNone (of_one_thread (the_command_of (texts_of words.now))) →
         (S.left source.new ≡ S.left source.old) × (S.faults source.new ≡ S.faults source.old) }
     ensures rising { S.faults source.old ≤ S.faults source.new }
 {
@@ -102,7 +111,63 @@ pub fn response_to<S: Source>(
         Some(Command::Mirror) => response_to_source(alloc, Command::Mirror, source),
         Some(Command::Show) => response_to_stream(alloc, source),
         Some(Command::Gen(number)) => Ok(Response::Played(summary(alloc, number)?)),
-        Some(Command::Play) | None => Ok(Response::Usage),
+        Some(Command::Play) => Ok(Response::Usage),
+        None => Ok(Response::Usage),
+    }
+}
+
+/// The same, where threads do what `play` asks for.
+pub fn response_by_threads<R: Threads + Wait + Sync, S: Source, G: Gate + Sync>(
+    workers: &Workers<'_, R, G>,
+    words: &[String],
+    source: &mut S,
+) -> Result<Response, NoMemory>
+    ensures due { let asked = the_command_of (texts_of words.now) in IfOk result (λ response.
+        (due : Due) × IsResponse due response × IsDue asked (source_change S.Source source.old source.new) due) }
+    ensures unread { ReadsNone (the_command_of (texts_of words.now)) →
+        (S.left source.new ≡ S.left source.old) × (S.faults source.new ≡ S.faults source.old) }
+    ensures rising { S.faults source.old ≤ S.faults source.new }
+{
+    let alloc = workers.alloc;
+    match command_of(workers.alloc, words)? {
+        Some(Command::Play) => response_to_play(workers, source),
+        Some(Command::Serial) => response_to_source(alloc, Command::Serial, source),
+        Some(Command::Check) => response_to_source(alloc, Command::Check, source),
+        Some(Command::Mirror) => response_to_source(alloc, Command::Mirror, source),
+        Some(Command::Show) => response_to_stream(alloc, source),
+        Some(Command::Gen(number)) => Ok(Response::Played(summary(alloc, number)?)),
+        None => Ok(Response::Usage),
+    }
+}
+
+/// The response of threads to a script that the source has left.
+fn response_to_play<R: Threads + Wait + Sync, S: Source, G: Gate + Sync>(
+    workers: &Workers<'_, R, G>,
+    source: &mut S,
+) -> Result<Response, NoMemory>
+    ensures due { IfOk result (λ response. (due : Due) × IsResponse due response
+        × IsDueOfBytes Play (source_change S.Source source.old source.new) due) }
+    ensures rising { S.faults source.old ≤ S.faults source.new }
+{
+    match read_all(workers.alloc, source, most_read(Command::Play)) {
+        Ok(bytes) => response_to_played(workers, &bytes),
+        Err(ReadError::Failed) => Ok(Response::ReadFault),
+        Err(ReadError::NoMemory) => Err(NoMemory),
+    }
+}
+
+/// The response of threads to the bytes of a script.
+fn response_to_played<R: Threads + Wait + Sync, G: Gate + Sync>(
+    workers: &Workers<'_, R, G>,
+    bytes: &[u8],
+) -> Result<Response, NoMemory>
+    ensures { IfOk result (λ response.
+        (due : Due) × IsResponse due response × IsDueOfText Play bytes.now due) }
+{
+    match read_script(workers.alloc, bytes) {
+        Ok(script) => Ok(Response::Threaded(threads(workers, script)?)),
+        Err(ReadRefused::Refused { line, code }) => refusal(workers.alloc, line, code),
+        Err(ReadRefused::NoMemory) => Err(NoMemory),
     }
 }
 
@@ -112,6 +177,7 @@ fn response_to_source<S: Source>(
     command: Command,
     source: &mut S,
 ) -> Result<Response, NoMemory>
+    requires { command ≢ Play }
     ensures due { IfOk result (λ response. (due : Due) × IsResponse due response
         × IsDueOfBytes command (source_change S.Source source.old source.new) due) }
     ensures rising { S.faults source.old ≤ S.faults source.new }
@@ -135,6 +201,7 @@ fn most_read(command: Command) -> usize
 
 /// The response to the bytes of a script.
 fn response_to_bytes(alloc: Global, command: Command, bytes: &[u8]) -> Result<Response, NoMemory>
+    requires { command ≢ Play }
     ensures { IfOk result (λ response.
         (due : Due) × IsResponse due response × IsDueOfText command bytes.now due) }
 {

@@ -3,7 +3,7 @@ use std::alloc::{AllocError, Global};
 use std::test::Fail;
 use tr_base::NoMemory;
 use tr_io::{Failed, MemorySink, MemorySource, Sink, Source, SteadySource};
-use tr_player::{Outcome, serial_call};
+use tr_player::serial_call;
 
 const USAGE: &[u8] = b"usage: trestle play|serial|check|mirror|show|gen N\n";
 
@@ -43,7 +43,7 @@ pub(crate) fn end_of<S: Source, K: Sink>(
     sink: &mut K,
 ) -> Result<(u8, Option<usize>), AllocError> {
     let words = words_of(alloc, texts)?;
-    let Outcome { status, stage } = serial_call(alloc, &words, source, sink);
+    let (status, stage) = serial_call(alloc, &words, source, sink).into_stage();
     match stage {
         Some(stage) => Ok((status, Some(stage.journal().len()))),
         None => Ok((status, None)),

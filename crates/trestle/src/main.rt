@@ -13,5 +13,5 @@ use tr_io::{StdSink, StdSource};
 fn main(rt: HostRuntime) -> ExitCode {
     let mut source = StdSource::new(rt.stdin());
     let mut sink = StdSink::new(rt.stdout());
-    run(rt.alloc(), env::args(&rt), &mut source, &mut sink)
+    run(&rt, rt.alloc(), env::args(&rt), &mut source, &mut sink)
 }

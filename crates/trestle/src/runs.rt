@@ -8,25 +8,30 @@ ghost use Rattle.tr_show.specs.Shows.{shown_text};
 ghost use Rattle.tr_grammar.specs.Scripts.{script_of};
 ghost use Rattle.tr_serial.specs.Outputs.{gen_text};
 ghost use Rattle.tr_player.specs.Statuses.{code};
-ghost use Rattle.tr_player.specs.Answers.{IsAllowed, OfNumber, OfScriptRead, OfStreamRead, Yields};
-ghost use Rattle.tr_player.specs.Answers.{asked_by, refusal_for, sink_change, source_change, text_for};
+ghost use Rattle.tr_arguments.specs.Commands.{command_of};
+ghost use Rattle.tr_player.specs.Answers.{IsAllowed, OfNumber, OfOneThread, OfScriptRead, OfStreamRead, OfThreads};
+ghost use Rattle.tr_player.specs.Answers.{Yields};
+ghost use Rattle.tr_player.specs.Answers.{refusal_for, sink_change, source_change, text_for};
 ghost use Rattle.trestle.specs.Arguments.{heard, status_unheard, status_without};
-ghost use Rattle.trestle.specs.Runs.{IsEnd};
+ghost use Rattle.trestle.specs.Runs.{IsEnd, IsPrinted};
 
 use std::alloc::{AllocError, Global};
 use std::env::Args;
 use std::io;
 use std::io::ErrorKind;
 use std::process::ExitCode;
+use std::sync::Wait;
+use std::thread::Threads;
 use tr_io::{Sink, Source};
-use tr_player::{Status, serial_call};
+use tr_player::{OpenGate, Status, trestle_call};
 
 /// The status where the system refused the program its arguments. No call answers it.
 const REFUSED_STATUS: u8 = 7;
 
 /// Does what the arguments ask for that the system handed out. The first of these is the program's name.
 /// The answer is the status to end with.
-pub fn run<S: Source, K: Sink>(
+pub fn run<R: Threads + Wait + Sync, S: Source, K: Sink>(
+    rt: &R,
     alloc: Global,
     all: io::Result<Args>,
     source: &mut S,
@@ -39,27 +44,30 @@ pub fn run<S: Source, K: Sink>(
         × (K.written sink.new ≡ K.written sink.old) × (K.faults sink.new ≡ K.faults sink.old)) }
 
     // With them: the status of the call, all of it at once, and then what matters most of it.
-    ensures answered { IfSome (heard all) (λ words. IsEnd (asked_by words)
+    ensures answered { IfSome (heard all) (λ words. IsEnd (command_of words)
         (source_change S.Source source.old source.new) (exit_status result)
         (sink_change K.Sink sink.old sink.new)) }
     ensures usage { IfSome (heard all) (λ words. Yields (exit_status result)
-        ((exit_status result ≡ code Status.Usage) ↔ (asked_by words ≡ None))) }
+        ((exit_status result ≡ code Status.Usage) ↔ (command_of words ≡ None))) }
     ensures refused { IfSome (heard all) (λ words. Yields (exit_status result)
         (exit_status result ≢ code Status.ReadFault →
-        OfScriptRead (asked_by words) (S.left source.old) (λ command bytes.
+        OfScriptRead (command_of words) (S.left source.old) (λ command bytes.
         (exit_status result ≡ code Status.Refused) ↔ IsSome (refusal_for command bytes)))) }
     ensures output { IfSome (heard all) (λ words. exit_status result ≡ code Status.Done →
-        OfScriptRead (asked_by words) (S.left source.old) (λ command bytes.
+        OfOneThread (command_of words) (S.left source.old) (λ command bytes.
         Grew (K.written sink.old) (K.written sink.new) (text_for command (script_of bytes)))) }
+    ensures threads { IfSome (heard all) (λ words. exit_status result ≡ code Status.Done →
+        OfThreads (command_of words) (S.left source.old) (λ bytes.
+        IsPrinted (script_of bytes) (sink_change K.Sink sink.old sink.new))) }
     ensures faulty { IfSome (heard all) (λ words. Yields (exit_status result)
         (exit_status result ≢ code Status.ReadFault →
-        OfStreamRead (asked_by words) (S.left source.old) (λ bytes.
+        OfStreamRead (command_of words) (S.left source.old) (λ bytes.
         (exit_status result ≡ code Status.Refused) ↔ IsSome (first_fault bytes)))) }
     ensures shown { IfSome (heard all) (λ words. exit_status result ≡ code Status.Done →
-        OfStreamRead (asked_by words) (S.left source.old) (λ bytes.
+        OfStreamRead (command_of words) (S.left source.old) (λ bytes.
         Grew (K.written sink.old) (K.written sink.new) (shown_text bytes))) }
     ensures summed_up { IfSome (heard all) (λ words. exit_status result ≡ code Status.Done →
-        OfNumber (asked_by words) (λ number.
+        OfNumber (command_of words) (λ number.
         Grew (K.written sink.old) (K.written sink.new) (gen_text number))) }
     ensures read_fault { exit_status result ≡ code Status.ReadFault →
         HasFault (S.faults source.old) (S.faults source.new) }
@@ -67,14 +75,17 @@ pub fn run<S: Source, K: Sink>(
         HasFault (K.faults sink.old) (K.faults sink.new) }
     ensures no_memory { exit_status result ≡ code Status.NoMemory →
         K.written sink.new ≡ K.written sink.old }
-    ensures complete { IfSome (heard all) (λ words. IsAllowed (asked_by words) (S.left source.old) →
+    ensures complete { IfSome (heard all) (λ words. IsAllowed (command_of words) (S.left source.old) →
         (HasFault (S.faults source.old) (S.faults source.new) → ⊥) →
         (HasFault (K.faults sink.old) (K.faults sink.new) → ⊥) →
         (exit_status result ≡ code Status.Done) ⊎ (exit_status result ≡ code Status.NoMemory)) }
 {
     match all {
         Ok(all) => match after_name(alloc, all) {
-            Ok(words) => ExitCode::from(serial_call(alloc, &words, source, sink).status),
+            Ok(words) => {
+                let outcome = trestle_call(rt, alloc, &words, source, sink, &OpenGate);
+                ExitCode::from(outcome.into_status())
+            }
             Err(_) => ExitCode::from(Status::NoMemory.code()),
         },
         Err(error) => ExitCode::from(status_without(error.kind())),

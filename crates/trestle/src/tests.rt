@@ -15,6 +15,7 @@ fn arguments_after_the_name_are_heard(rt: HostRuntime) -> Result<(), Fail> {
     for (texts, text) in [
         (["trestle", "serial"].as_slice(), b"read fault\n".as_slice()),
         (&["trestle", "check"], b"read fault\n"),
+        (&["trestle", "play"], b"read fault\n"),
         (&["serial"], USAGE),
         (&["trestle"], USAGE),
         (&["trestle", "serial", "x"], USAGE),
@@ -27,7 +28,7 @@ fn arguments_after_the_name_are_heard(rt: HostRuntime) -> Result<(), Fail> {
         let script = Vec::from_slice(rt.alloc(), SCRIPT)?;
         let mut source = MemorySource::new(script, Vec::from_slice(rt.alloc(), &[1])?);
         let mut sink = SteadySink::new(rt.alloc());
-        let _ = run(rt.alloc(), Ok(all.into_iter()), &mut source, &mut sink);
+        let _ = run(&rt, rt.alloc(), Ok(all.into_iter()), &mut source, &mut sink);
         assert_eq!(rt; sink.written(), text);
     }
     Ok(())
@@ -44,6 +45,7 @@ fn arguments_may_be_missing(rt: HostRuntime) -> Result<(), Fail> {
         let mut source = SteadySource::new(Vec::from_slice(rt.alloc(), SCRIPT)?);
         let mut sink = SteadySink::new(rt.alloc());
         let _ = run(
+            &rt,
             rt.alloc(),
             Err(io::Error::from(kind)),
             &mut source,

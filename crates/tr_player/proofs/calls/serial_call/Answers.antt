@@ -1,5 +1,5 @@
 use Rattle.std.proofs.Common.{refl, inl, inr}
-use Rattle.tr_player.proofs.CallLemmas.{all_played, faulty_exactly, faulty_written, nothing_written, number_allowed, number_played, prefix_written, read_fault_due, read_fault_written, read_through, read_to_end, refused_exactly, refused_written, script_played, script_read_back, script_written, stage_exactly, status_due, stream_shown, usage_due, usage_written, write_fault_due}
+use Rattle.tr_player.proofs.CallLemmas.{all_played, differs_only, faulty_exactly, faulty_written, no_difference, nothing_written, number_allowed, number_played, prefix_written, read_fault_due, read_fault_written, read_through, read_to_end, refused_exactly, refused_written, script_played, script_read_back, script_written, stage_exactly, status_due, stream_shown, usage_due, usage_written, write_fault_due}
 use Rattle.tr_player.proofs.calls.serial_call.Goals as goal
 
 -- all of it at once; each other clause follows
@@ -10,10 +10,11 @@ returns-clause-answered g c =
 
 pub returns-in_default-clause-answered : goal.returns-in_default-clause-answered
 returns-in_default-clause-answered g c = inl (
-  c.code.ensures,
+  c.nothing.ensures.status,
+  c.nothing.ensures.stage,
   refl,
-  refl,
-  λ none. let unread = c.response_to.ensures.unread none in record { left = unread.0; faults = unread.1 },
+  λ none. let unread = c.response_on_one_thread.ensures.unread none in record { left = unread.0; faults = unread.1 },
+  c.nothing.ensures.differs,
 )
 
 pub returns-clause-statuses : goal.returns-clause-statuses
@@ -147,3 +148,9 @@ returns-clause-complete g c = all_played _ _ _ _ (returns-clause-answered g c)
 
 pub returns-in_default-clause-complete : goal.returns-in_default-clause-complete
 returns-in_default-clause-complete g c = all_played _ _ _ _ (returns-in_default-clause-answered g c)
+
+pub returns-clause-no_difference : goal.returns-clause-no_difference
+returns-clause-no_difference g c = no_difference _ _ (λ some. (differs_only _ _ _ _ (returns-clause-answered g c) some).1)
+
+pub returns-in_default-clause-no_difference : goal.returns-in_default-clause-no_difference
+returns-in_default-clause-no_difference g c = no_difference _ _ (λ some. (differs_only _ _ _ _ (returns-in_default-clause-answered g c) some).1)

@@ -14,7 +14,7 @@ pub returns-in-Ok : goal.returns-in-Ok
 returns-in-Ok c =
     let is = c.in-Ok.ensures in
     let made = c.response_to_script.ensures in
-    due_of_made c.args.command c.args.bytes.now c.in-Ok.script c.response_to_script.result is.valid is.script made.response made.read_back
+    due_of_made c.args.command c.args.bytes.now c.in-Ok.script c.response_to_script.result c.requires is.valid is.script made.response made.read_back
 
 pub returns-in-Err-Refused : goal.returns-in-Err-Refused
 returns-in-Err-Refused c =
