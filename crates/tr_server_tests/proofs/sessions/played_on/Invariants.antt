@@ -1,0 +1,16 @@
+use Rattle.std.proofs.Common.{length}
+use Rattle.tr_forest.specs.Nodes.{leaf_count}
+use Rattle.tr_journal.specs.Openings.{tree_of}
+use Rattle.tr_server_tests.proofs.sessions.played_on.Given as goal
+
+-- the session's ledger
+abbrev pub ghosts-session-L-Ledger : goal.ghosts-session-L-Ledger
+ghosts-session-L-Ledger g a = record { name = a.blank.name; parts = a.blank.parts }
+
+-- its numbers are those of the stage
+abbrev pub ghosts-session-L-Session : goal.ghosts-session-L-Session
+ghosts-session-L-Session g a = record {
+  nodes = length (tree_of a.stage.opening).nodes.entries;
+  leaves = leaf_count (tree_of a.stage.opening).nodes;
+  entries = length a.stage.journal;
+}

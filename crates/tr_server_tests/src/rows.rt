@@ -1,0 +1,157 @@
+//! Rows of calls, each with what the journal has in the end.
+use super::calls::{act_under, client_step, post, step, window};
+use super::lines::{Line, has_lines};
+use super::openings::Coloured;
+use super::sessions::{Trial, played};
+use std::alloc::Global;
+use std::process::Abort;
+use std::sync::Wait;
+use std::test::Fail;
+use tr_base::{LeafId, NoMemory, Op, Rect, Size, whole};
+use tr_forest::Edit;
+use tr_journal::Step;
+use tr_levels::Ladder;
+use tr_paint::Paint;
+use tr_server::{Pass, Server, Session};
+use tr_stage::Stage;
+use w_plain::Solid;
+
+/// A command is posted, the screen gets another size, and what waits is handed over.
+pub fn hand_over_later<C: Coloured, L: Session, R: Wait + Abort>(
+    rt: &R,
+    server: &Server<C, L>,
+    workers: &mut [Pass<C, L>],
+) -> Result<(), NoMemory> {
+    assert!(rt; workers.len() == 3);
+    let window = window(rt, server);
+    post(rt, window, &mut workers[0], 7)?;
+    let size = Size { wide: 3, high: 1 };
+    let edit = Edit::Resize { size };
+    let mut mu = server.enter(rt, Ladder::ground());
+    let made = step(rt, &mut mu, &mut workers[1], Step::Alter { edit });
+    let handed = mu.hand_over(rt, window);
+    mu.leave().end();
+    made?;
+    handed
+}
+
+/// Whether one paint command waits: the whole window of this size, in a colour.
+fn waits_alone<C: Coloured>(stage: &Stage<C>, size: Size, tint: u8) -> bool {
+    if stage.opening().tree().leaves() == 0 {
+        return false;
+    }
+    let paints = stage.batch(LeafId(0)).paints();
+    if paints.len() != 1 {
+        return false;
+    }
+    match &paints[0] {
+        Paint::Tint { clip, op } => *clip == whole(size) && *op == Op::Set(tint),
+        _ => false,
+    }
+}
+
+#[test]
+fn what_was_posted_is_prepared_anew_for_another_size(rt: HostRuntime) -> Result<(), Fail> {
+    let stage = played::<Solid, HostRuntime>(&rt, Trial::HandedLater)?;
+    assert!(rt;
+        has_lines(&stage, &[Line::Alter, Line::Posted(7)]),
+        "the lines"
+    );
+    assert!(rt;
+        waits_alone(&stage, Size { wide: 3, high: 1 }, 7),
+        "the batch"
+    );
+    Ok(())
+}
+
+/// Posts the commands for the colours from 0 to 63, as many as may be.
+fn fill<C: Coloured, L: Session, R: Wait + Abort>(
+    rt: &R,
+    server: &Server<C, L>,
+    pass: &mut Pass<C, L>,
+) -> Result<(), NoMemory> {
+    let window = window(rt, server);
+    for tint in 0..64u8 {
+        post(rt, window, pass, tint)?;
+    }
+    assert!(rt; pass.posted() == 64, "all are posted");
+    Ok(())
+}
+
+/// Fills a pass, and makes one command more under the tree's lock.
+pub fn fill_and_act<C: Coloured, L: Session, R: Wait + Abort>(
+    rt: &R,
+    server: &Server<C, L>,
+    pass: &mut Pass<C, L>,
+) -> Result<(), NoMemory> {
+    fill(rt, server, pass)?;
+    act_under(rt, server, pass, 64)?;
+    assert!(rt; pass.posted() == 0, "none is posted");
+    Ok(())
+}
+
+/// The same, and then fills it again.
+pub fn fill_again<C: Coloured, L: Session, R: Wait + Abort>(
+    rt: &R,
+    server: &Server<C, L>,
+    pass: &mut Pass<C, L>,
+) -> Result<(), NoMemory> {
+    fill_and_act(rt, server, pass)?;
+    fill(rt, server, pass)
+}
+
+/// The entries that a pass makes which is filled, and one more.
+fn lines_of_full(alloc: Global) -> Result<Vec<Line>, NoMemory> {
+    let mut lines = Vec::new(alloc);
+    for tint in 0..64u8 {
+        lines.push(Line::Posted(tint))?;
+    }
+    lines.push(Line::Acted(64))?;
+    Ok(lines)
+}
+
+#[test]
+fn a_full_pass_acts_under_the_lock(rt: HostRuntime) -> Result<(), Fail> {
+    let stage = played::<Solid, HostRuntime>(&rt, Trial::Full)?;
+    let lines = lines_of_full(rt.alloc())?;
+    assert!(rt; has_lines(&stage, &lines));
+    Ok(())
+}
+
+/// These, and those of the pass filled again.
+fn lines_of_both(alloc: Global) -> Result<Vec<Line>, NoMemory> {
+    let mut lines = lines_of_full(alloc)?;
+    for tint in 0..64u8 {
+        lines.push(Line::Posted(tint))?;
+    }
+    Ok(lines)
+}
+
+#[test]
+fn a_pass_can_be_filled_again(rt: HostRuntime) -> Result<(), Fail> {
+    let stage = played::<Solid, HostRuntime>(&rt, Trial::FullAgain)?;
+    let lines = lines_of_both(rt.alloc())?;
+    assert!(rt; has_lines(&stage, &lines));
+    Ok(())
+}
+
+/// Two commands are posted, and then a part of the window is marked.
+pub fn post_and_mark<C: Coloured, L: Session, R: Wait + Abort>(
+    rt: &R,
+    server: &Server<C, L>,
+    pass: &mut Pass<C, L>,
+) -> Result<(), NoMemory> {
+    let window = window(rt, server);
+    post(rt, window, pass, 7)?;
+    post(rt, window, pass, 8)?;
+    let leaf = LeafId(0);
+    let clip = Rect::edges(0, 1, 0, 1);
+    client_step(rt, server, pass, Step::Mark { leaf, clip })
+}
+
+#[test]
+fn what_waits_comes_before_a_step_of_its_client(rt: HostRuntime) -> Result<(), Fail> {
+    let stage = played::<Solid, HostRuntime>(&rt, Trial::Marked)?;
+    assert!(rt; has_lines(&stage, &[Line::Posted(7), Line::Posted(8), Line::Mark]));
+    Ok(())
+}

@@ -1,0 +1,98 @@
+//! A session in which a test makes calls.
+ghost use Rattle.std.specs.Prelude.{◌≡◌, ◌+◌, ◌*◌, length};
+ghost use Rattle.tr_server.specs.Sessions.{HasIds};
+
+use super::beside::act_beside;
+use super::openings::{Coloured, stage_of_one};
+use super::rows::{fill_again, fill_and_act, hand_over_later, post_and_mark};
+use super::shares::{give_back, repaint_twice};
+use std::marker::Brand;
+use std::process::Abort;
+use std::sync::Wait;
+use std::sync::ledger::Blank;
+use std::thread::Threads;
+use tr_base::NoMemory;
+use tr_server::{Pass, Passes, Server, Session};
+use tr_stage::Stage;
+
+/// What is done in a session.
+#[derive(Clone, Copy)]
+pub enum Trial {
+    /// A command is posted, the screen gets another size, and what waits is handed over.
+    HandedLater,
+    /// As many commands are posted as may be, and one is made under the tree's lock.
+    Full,
+    /// The same, and then as many are posted again.
+    FullAgain,
+    /// Two commands are posted, and then a part of the window is marked.
+    Marked,
+    /// A command is posted while another thread has the tree's lock.
+    Beside,
+    /// The painter repaints by way of shares, twice.
+    Repainted,
+    /// A share is lent, and given back.
+    GivenBack,
+}
+
+/// Makes the calls of a trial, with the passes of the client, the desk and the painter.
+fn make<C: Coloured, L: Session, R: Threads + Wait + Sync + Abort>(
+    rt: &R,
+    trial: Trial,
+    server: &Server<C, L>,
+    workers: &mut [Pass<C, L>],
+) -> Result<(), NoMemory> {
+    assert!(rt; 3 <= workers.len());
+    match trial {
+        Trial::HandedLater => hand_over_later(rt, server, workers),
+        Trial::Full => fill_and_act(rt, server, &mut workers[0]),
+        Trial::FullAgain => fill_again(rt, server, &mut workers[0]),
+        Trial::Marked => post_and_mark(rt, server, &mut workers[0]),
+        Trial::Beside => act_beside(rt, server, workers),
+        Trial::Repainted => repaint_twice(rt, server, workers),
+        Trial::GivenBack => give_back(rt, server),
+    }
+}
+
+/// The stage of one window after a session.
+pub fn played<C: Coloured, R: Threads + Wait + Sync + Abort + AllocGlobal>(
+    rt: &R,
+    trial: Trial,
+) -> Result<Stage<C>, NoMemory> {
+    played_on(rt, trial, stage_of_one::<C>(rt)?)
+}
+
+/// A stage after a session.
+pub fn played_on<C: Coloured, R: Threads + Wait + Sync + Abort + AllocGlobal>(
+    rt: &R,
+    trial: Trial,
+    stage: Stage<C>,
+) -> Result<Stage<C>, NoMemory> {
+    let leaves = stage.opening().tree().leaves();
+    let parts = 2 * u64::from(leaves) + 3;
+    session::<C, Brand, R>(rt, trial, Blank::new(parts), stage)
+}
+
+/// The same, in a session with a name.
+fn session<C: Coloured, L: Session, R: Threads + Wait + Sync + Abort + AllocGlobal>(
+    rt: &R,
+    trial: Trial,
+    blank: Blank,
+    stage: Stage<C>,
+) -> Result<Stage<C>, NoMemory>
+    requires name { blank.name ≡ L.name }
+    requires parts { (blank.parts ≡ L.parts) × (L.parts ≡ 2 * L.leaves + 3) }
+    requires ids { HasIds L.nodes L.leaves stage.opening }
+    requires entries { length stage.journal ≡ L.entries }
+{
+    let Ok((server, passes)) = Server::<C, L>::start(rt.alloc(), blank, stage) else {
+        return Err(NoMemory);
+    };
+    let Passes {
+        mut workers,
+        player,
+    } = passes;
+    let made = make(rt, trial, &server, workers.as_mut_slice());
+    let closed = server.close(rt, Passes { workers, player });
+    made?;
+    closed.or(Err(NoMemory))
+}
