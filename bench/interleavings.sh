@@ -3,8 +3,8 @@
 #
 #     bench/interleavings.sh [COUNT] [PROGRAM] [SEED]
 #
-# COUNT is 2,000 if left out. PROGRAM is a built trestle; where it is left out, the launcher proves and builds it. The judging is told in
-# tools/interleavings.py.
+# COUNT is 2,000 if left out, and SEED is 1: the number of the first script. PROGRAM is a built trestle; where it is left out, the launcher
+# proves and builds it. How each is judged is told in tools/hostile/threads.py.
 set -eu
 top=$(CDPATH= cd -P -- "$(dirname -- "$0")/.." && pwd)
 program=${2:-}
@@ -12,4 +12,5 @@ if [ -z "$program" ]; then
     "$top/trestle" serial <"$top/demos/one_pixel.txt" >/dev/null
     program=$top/.build/trestle
 fi
+export PYTHONDONTWRITEBYTECODE=1
 exec python3 "$top/tools/interleavings.py" "$program" "${1:-2000}" ${3:+"$3"}

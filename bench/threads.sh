@@ -3,15 +3,17 @@
 #
 #     bench/threads.sh [ROUNDS] [PROGRAM]
 #
-# Each time is the best of ROUNDS (5 if left out). PROGRAM is a built trestle; where it is left out, the
-# launcher proves and builds it. It wants date with %N.
+# Each time is the best of ROUNDS (3 if left out), and each round plays both. PROGRAM is a built trestle; where it is left out,
+# the launcher proves and builds it. It wants date with %N. The first line tells how many processors there are.
 #
-# `desktop` has seven windows with a command each in turn, moves and a change of the screen. `eight` has
-# eight windows, each with 4,000 figures or lines and a flush after each 25th, and `one` the lines of one
-# of these windows alone: what eight threads could save at most is seen by it.
+# `desktop` has seven windows with a command each in turn, moves and a change of the screen. `eight` has eight windows with
+# 4,000 figures or lines each, and a flush after each 25th; of `alone` one of these windows has its lines, and the others have
+# none: what its worker takes by itself, and so what all eight take at least. `waiting` is `eight` without a flush, so that by
+# serial all of it waits for the dump. The aims, for four processors: `play` at most 0.6 of `serial` on `eight`, and at most 1.2
+# on each of the workloads of bench/workloads.sh, which follow. They have one client or none, and the painter beside it.
 set -eu
 top=$(CDPATH= cd -P -- "$(dirname -- "$0")/.." && pwd)
-rounds=${1:-5}
+rounds=${1:-3}
 program=${2:-}
 folder=$(mktemp -d)
 trap 'rm -rf "$folder"' EXIT
@@ -20,9 +22,10 @@ if [ -z "$program" ]; then
     program=$top/.build/trestle
 fi
 
-# write NAME WINDOWS LINES: a script in which this many of eight windows have lines.
+# write NAME WINDOWS LINES FLUSH: a script in which this many of eight windows have lines, and a flush after each FLUSH-th one;
+# none, where it is 0.
 write() {
-    awk -v windows="$2" -v n="$3" '
+    awk -v windows="$2" -v n="$3" -v flush="$4" '
     function draw(below) { state = state * 40014 % 2147483563; return int(state / 65536) % below }
     function text(bytes,    t) {
         for (t = ""; bytes > 0; bytes--) t = t sprintf("%c", 65 + draw(26))
@@ -42,7 +45,7 @@ write() {
         for (i = 1; i <= n; i++)
             for (w = 0; w < windows; w++) {
                 print "@w" w, (w % 2 ? "line " text(draw(30)) : i % 50 ? figure() : "undo")
-                if (i % 25 == 0) print "@w" w, "flush"
+                if (flush && i % flush == 0) print "@w" w, "flush"
             }
         print "sync\ndump\nend"
     }' >"$folder/$1"
@@ -68,29 +71,45 @@ desktop() {
     }' >"$folder/desktop"
 }
 
-# best WORD FILE: the nanoseconds that the program takes for a script, in the best of all rounds.
-best() {
-    least=
-    round=0
-    while [ "$round" -lt "$rounds" ]; do
-        start=$(date +%s%N)
-        "$program" "$1" <"$2" >/dev/null || { echo "threads: $1 <$2 ends with status $?" >&2; exit 1; }
-        taken=$(($(date +%s%N) - start))
-        [ -n "$least" ] && [ "$least" -le "$taken" ] || least=$taken
-        round=$((round + 1))
-    done
-    echo "$least"
+# timed WORD FILE: the nanoseconds that the program takes for a script.
+timed() {
+    start=$(date +%s%N)
+    "$program" "$1" <"$2" >/dev/null || { echo "threads: $1 <$2 ends with status $?" >&2; exit 1; }
+    echo $(($(date +%s%N) - start))
 }
 
+# least A B: the lesser of two numbers, of which the first may be missing.
+least() {
+    if [ -n "$1" ] && [ "$1" -le "$2" ]; then echo "$1"; else echo "$2"; fi
+}
+
+# measure NAME AIM: the script of this name by both words, and whether the aim is reached.
 measure() {
-    echo "$1 $(best serial "$folder/$1") $(best play "$folder/$1")" | awk '{
-        printf "%-8s serial ms=%.1f play ms=%.1f ratio=%.2f\n", $1, $2 / 1e6, $3 / 1e6, $3 / $2
+    serial= play= round=0
+    while [ "$round" -lt "$rounds" ]; do
+        taken=$(timed serial "$folder/$1")
+        serial=$(least "$serial" "$taken")
+        taken=$(timed play "$folder/$1")
+        play=$(least "$play" "$taken")
+        round=$((round + 1))
+    done
+    echo "$1 $serial $play $2" | awk '{
+        note = $4 == "" ? "" : sprintf(" aim=%s%s", $4, $3 <= $4 * $2 ? "" : " missed")
+        printf "%-10s serial ms=%.1f play ms=%.1f ratio=%.2f%s\n", $1, $2 / 1e6, $3 / 1e6, $3 / $2, note
     }'
 }
 
+echo "processors $(getconf _NPROCESSORS_ONLN)"
 desktop
-write eight 8 4000
-write one 1 4000
-measure desktop
-measure eight
-measure one
+measure desktop ''
+write eight 8 4000 25
+measure eight 0.6
+write alone 1 4000 25
+measure alone ''
+write waiting 8 4000 0
+measure waiting ''
+for workload in 'typescript 40000' 'editor 20000' 'moves 10000' 'figures 60000' 'events 90000' 'dumps 60' 'steps 2000'; do
+    name=${workload% *}
+    "$top/bench/workloads.sh" --write "$name" "${workload#* }" >"$folder/$name"
+    measure "$name" 1.2
+done

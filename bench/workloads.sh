@@ -4,6 +4,9 @@
 # script does the ratio is about 2; above 2.3 something grows faster.
 #
 #     bench/workloads.sh [ROUNDS] [PROGRAM]
+#     bench/workloads.sh --write NAME SIZE
+#
+# The second call prints the script of a name and a size; `bench/threads.sh` plays them by threads.
 #
 # Each time is the best of ROUNDS (3 if left out), which a busy machine disturbs least. PROGRAM is a built
 # trestle; where it is left out, the launcher proves and builds it. It wants date with %N.
@@ -17,7 +20,7 @@ rounds=${1:-3}
 program=${2:-}
 folder=$(mktemp -d)
 trap 'rm -rf "$folder"' EXIT
-if [ -z "$program" ]; then
+if [ -z "$program" ] && [ "$rounds" != --write ]; then
     "$top/trestle" serial <"$top/demos/one_pixel.txt" >/dev/null
     program=$top/.build/trestle
 fi
@@ -168,6 +171,11 @@ measure() {
     }'
 }
 
+if [ "$rounds" = --write ]; then
+    write "$2" "$3"
+    cat "$folder/$2.$3"
+    exit
+fi
 measure typescript serial 40000
 measure editor serial 20000
 measure moves serial 10000

@@ -1,41 +1,50 @@
 #!/usr/bin/env python3
 """Plays random scripts by `play`, several at once, and judges each by `serial`.
 
-    tools/interleavings.py PROGRAM COUNT [SEED]
+    tools/interleavings.py PROGRAM [COUNT [SEED]]
+    tools/interleavings.py --write NUMBER
 
-Each script has a `journal` in its last part. The journal that `play` prints has the order in which the threads made their steps: the
-script's lines, put within each part into that order, are a script again. Played by `serial` it has to write the same dumps, places and
-inboxes, and a journal with the same entries but the painter's, with the same answers and deliveries; the levels of a client's commands
-are left aside, since those that were handed over later have their own. What `peek` counts hangs on the painter, and isn't compared.
+PROGRAM is a linked trestle. The scripts have the numbers from SEED on, 1 if it is left out, and there are COUNT of them, 2,000
+if it is left out; `--write` prints the script of a number. Each gets a journal at its end, and how that judges it stands in
+tools/hostile/threads.py.
 
-It prints how many scripts were played, how many of them by threads to their end, and how many in another order than the script's, and
-ends with 1 where one is judged wrong, which it leaves in a file beside what was written.
-"""
+It prints how many scripts were played, how many of them by threads to their end, and how many in another order than the
+script's. The status is 1 where one is judged wrong, which is left in a file beside what was written; and where there are
+twenty or more and none has another order, since then no threads were at work."""
+
 import concurrent.futures
 import os
 import random
-import re
 import subprocess
 import sys
 import tempfile
+from pathlib import Path
+from typing import Dict, List, Tuple
 
-# the words of a client's steps that are no commands of its widget
-OWN_WORDS = {"mark", "flush", "force", "take", "cage", "free", "own", "disown", "read"}
-ENTRY = re.compile(r"\d+ (\S+) (\S+) (\S+)(.*)")
+sys.path.insert(0, str(Path(__file__).resolve().parent))
+
+from hostile.drawing import Pen  # noqa: E402
+from hostile.reader import refusal_of  # noqa: E402
+from hostile.threads import Cut, Ended, Judged, Part, judge, text_of  # noqa: E402
+
+# So many seconds a run may take, on a busy machine too. A run that waits for ever shows by this alone.
+PATIENCE = 120
+ENOUGH = 20
 
 
 class Scene:
     """A random tree of windows, and random lines of their clients and of the desk."""
 
-    def __init__(self, draw):
-        self.draw, self.time = draw, 0
+    def __init__(self, draw: random.Random):
+        self.draw, self.time = draw, 1
         self.version = draw.choice((1, 2))
         self.kinds = ["mono", "map8"] + ["map4"] * (self.version == 2)
         widgets = ["solid 7", "board 8040201008040201 0 0", "label hi", "lines", "canvas", "meter 4"] + ["edit"] * (self.version == 2)
         self.leaves = [(f"w{i}", draw.choice(widgets)) for i in range(draw.randint(1, 6))]
-        self.nodes = {}
+        self.nodes: Dict[str, str] = {}
 
-    def opening(self):
+    def opening(self) -> List[str]:
+        """The opening, up to its begin."""
         draw = self.draw
         lines = [f"trestle {self.version}", f"screen {draw.randint(1, 40)} {draw.randint(1, 30)} {draw.choice(self.kinds)}"]
         lines.append("glyph 41 3c66667e66666600")
@@ -56,11 +65,13 @@ class Scene:
             lines.append(f"put {name} {above} {draw.randint(-3, 20)} {draw.randint(-3, 15)}")
         return lines + ["root top", "begin"]
 
-    def rectangle(self):
+    def rectangle(self) -> str:
+        """A rectangle about a window."""
         west, north = self.draw.randint(-2, 20), self.draw.randint(-2, 16)
         return f"{west} {west + self.draw.randint(0, 12)} {north} {north + self.draw.randint(0, 9)}"
 
-    def of_client(self, name, widget):
+    def of_client(self, name: str, widget: str) -> str:
+        """A line of a client."""
         draw, word = self.draw, widget.split()[0]
         if draw.random() < 0.35:
             return f"@{name} " + draw.choice([f"mark {self.rectangle()}", "flush", "force", "take", f"cage {self.rectangle()} both",
@@ -76,7 +87,8 @@ class Scene:
             "edit": ["insert A", "erase", "split", f"goto {draw.randint(0, 5)} {draw.randint(0, 5)}", "copy 0 2", "paste"],
         }[word])
 
-    def of_desk(self):
+    def of_desk(self) -> str:
+        """A line of the desk."""
         draw = self.draw
         self.time += draw.randint(0, 2)
         node, leaf = draw.choice([*self.nodes]), draw.choice(self.leaves)[0]
@@ -88,119 +100,97 @@ class Scene:
                 f"turn {node} {draw.randint(0, 2)}", f"resize {draw.randint(1, 40)} {draw.randint(1, 30)}", f"rescreen {draw.choice(self.kinds)}",
                 f"detach {leaf}", f"attach {leaf} top"])
 
-    def report(self):
+    def report(self) -> str:
+        """A report in the middle of a script."""
         return self.draw.choice(["dump", "dump", "peek", "where 3 2", f"inbox {self.draw.choice(self.leaves)[0]}"])
 
-    def parts(self):
-        """Returns the parts: the reports of each, and its other lines with who makes them."""
-        draw, parts = self.draw, []
-        for _ in range(draw.randint(1, 4)):
-            steps = []
-            for _ in range(draw.choice([5, 20, 60, 300])):
-                if draw.random() < 0.25:
-                    steps.append(("desk", self.of_desk()))
-                else:
-                    name, widget = draw.choice(self.leaves)
-                    steps.append((f"leaf:{name}", self.of_client(name, widget)))
-            parts.append(([self.report() for _ in range(draw.randint(0, 3))], steps))
-        return parts + [(["dump", "journal"], [])]
+    def part(self) -> Part:
+        """A part: its reports, and its other lines with who makes them."""
+        draw = self.draw
+        steps: List[Tuple[bytes, bytes]] = []
+        for _ in range(draw.choice([5, 20, 60, 300])):
+            if draw.random() < 0.25:
+                steps.append((b"desk", self.of_desk().encode()))
+            else:
+                name, widget = draw.choice(self.leaves)
+                steps.append((f"leaf:{name}".encode(), self.of_client(name, widget).encode()))
+        return Part([self.report().encode() for _ in range(draw.randint(0, 3))], steps)
 
 
-def text_of(opening, parts):
-    lines = [*opening]
-    for number, (reports, steps) in enumerate(parts):
-        lines += ["sync"] * (number > 0) + reports + [line for _, line in steps]
-    return "\n".join([*lines, "end", ""])
+def drawn(number: int) -> bytes:
+    """The script of a number: every other one is drawn as those of tools/hostile are, with short parts and much to hear of."""
+    script = Pen(random.Random(number)).script() if number % 2 else b""
+    return script if script and refusal_of(script) is None else long_script(Scene(random.Random(number)))
 
 
-def split_output(text):
-    """Returns the lines of all reports but `peek` and the journal, and the journal's entries."""
-    lines, entries, left = [], [], 0
-    for line in text.splitlines():
-        if left:
-            entries.append(ENTRY.fullmatch(line).groups())
-            left -= 1
-        elif line.startswith("journal "):
-            left = int(line.split()[1])
-        elif not line.startswith("peek "):
-            lines.append(line)
-    return lines, entries
+def long_script(scene: Scene) -> bytes:
+    """The script of a scene, with some long parts."""
+    opening = [line.encode() for line in scene.opening()]
+    parts = [scene.part() for _ in range(scene.draw.randint(1, 4))]
+    # (reports stand before the steps of their part, so the last steps need one part more)
+    return text_of(Cut(opening, [*parts, Part([], [])]))
 
 
-def compared(entries):
-    """Returns the entries but the painter's, without the levels of commands."""
-    return [(actor, "" if actor.startswith("leaf:") and word not in OWN_WORDS else level, word, rest) for actor, level, word, rest in entries
-            if actor != "painter"]
-
-
-def in_order(parts, entries):
-    """Returns the parts with their lines in the order in which a journal has them."""
-    found, rest = [], iter(entries)
-    for reports, steps in parts:
-        queues, made = {}, []
-        for actor, line in steps:
-            queues.setdefault(actor, []).append(line)
-        for actor, _, word, _ in rest:
-            if actor == "player" and word == "sync":
-                break
-            if actor not in ("player", "painter"):
-                made.append((actor, queues[actor].pop(0)))
-        if any(queues.values()):
-            raise ValueError("a step is missing in the journal")
-        found.append((reports, made))
-    return found
-
-
-def play(program, word, text):
-    ran = subprocess.run([program, word], input=text, capture_output=True, text=True, timeout=120, check=False)
-    return ran.returncode, ran.stdout
-
-
-def judge(program, seed):
-    """Returns what is wrong, or None, whether threads played it to its end, and whether in another order than the script's."""
-    scene = Scene(random.Random(seed))
-    opening, parts = scene.opening(), scene.parts()
-    text = text_of(opening, parts)
-    status, played = play(program, "play", text)
-    if status:
-        return f"status {status}: {played[:200]}", text, played, False, False
-    if played.endswith("played again\n"):
-        body = re.sub(r"differs .*\nplayed again\n\Z", "", played)
-        same = play(program, "serial", text) == (0, body)
-        return None if same else "played again, and not as serial", text, played, False, False
-    if not played.endswith("played threads\n"):
-        return "no last line", text, played, False, False
-    lines, entries = split_output(played.removesuffix("played threads\n"))
+def run(program: str, word: str, script: bytes) -> Ended:
+    """A run. One that doesn't end is ended, with a status that the program hasn't."""
     try:
-        ordered = in_order(parts, entries)
-    except (ValueError, KeyError, IndexError) as error:
-        return f"no order: {error}", text, played, True, False
-    status, serial = play(program, "serial", text_of(opening, ordered))
-    serial_lines, serial_entries = split_output(serial)
-    wrong = None
-    if status:
-        wrong = f"in its order serial answers {status}: {serial[:200]}"
-    elif serial_lines != lines:
-        wrong = "in its order serial dumps something else"
-    elif compared(serial_entries) != compared(entries):
-        wrong = "in its order serial has another journal"
-    return wrong, text, played, True, ordered != parts
+        ran = subprocess.run([program, word], input=script, stdout=subprocess.PIPE, timeout=PATIENCE, check=False)
+    except subprocess.TimeoutExpired:
+        return Ended(-1, f"{word} doesn't end in {PATIENCE} seconds\n".encode())
+    return Ended(ran.returncode, ran.stdout)
 
 
-def main(words):
-    program, count, first = os.path.abspath(words[0]), int(words[1]), int(words[2]) if len(words) > 2 else 1
-    threads = others = wrong = 0
+class Trial:
+    """Judges the scripts of numbers."""
+
+    def __init__(self, program: str):
+        self.program = program
+
+    def __call__(self, number: int) -> Judged:
+        """Judges one. What is wrong is left in a file, with all that was written for it."""
+        script = drawn(number)
+        runs: List[Tuple[str, bytes, Ended]] = []
+
+        def noted(word: str, given: bytes) -> Ended:
+            runs.append((word, given, run(self.program, word, given)))
+            return runs[-1][2]
+
+        judged = judge(noted, script)
+        return judged._replace(problem=f"{judged.problem}; {kept(number, runs)}") if judged.problem else judged
+
+
+def kept(number: int, runs: List[Tuple[str, bytes, Ended]]) -> str:
+    """Where the runs of a script are told."""
+    with tempfile.NamedTemporaryFile("wb", prefix=f"interleaving-{number}-", suffix=".txt", delete=False) as file:
+        for word, given, ended in runs:
+            file.write(b"---- %s ends with %d\n%s---- and writes\n%s" % (word.encode(), ended.status, given, ended.output))
+    return f"what was played lies in {file.name}"
+
+
+def main(words: List[str]) -> int:
+    """Judges all scripts."""
+    if len(words) == 2 and words[0] == "--write":
+        sys.stdout.buffer.write(drawn(int(words[1])))
+        return 0
+    if not words or words[0].startswith("-"):
+        print(__doc__, file=sys.stderr)
+        return 2
+    program = os.path.abspath(words[0])
+    count = int(words[1]) if len(words) > 1 else 2000
+    first = int(words[2]) if len(words) > 2 else 1
+    counts: Dict[str, int] = {"threads": 0, "other": 0, "wrong": 0}
     with concurrent.futures.ThreadPoolExecutor(2 * (os.cpu_count() or 1)) as pool:
-        for seed, (what, text, played, by_threads, is_other) in zip(range(first, first + count),
-                pool.map(lambda seed: judge(program, seed), range(first, first + count))):
-            threads, others = threads + by_threads, others + is_other
-            if what:
-                wrong += 1
-                with tempfile.NamedTemporaryFile("w", prefix=f"interleaving-{seed}-", suffix=".txt", delete=False) as file:
-                    file.write(f"{text}---- play wrote\n{played}")
-                print(f"script {seed}: {what}; it lies in {file.name}", flush=True)
-    print(f"{count} scripts played, {threads} by threads to their end, {others} in another order than the script's, {wrong} wrong")
-    return 1 if wrong else 0
+        numbers = range(first, first + count)
+        for number, judged in zip(numbers, pool.map(Trial(program), numbers)):
+            counts["threads"] += judged.by_threads
+            counts["other"] += judged.is_other
+            if judged.problem:
+                counts["wrong"] += 1
+                print(f"interleavings: script {number}: {judged.problem}", flush=True)
+    threads, others, wrong = counts.values()
+    order = f"{others} in another order than the script's"
+    print(f"interleavings: {count} scripts, {threads} played by threads to their end, {order}, {wrong} wrong")
+    return 1 if wrong or (count >= ENOUGH and not others) else 0
 
 
 if __name__ == "__main__":

@@ -2,14 +2,15 @@
 """Plays scripts that are drawn at random, cut, joined and bent, and compares what comes with what a second reader says.
 
     tools/hostile/fuzz.py PROGRAM [COUNT] [SEED] [--workers N] [--seconds N] [--megabytes N] [--checked N]
-                          [--mirrored N] [--modelled N] [--from N] [--show]
+                          [--mirrored N] [--threaded N] [--modelled N] [--from N] [--show]
 
 PROGRAM is a linked trestle. Of each script are compared: the status, 0 or 3; the text of a refusal, exactly; the form of
 what is printed, by the script's reports; and standard error, which is empty. Of one among so many scripts, a number that
 may be set and is 0 for none, also: what `check` writes, which without its own lines is the same (4); that `show` of what
-`mirror` writes is its dumps, and that a stream that is bent is shown or refused in form (4); all that is printed, with
-what a plain model prints, where the screen is small (10). A run has one second of the processor, and 64 MB beside what
-it reads and writes.
+`mirror` writes is its dumps, and that a stream that is bent is shown or refused in form (4); that `play` ends, refuses the
+same, and writes what `serial` writes in the order that its journal has (4); all that is printed, with what a plain model
+prints, where the screen is small (10). A run has one second of the processor, and 64 MB beside what it reads and writes; by
+`play` four seconds, and a minute by the clock.
 
 A script that differs is shown by its number: the same call with `--from NUMBER --show` prints it. At the end stand the
 number of the scripts that were played and refused, and the slowest. The status is 1 where any differed."""
@@ -30,14 +31,18 @@ from hostile.model import output_of  # noqa: E402
 from hostile.outputs import check_refusal, dumps_of, wrong_check, wrong_output, wrong_show  # noqa: E402
 from hostile.program import PLAYED, REFUSED, Limits, Ran, Runner  # noqa: E402
 from hostile.reader import Refusal, refusal_of  # noqa: E402
+from hostile.threads import Ended, judge  # noqa: E402
 
 TOP = Path(__file__).resolve().parents[2]
 MEGABYTE = 1 << 20
 CHUNK = 250
+# So many seconds of the clock a run by threads may take.
+PATIENCE = 60
 
 
 class Tried(NamedTuple):
-    """What became of a script: its fault's code, or 0; what differs, if anything; how long it took, and how much."""
+    """What became of a script: its fault's code, or 0; what differs, if anything; how long it took, and how much; and whether
+    threads played it, and in another order than the script's."""
 
     number: int
     bytes: int
@@ -45,6 +50,8 @@ class Tried(NamedTuple):
     problem: Optional[str]
     seconds: float
     spare: int
+    by_threads: bool = False
+    is_other: bool = False
 
 
 def others() -> List[bytes]:
@@ -93,8 +100,10 @@ class Work(NamedTuple):
         every = getattr(self.given, way)
         return every > 0 and number % every == 0
 
-    def limits(self) -> Limits:
+    def limits(self, word: str) -> Limits:
         """What a run may take."""
+        if word == "play":
+            return Limits(seconds=4 * self.given.seconds, patience=PATIENCE)
         return Limits(seconds=self.given.seconds)
 
 
@@ -107,7 +116,7 @@ class Trial:
 
     def run(self, word: str, script: bytes) -> Ran:
         """A run."""
-        return self.runner.run([word], script, self.work.limits())
+        return self.runner.run([word], script, self.work.limits(word))
 
     def script(self, number: int, script: bytes) -> Tried:
         """Tries a script."""
@@ -116,7 +125,27 @@ class Trial:
         problem = wrong_end(ran, refusal)
         if refusal is None:
             problem = problem or wrong_output(script, ran.output) or self.more(number, script, ran.output)
-        return Tried(number, len(script), refusal.code if refusal else 0, problem, ran.seconds, spare_bytes(script, ran))
+        code = refusal.code if refusal else 0
+        tried = Tried(number, len(script), code, problem, ran.seconds, spare_bytes(script, ran))
+        is_threaded = problem is None and self.work.is_one(number + 2, "threaded")
+        return self.threaded(tried, script, refusal) if is_threaded else tried
+
+    def threaded(self, tried: Tried, script: bytes, refusal: Optional[Refusal]) -> Tried:
+        """Plays it by threads: it is refused as by serial, or judged."""
+        if refusal is not None:
+            problem = wrong_end(self.run("play", script), refusal)
+            return tried._replace(problem=f"play: {problem}" if problem else None)
+        errors: List[bytes] = []
+
+        def ended(word: str, given: bytes) -> Ended:
+            ran = self.run(word, given)
+            errors.extend([ran.errors] if ran.errors else [])
+            return Ended(ran.status, ran.output)
+
+        judged = judge(ended, script)
+        problem = judged.problem or (f"standard error has {errors[0][:200]!r}" if errors else None)
+        problem = f"play: {problem}" if problem else None
+        return tried._replace(problem=problem, by_threads=judged.by_threads, is_other=judged.is_other)
 
     def more(self, number: int, script: bytes, output: bytes) -> Optional[str]:
         """Tries in more ways a script that plays."""
@@ -171,6 +200,8 @@ class Summary:
     def __init__(self, most_spare: int) -> None:
         self.codes: Counter = Counter()
         self.problems = 0
+        self.by_threads = 0
+        self.others = 0
         self.slowest: List[Tuple[float, int, int]] = []
         self.greatest: Tuple[int, int] = (0, 0)
         self.seconds = 0.0
@@ -179,6 +210,8 @@ class Summary:
     def add(self, tried: Tried) -> None:
         """Adds a script."""
         self.codes[tried.code] += 1
+        self.by_threads += tried.by_threads
+        self.others += tried.is_other
         self.seconds += tried.seconds
         self.slowest = sorted([*self.slowest, (tried.seconds, tried.number, tried.bytes)], reverse=True)[:5]
         self.greatest = max(self.greatest, (tried.spare, tried.number))
@@ -194,6 +227,7 @@ class Summary:
         count = sum(self.codes.values())
         refused = ", ".join(f"B{code} {self.codes[code]}" for code in sorted(self.codes) if code)
         yield f"fuzz: {count} scripts, {self.codes[0]} played, {count - self.codes[0]} refused ({refused})"
+        yield f"fuzz: {self.by_threads} of them played by threads too, {self.others} in another order than the script's"
         yield f"fuzz: {self.problems} differ; {self.seconds:.0f} processor seconds"
         for seconds, number, size in self.slowest:
             yield f"fuzz: among the slowest: script {number} of {size} bytes takes {1000 * seconds:.0f} ms"
@@ -211,6 +245,7 @@ def words() -> argparse.Namespace:
     parser.add_argument("--megabytes", type=int, default=64)
     parser.add_argument("--checked", type=int, default=4)
     parser.add_argument("--mirrored", type=int, default=4)
+    parser.add_argument("--threaded", type=int, default=4)
     parser.add_argument("--modelled", type=int, default=10)
     parser.add_argument("--from", dest="begin", type=int, default=0)
     parser.add_argument("--show", action="store_true")

@@ -16,6 +16,7 @@ from typing import Iterator, List, NamedTuple, Tuple
 
 sys.path.insert(0, str(Path(__file__).resolve().parents[1]))
 
+from hostile.desktop import script as desktop  # noqa: E402
 from hostile.program import NO_MEMORY, Limits, Ran, Runner  # noqa: E402
 
 TOP = Path(__file__).resolve().parents[2]
@@ -45,15 +46,23 @@ def demos() -> Iterator[str]:
     return (file.stem for file in sorted((TOP / "demos").glob("*.txt")))
 
 
-# What is called: the words, and what is read, which is a demo, `LINES`, what `mirror` writes of a demo, or nothing.
+# What is called: the words, and what is read, which is a demo, `LINES`, `DESKTOP` of hostile.desktop, what `mirror` writes of
+# a demo, or nothing. What `play` plays here doesn't hang on the order of its threads.
 CALLS: List[Tuple[str, str]] = [
     ("serial", "LINES"),
     *(("serial", demo) for demo in demos()),
     ("check", "lag"),
+    ("play", "desktop"),
+    ("play", "pages"),
+    ("play", "DESKTOP"),
     ("mirror", "first"),
     ("show", "mirror first"),
     ("gen 1", ""),
 ]
+
+
+# What isn't a demo.
+GIVEN = {"": b"", "LINES": LINES.encode("ascii"), "DESKTOP": desktop()}
 
 
 class Call(NamedTuple):
@@ -66,8 +75,8 @@ class Call(NamedTuple):
 
     def script(self) -> bytes:
         """What is read."""
-        if self.given in ("", "LINES"):
-            return LINES.encode("ascii") if self.given else b""
+        if self.given in GIVEN:
+            return GIVEN[self.given]
         demo = (TOP / "demos" / f"{self.given.split()[-1]}.txt").read_bytes()
         return Runner(self.program).run(["mirror"], demo, LIMITS).output if " " in self.given else demo
 

@@ -173,18 +173,32 @@ def checks() -> Iterator[Case]:
     yield refused("a check of 65,792", text([small[0], "screen 257 256 map8", *small[2:]]), 0, 7, word="check")
 
 
+def threads() -> Iterator[Case]:
+    """What `play` does at limits: parts, reports, and threads, one for each leaf and two more."""
+    last = "played threads"
+    yield plays("1,000 syncs by threads", text(BEGIN, ["sync"] * SYNCS, ["dump", "end"]), "dump 1 1 map8", "07", last, word="play")
+    wheres = ["where 0 0 leaf a 0 0"] * REPORTS
+    yield plays("64 reports by threads", text(BEGIN, ["where 0 0"] * REPORTS, ["end"]), *wheres, last, word="play")
+    leaves = [f"leaf l{number} 1 1 1 1 1 1 solid {number}" for number in range(LEAVES)]
+    row = ["node r h 9", *(f"put l{number} r" for number in range(LEAVES)), "root r", "begin"]
+    tints = [f"@l{number} tint {tint}" for tint in range(100, 166) for number in range(LEAVES)]
+    script = text(["trestle 1", "screen 32 1 map8"], leaves, row, tints, ["sync", "dump", "end"])
+    yield plays("32 clients with 66 commands each", script, "dump 32 1 map8", "a5" * LEAVES, last, word="play")
+    yield refused("33 leaves by threads", text(HEAD, leaves, [LEAF]), 3 + LEAVES, 7, word="play")
+
+
 def cases() -> Iterator[Case]:
     """All of them."""
-    for group in (texts, counts, windows, levels, screens, contents, checks):
+    for group in (texts, counts, windows, levels, screens, contents, checks, threads):
         yield from group()
 
 
 def problem(runner: Runner, case: Case) -> Optional[str]:
     """What is wrong with what becomes of a case, if anything."""
     found = refusal_of(case.script)
-    if found != case.refusal and case.word == "serial":
+    if found != case.refusal and case.word != "check":
         return f"the second reader says {found}"
-    ran = runner.run([case.word], case.script, Limits(seconds=20))
+    ran = runner.run([case.word], case.script, Limits(seconds=20, patience=60))
     want = case.refusal.text() if case.refusal else case.end
     if ran.errors or ran.status != (REFUSED if case.refusal else PLAYED):
         return f"status {ran.status}, {ran.output[:80]!r} and {ran.errors[:80]!r}"

@@ -3,6 +3,7 @@
 import os
 import resource
 import signal
+import threading
 from typing import List, NamedTuple, Optional
 
 # The statuses of docs/SCRIPT.md.
@@ -20,10 +21,12 @@ class Ran(NamedTuple):
 
 
 class Limits(NamedTuple):
-    """What a run may take: processor seconds, and bytes of address space where that is limited."""
+    """What a run may take: processor seconds, and where these are limited bytes of address space, and seconds of the clock, since
+    threads that wait for one another take none of the processor's."""
 
     seconds: int = 1
     space: Optional[int] = None
+    patience: Optional[int] = None
 
 
 class Runner:
@@ -52,12 +55,17 @@ class Runner:
                 resource.prlimit(child, resource.RLIMIT_AS, (limits.space, limits.space))
         except ProcessLookupError:
             pass
+        patience = threading.Timer(limits.patience or 0, os.kill, (child, signal.SIGKILL))
+        if limits.patience is not None:
+            patience.start()
         try:
             _, ended, used = os.wait4(child, 0)
         except BaseException:
             os.kill(child, signal.SIGKILL)
             os.waitpid(child, 0)
             raise
+        finally:
+            patience.cancel()
         status = -os.WTERMSIG(ended) if os.WIFSIGNALED(ended) else os.WEXITSTATUS(ended)
         seconds = used.ru_utime + used.ru_stime
         return Ran(status, contents(self.output), contents(self.errors), seconds, used.ru_maxrss)

@@ -22,6 +22,7 @@ from typing import Callable, Iterator, List, Optional, Tuple
 sys.path.insert(0, str(Path(__file__).resolve().parents[1]))
 
 from hostile.program import NO_MEMORY, PLAYED, READ_FAULT, REFUSED, WRITE_FAULT  # noqa: E402
+from hostile.threads import LAST  # noqa: E402
 
 TOP = Path(__file__).resolve().parents[2]
 MEGABYTE = 1 << 20
@@ -38,6 +39,15 @@ def dumps(side: int, count: int) -> Tuple[bytes, bytes]:
     head = b"trestle 1\nscreen %d %d map8\nleaf a 1 %d %d 1 %d %d solid 171\nroot a\nbegin\n" % (side, side, *[side] * 4)
     dump = b"dump %d %d map8\n" % (side, side) + (b"ab" * side + b"\n") * side
     return head + b"dump\n" * count + b"end\n", dump * count
+
+
+def clients(count: int) -> Tuple[bytes, bytes]:
+    """A script in which so many clients have ten lines each, in two parts, and what `play` writes of it."""
+    head = b"trestle 1\nscreen %d 1 map8\nnode r h 0\n" % count
+    leaves = b"".join(b"leaf l%d 1 1 1 1 1 1 solid 0\nput l%d r\n" % (it, it) for it in range(count))
+    tints = b"".join(b"@l%d tint %d\n" % (it, tint) for tint in range(7, 17) for it in range(count))
+    dump = b"dump %d 1 map8\n%s\n" % (count, b"10" * count)
+    return head + leaves + b"root r\nbegin\n" + 2 * (tints + b"sync\ndump\n") + b"end\n", 2 * dump + LAST
 
 
 class Trials:
@@ -214,25 +224,60 @@ class Trials:
 
     def scarce_memory(self) -> Optional[str]:
         """An address space from 20 MB upwards: want of memory, or all that is due."""
-        script, want = dumps(1024, 12)
+        return self._scarce("serial", *dumps(1024, 12), [*range(20, 60, 2), *range(60, 160, 10)])
+
+    def scarce_memory_for_threads(self) -> Optional[str]:
+        """The same for threads, which want room for their stacks, too."""
+        return self._scarce("play", *clients(16), [*range(20, 60, 4), *range(60, 400, 20)])
+
+    def _scarce(self, word: str, script: bytes, want: bytes, sizes: List[int]) -> Optional[str]:
+        """Runs in address spaces of so many MB, of which the first is too small, and the last one isn't."""
         answers: List[int] = []
-        for megabytes in [*range(20, 60, 2), *range(60, 160, 10)]:
+        for megabytes in sizes:
             limit = megabytes * MEGABYTE
-            child = self.start(preexec_fn=lambda: resource.setrlimit(resource.RLIMIT_AS, (limit, limit)))
+            child = self.start([word], preexec_fn=lambda: resource.setrlimit(resource.RLIMIT_AS, (limit, limit)))
             output = child.communicate(script)
             status = child.returncode
             if (status, *output) not in ((NO_MEMORY, b"", b""), (PLAYED, want, b"")):
                 return f"at {megabytes} MB: status {status}, {len(output[0])} bytes, {output[1][:100]!r}"
             answers.append(status)
-        print(f"streams: scarce memory: {answers.count(NO_MEMORY)} of {len(answers)} sizes want more")
-        return None if answers[0] == NO_MEMORY and answers[-1] == PLAYED else f"the answers are {answers}"
+        print(f"streams: scarce memory, by {word}: {answers.count(NO_MEMORY)} of {len(answers)} sizes want more")
+        is_right = answers[-1] == PLAYED and (word == "play" or answers[0] == NO_MEMORY)
+        return None if is_right else f"the answers are {answers}"
+
+    def without_threads(self) -> Optional[str]:
+        """The system starts no thread, so one does the work of all. It wants the right to be another user."""
+        script, want = clients(8)
+        if os.geteuid() != 0:
+            print("streams: nobody can be another user here, so that a system without threads was not tried")
+            return None
+
+        def alone() -> None:
+            resource.setrlimit(resource.RLIMIT_NPROC, (1, 1))
+            os.setuid(54321)
+
+        try:
+            child = self.start(["play"], preexec_fn=alone)
+        except (OSError, subprocess.SubprocessError) as error:
+            print(f"streams: the program can't be run by another user ({error}), so that a system without threads was not tried")
+            return None
+        child.stdin.write(script)
+        child.stdin.close()
+        return self.finish(child, PLAYED, child.stdout.read(), want)
 
     def many_at_once(self) -> Optional[str]:
         """64 programs at once."""
-        jobs = [dumps(8 + number, 1 + number % 5) for number in range(64)]
+        return self._at_once("serial", [dumps(8 + number, 1 + number % 5) for number in range(64)])
+
+    def many_at_once_by_threads(self) -> Optional[str]:
+        """64 programs at once, each with up to 34 threads."""
+        return self._at_once("play", [clients(1 + number % 32) for number in range(64)])
+
+    def _at_once(self, word: str, jobs: List[Tuple[bytes, bytes]]) -> Optional[str]:
+        """Plays scripts at once, and compares what each writes."""
 
         def one(job: Tuple[bytes, bytes]) -> bool:
-            ran = subprocess.run([self.program, "serial"], input=job[0], stdout=PIPE, stderr=PIPE, check=False)
+            ran = subprocess.run([self.program, word], input=job[0], stdout=PIPE, stderr=PIPE, timeout=120, check=False)
             return (ran.returncode, ran.stdout, ran.stderr) == (PLAYED, job[1], b"")
 
         with ThreadPoolExecutor(64) as pool:

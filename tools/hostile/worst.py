@@ -154,6 +154,24 @@ def checked(count: int) -> List[str]:
     return [*opening, *full, *["@a undo", f"@a swap {WHOLE}"] * (count // 2), "sync", "end"]
 
 
+def parted(count: int) -> List[str]:
+    """Threads play 1,000 parts, and each of them looks through the journal so far; 32 clients have the lines in turn."""
+    leaves = [f"leaf l{number} 0 32 {SIDE} 0 1024 {SIDE} solid {number}" for number in range(32)]
+    opening = [*HEAD, "node r h 3", *leaves, *(f"put l{number} r" for number in range(32)), "root r", "begin"]
+    steps = max(1, count // 999)
+    lines = []
+    for number in range(min(999, count // (steps + 1))):
+        lines += [*(f"@l{(number + it) % 32} tint {(number + it) % 256}" for it in range(steps)), "sync"]
+    return [*opening, *lines, "dump", "end"]
+
+
+def shared(count: int) -> List[str]:
+    """Threads paint: 32 windows side by side are told another colour, and the painter comes for each 16 lines."""
+    leaves = [f"leaf l{number} 0 32 {SIDE} 0 1024 {SIDE} solid {number}" for number in range(32)]
+    opening = [*HEAD, "node r h 3", *leaves, *(f"put l{number} r" for number in range(32)), "root r", "begin"]
+    return [*opening, *(f"@l{number % 32} tint {number // 32 % 256}" for number in range(count)), *END]
+
+
 def events(count: int) -> List[str]:
     """32 windows set cages, and the cursor leaves them all at each line."""
     leaves = [f"leaf l{number} 1 32 {SIDE} 1 1024 {SIDE} solid 1" for number in range(32)]
@@ -183,9 +201,13 @@ SCRIPTS: Dict[str, Callable[[int], List[str]]] = {
     it.__name__: it
     for it in (
         comments, feeds, commands, figures, undone, flushed, marks, waiting_marks, spotted, tinted, striped, crowd,
-        combs, sizes, journals, dumps, checked, events, written, turned,
+        combs, sizes, journals, dumps, checked, parted, shared, events, written, turned,
     )
 }  # fmt: skip
+
+
+# The words by which some of them are played.
+WORDS = {"checked": "check", "parted": "play", "shared": "play"}
 
 
 class Measured(NamedTuple):
@@ -203,8 +225,8 @@ def script(name: str, part: float) -> bytes:
 def measure(runner: Runner, name: str, part: float) -> Measured:
     """Plays a script at a part of its size."""
     given = script(name, part)
-    word = "check" if name == "checked" else "serial"
-    return Measured(given.count(b"\n"), runner.run([word], given, Limits(seconds=7200)))
+    ran = runner.run([WORDS.get(name, "serial")], given, Limits(seconds=7200))
+    return Measured(given.count(b"\n"), ran)
 
 
 def told(measured: Measured) -> str:

@@ -130,6 +130,12 @@ class Snap(Folder):
         self.assertEqual(b"refused: line 8 B1\n", (self.folder / "lamp.serial").read_bytes())
         self.assertEqual(0, call("snap", ["lamp.txt"], self.folder).status)
 
+    def test_threads(self) -> None:
+        self.assertEqual(0, call("snap", ["--update", "--play", "lamp.txt"], self.folder).status)
+        self.assertTrue((self.folder / "lamp.play").read_text().endswith("\nplayed threads\n"))
+        self.assertEqual((0, "snap: 2 outputs of 1 script as stored\n"), call("snap", ["lamp.txt"], self.folder))
+        self.assertEqual(2, call("snap", ["--play", "lamp.txt"], self.folder).status)
+
     def test_streams(self) -> None:
         stream = self.folder / "one.hex"
         stream.write_text("01 0001 0001 01  03 0000 0000 0001 07\n04 00000001\n")

@@ -92,7 +92,7 @@ class Scripts(unittest.TestCase):
     def test_limits(self) -> None:
         """Each script at a limit is refused as its case says."""
         for case in cases():
-            if case.word == "serial":
+            if case.word != "check":
                 with self.subTest(case=case.name):
                     self.assertEqual(refusal_of(case.script), case.refusal)
 

@@ -75,7 +75,7 @@ def wrong_texts(lines: List[str]) -> Iterator[Fault]:
     elif first.startswith("refused: "):
         yield Fault(1, f"the script was {first}; ./why FILE says why")
     elif first.startswith("usage: "):
-        yield Fault(1, "the program was called with other words than its own; it takes serial, check or show")
+        yield Fault(1, "the program was called with other words than its own; it takes serial, play, check or show")
     elif first == "read fault":
         yield Fault(1, "the program could not read its script")
     elif re.match(r"trestle [0-9]", first):

@@ -31,12 +31,19 @@ def program() -> str:
     return os.environ.get("TRESTLE") or str(TOP / "trestle")
 
 
+# So many seconds threads may take: they could wait for ever.
+PATIENCE = 120
+
+
 def play(script: bytes, word: str = "serial") -> Played:
-    """Plays a script by `serial` or `check`."""
+    """Plays a script by `serial`, or by another of the program's words."""
+    patience = PATIENCE if word == "play" else None
     try:
-        ran = subprocess.run([program(), word], input=script, stdout=subprocess.PIPE, check=False)
+        ran = subprocess.run([program(), word], input=script, stdout=subprocess.PIPE, timeout=patience, check=False)
     except OSError as error:
         raise Trouble(f"{program()} does not start: {error.strerror}")
+    except subprocess.TimeoutExpired:
+        raise Trouble(f"{program()} {word} has not ended after {patience} seconds")
     if ran.returncode == NOT_BUILT:
         raise Trouble(f"{program()} ended with 1: the program is not built; ./build says why")
     if ran.returncode not in range(8):

@@ -12,23 +12,23 @@ from ..program import PLAYED, READ_FAULT, REFUSED, Played, Trouble, due_status, 
 WHAT = """\
 Plays each script and compares what it writes, and its status, with the output that is stored beside it. Of
 NAME.txt that is NAME.serial, NAME.dump or NAME.out for what `serial` writes, NAME.check for what `check` writes,
-and NAME.mirror for what `mirror` writes, as `xxd` prints it. NAME.hex is a stream in hex digits, and NAME.show
-what `show` writes for it. The status that belongs to an output is 3 for a refusal, else 0. What differs is shown,
-dumps as pictures.
+NAME.play for what `play` writes, where that doesn't hang on the order of its threads, and NAME.mirror for what
+`mirror` writes, as `xxd` prints it. NAME.hex is a stream in hex digits, and NAME.show what `show` writes for it.
+The status that belongs to an output is 3 for a refusal, else 0. What differs is shown, dumps as pictures.
 
 It ends with 1 where something differs, or nothing is stored."""
 
 EXAMPLE = """\
 ./snap demos/*.txt                      # compares
 ./snap --update button.txt              # stores what it writes, as button.serial
-./snap --update --check button.txt      # and button.check too; so --mirror and button.mirror
+./snap --update --check button.txt      # and button.check too; so --play and --mirror
 ./snap --update --status 3 wrong.txt    # stores a refusal, which is never done without --status"""
 
 SERIAL_ENDINGS = (".serial", ".dump", ".out")
 STREAM_ENDING, SHOW_ENDING = ".hex", ".show"
 
 # The outputs of a script that are stored where they are asked for: their endings, and the words that write them.
-FURTHER = {".check": "check", ".mirror": "mirror"}
+FURTHER = {".check": "check", ".play": "play", ".mirror": "mirror"}
 
 
 class Stored(NamedTuple):
@@ -54,6 +54,7 @@ def words() -> Parser:
     )
     taken.add_argument("--update", action="store_true", help="store what differs or isn't stored yet")
     taken.add_argument("--check", action="store_true", help="with --update: store what `check` writes, too")
+    taken.add_argument("--play", action="store_true", help="with --update: store what `play` writes, too")
     taken.add_argument("--mirror", action="store_true", help="with --update: store what `mirror` writes, too")
     taken.add_argument(
         "--status", type=int, metavar="N", help="with --update: store an output though its status N is another one"
@@ -65,8 +66,8 @@ def main(arguments: List[str]) -> int:
     """Compares or stores the outputs of all scripts."""
     taken = words()
     asked = taken.parse_args(arguments)
-    if (asked.check or asked.mirror or asked.status is not None) and not asked.update:
-        taken.error("--check, --mirror and --status go with --update")
+    if (is_further(asked) or asked.status is not None) and not asked.update:
+        taken.error("--check, --play, --mirror and --status go with --update")
     scripts = [script for name in asked.files for script in scripts_of(name)]
     compared = differing = 0
     for script in scripts:
@@ -76,6 +77,11 @@ def main(arguments: List[str]) -> int:
     count = f"{plural(compared, 'output')} of {counted(scripts)}"
     write(f"snap: {count} as stored" if not differing else f"snap: {differing} not as stored, of {count}")
     return FOUND if differing else FINE
+
+
+def is_further(asked: argparse.Namespace) -> bool:
+    """Whether an output is asked for that isn't stored by itself."""
+    return any(vars(asked)[word] for word in FURTHER.values())
 
 
 def counted(files: List[Path]) -> str:
@@ -113,7 +119,7 @@ def stored_beside(script: Path, asked: argparse.Namespace) -> List[Stored]:
     further = [Stored(script.with_suffix(ending), word) for ending, word in FURTHER.items()]
     there = [stored for stored in serial if stored.path.exists()]
     wanted = [stored for stored in further if stored.path.exists() or vars(asked)[stored.word]]
-    if not there and (asked.check or asked.mirror or not wanted):
+    if not there and (is_further(asked) or not wanted):
         there = serial[:1]
     return there + wanted
 
