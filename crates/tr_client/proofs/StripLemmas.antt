@@ -6,7 +6,7 @@ use Rattle.std.proofs.lemmas.Bool.Decides.{nat_tests}
 use Rattle.tr_base.specs.declared.Point.{Point}
 use Rattle.tr_base.specs.declared.Size.{Size}
 use Rattle.tr_base.specs.declared.Op.TheVariants.{Bg}
-use Rattle.tr_base.specs.Rects.{Edges, between, before_shift, empty_rect, has_point, rect_of, whole_of}
+use Rattle.tr_base.specs.Rects.{between, before_shift, empty_rect, has_point, rect_of, whole_of}
 use Rattle.tr_base.proofs.RectLemmas.{has_point-rect_of}
 use Rattle.tr_paint.specs.declared.Paint.TheVariants.{Tint, Scroll}
 use Rattle.tr_paint.specs.Traces.{Look, Keep, From, Value}

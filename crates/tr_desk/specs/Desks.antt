@@ -1,5 +1,5 @@
 -- The input devices, and what windows own.
-use Rattle.std.specs.Prelude.{ℕ, pos, neg_ℤ, ◌-◌, ◌==◌, Bool, true, false, if◌then◌else◌, List, [], ◌∷◌, Option, Some, None, IfSome, get_or, set, replicate, length, ◌≡◌, ◌<◌}
+use Rattle.std.specs.Prelude.{ℕ, pos, neg_ℤ, ◌-◌, ◌==◌, Bool, true, false, if◌then◌else◌, List, Option, Some, None, IfSome, get_or, set, replicate, length, ◌≡◌, ◌<◌}
 use Rattle.std.specs.List.{list_any}
 use Rattle.tr_base.specs.declared.Point.{Point}
 use Rattle.tr_base.specs.declared.LeafId.{LeafId}
@@ -9,7 +9,6 @@ use Rattle.tr_base.specs.declared.Click.{Click}
 use Rattle.tr_base.specs.declared.Click.TheVariants.{FirstDown, OtherDown, OtherUp, LastUp}
 use Rattle.tr_base.specs.declared.Selection.{Selection}
 use Rattle.tr_base.specs.declared.Selection.TheVariants.{Key, Source, Target}
-use Rattle.tr_cage.specs.declared.Cage.{Cage}
 use Rattle.tr_cage.specs.declared.Cage.TheVariants.{Everywhere}
 use Rattle.tr_desk.specs.declared.desks.LeafState.{LeafState}
 

@@ -1,5 +1,5 @@
 -- The least rectangle round a list.
-use Rattle.std.proofs.Common.{◌≡◌, ◌≢◌, ℕ, zero, suc, ◌+◌, ◌-◌, ◌≤◌, ◌<◌, ℤ, ◌-ℤ◌, ◌≤ℤ◌, ◌<ℤ◌, pos, Bool, true, false, ◌||◌, ◌↔◌, ◌⊎◌, inl, inr, ⊎_elim, List, [], ◌∷◌, ◌++◌, length, take, get_or, refl, sym, ap, ◌∙◌, w32, to_z, of_z, arith}
+use Rattle.std.proofs.Common.{◌≡◌, ◌≢◌, ℕ, zero, suc, ◌+◌, ◌-◌, ◌≤◌, ◌<◌, ℤ, ◌-ℤ◌, ◌≤ℤ◌, ◌<ℤ◌, pos, Bool, true, false, ◌||◌, ◌↔◌, ◌⊎◌, inl, inr, ⊎_elim, List, [], ◌∷◌, ◌++◌, length, take, get_or, refl, sym, ap, ◌∙◌, arith}
 use Rattle.std.specs.Int.{int_min, int_max}
 use Rattle.std.specs.List.{AllByRecursion}
 use Rattle.std.proofs.lemmas.Int.{ints, clamps}
@@ -7,11 +7,9 @@ use Rattle.std.proofs.lemmas.Bool.{false≢true, or_cases, and_parts, and_from}
 use Rattle.std.proofs.lemmas.List.Elements.{All-get_or, All-from_recursion}
 use Rattle.std.proofs.lemmas.List.{take_more, take_all}
 use Rattle.tr_base.specs.declared.Point.{Point}
-use Rattle.tr_base.specs.Rects.{Edges, InReach, AreInReach, between, has_point, empty_rect}
+use Rattle.tr_base.specs.Rects.{Edges, between, has_point, empty_rect}
 use Rattle.tr_base.specs.Layouts.{IsBetween, IsPartOf}
-use Rattle.tr_base.proofs.RectLemmas.{cast-in_reach}
 use Rattle.tr_region.specs.Points.{holds}
-use Rattle.tr_region.specs.Bands.{IsCanonical}
 use Rattle.tr_region.specs.Extents.{hull_of, extents_of}
 use Rattle.tr_region.proofs.BandLemmas.{or-false}
 use Rattle.tr_region.proofs.SweepLemmas.{some_length}

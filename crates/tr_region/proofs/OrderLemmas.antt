@@ -1,8 +1,7 @@
 -- The rectangles of a canonical list in their order, and the search for the one that holds a point.
-use Rattle.std.proofs.Common.{◌≡◌, ℕ, zero, suc, ◌≤◌, ◌<◌, ℤ, ◌≤ℤ◌, ◌<ℤ◌, Bool, true, false, ◌||◌, ◌⊎◌, inl, inr, List, [], ◌∷◌, ◌++◌, map, length, get_or, refl, ap, ◌∙◌, subst, arith}
+use Rattle.std.proofs.Common.{◌≡◌, ℕ, zero, suc, ◌≤◌, ◌<◌, ℤ, ◌≤ℤ◌, ◌<ℤ◌, true, false, ◌⊎◌, inl, inr, List, [], ◌∷◌, ◌++◌, map, length, get_or, refl, subst, arith}
 use Rattle.std.specs.List.{AllByRecursion, AllWithin}
 use Rattle.std.proofs.lemmas.Int.{ints}
-use Rattle.std.proofs.lemmas.Bool.{true≢false}
 use Rattle.std.proofs.lemmas.List.Elements.{All-get_or, All-from_recursion}
 use Rattle.tr_base.specs.declared.Point.{Point}
 use Rattle.tr_base.specs.Rects.{Edges, has_point}
@@ -10,7 +9,7 @@ use Rattle.tr_region.specs.Points.{holds}
 use Rattle.tr_region.specs.Bands.{Span, Band, rect_in, rects_in, rects_of, bands_of, AreApart, AreBands, IsCanonical}
 use Rattle.tr_region.specs.Order.{lies_before}
 use Rattle.tr_region.proofs.ListLemmas.{AllByRecursion-append, AllByRecursion-weaker}
-use Rattle.tr_region.proofs.BandLemmas.{AreApart-parts, AreBands-parts, BeginsFrom, BeginsFrom-after, rects_of-bands_of, or-false}
+use Rattle.tr_region.proofs.BandLemmas.{AreBands-parts, BeginsFrom, BeginsFrom-after, rects_of-bands_of, or-false}
 
 -- a rectangle holds points
 pub record IsFull (r : Edges) : Type 0 where

@@ -1,20 +1,19 @@
 -- The pixels at the points of rectangles, as one list: where each of them stands, and how a walk over rows collects them.
-use Rattle.std.proofs.Common.{◌≡◌, ℕ, zero, suc, add-one, ◌+◌, ◌*◌, ◌-◌, ◌<◌, ℤ, pos, ◌+ℤ◌, ◌-ℤ◌, ◌≤ℤ◌, ◌<ℤ◌, true, ◌&&◌, List, [], ◌∷◌, ◌++◌, append_assoc, flat_map, length, get_or, take, drop, inl, inr, refl, sym, ap, ◌∙◌, arith}
+use Rattle.std.proofs.Common.{◌≡◌, ℕ, zero, suc, add-one, ◌+◌, ◌*◌, ◌-◌, ◌<◌, ℤ, pos, ◌+ℤ◌, ◌-ℤ◌, ◌≤ℤ◌, ◌<ℤ◌, true, ◌&&◌, List, ◌++◌, append_assoc, flat_map, length, get_or, take, drop, inl, inr, refl, sym, ap, ◌∙◌, arith}
 use Rattle.std.specs.List.{range_with_len}
 use Rattle.std.specs.Prelude.{unsigned_abs}
 use Rattle.std.proofs.lemmas.Int.{ints}
-use Rattle.std.proofs.lemmas.Bool.{and_parts}
 use Rattle.std.proofs.lemmas.List.{append-nil, get_or_append_left, get_or-append-add, length-append, length-drop, length-take-le}
 use Rattle.std.proofs.lemmas.List.FromFn.{fill_by_all, length-map-range_with_len, get_or-map-range_with_len}
 use Rattle.tr_base.specs.declared.points.Point.{Point}
 use Rattle.tr_base.specs.declared.sizes.Size.{Size}
 use Rattle.tr_base.specs.declared.ops.Kind.{Kind}
-use Rattle.tr_base.specs.Rects.{Edges, InReach, IsRect, between, has_point, sides_of}
+use Rattle.tr_base.specs.Rects.{Edges, InReach, IsRect, between, sides_of}
 use Rattle.tr_base.proofs.RectLemmas.{rect_cases}
 use Rattle.tr_screen.specs.declared.runs.Run.{Run}
 use Rattle.tr_screen.specs.Pictures.{picture_of, pixel_of}
-use Rattle.tr_screen.specs.Runs.{IsRun, IsOn, column_in, in_run, point_in, start_of, width_of}
-use Rattle.tr_screen.specs.Readings.{LiesOn, rect_by, rects_by, row_in, run_by}
+use Rattle.tr_screen.specs.Runs.{IsRun, column_in, in_run, point_in, start_of, width_of}
+use Rattle.tr_screen.specs.Readings.{LiesOn, rect_by, row_in, run_by}
 use Rattle.tr_screen.proofs.RunLemmas.{IsThere, column_is, point_in-column, run_fits, run_lent, test_of_run, there}
 
 -- ---- rows of one length

@@ -1,5 +1,5 @@
 -- References and the texts that they point to.
-use Rattle.std.proofs.Common.{◌≡◌, ℕ, ◌+◌, ◌-◌, ◌<◌, List, [], ◌∷◌, length, get_or, drop, refl, arith}
+use Rattle.std.proofs.Common.{◌≡◌, ℕ, ◌+◌, ◌<◌, List, [], ◌∷◌, length, get_or, drop, refl, arith}
 use Prim.Native.Nat.{zero, suc}
 use Rattle.std.specs.Borrow.{Bor}
 use Rattle.tr_words.specs.Answers.{texts}

@@ -1,5 +1,4 @@
-use Rattle.std.proofs.Common.{◌≡◌, ap, ◌∙◌, w32, to_z, of_z}
-use Rattle.tr_base.specs.Rects.{Edges}
+use Rattle.std.proofs.Common.{◌∙◌}
 use Rattle.tr_base.proofs.RectLemmas.{cast-in_reach}
 use Rattle.tr_base.proofs.RectFacts.{edges_are}
 use Rattle.tr_region.specs.Extents.{extents_of}

@@ -1,7 +1,6 @@
-use Rattle.std.proofs.Common.{w32, SFits, ap, arith, rules}
+use Rattle.std.proofs.Common.{w32, SFits, arith, rules}
 use Rattle.std.proofs.lemmas.Int.{to_z-of_z}
 use Rattle.std.proofs.lemmas.List.{get_or_read}
-use Rattle.tr_base.specs.Pixmaps.{PixmapView}
 use Rattle.tr_base.proofs.PlaceLemmas.{place_fits}
 use Rattle.tr_base.proofs.pixmaps.Pixmap.at.Goals as goal
 

@@ -1,4 +1,3 @@
-use Rattle.std.proofs.Common.{◌∙◌, sym}
 use Rattle.tr_region.proofs.OrderLemmas.{AreInOrder-canonical}
 use Rattle.tr_region.proofs.ExtentsLemmas.{no_extents}
 use Rattle.tr_region.proofs.RegionLemmas.{stored_extents, stored_canonical, stored_holds}

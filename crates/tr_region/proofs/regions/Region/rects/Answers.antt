@@ -1,4 +1,4 @@
-use Rattle.std.proofs.Common.{◌≡◌, ℕ, ◌<◌, ◌∙◌, sym, arith}
+use Rattle.std.proofs.Common.{◌∙◌, sym, arith}
 use Rattle.std.proofs.lemmas.Bool.{both_ways, eqb-true, eqb-false}
 use Rattle.tr_region.proofs.RegionLemmas.{stored_many, stored_one, stored_none, some_items}
 use Rattle.tr_region.proofs.regions.Region.rects.Goals as goal

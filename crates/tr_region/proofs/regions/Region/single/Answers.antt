@@ -1,4 +1,4 @@
-use Rattle.tr_region.proofs.RegionLemmas.{IsStored-single, holds-single}
+use Rattle.tr_region.proofs.RegionLemmas.{IsStored-single}
 use Rattle.tr_region.proofs.regions.Region.single.Goals as goal
 
 pub invariant_of-result : goal.invariant_of-result
