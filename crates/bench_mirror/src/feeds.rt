@@ -72,7 +72,8 @@ fn copy_all(copy: &mut [u8], stream: &[u8]) {
     }
 }
 
-/// The nanoseconds that a new mirror takes for a stream in pieces of `step` bytes, at best, where they are asked for.
+/// The nanoseconds that a new mirror takes for a stream in pieces of `step` bytes, at best, where
+/// they are asked for.
 fn best_feed<R: Clock>(
     rt: &R,
     alloc: Global,

@@ -8,8 +8,8 @@ use tr_base::Size;
 use tr_kernel::{first_difference, last_difference};
 use tr_screen::Screen;
 
-/// A rectangle of pixels: the columns from `west` on and before `east`, in the rows from `north` on and before
-/// `south`.
+/// A rectangle of pixels: the columns from `west` on and before `east`, in the rows from `north` on
+/// and before `south`.
 #[derive(Clone, Copy)]
 pub struct Bounds {
     pub west: u16,

@@ -1,4 +1,5 @@
-ghost use Rattle.std.specs.Prelude.{◌≡◌, ◌+◌, ◌<◌, ◌≤◌, ◌++◌, ◌↔◌, ℕ, List, length, take, None, IfOk, IfErr, IsOk, IsTrue};
+ghost use Rattle.std.specs.Prelude.{◌≡◌, ◌+◌, ◌<◌, ◌≤◌, ◌++◌, ◌↔◌, ℕ, List, length, take, None};
+ghost use Rattle.std.specs.Prelude.{IfOk, IfErr, IsOk, IsTrue};
 ghost use Rattle.tr_mirror.specs.Readings as spec;
 ghost use Rattle.tr_mirror.specs.Readings.{is_between, longest_stream, read, shown_from};
 ghost use Rattle.ex_viewer.specs.Viewers.{HasViewed, IsStopped, Tells, bytes_of};
@@ -30,8 +31,8 @@ impl Viewer {
         })
     }
 
-    /// Reads a piece of the stream as far as its first cut, or to its end. Answers how many bytes were read, and
-    /// what the cut changed.
+    /// Reads a piece of the stream as far as its first cut, or to its end. Answers how many bytes were
+    /// read, and what the cut changed.
     pub fn read(&mut self, piece: &[u8]) -> Result<(usize, Option<Change>), Stopped>
         requires some { 0 < length piece.now }
         requires room { bytes_of self.old.mirror + length piece.now ≤ longest_stream }
@@ -39,7 +40,8 @@ impl Viewer {
         ensures bytes { IfOk result (λ r. bytes_of self.new.mirror ≤ bytes_of self.old.mirror + r.0) }
         ensures read { IfOk result (λ r. self.new.mirror ≡ read self.old.mirror (take r.0 piece.now)) }
 
-        // Of the bytes that were read only the last one can end a cut. What is told is what that cut changed.
+        // Of the bytes that were read only the last one can end a cut. What is told is what that cut
+        // changed.
         ensures told { IfOk result (λ r.
             Tells self.old.last (shown_from self.old.mirror (take r.0 piece.now)) r.1) }
 

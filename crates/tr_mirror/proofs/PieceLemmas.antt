@@ -1,12 +1,14 @@
 -- A piece is read front after front, up to its first cut.
-use Rattle.std.proofs.Common.{◌≡◌, ℕ, ◌+◌, ◌<◌, ◌-◌, ◌==◌, List, [], ◌++◌, length, take, refl, sym, ap, ◌∙◌, arith, if◌then◌else◌, append_assoc, length-append, is_some, true, ◌≢◌, ◌⊎◌, inl, inr, None, IsSome}
+use Rattle.std.proofs.Common.{◌≡◌, ℕ, ◌+◌, ◌<◌, ◌-◌, ◌==◌, List, [], ◌++◌, length, take, drop, refl, sym, ap, ◌∙◌, arith, if◌then◌else◌, append_assoc, length-append, is_some, true, ◌≢◌, ◌⊎◌, inl, inr, None, IsSome}
 use Rattle.std.proofs.lemmas.Bool.{cases_eq}
 use Rattle.std.proofs.Math.Seq.{take-append_seam}
+use Rattle.tr_mirror.specs.Headers.{header_len, header_of}
 use Rattle.tr_mirror.specs.Standings.{Standing}
-use Rattle.tr_mirror.specs.Readings.{Reading, read, listed, cut_between, shown_from}
-use Rattle.tr_mirror.specs.Pieces.{TakesFront}
-use Rattle.tr_mirror.proofs.ReadingLemmas.{read-append, read_failed, read_none}
-use Rattle.tr_mirror.proofs.ShownLemmas.{no_cut, shown_from-append}
+use Rattle.tr_mirror.specs.Readings.{Reading, read, taken, IsReading, listed, cut_between, shown_from}
+use Rattle.tr_mirror.specs.Pieces.{TakesFront, IsFaultless}
+use Rattle.tr_mirror.proofs.ReadingLemmas.{read-append, read_failed, read_none, header_len_range, after_sized, nothing_begun}
+use Rattle.tr_mirror.proofs.ShownLemmas.{no_cut, shown_from-append, cut_screen}
+use Rattle.tr_mirror.proofs.RecordLemmas.{Reads, Reads-faultless}
 
 -- some front of a piece was read, of which at most the last byte ended a cut, and the rest wasn't
 pub record HasRead (old new : Reading) (piece rest : List ℕ) : Type 0 where
@@ -79,3 +81,27 @@ module _ (old new : Reading) (piece rest : List ℕ) (h : HasRead old new piece 
     | inl e ↦ absurd (other free (ap (λ (r : Reading). r.standing.cuts) (sym h.came ∙ read_none old h.front e)))
     | inr n ↦ let apart : length h.front ≢ 0 = n in omega (arith, count_read)
   ]
+
+-- a whole record without a fault, of which nothing was read before, may come at once
+module _ (m : Reading) (front : List ℕ) (free : m.fault ≡ None) (none : m.begun ≡ []) (f : IsFaultless m.standing front) where
+  reads_front : Reads m front (taken m front)
+  reads_front = Reads-faultless m front free none f
+
+  pub some_front : 0 < length front
+  some_front = omega (arith, (header_len_range front).0, f.whole)
+
+  pub read-faultless : (rest : List ℕ) → read (taken m front) rest ≡ read m (front ++ rest)
+  read-faultless rest = ap (λ r. read r rest) (sym reads_front.read) ∙ sym (read-append m front rest)
+
+  pub TakesFront-faultless : (rest : List ℕ) → TakesFront m (taken m front) (front ++ rest) rest
+  TakesFront-faultless rest = record {
+    front = front;
+    parts = refl;
+    some = some_front;
+    came = reads_front.read;
+    shown = reads_front.shown;
+    screen = cut_screen m.standing (header_of front) (drop (header_len front) front) f.header;
+  }
+
+  pub IsReading-faultless : IsReading m → IsReading (taken m front)
+  IsReading-faultless w = nothing_begun (taken m front) refl (after_sized m.standing (header_of front) (drop (header_len front) front) f.header w.sized)

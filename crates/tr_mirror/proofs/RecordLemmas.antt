@@ -1,5 +1,5 @@
 -- Records that are spelled are read, one after the other.
-use Rattle.std.proofs.Common.{◌≡◌, ℕ, ◌+◌, ◌<◌, ◌≤◌, false, List, [], ◌∷◌, ◌++◌, length, take, drop, None, refl, sym, ap, subst, ◌∙◌, arith, inl, inr, append_assoc, length-append}
+use Rattle.std.proofs.Common.{◌≡◌, ◌≢◌, ℕ, ◌+◌, ◌<◌, ◌≤◌, ◌&&◌, false, not, nat_le, List, [], ◌∷◌, ◌++◌, length, take, drop, None, refl, sym, ap, subst, ◌∙◌, arith, inl, inr, append_assoc, length-append}
 use Rattle.std.proofs.lemmas.Bool.{ne_eqb, eq-eqb, cases_eq}
 use Rattle.std.proofs.lemmas.List.{append-nil, drop_at, take-append-drop, length-take-le, length-drop}
 use Rattle.std.proofs.lemmas.Nat.{from_be_bytes-to_be_bytes_2, from_be_bytes-to_be_bytes_4}
@@ -7,12 +7,13 @@ use Rattle.tr_screen.specs.Pictures.{Picture}
 use Rattle.tr_mirror.specs.declared.headers.Segment.{Segment}
 use Rattle.tr_mirror.specs.declared.headers.Header.{Header}
 use Rattle.tr_mirror.specs.declared.headers.Header.TheVariants.{Screen, Run, Fill, Cut}
-use Rattle.tr_mirror.specs.Headers.{header_len, header_of, header_bytes, record_len, pixel_count, short_at, long_at}
+use Rattle.tr_mirror.specs.Headers.{tag_of, header_len, header_of, header_bytes, record_len, pixel_count, short_at, long_at}
 use Rattle.tr_mirror.specs.Standings.{Standing, after, header_fault, pixel_fault}
 use Rattle.tr_mirror.specs.Readings.{Reading, fault_of, is_unknown, taken, unfinished, tried, next, read, try_len, cut_between, shown_from}
 use Rattle.tr_mirror.specs.Streams.{Record, record_bytes, spelled}
 use Rattle.tr_mirror.specs.Faults.{Fits, IsSound, after_all, AreSound}
-use Rattle.tr_mirror.proofs.ReadingLemmas.{header_len_range, header_len-append, waits, gathers, next_free, read-append, IsQuiet, IsQuiet-append, try_first, try_header, try_record, tried_again}
+use Rattle.tr_mirror.specs.Pieces.{IsFaultless}
+use Rattle.tr_mirror.proofs.ReadingLemmas.{tag_of-append, header_len_range, header_len-append, header_of-append, waits, gathers, next_free, read-append, IsQuiet, IsQuiet-append, try_first, try_header, try_record, tried_again}
 use Rattle.tr_mirror.proofs.ShownLemmas.{len_of, header_len-is, no_cut, shown_from-append}
 
 -- ---- a header is read as it was spelled
@@ -40,12 +41,12 @@ length-header_bytes (Run segment) = refl
 length-header_bytes (Fill segment) = refl
 length-header_bytes (Cut number) = refl
 
-known : (h : Header) → is_unknown (take 1 (header_bytes h)) ≡ false
+known : (h : Header) (rest : List ℕ) → is_unknown (header_bytes h ++ rest) ≡ false
 unfolding header_bytes
-known (Screen wide high kind) = refl
-known (Run segment) = refl
-known (Fill segment) = refl
-known (Cut number) = refl
+known (Screen wide high kind) rest = refl
+known (Run segment) rest = refl
+known (Fill segment) rest = refl
+known (Cut number) rest = refl
 
 -- ---- bytes that are read, of which at most the last ends a record
 
@@ -122,80 +123,113 @@ none_left : (xs : List ℕ) → length xs ≡ 0 → xs ≡ []
 none_left [] e = refl
 none_left (x ∷ xs) e = absurd (omega arith)
 
-module _ (s : Standing) (fed : ℕ) (r : Record) (k : IsSound s r) where
-  to_header : Reads (ready s fed) (header_bytes r.header) (tried (ready s fed) (header_bytes r.header))
-  to_header =
-      let m : Reading = ready s fed in
-      let hb : List ℕ = header_bytes r.header in
+-- the bytes of a record's header, and what they say
+record IsHeader (hb bytes : List ℕ) : Type 0 where
+  len : length hb ≡ header_len bytes
+  same : header_len hb ≡ header_len bytes
+  is : header_of hb ≡ header_of bytes
+  known : is_unknown (take 1 hb) ≡ is_unknown bytes
+
+IsHeader-front : (bytes : List ℕ) → header_len bytes ≤ length bytes → IsHeader (take (header_len bytes) bytes) bytes
+IsHeader-front bytes within =
+    let hb : List ℕ = take (header_len bytes) bytes in
+    let px : List ℕ = drop (header_len bytes) bytes in
+    let a : List ℕ = take 1 hb in
+    let b : List ℕ = drop 1 hb in
+    let least = (header_len_range bytes).0 in
+    let len : length hb ≡ header_len bytes = length-take-le (header_len bytes) bytes within in
+    let whole : hb ++ px ≡ bytes = take-append-drop (header_len bytes) bytes in
+    let one : length a ≡ 1 = length-take-le 1 hb (omega arith) in
+    let same : header_len hb ≡ header_len bytes = sym (header_len-append hb px (omega arith)) ∙ ap (λ l. header_len l) whole in
+    let tag : tag_of a ≡ tag_of bytes = sym (tag_of-append a b (omega arith)) ∙ ap (λ l. tag_of l) (take-append-drop 1 hb)
+    ∙ sym (tag_of-append hb px (omega arith)) ∙ ap (λ l. tag_of l) whole in
+    record {
+      len = len;
+      same = same;
+      is = sym (header_of-append hb px (omega arith) (omega arith)) ∙ ap (λ l. header_of l) whole;
+      known = ap (λ t. not (nat_le 1 t && nat_le t 4)) tag;
+    }
+
+module _ (m : Reading) (bytes : List ℕ) (free : m.fault ≡ None) (none : m.begun ≡ []) (f : IsFaultless m.standing bytes) where
+  to_header : (hb : List ℕ) → IsHeader hb bytes → Reads m hb (tried m hb)
+  to_header hb k =
       let a : List ℕ = take 1 hb in
       let b : List ℕ = drop 1 hb in
-      let again : header_of hb ≡ r.header = ap (λ l. header_of l) (sym (append-nil hb)) ∙ header_again r.header [] k.fits in
-      let long : length hb ≡ header_len hb = length-header_bytes r.header ∙ sym (header_len-is hb ∙ ap (λ x. len_of x) again) in
-      let least = (header_len_range hb).0 in
-      let one : length a ≡ 1 = length-take-le 1 hb (omega arith) in
+      let least = (header_len_range bytes).0 in
+      let one : length a ≡ 1 = length-take-le 1 hb (omega (arith, k.len)) in
       let rest = length-drop 1 hb in
       let whole : a ++ b ≡ hb = take-append-drop 1 hb in
       let same : header_len a ≡ header_len hb = sym (ap (λ l. header_len l) (sym whole) ∙ header_len-append a b (omega arith)) in
-      let quiet = fault_first s a one (known r.header) in
-      let first : Reads m a (unfinished m a) = subst (λ n. Reads m a n) (waits_for m a quiet (λ e. omega arith))
-      (Reads-front m a refl (omega arith) (omega arith)) in
+      let quiet = fault_first m.standing a one (k.known ∙ f.known) in
+      let empty : length m.begun ≡ 0 = ap (λ l. length l) none in
+      let front : Reads m a (tried m (m.begun ++ a)) = Reads-front m a free (omega arith) (omega (arith, try_first m.begun empty)) in
+      let first : Reads m a (unfinished m a) =
+      subst (λ n. Reads m a n) (ap (λ l. tried m (l ++ a)) none ∙ waits_for m a quiet (λ e. omega (arith, k.len, k.same))) front in
       let second : Reads (unfinished m a) b (tried (unfinished m a) (a ++ b)) =
-      Reads-front (unfinished m a) b refl (omega arith) (omega (arith, try_header a (omega arith) (omega arith))) in
+      Reads-front (unfinished m a) b free (omega (arith, k.len)) (omega (arith, k.len, k.same, try_header a (omega arith) (omega (arith, k.same)))) in
       let second_is : Reads (unfinished m a) b (tried m hb) =
       subst (λ n. Reads (unfinished m a) b n) (tried_again m a (a ++ b) ∙ ap (λ l. tried m l) whole) second in
       subst (λ l. Reads m l (tried m hb)) whole (Reads-then m (unfinished m a) (tried m hb) a b first refl second_is)
 
   -- what is known of its bytes
   record IsWhole : Type 0 where
-    tried : Reads (ready s fed) (record_bytes r) (tried (ready s fed) (record_bytes r))
-    clean : fault_of s (record_bytes r) ≡ None
+    tried : Reads m bytes (tried m bytes)
+    clean : fault_of m.standing bytes ≡ None
 
   to_end : IsWhole
   to_end =
-      let m : Reading = ready s fed in
-      let h : Header = r.header in
-      let px : List ℕ = r.pixels in
-      let hb : List ℕ = header_bytes h in
-      let all : List ℕ = hb ++ px in
-      let again : header_of hb ≡ h = ap (λ l. header_of l) (sym (append-nil hb)) ∙ header_again h [] k.fits in
-      let long : length hb ≡ header_len hb = length-header_bytes h ∙ sym (header_len-is hb ∙ ap (λ x. len_of x) again) in
-      let least = (header_len_range hb).0 in
-      let count : pixel_count (header_of hb) ≡ length px = ap (λ x. pixel_count x) again ∙ sym k.count in
-      let sound : fault_of s hb ≡ None = fault_header s hb (omega arith) long ∙ ap (λ x. header_fault s x) again ∙ k.header in
+      let hb : List ℕ = take (header_len bytes) bytes in
+      let px : List ℕ = drop (header_len bytes) bytes in
+      let least = (header_len_range bytes).0 in
+      let k : IsHeader hb bytes = IsHeader-front bytes (omega (arith, f.whole)) in
+      let all : hb ++ px ≡ bytes = take-append-drop (header_len bytes) bytes in
+      let count = length-drop (header_len bytes) bytes in
+      let sound : fault_of m.standing hb ≡ None =
+      fault_header m.standing hb (omega (arith, k.len)) (k.len ∙ sym k.same) ∙ ap (λ x. header_fault m.standing x) k.is ∙ f.header in
       elim (cases_eq (length px) 0) [
         | inl e ↦
-            let same : hb ≡ all = sym (ap (λ l. hb ++ l) (none_left px e) ∙ append-nil hb) in
-            record { tried = subst (λ l. Reads m l (tried m l)) same to_header; clean = ap (λ l. fault_of s l) (sym same) ∙ sound }
+            let same : hb ≡ bytes = sym (ap (λ l. hb ++ l) (none_left px e) ∙ append-nil hb) ∙ all in
+            record { tried = subst (λ l. Reads m l (tried m l)) same (to_header hb k); clean = ap (λ l. fault_of m.standing l) (sym same) ∙ sound }
         | inr n ↦
-            let again' : header_of all ≡ h = header_again h px k.fits in
-            let len : header_len all ≡ length hb = header_len-append hb px (omega arith) ∙ sym long in
-            let whole = length-append hb px in
-            let first : Reads m hb (unfinished m hb) = subst (λ x. Reads m hb x) (waits_for m hb sound (λ e. omega arith)) to_header in
-            let second : Reads (unfinished m hb) px (tried (unfinished m hb) all) =
-            Reads-front (unfinished m hb) px refl (omega arith) (omega (arith, try_record hb (omega arith) (omega arith))) in
-            let second_is : Reads (unfinished m hb) px (tried m all) = subst (λ x. Reads (unfinished m hb) px x) (tried_again m hb all) second in
-            let left : drop (header_len all) all ≡ px = drop_at hb px (header_len all) (sym len) in
+            let more : length px ≢ 0 = n in
+            let part : length hb ≡ record_len hb → ⊥ = λ e. omega (arith, k.len, k.same, ap (λ x. pixel_count x) k.is, f.whole) in
+            let first : Reads m hb (unfinished m hb) = subst (λ x. Reads m hb x) (waits_for m hb sound part) (to_header hb k) in
+            let reach : length hb + length px ≤ try_len hb =
+            omega (arith, k.len, k.same, ap (λ x. pixel_count x) k.is, f.whole, try_record hb (omega (arith, k.len)) (omega (arith, k.len, k.same))) in
+            let second : Reads (unfinished m hb) px (tried (unfinished m hb) (hb ++ px)) = Reads-front (unfinished m hb) px free (omega arith) reach in
+            let second_is : Reads (unfinished m hb) px (tried m bytes) =
+            subst (λ x. Reads (unfinished m hb) px x) (tried_again m hb (hb ++ px) ∙ ap (λ l. tried m l) all) second in
             record {
-              tried = Reads-then m (unfinished m hb) (tried m all) hb px first refl second_is;
-              clean = fault_pixels s all (omega arith) (omega (arith, ap (λ x. pixel_count x) again', k.count)) ∙ ap (λ l. pixel_fault s l) left ∙ k.pixels;
+              tried = subst (λ l. Reads m l (tried m bytes)) all (Reads-then m (unfinished m hb) (tried m bytes) hb px first refl second_is);
+              clean = fault_pixels m.standing bytes (omega arith) f.whole ∙ f.pixels;
             }
       ]
 
-  -- a record is put on
-  pub Reads-record : Reads (ready s fed) (record_bytes r) (ready (after s r.header r.pixels) (fed + length (record_bytes r)))
-  Reads-record =
-      let m : Reading = ready s fed in
-      let h : Header = r.header in
-      let px : List ℕ = r.pixels in
-      let hb : List ℕ = header_bytes h in
-      let all : List ℕ = hb ++ px in
-      let again : header_of all ≡ h = header_again h px k.fits in
-      let len : header_len all ≡ length hb = header_len-is all ∙ ap (λ x. len_of x) again ∙ sym (length-header_bytes h) in
-      let left : drop (header_len all) all ≡ px = drop_at hb px (header_len all) (sym len) in
-      let whole : length all ≡ record_len all = omega (arith, length-append hb px, ap (λ x. pixel_count x) again, k.count) in
-      let is : taken m all ≡ ready (after s h px) (fed + length all) =
-      ap (λ x. ready (after s x (drop (header_len all) all)) (fed + length all)) again ∙ ap (λ l. ready (after s h l) (fed + length all)) left in
-      subst (λ x. Reads m all x) (takes m all to_end.clean whole ∙ is) to_end.tried
+  -- it is put on
+  pub Reads-faultless : Reads m bytes (taken m bytes)
+  Reads-faultless = subst (λ x. Reads m bytes x) (takes m bytes to_end.clean f.whole) to_end.tried
+
+-- a record that is spelled is put on
+pub Reads-record : (s : Standing) (fed : ℕ) (r : Record) → IsSound s r →
+    Reads (ready s fed) (record_bytes r) (ready (after s r.header r.pixels) (fed + length (record_bytes r)))
+Reads-record s fed r k =
+    let m : Reading = ready s fed in
+    let h : Header = r.header in
+    let px : List ℕ = r.pixels in
+    let hb : List ℕ = header_bytes h in
+    let all : List ℕ = hb ++ px in
+    let again : header_of all ≡ h = header_again h px k.fits in
+    let len : header_len all ≡ length hb = header_len-is all ∙ ap (λ x. len_of x) again ∙ sym (length-header_bytes h) in
+    let left : drop (header_len all) all ≡ px = drop_at hb px (header_len all) (sym len) in
+    let fine : IsFaultless s all = record {
+      known = known h px;
+      whole = omega (arith, length-append hb px, ap (λ x. pixel_count x) again, k.count);
+      header = ap (λ x. header_fault s x) again ∙ k.header;
+      pixels = ap (λ l. pixel_fault s l) left ∙ k.pixels;
+    } in
+    let is : taken m all ≡ ready (after s h px) (fed + length all) =
+    ap (λ x. ready (after s x (drop (header_len all) all)) (fed + length all)) again ∙ ap (λ l. ready (after s h l) (fed + length all)) left in
+    subst (λ x. Reads m all x) is (Reads-faultless m all refl refl fine)
 
 -- ---- records one after the other
 

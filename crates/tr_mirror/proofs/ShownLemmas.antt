@@ -62,7 +62,7 @@ unfolding tried
 moves_tried m front w some reach = moves_judged m (m.begun ++ front) (fault_of m.standing (m.begun ++ front)) (λ none. IsClean-append m front w some reach none)
 
 -- a record that counts a cut has a screen
-cut_screen : (s : Standing) (header : Header) (pixels : List ℕ) → header_fault s header ≡ None →
+pub cut_screen : (s : Standing) (header : Header) (pixels : List ℕ) → header_fault s header ≡ None →
     (after s header pixels).cuts ≢ s.cuts → IsSome (after s header pixels).screen
 unfolding after
 cut_screen s (Screen wide high kind) pixels sound more = absurd (more refl)

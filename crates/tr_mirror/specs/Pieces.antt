@@ -1,7 +1,9 @@
 -- Private contracts alone cite this file.
 -- What becomes of a piece of a stream of which the front is read.
-use Rattle.std.specs.Prelude.{◌≡◌, ◌≢◌, ◌<◌, ℕ, List, ◌++◌, length, IsSome}
-use Rattle.tr_mirror.specs.Readings.{Reading, read, cut_between, shown_from}
+use Rattle.std.specs.Prelude.{◌≡◌, ◌≢◌, ◌<◌, false, ℕ, List, ◌++◌, length, drop, None, IsSome}
+use Rattle.tr_mirror.specs.Headers.{header_len, header_of, record_len}
+use Rattle.tr_mirror.specs.Standings.{Standing, header_fault, pixel_fault}
+use Rattle.tr_mirror.specs.Readings.{Reading, read, is_unknown, cut_between, shown_from}
 
 -- the front of a piece is read, and the rest isn't; of the front at most the last byte ends a cut, and then there is a screen
 pub record TakesFront (old new : Reading) (piece rest : List ℕ) : Type 0 where
@@ -11,3 +13,10 @@ pub record TakesFront (old new : Reading) (piece rest : List ℕ) : Type 0 where
   pub came : read old front ≡ new
   pub shown : shown_from old front ≡ cut_between old.standing new.standing
   pub screen : new.standing.cuts ≢ old.standing.cuts → IsSome new.standing.screen
+
+-- the bytes are a whole record without a fault
+pub record IsFaultless (s : Standing) (bytes : List ℕ) : Type 0 where
+  pub known : is_unknown bytes ≡ false
+  pub whole : length bytes ≡ record_len bytes
+  pub header : header_fault s (header_of bytes) ≡ None
+  pub pixels : pixel_fault s (drop (header_len bytes) bytes) ≡ None

@@ -1,9 +1,10 @@
-ghost use Rattle.std.specs.Prelude.{◌≡◌, ◌+◌, ◌≤◌, ◌<◌, ◌==◌, ◌++◌, ◌↔◌, length, drop, None, IfOk, IsTrue};
+ghost use Rattle.std.specs.Prelude.{◌≡◌, ◌+◌, ◌≤◌, ◌<◌, ◌==◌, ◌++◌, ◌↔◌, [], length, drop, take, None};
+ghost use Rattle.std.specs.Prelude.{IfOk, IfSome, OnSome, IsTrue};
 ghost use Rattle.tr_mirror.specs.Standings.{header_fault};
 ghost use Rattle.tr_mirror.specs.Headers.{header_len, header_of, record_len};
 ghost use Rattle.tr_mirror.specs.Readings as spec;
 ghost use Rattle.tr_mirror.specs.Readings.{IsReading, at_first, failed, taken, tried, read, longest_stream};
-ghost use Rattle.tr_mirror.specs.Pieces.{TakesFront};
+ghost use Rattle.tr_mirror.specs.Pieces.{TakesFront, IsFaultless};
 
 use crate::begun::Begun;
 use crate::faults::MirrorFault;
@@ -82,6 +83,32 @@ fn fault_of(replica: &Replica, bytes: &[u8]) -> Option<u8>
     }
 }
 
+/// How many bytes the record has that stands at the front of a piece, where it is whole.
+fn whole_len(piece: &[u8]) -> Option<usize>
+    requires { 0 < length piece.now }
+    ensures within { IfSome result (λ n. n ≤ length piece.now) }
+    ensures whole { IfSome result (λ n. n ≡ record_len (take n piece.now)) }
+{
+    if piece.len() < header_len(piece) {
+        return None;
+    }
+    let len = record_len(piece);
+    if piece.len() < len {
+        return None;
+    }
+    Some(len)
+}
+
+/// Whether a whole record has no fault.
+fn is_faultless(replica: &Replica, bytes: &[u8]) -> bool
+    requires { length bytes.now ≡ record_len bytes.now }
+    ensures { IsTrue result → IsFaultless replica.now bytes.now }
+{
+    (1..=4).contains(&bytes[0])
+        && replica.header_fault(header_of(bytes)).is_none()
+        && replica.pixel_fault(&bytes[header_len(bytes)..]).is_none()
+}
+
 impl Reader {
     /// The reading of no bytes. It takes all memory that reading needs.
     pub fn new(alloc: Global) -> Result<Reader, NoMemory>
@@ -127,9 +154,61 @@ impl Reader {
         self.fault.is_none() && self.replica.cuts() == cuts
     }
 
+    /// Takes bytes from the front of a piece, and gives the rest of it. Where no record has begun and
+    /// a whole one without a fault stands there, it takes this one, so that its pixels are copied
+    /// once. Else it takes the bytes up to the next place where faults are tried.
+    pub fn take_front<'a>(&mut self, piece: &'a [u8]) -> &'a [u8]
+        requires some { 0 < length piece.now }
+        requires free { self.old.fault ≡ None }
+        requires reading { IsReading self.old }
+        requires limit { self.old.fed + length self.old.begun + length piece.now ≤ longest_stream }
+        ensures read { read self.new result.now ≡ read self.old piece.now }
+        ensures front { TakesFront self.old self.new piece.now result.now }
+        ensures shorter { length result.now < length piece.now }
+        ensures reading { IsReading self.new }
+        ensures count { self.new.fed + length self.new.begun + length result.now
+            ≤ self.old.fed + length self.old.begun + length piece.now }
+    {
+        match self.faultless_front(piece) {
+            Some(len) => {
+                let (record, rest) = piece.split_at(len);
+                self.take_whole(record);
+                rest
+            }
+            None => self.take_part(piece),
+        }
+    }
+
+    /// How many bytes the record has that stands at the front of a piece, where none has begun, and
+    /// this one is whole and has no fault.
+    fn faultless_front(&self, piece: &[u8]) -> Option<usize>
+        requires { 0 < length piece.now }
+        ensures within { IfSome result (λ n. n ≤ length piece.now) }
+        ensures begun { OnSome result (self.now.begun ≡ []) }
+        ensures fine { IfSome result (λ n. IsFaultless self.now.standing (take n piece.now)) }
+    {
+        if !self.begun.as_slice().is_empty() {
+            return None;
+        }
+        let len = whole_len(piece)?;
+        is_faultless(&self.replica, &piece[..len]).then_some(len)
+    }
+
+    /// Puts a whole record on of which nothing was read before.
+    fn take_whole(&mut self, whole: &[u8])
+        requires begun { self.old.begun ≡ [] }
+        requires fine { IsFaultless self.old.standing whole.now }
+        requires limit { self.old.fed + length whole.now ≤ longest_stream }
+        ensures { self.new ≡ taken self.old whole.now }
+    {
+        self.replica
+            .put(header_of(whole), &whole[header_len(whole)..]);
+        self.fed += whole.len() as u64;
+    }
+
     /// Takes bytes from the front of a piece, up to the next place where faults are tried. It gives
     /// the rest of the piece.
-    pub fn take_front<'a>(&mut self, piece: &'a [u8]) -> &'a [u8]
+    fn take_part<'a>(&mut self, piece: &'a [u8]) -> &'a [u8]
         requires some { 0 < length piece.now }
         requires free { self.old.fault ≡ None }
         requires reading { IsReading self.old }

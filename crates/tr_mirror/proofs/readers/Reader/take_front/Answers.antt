@@ -1,61 +1,31 @@
-use Rattle.std.proofs.Common.{◌≡◌, ◌+◌, ◌≤◌, ◌<◌, ◌++◌, length, sym, ap, ◌∙◌, arith, length-append}
-use Rattle.std.proofs.lemmas.List.{take-append-drop}
-use Rattle.tr_mirror.specs.Readings.{Reading, cut_between, read, try_len}
-use Rattle.tr_mirror.proofs.ReadingLemmas.{gathers, read-append, tried_fed, IsReading-tried}
-use Rattle.tr_mirror.proofs.RecordLemmas.{gathers_shown}
-use Rattle.tr_mirror.proofs.ShownLemmas.{screen_at_cut}
+use Rattle.std.proofs.Common.{sym, ap, subst, ◌∙◌}
+use Rattle.tr_mirror.specs.Readings.{IsReading, read, taken}
+use Rattle.tr_mirror.specs.Pieces.{TakesFront, IsFaultless}
+use Rattle.tr_mirror.proofs.PieceLemmas.{read-faultless, TakesFront-faultless, IsReading-faultless}
 use Rattle.tr_mirror.proofs.readers.Reader.take_front.Goals as goal
 
-pub returns-clause-read : goal.returns-clause-read
-returns-clause-read c =
+pub returns-in-Some-clause-read : goal.returns-in-Some-clause-read
+returns-in-Some-clause-read c =
     let m = c.args.self.now in
-    let piece = c.args.piece.now in
     let front = c.split_at.result.0.now in
     let rest = c.split_at.result.1.now in
-    let begun : c.as_slice-begun.result.now ≡ m.begun = c.as_slice-begun.ensures.value ∙ ap (λ (r : Reading). r.begun) c.self.view_is in
-    let goal_len : c.try_len.result ≡ try_len m.begun = c.try_len.ensures ∙ ap try_len begun in
-    let came = ap (λ l. length l) begun in
-    let some : 0 < length front = omega (arith, c.split_at.ensures.front_len, c.min.ensures, c.requires.reading.short) in
-    let reach : length m.begun + length front ≤ try_len m.begun = omega (arith, c.split_at.ensures.front_len, c.min.ensures, c.requires.reading.short) in
-    let parts : front ++ rest ≡ piece = rw (c.split_at.ensures.front, c.split_at.ensures.back) (take-append-drop c.min.result piece) in
-    ap (λ r. read r rest) (c.gather.ensures ∙ sym (gathers m front c.requires.free some reach)) ∙ sym (read-append m front rest) ∙ ap (λ l. read m l) parts
+    let fine : IsFaultless m.standing front = subst (λ l. IsFaultless m.standing l) (sym c.split_at.ensures.front) c.in-Some.ensures.fine in
+    ap (λ r. read r rest) c.take_whole.ensures ∙ read-faultless m front c.requires.free c.in-Some.ensures.begun fine rest
+    ∙ ap (λ l. read m l) (sym c.split_at.ensures.by_index.0)
 
-pub returns-clause-front : goal.returns-clause-front
-returns-clause-front c =
+pub returns-in-Some-clause-front : goal.returns-in-Some-clause-front
+returns-in-Some-clause-front c =
     let m = c.args.self.now in
-    let piece = c.args.piece.now in
     let front = c.split_at.result.0.now in
     let rest = c.split_at.result.1.now in
-    let begun : c.as_slice-begun.result.now ≡ m.begun = c.as_slice-begun.ensures.value ∙ ap (λ (r : Reading). r.begun) c.self.view_is in
-    let goal_len : c.try_len.result ≡ try_len m.begun = c.try_len.ensures ∙ ap try_len begun in
-    let came = ap (λ l. length l) begun in
-    let some : 0 < length front = omega (arith, c.split_at.ensures.front_len, c.min.ensures, c.requires.reading.short) in
-    let reach : length m.begun + length front ≤ try_len m.begun = omega (arith, c.split_at.ensures.front_len, c.min.ensures, c.requires.reading.short) in
-    let parts : front ++ rest ≡ piece = rw (c.split_at.ensures.front, c.split_at.ensures.back) (take-append-drop c.min.result piece) in
-    record {
-      front = front;
-      parts = parts;
-      some = some;
-      came = gathers m front c.requires.free some reach ∙ sym c.gather.ensures;
-      shown = gathers_shown m front c.requires.free some reach
-          ∙ ap (λ (r : Reading). cut_between m.standing r.standing) (sym c.gather.ensures);
-      screen = rw c.gather.ensures (screen_at_cut m front c.requires.reading some reach);
-    }
+    let fine : IsFaultless m.standing front = subst (λ l. IsFaultless m.standing l) (sym c.split_at.ensures.front) c.in-Some.ensures.fine in
+    subst (λ r. TakesFront m r c.args.piece.now rest) (sym c.take_whole.ensures)
+    (subst (λ l. TakesFront m (taken m front) l rest) (sym c.split_at.ensures.by_index.0)
+    (TakesFront-faultless m front c.requires.free c.in-Some.ensures.begun fine rest))
 
-pub returns-clause-reading : goal.returns-clause-reading
-returns-clause-reading c =
+pub returns-in-Some-clause-reading : goal.returns-in-Some-clause-reading
+returns-in-Some-clause-reading c =
     let m = c.args.self.now in
     let front = c.split_at.result.0.now in
-    let begun : c.as_slice-begun.result.now ≡ m.begun = c.as_slice-begun.ensures.value ∙ ap (λ (r : Reading). r.begun) c.self.view_is in
-    let goal_len : c.try_len.result ≡ try_len m.begun = c.try_len.ensures ∙ ap try_len begun in
-    let came = ap (λ l. length l) begun in
-    let some : 0 < length front = omega (arith, c.split_at.ensures.front_len, c.min.ensures, c.requires.reading.short) in
-    let reach : length m.begun + length front ≤ try_len m.begun = omega (arith, c.split_at.ensures.front_len, c.min.ensures, c.requires.reading.short) in
-    rw c.gather.ensures (IsReading-tried m front c.requires.reading some reach)
-
-pub returns-clause-count : goal.returns-clause-count
-returns-clause-count c =
-    let m = c.args.self.now in
-    let front = c.split_at.result.0.now in
-    let grown = tried_fed m (m.begun ++ front) in
-    rw c.gather.ensures (omega (arith, grown, length-append m.begun front, c.split_at.ensures.front_len, c.split_at.ensures.back_len))
+    let fine : IsFaultless m.standing front = subst (λ l. IsFaultless m.standing l) (sym c.split_at.ensures.front) c.in-Some.ensures.fine in
+    subst IsReading (sym c.take_whole.ensures) (IsReading-faultless m front c.requires.free c.in-Some.ensures.begun fine c.requires.reading)
