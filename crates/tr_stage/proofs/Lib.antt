@@ -4,6 +4,7 @@ pub mod StartLemmas
 pub mod ActLemmas
 pub mod MailLemmas
 pub mod DeviceLemmas
+pub mod WholeLemmas
 pub mod PaintLemmas
 pub mod AlterLemmas
 pub mod SettleLemmas

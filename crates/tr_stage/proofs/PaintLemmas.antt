@@ -2,17 +2,21 @@
 use Rattle.std.proofs.Common.{◌≡◌, ◌⊎◌, ℕ, ◌<◌, Bool, true, false, List, [], Option, Some, inl, inr, length, refl, sym, ap, subst, ◌∙◌}
 use Rattle.std.specs.Prelude.{slice_get}
 use Rattle.tr_base.specs.declared.Point.{Point}
+use Rattle.tr_base.specs.declared.Size.{Size}
 use Rattle.tr_base.specs.declared.LeafId.{LeafId}
-use Rattle.tr_base.specs.Rects.{Edges, has_point}
+use Rattle.tr_base.specs.Rects.{Edges, has_point, meet_of, whole_of}
+use Rattle.tr_base.proofs.RectLemmas.{false-true}
 use Rattle.tr_region.specs.Points.{holds}
 use Rattle.tr_paint.specs.declared.Paint.{Paint}
 use Rattle.tr_paint.specs.Batches.{touches}
+use Rattle.tr_paint.specs.Paintings.{IsPainting}
 use Rattle.tr_paint.specs.Traces.{look_of}
+use Rattle.tr_exec.specs.Executions.{placed}
 use Rattle.tr_client.specs.declared.clients.Client.{Ghosts}
 use Rattle.tr_forest.specs.Nodes.{leaf_count}
 use Rattle.tr_tree.specs.Trees.{Seen}
 use Rattle.tr_spot.specs.Spots.{spot, is_in_leaf}
-use Rattle.tr_spot.specs.Leaves.{in_leaf, leaf_size}
+use Rattle.tr_spot.specs.Leaves.{in_leaf, leaf_corner, leaf_size}
 use Rattle.tr_surface.specs.Surfaces.{IsShown}
 use Rattle.tr_surface.proofs.ShownLemmas.{IsExecuted}
 use Rattle.tr_surface.proofs.FrameLemmas.{AreRepaired}
@@ -27,15 +31,18 @@ use Rattle.tr_machine.specs.Paintings.{flushed, framed, repainted}
 use Rattle.tr_machine.specs.Machines.{done}
 use Rattle.tr_machine.proofs.ListLemmas.{slice_get-some}
 use Rattle.tr_machine.proofs.SoundLemmas.{fits}
+use Rattle.tr_machine.proofs.ShownLemmas.{IsShowing}
 use Rattle.tr_machine.proofs.FlushLemmas.{flush_shows}
 use Rattle.tr_machine.proofs.RepaintLemmas as machine
 use Rattle.tr_machine.proofs.RepaintLemmas.{repaint_shows}
 use Rattle.tr_machine.proofs.FrameLemmas.{frame_shows}
+use Rattle.tr_windows.specs.declared.exposures.Exposure.{Exposure}
 use Rattle.tr_windows.specs.Presents.{Present, batch_at, cleared, present}
-use Rattle.tr_windows.specs.Promises.{Repaints}
+use Rattle.tr_windows.specs.Promises.{IsByPainting, IsByWaiting, Repaints}
 use Rattle.tr_windows.proofs.PresentLemmas.{present_is, presents-batch, presents-flushed, presents-length, presents-repainted}
 use Rattle.tr_stage.specs.Stages.{IsStage, Parts, StageView}
 use Rattle.tr_stage.proofs.StageLemmas.{holding}
+use Rattle.tr_stage.proofs.WholeLemmas.{kept_shows}
 use Rattle.tr_stage.proofs.DeviceLemmas.{Before, IsAfter, IsMaking, for_actor, forest_before, made_step, state_before}
 
 module _ {C M : Type 0} (client : Ghosts C M) where
@@ -108,14 +115,21 @@ module _ {C M : Type 0} (client : Ghosts C M) where
   HasBad region t leaf bad =
       (p : Point) → is_in_leaf leaf (spot t p) ≡ true → holds region p ≡ true → has_point bad (in_leaf t leaf p) ≡ true
 
-  -- the batch repaints the leaf, by a rectangle that holds its bad points
+  -- how a leaf's window stands, by two names of the tree: its size, a rectangle that holds its bad points, and whether each of its points is
+  -- visible
+  pub record IsExposure (region : List Edges) (own t : Seen) (leaf : LeafId) (e : Exposure) : Type 0 where
+    pub size : e.size ≡ leaf_size t leaf
+    pub has_bad : HasBad region own leaf e.bad
+    pub whole : e.is_whole ≡ true → (q : Point) → has_point (whole_of (leaf_size t leaf)) q ≡ true →
+        is_in_leaf leaf (spot own (placed (leaf_corner t leaf) q)) ≡ true
+
+  -- the batch repaints the leaf's window as it stands
   pub record IsRepainting (old : Parts C) (leaf : LeafId) (font : List (List ℕ)) (batch : List Paint) : Type 0 where
     pub tree : Seen
     pub same : tree ≡ old.surface.tree
-    pub bad : Edges
-    pub has_bad : HasBad old.surface.bad old.surface.tree leaf bad
-    pub repaints : (w : Present C) → slice_get old.windows leaf.0 ≡ Some w →
-        Repaints client (look_of tree.kind font) (leaf_size tree leaf) bad w batch
+    pub exposure : Exposure
+    pub stands : IsExposure old.surface.bad old.surface.tree tree leaf exposure
+    pub repaints : (w : Present C) → slice_get old.windows leaf.0 ≡ Some w → Repaints client (look_of tree.kind font) exposure w batch
 
   -- a repaint
   pub repaint_made : (b : Before C M) (leaf : LeafId) (new : Parts C) → IsMaking client b (steps.Repaint leaf) → (x : IsPainted b leaf new) →
@@ -127,19 +141,7 @@ module _ {C M : Type 0} (client : Ghosts C M) where
         is = refl;
         inboxes = refl;
         holds = record {
-          shows = repaint_shows client m b.parts.surface new.surface leaf (record {
-            was = making.shown;
-            is = x.shown;
-            tree = x.tree;
-            showing = (holding client m b.parts making.is.kept).shows;
-            fits = fits client m (forest_before client b (steps.Repaint leaf) making) making.is.kept.sound;
-            window = window.0;
-            at = window.1;
-            font = x.font;
-            font_is = font_is;
-            batch = x.batch;
-            executed = x.executed;
-          }) (either r);
+          shows = shows r;
           windows =
               x.windows ∙ ap (λ (ws : List (Present C)). changed_at leaf.0 cleared ws) making.is.kept.windows
               ∙ sym (presents-repainted client m leaf);
@@ -163,34 +165,84 @@ module _ {C M : Type 0} (client : Ghosts C M) where
       font_is : x.font ≡ m.font
       font_is = x.font_is ∙ sym making.is.like.font
 
-      r : Repaints client (look m) (leaf_size m.tree leaf) y.bad own x.batch
+      r : Repaints client (look m) y.exposure own x.batch
       r =
-          let P : Seen → Type 0 = λ t. Repaints client (look_of t.kind x.font) (leaf_size t leaf) y.bad own x.batch in
-          let Q : List (List ℕ) → Type 0 = λ f. Repaints client (look_of m.tree.kind f) (leaf_size m.tree leaf) y.bad own x.batch in
+          let P : Seen → Type 0 = λ t. Repaints client (look_of t.kind x.font) y.exposure own x.batch in
+          let Q : List (List ℕ) → Type 0 = λ f. Repaints client (look_of m.tree.kind f) y.exposure own x.batch in
           subst Q font_is (subst P (y.same ∙ making.is.kept.tree) (y.repaints own own_at))
 
-      has_bad : HasBad b.parts.surface.bad m.tree leaf y.bad
-      has_bad = subst (λ (t : Seen). HasBad b.parts.surface.bad t leaf y.bad) making.is.kept.tree y.has_bad
+      stands : IsExposure b.parts.surface.bad m.tree m.tree leaf y.exposure
+      stands =
+          subst (λ (t : Seen). IsExposure b.parts.surface.bad t t leaf y.exposure) making.is.kept.tree
+          (subst (λ (t : Seen). IsExposure b.parts.surface.bad b.parts.surface.tree t leaf y.exposure) y.same y.stands)
 
       waits : batch_of client m leaf ≡ own.batch
       waits = ap (λ (o : Option (Window C M)). batch_in client m leaf o) window.1
 
-      good : ((q : Point) → has_point y.bad q ≡ false) → (p : Point) → is_in_leaf leaf (spot m.tree p) ≡ true → holds b.parts.surface.bad p ≡ false
+      good : ((q : Point) → has_point y.exposure.bad q ≡ false) → (p : Point) → is_in_leaf leaf (spot m.tree p) ≡ true → holds b.parts.surface.bad p ≡ false
       good none p seen = by_test (holds b.parts.surface.bad p) refl
         where
           by_test : (is_bad : Bool) → holds b.parts.surface.bad p ≡ is_bad → is_bad ≡ false
-          by_test true h = sym (has_bad p seen h) ∙ none (in_leaf m.tree leaf p)
+          by_test true h = sym (stands.has_bad p seen h) ∙ none (in_leaf m.tree leaf p)
           by_test false h = refl
 
-      either : Repaints client (look m) (leaf_size m.tree leaf) y.bad own x.batch →
-          machine.IsByPainting client m b.parts.surface leaf window.0 x.batch ⊎ machine.IsByWaiting client m b.parts.surface leaf x.batch
-      either (inl r) = inl (record {
+      -- what is the same in each way
+      repaint : machine.IsRepaint client m b.parts.surface new.surface leaf
+      repaint = record {
+        was = making.shown;
+        is = x.shown;
+        tree = x.tree;
+        showing = (holding client m b.parts making.is.kept).shows;
+        fits = fits client m (forest_before client b (steps.Repaint leaf) making) making.is.kept.sound;
+        window = window.0;
+        at = window.1;
+        font = x.font;
+        font_is = font_is;
+        batch = x.batch;
+        executed = x.executed;
+      }
+
+      by_painting : IsByPainting client (look m) y.exposure own x.batch → machine.IsByPainting client m b.parts.surface leaf window.0 x.batch
+      by_painting r = record {
         clip = r.clip;
-        paints = r.paints;
-        bad = λ p seen is_bad. r.has_bad (in_leaf m.tree leaf p) (has_bad p seen is_bad);
+        paints =
+            subst (λ (size : Size). IsPainting (look m) (meet_of (whole_of size) r.clip) x.batch (client.pic (look m) size own.content))
+            stands.size r.paints;
+        bad = λ p seen is_bad. r.has_bad (in_leaf m.tree leaf p) (stands.has_bad p seen is_bad);
         waiting = λ q touched. r.has_touched q (ap (λ (cs : List Paint). touches cs q) (sym waits) ∙ touched);
-      })
-      either (inr r) = inr (record { same = r.waits ∙ sym waits; good = good r.good; keeps = r.keeps })
+      }
+
+      -- the commands that wait, in a window of which some points may be covered, and in one that is whole
+      by_waiting : (w : IsByWaiting client (look m) y.exposure own x.batch) → (is_whole : Bool) → y.exposure.is_whole ≡ is_whole →
+          IsShowing client (repainted client leaf m) new.surface
+      by_waiting w false part =
+          repaint_shows client m b.parts.surface new.surface leaf repaint
+          (inr (record {
+            same = w.waits ∙ sym waits;
+            good = good w.good;
+            keeps = λ base q seen known. w.keeps base (λ whole. absurd (false-true (sym part ∙ whole))) q seen known;
+          }))
+      by_waiting w true all =
+          kept_shows client m b.parts.surface new.surface leaf y.exposure
+          (record {
+            was = repaint.was;
+            is = repaint.is;
+            tree = repaint.tree;
+            showing = repaint.showing;
+            fits = repaint.fits;
+            window = repaint.window;
+            at = repaint.at;
+            font = repaint.font;
+            font_is = repaint.font_is;
+            batch = repaint.batch;
+            batch_is = w.waits ∙ sym waits;
+            executed = repaint.executed;
+          })
+          (record { size = stands.size; whole = stands.whole all; good = good w.good; same = w.waits ∙ sym waits; keeps = w.keeps })
+
+      shows : Repaints client (look m) y.exposure own x.batch → IsShowing client (repainted client leaf m) new.surface
+      shows (inl painting) = repaint_shows client m b.parts.surface new.surface leaf repaint (inl (by_painting painting))
+      shows (inr waiting) = by_waiting waiting y.exposure.is_whole refl
 
   -- the parts before and after the frames are painted
   pub record IsFramed (old new : Parts C) : Type 0 where

@@ -1,4 +1,10 @@
-ghost use Rattle.std.specs.Prelude.{[], OnOk};
+ghost use Rattle.std.specs.Prelude.{◌≡◌, ◌<◌, true, [], IsTrue, OnOk};
+ghost use Rattle.tr_base.specs.declared.Point.{Point};
+ghost use Rattle.tr_base.specs.Rects.{has_point, whole_of};
+ghost use Rattle.tr_region.specs.Points.{holds};
+ghost use Rattle.tr_exec.specs.Executions.{placed};
+ghost use Rattle.tr_forest.specs.Nodes.{leaf_count};
+ghost use Rattle.tr_spot.specs.Leaves.{leaf_corner, leaf_size};
 ghost use Rattle.tr_journal.specs.Openings.{tree_of};
 ghost use Rattle.tr_journal.specs.Steps.{IsFor};
 ghost use Rattle.tr_stage.specs.Making.{Makes};
@@ -9,7 +15,10 @@ use crate::stages::Stage;
 use tr_base::{Env, LeafId, NoMemory};
 use tr_client::Client;
 use tr_journal::{Answer, Reply, Step};
+use tr_region::Region;
 use tr_spot::leaf_size;
+use tr_tree::Tree;
+use tr_windows::Exposure;
 
 impl<C: Client> Stage<C> {
     /// What waits for a leaf is painted.
@@ -48,8 +57,12 @@ impl<C: Client> Stage<C> {
             kind: tree.kind(),
             font: self.opening.font(),
         };
-        let size = leaf_size(tree, leaf);
-        let batch = self.windows.repainting(leaf, &env, size, bad)?;
+        let exposure = Exposure {
+            size: leaf_size(tree, leaf),
+            bad,
+            is_whole: is_whole(tree, leaf, self.surface.visible(leaf)),
+        };
+        let batch = self.windows.repainting(leaf, &env, &exposure)?;
         self.surface.execute(env.font, leaf, &batch)?;
         // Called for what it tells the prover: that the surface is still one.
         let _ = self.surface.tree();
@@ -75,4 +88,17 @@ impl<C: Client> Stage<C> {
         let entry = by.entry(Step::PaintFrame, Answer::Done, 0);
         Ok(write(&mut self.journal, entry, &[]))
     }
+}
+
+/// Whether the points of a region are all those of a leaf's window.
+fn is_whole(tree: &Tree, leaf: LeafId, visible: &Region) -> bool
+    requires { leaf.0 < leaf_count tree.now.nodes }
+    ensures { IsTrue result → (q : Point) → has_point (whole_of (leaf_size tree.now leaf)) q ≡ true →
+        holds visible.now (placed (leaf_corner tree.now leaf) q) ≡ true }
+{
+    let domain = tree.domain(tree.node_of(leaf));
+    // Called for what it tells the prover: that the edges are those of a rectangle.
+    let _ = domain.is_empty();
+    let rects = visible.rects();
+    rects.len() == 1 && rects[0] == domain
 }

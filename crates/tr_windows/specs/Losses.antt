@@ -1,10 +1,19 @@
--- For the crate's own functions: paint commands after which a point may be unknown that was known before.
-use Rattle.std.specs.Prelude.{Bool, true, false}
+-- For the crate's own functions: paint commands after which each point is known that was known before.
+use Rattle.std.specs.Prelude.{◌≡◌, ⊤, true}
+use Rattle.tr_base.specs.declared.Point.{Point}
+use Rattle.tr_base.specs.declared.Size.{Size}
+use Rattle.tr_base.specs.Rects.{Edges, before_shift, has_point, whole_of}
 use Rattle.tr_paint.specs.declared.Paint.{Paint}
 use Rattle.tr_paint.specs.declared.Paint.TheVariants.{Scroll, Spoil}
+use Rattle.tr_windows.specs.declared.exposures.Exposure.{Exposure}
 
--- a scroll may take a point's colour from one that is covered, and a spoil loses what it touches
-abbrev pub loses : Paint → Bool
-loses (Scroll clip delta) = true
-loses (Spoil clip) = true
-loses c = false
+-- what a scroll brings into a window of this size are points of the window
+abbrev pub BringsOwn : Size → Edges → Point → Type 0
+BringsOwn size clip delta =
+    (q : Point) → has_point clip q ≡ true → has_point (whole_of size) q ≡ true → has_point (whole_of size) (before_shift q delta) ≡ true
+
+-- A command spares what is known of a window: a spoil never does, a scroll where the window is whole and it brings in points of it alone.
+abbrev pub Spares : Exposure → Paint → Type 0
+Spares e (Scroll clip delta) = (e.is_whole ≡ true) × BringsOwn e.size clip delta
+Spares e (Spoil clip) = ⊥
+Spares e c = ⊤

@@ -1,20 +1,32 @@
 -- What the windows promise: their contents, what a batch repaints, and what a change of size leaves.
-use Rattle.std.specs.Prelude.{◌≡◌, ◌⊎◌, ℕ, ◌-◌, ◌≤◌, ◌^◌, Bool, true, false, List, length, min, sum_by, slice_get, Some}
+use Rattle.std.specs.Prelude.{◌≡◌, ◌⊎◌, ℕ, ◌-◌, ◌≤◌, ◌^◌, Bool, true, false, List, length, min, sum_by, slice_get, Some, is_none}
 use Rattle.tr_base.specs.declared.Point.{Point}
 use Rattle.tr_base.specs.declared.Size.{Size}
 use Rattle.tr_base.specs.Rects.{Edges, has_point, meet_of, whole_of}
 use Rattle.tr_paint.specs.declared.Paint.{Paint}
 use Rattle.tr_paint.specs.Batches.{touches}
-use Rattle.tr_paint.specs.Traces.{Look}
+use Rattle.tr_paint.specs.Traces.{Look, Base, after}
 use Rattle.tr_paint.specs.Paintings.{IsPainting}
 use Rattle.tr_client.specs.declared.clients.Client.{Ghosts}
 use Rattle.tr_client.specs.Laws.{IsWindowSize, Survives}
-use Rattle.tr_machine.specs.Promises.{LosesNothing}
+use Rattle.tr_windows.specs.declared.exposures.Exposure.{Exposure}
 use Rattle.tr_windows.specs.Presents.{Present}
 
 -- the rectangle has all of these points
 abbrev pub HasAll : Edges → (Point → Bool) → Type 0
 HasAll e test = (q : Point) → test q ≡ true → has_point e q ≡ true
+
+-- all points of a window of this size are visible, no others are, and the colour of each is known
+pub record IsKnownWhole (size : Size) (base : Base) : Type 0 where
+  pub visible : (q : Point) → base.visible q ≡ has_point (whole_of size) q
+  pub known : (q : Point) → has_point (whole_of size) q ≡ true → is_none (base.known q) ≡ false
+
+-- Commands lose nothing of a window: of each visible point whose colour is known before them, one is known after them. In a window that is
+-- whole and has no bad point all points are known, and the commands may count on that: a scroll may bring in any point of the window.
+abbrev pub LosesNothingOf : Exposure → Look → List Paint → Type 0
+LosesNothingOf e look batch =
+    (base : Base) → (e.is_whole ≡ true → IsKnownWhole e.size base) → (q : Point) → base.visible q ≡ true → is_none (base.known q) ≡ false →
+    is_none (after look base batch q) ≡ false
 
 -- how many paint commands wait for all windows; the count stops at 2^64 - 1
 abbrev pub waiting_in : {C : Type 0} → List (Present C) → ℕ
@@ -28,22 +40,22 @@ module _ {C M : Type 0} (client : Ghosts C M) where
 
   -- A batch repaints a window by a painting, whatever waits: it paints the part of the present picture that lies in the least rectangle round
   -- all bad points and all that the waiting commands would touch: any other that has all of these has all of its points, too.
-  pub record IsByPainting (look : Look) (size : Size) (bad : Edges) (w : Present C) (batch : List Paint) : Type 0 where
+  pub record IsByPainting (look : Look) (e : Exposure) (w : Present C) (batch : List Paint) : Type 0 where
     pub clip : Edges
-    pub paints : IsPainting look (meet_of (whole_of size) clip) batch (client.pic look size w.content)
-    pub has_bad : (q : Point) → has_point bad q ≡ true → has_point clip q ≡ true
+    pub paints : IsPainting look (meet_of (whole_of e.size) clip) batch (client.pic look e.size w.content)
+    pub has_bad : (q : Point) → has_point e.bad q ≡ true → has_point clip q ≡ true
     pub has_touched : (q : Point) → touches w.batch q ≡ true → has_point clip q ≡ true
-    pub least : (e : Edges) → HasAll e (has_point bad) → HasAll e (touches w.batch) → HasAll e (has_point clip)
+    pub least : (outer : Edges) → HasAll outer (has_point e.bad) → HasAll outer (touches w.batch) → HasAll outer (has_point clip)
 
   -- a batch repaints a window by what waits: nothing is bad, and no point is lost on the way
-  pub record IsByWaiting (look : Look) (bad : Edges) (w : Present C) (batch : List Paint) : Type 0 where
+  pub record IsByWaiting (look : Look) (e : Exposure) (w : Present C) (batch : List Paint) : Type 0 where
     pub waits : batch ≡ w.batch
-    pub good : (q : Point) → has_point bad q ≡ false
-    pub keeps : LosesNothing look batch
+    pub good : (q : Point) → has_point e.bad q ≡ false
+    pub keeps : LosesNothingOf e look batch
 
   -- A batch repaints a window in one of two ways. Which of them is a question of cost alone.
-  abbrev pub Repaints : Look → Size → Edges → Present C → List Paint → Type 0
-  Repaints look size bad w batch = IsByPainting look size bad w batch ⊎ IsByWaiting look bad w batch
+  abbrev pub Repaints : Look → Exposure → Present C → List Paint → Type 0
+  Repaints look e w batch = IsByPainting look e w batch ⊎ IsByWaiting look e w batch
 
   -- what a window keeps when its size changes lies in both windows, and has the same colours in both
   pub record Keeps (look : Look) (w : Present C) : Type 0 where

@@ -1,56 +1,88 @@
 ghost use Rattle.std.specs.Prelude.{◌≡◌, false, IsTrue};
 ghost use Rattle.tr_base.specs.declared.Point.{Point};
 ghost use Rattle.tr_base.specs.Rects.{has_point};
+ghost use Rattle.tr_paint.specs.Paints.{IsNearPaint, IsNearPoint};
 ghost use Rattle.tr_paint.specs.Traces.{Look};
-ghost use Rattle.tr_machine.specs.Promises.{LosesNothing};
-ghost use Rattle.tr_windows.specs.Losses as spec;
+ghost use Rattle.tr_client.specs.Laws.{IsWindowSize};
+ghost use Rattle.tr_windows.specs.Losses.{BringsOwn, Spares};
+ghost use Rattle.tr_windows.specs.Promises.{LosesNothingOf};
 
-use tr_base::Rect;
+use crate::exposures::Exposure;
+use tr_base::{Point, Rect, Size};
+use tr_client::window;
 use tr_paint::{Batch, Paint};
 
 /// Whether what waits for a window does as well as a painting of it, and costs less: nothing is bad,
 /// and no point is lost on the way.
-pub(crate) fn is_cheaper(waiting: &Batch, painting: &Batch, bad: &Rect) -> bool
-    ensures good { IsTrue result → (q : Point) → has_point bad.now q ≡ false }
-    ensures keeps { IsTrue result → (look : Look) → LosesNothing look waiting.now }
+pub(crate) fn is_cheaper(waiting: &Batch, painting: &Batch, exposure: &Exposure) -> bool
+    requires { IsWindowSize exposure.now.size }
+    ensures good { IsTrue result → (q : Point) → has_point exposure.now.bad q ≡ false }
+    ensures keeps { IsTrue result → (look : Look) → LosesNothingOf exposure.now look waiting.now }
 {
-    if !bad.is_empty() {
+    if !exposure.bad.is_empty() {
         return false;
     }
-    if !loses_nothing(waiting) {
+    if !loses_nothing(waiting, exposure) {
         return false;
     }
     cost(waiting) < cost(painting)
 }
 
 /// Whether no command can make a point unknown.
-fn loses_nothing(batch: &Batch) -> bool
-    ensures { IsTrue result → (look : Look) → LosesNothing look batch.now }
+fn loses_nothing(batch: &Batch, exposure: &Exposure) -> bool
+    requires { IsWindowSize exposure.now.size }
+    ensures { IsTrue result → (look : Look) → LosesNothingOf exposure.now look batch.now }
 {
     for paint in batch.paints() {
-        if loses(paint) {
+        if !spares(paint, exposure) {
             return false;
         }
     }
     true
 }
 
-/// Whether a point may be unknown after a command that was known before it.
-fn loses(paint: &Paint) -> bool
-    ensures { result ≡ spec.loses paint.now }
+/// Whether each point is known after a command that was known before it.
+fn spares(paint: &Paint, exposure: &Exposure) -> bool
+    requires near { IsNearPaint paint.now }
+    requires size { IsWindowSize exposure.now.size }
+    ensures { IsTrue result → Spares exposure.now paint.now }
 {
     match paint {
-        Paint::Scroll { .. } | Paint::Spoil { .. } => true,
-        _ => false,
+        Paint::Scroll { clip, delta } => {
+            exposure.is_whole && brings_own(exposure.size, clip, *delta)
+        }
+        Paint::Spoil { .. } => false,
+        _ => true,
     }
 }
 
-/// What executing commands costs: the sum of their areas, which stops at 2^64 - 1.
+/// Whether what a scroll brings into a window are points of the window.
+fn brings_own(size: Size, clip: &Rect, delta: Point) -> bool
+    requires size { IsWindowSize size }
+    requires delta { IsNearPoint delta }
+    ensures { IsTrue result → BringsOwn size clip.now delta }
+{
+    let all = window(size);
+    let part = clip.meet(&all);
+    part.meet(&all.shift(delta)) == part
+}
+
+/// What executing commands costs: the sum of their areas, each by its weight, which stops at 2^64 - 1.
 fn cost(batch: &Batch) -> u64 {
     let mut sum: u64 = 0;
     for paint in batch.paints() {
         let (wide, high) = paint.area().size();
-        sum = sum.saturating_add(u64::from(wide) * u64::from(high));
+        let area = u64::from(wide) * u64::from(high);
+        sum = sum.saturating_add(area.saturating_mul(weight(paint)));
     }
     sum
+}
+
+/// What a point of a command's area costs, as measured, beside a point that is filled.
+fn weight(paint: &Paint) -> u64 {
+    match paint {
+        Paint::Tint { .. } | Paint::Pixels { .. } | Paint::Spoil { .. } => 1,
+        Paint::Texture { .. } | Paint::Scroll { .. } => 2,
+        Paint::Text { .. } => 7,
+    }
 }

@@ -4,8 +4,10 @@
 
 mod areas;
 mod costs;
+mod exposures;
 mod keepers;
 mod present;
 mod windows;
 
+pub use exposures::Exposure;
 pub use windows::Windows;

@@ -6,6 +6,7 @@ ghost use Rattle.tr_windows.specs.Promises.{Repaints};
 
 use crate::areas::{part_in_window, spanned};
 use crate::costs::is_cheaper;
+use crate::exposures::Exposure;
 use std::alloc::Global;
 use std::marker::Model;
 use tr_base::{Env, NoMemory, Rect, Size};
@@ -103,16 +104,15 @@ impl<C: Client> Window<C> {
         &self,
         alloc: Global,
         env: &Env,
-        size: Size,
-        bad: Rect,
+        exposure: &Exposure,
     ) -> Result<Batch, NoMemory>
-        requires { IsWindowSize size }
+        requires { IsWindowSize exposure.now.size }
         ensures { let look = look_of env.now.kind env.now.font.now in
-            IfOk result (λ batch. Repaints C.Client look size bad self.now batch) }
+            IfOk result (λ batch. Repaints C.Client look exposure.now self.now batch) }
     {
-        let clip = spanned(bad, &self.batch);
-        let painting = self.content.paint(alloc, env, size, clip)?;
-        if is_cheaper(&self.batch, &painting, &bad) {
+        let clip = spanned(exposure.bad, &self.batch);
+        let painting = self.content.paint(alloc, env, exposure.size, clip)?;
+        if is_cheaper(&self.batch, &painting, exposure) {
             let waiting = self.batch.copy()?;
             return Ok(waiting);
         }

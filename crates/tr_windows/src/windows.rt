@@ -9,6 +9,7 @@ ghost use Rattle.tr_machine.specs.States.{changed_at};
 ghost use Rattle.tr_windows.specs.Presents as spec;
 ghost use Rattle.tr_windows.specs.Promises.{AreWindows, Keeps, Repaints, waiting_in};
 
+use crate::exposures::Exposure;
 use crate::present::Window;
 use std::alloc::Global;
 use std::marker::Model;
@@ -146,24 +147,23 @@ impl<C: Client> Windows<C> {
         }
     }
 
-    /// A batch that repaints a leaf's window, which has this size: a painting of all points that are
-    /// bad or that the waiting commands would touch, or, where that is cheaper and does as well, a copy
-    /// of these. Nothing is let go.
+    /// A batch that repaints a leaf's window, which stands so on the screen: a painting of all points
+    /// that are bad or that the waiting commands would touch, or, where that is cheaper and does as well,
+    /// a copy of these. Nothing is let go.
     pub fn repainting(
         &self,
         leaf: LeafId,
         env: &Env,
-        size: Size,
-        bad: Rect,
+        exposure: &Exposure,
     ) -> Result<Batch, NoMemory>
         requires leaf { leaf.0 < length self.now }
-        requires size { IsWindowSize size }
+        requires size { IsWindowSize exposure.now.size }
         ensures { let look = look_of env.now.kind env.now.font.now in IfOk result (λ batch.
             (w : spec.Present C) → slice_get self.now leaf.0 ≡ Some w →
-            Repaints C.Client look size bad w batch) }
+            Repaints C.Client look exposure.now w batch) }
     {
         let alloc = *self.windows.allocator();
-        self.windows[usize::from(leaf.0)].repainting(alloc, env, size, bad)
+        self.windows[usize::from(leaf.0)].repainting(alloc, env, exposure)
     }
 
     /// How many paint commands wait for all windows; the count stops at 2^64 - 1.

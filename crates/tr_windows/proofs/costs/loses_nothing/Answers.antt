@@ -1,8 +1,8 @@
-use Rattle.std.proofs.Common.{◌≡◌, false, List, take, get_or, subst, sym, ap, ◌∙◌, arith}
+use Rattle.std.proofs.Common.{List, take, get_or, subst, sym, arith}
 use Rattle.std.proofs.lemmas.List.{take_more}
 use Rattle.tr_paint.specs.declared.Paint.{Paint}
-use Rattle.tr_machine.specs.Promises.{LosesNothing}
-use Rattle.tr_windows.specs.Losses.{loses}
+use Rattle.tr_windows.specs.Losses.{Spares}
+use Rattle.tr_windows.specs.Promises.{LosesNothingOf}
 use Rattle.tr_windows.proofs.LossLemmas.{loses-more}
 use Rattle.tr_windows.proofs.costs.loses_nothing.Goals as goal
 
@@ -11,6 +11,8 @@ loop-paint-preserved c =
     let xs = c.paints-paint-items.result.now in
     let i = c.loop-paint.paint-index in
     let d = c.paint-item.result in
-    let mild : loses (get_or xs i d) ≡ false = ap loses (sym c.paint-item.is) ∙ sym c.loses.ensures ∙ c.if-loses.false in
-    λ look. subst (λ (cs : List Paint). LosesNothing look cs) (sym (take_more xs i d (omega arith)))
-    (loses-more look (take i xs) (get_or xs i d) (c.loop-paint.invariant look) mild)
+    let e = c.args.exposure.now in
+    let spares : Spares e (get_or xs i d) =
+    subst (λ (p : Paint). Spares e p) c.paint-item.is (c.spares.ensures c.if-not-spares.false) in
+    λ look. subst (λ (cs : List Paint). LosesNothingOf e look cs) (sym (take_more xs i d (omega arith)))
+    (loses-more e look (take i xs) (c.loop-paint.invariant look) (get_or xs i d) spares)

@@ -1,4 +1,6 @@
-use Rattle.std.proofs.Common.{ap, refl}
+use Rattle.std.proofs.Common.{ap, refl, sym, ◌∙◌}
+use Rattle.tr_exec.specs.Executions.{placed}
+use Rattle.tr_spot.specs.Leaves.{leaf_corner}
 use Rattle.tr_journal.specs.declared.steps.Step.TheVariants.{Repaint}
 use Rattle.tr_stage.specs.Stages.{Parts}
 use Rattle.tr_stage.proofs.PartLemmas.{kept_others}
@@ -63,9 +65,13 @@ invariant_of-self-2 g c =
     (record {
       tree = c.tree-tree.result.now;
       same = c.tree-tree.ensures.value;
-      bad = c.in_ok-bad.bad;
-      has_bad = c.in_ok-bad.ensures.all;
-      repaints = rw (c.kind.ensures, c.leaf_size-size.ensures.value) at c.in_ok-batch.ensures;
+      exposure = record { size = c.leaf_size.result; bad = c.in_ok-bad.bad; is_whole = c.is_whole.result };
+      stands = record {
+        size = c.leaf_size.ensures.value;
+        has_bad = c.in_ok-bad.ensures.all;
+        whole = λ all q has. sym (c.visible.ensures (placed (leaf_corner c.tree-tree.result.now c.args.leaf) q)) ∙ c.is_whole.ensures all q has;
+      };
+      repaints = rw c.kind.ensures at c.in_ok-batch.ensures;
     }))
 
 pub returns-clause-others : goal.returns-clause-others

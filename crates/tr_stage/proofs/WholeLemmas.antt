@@ -1,0 +1,123 @@
+-- A window that is whole: each of its points is visible. Where none of them is bad, all are known before the waiting commands, and after them if
+-- these lose nothing.
+use Rattle.std.proofs.Common.{◌≡◌, ℕ, ℤ, pos, ◌+ℤ◌, ◌-ℤ◌, ◌≤ℤ◌, Bool, true, false, cond, not, ◌&&◌, List, ◌∷◌, [], ◌||◌, Option, Some, refl, sym, ap, ◌∙◌, get_or, length, ◌<◌, arith}
+use Rattle.std.specs.Prelude.{is_none, unsigned_abs}
+use Rattle.std.specs.Option.{option_map}
+use Rattle.std.proofs.lemmas.Bool.{and_from, and_parts}
+use Rattle.std.proofs.lemmas.Int.{ints}
+use Rattle.tr_base.specs.declared.Point.{Point}
+use Rattle.tr_base.specs.declared.Size.{Size}
+use Rattle.tr_base.specs.declared.LeafId.{LeafId}
+use Rattle.tr_base.specs.Rects.{Edges, IsRect, between, has_point, whole_of}
+use Rattle.tr_base.proofs.RectLemmas.{false-true, has_point-rect_of}
+use Rattle.tr_base.proofs.LayoutLemmas.{ordered}
+use Rattle.tr_region.specs.Points.{holds}
+use Rattle.tr_paint.specs.declared.Paint.{Paint}
+use Rattle.tr_paint.specs.Traces.{after}
+use Rattle.tr_exec.specs.Executions.{placed}
+use Rattle.tr_client.specs.declared.clients.Client.{Ghosts}
+use Rattle.tr_spot.specs.Spots.{size_of}
+use Rattle.tr_spot.specs.Leaves.{leaf_corner, leaf_size, in_leaf}
+use Rattle.tr_surface.specs.Surfaces.{Shown}
+use Rattle.tr_machine.specs.Windows.{Window}
+use Rattle.tr_machine.specs.States.{State, base, batch_of, look, window_of}
+use Rattle.tr_machine.specs.Paintings.{is_visible, repainted}
+use Rattle.tr_machine.proofs.BaseLemmas.{base-lies}
+use Rattle.tr_machine.proofs.ShownLemmas.{IsShowing, base_good, base_sees}
+use Rattle.tr_machine.proofs.FlushLemmas.{IsFlush, brought_shows, by_state, forest_of}
+use Rattle.tr_windows.specs.declared.exposures.Exposure.{Exposure}
+use Rattle.tr_windows.specs.Promises.{IsKnownWhole, LosesNothingOf}
+
+-- ---- rectangles and regions
+
+-- a distance within a length, from an edge on
+between-placed : (low high x : ℤ) → low ≤ℤ high → between (pos 0) (pos (unsigned_abs (high -ℤ low))) x ≡ true →
+    between low high (x +ℤ low) ≡ true
+between-placed low high x order h = grind (arith, ints)
+
+-- a point of a window is one of the window's rectangle, from its corner on
+pub in_domain : (e : Edges) (q : Point) → IsRect e → has_point (whole_of (size_of e)) q ≡ true →
+    has_point e (placed (record { h = e.west; v = e.north }) q) ≡ true
+in_domain e q is h =
+    let order = ordered e is in
+    let both = and_parts (between (pos 0) (pos (size_of e).wide) q.h) (between (pos 0) (pos (size_of e).high) q.v)
+    (sym (has_point-rect_of (pos 0) (pos (size_of e).wide) (pos 0) (pos (size_of e).high) q) ∙ h) in
+    and_from _ _ (between-placed e.west e.east q.h order.0 both.0) (between-placed e.north e.south q.v order.1 both.1)
+
+-- a region has the points of its first rectangle
+pub first_holds : (rects : List Edges) (e : Edges) (p : Point) → 0 < length rects → get_or rects 0 e ≡ e → has_point e p ≡ true →
+    holds rects p ≡ true
+first_holds [] e p some same has = absurd (omega (arith, some))
+first_holds (r ∷ rest) e p some same has = ap (λ b. b || holds rest p) (ap (λ (x : Edges). has_point x p) same ∙ has)
+
+-- two tests that pass for the same are equal
+pub same_test : (a b : Bool) → (a ≡ true → b ≡ true) → (b ≡ true → a ≡ true) → a ≡ b
+same_test true b to from = sym (to refl)
+same_test false true to from = absurd (false-true (from refl))
+same_test false false to from = refl
+
+module _ {C M : Type 0} (client : Ghosts C M) where
+  -- each point of a leaf's window is visible
+  abbrev pub IsWhole : State C M → LeafId → Type 0
+  IsWhole m leaf = (q : Point) → has_point (whole_of (leaf_size m.tree leaf)) q ≡ true → (base client m leaf).visible q ≡ true
+
+  -- a window that is whole and has no bad point, whose waiting commands lose nothing
+  pub record IsAllKept (m : State C M) (s : Shown) (leaf : LeafId) (e : Exposure) (batch : List Paint) : Type 0 where
+    pub size : e.size ≡ leaf_size m.tree leaf
+    pub whole : IsWhole m leaf
+    pub good : (p : Point) → is_visible m leaf p ≡ true → holds s.bad p ≡ false
+    pub same : batch ≡ batch_of client m leaf
+    pub keeps : LosesNothingOf e (look m) batch
+
+  module _ (m : State C M) (s n : Shown) (leaf : LeafId) (e : Exposure) (f : IsFlush client m s n leaf) (k : IsAllKept m s leaf e f.batch) where
+    -- a visible point is known
+    known_before : (q : Point) → (base client m leaf).visible q ≡ true → is_none ((base client m leaf).known q) ≡ false
+    known_before q seen =
+        let p : Point = placed (leaf_corner m.tree leaf) q in
+        let good : m.bad p ≡ false = sym (f.showing.bad p) ∙ k.good p seen in
+        ap is_none
+        (base_good client m leaf q good
+        ∙ ap (λ (o : Option (Window C M)). option_map (λ w. client.pic (look m) (leaf_size m.tree leaf) w.shown q) o) f.at)
+
+    -- and so all of the window is
+    known_whole : IsKnownWhole (leaf_size m.tree leaf) (base client m leaf)
+    known_whole = record {
+      visible = λ q. same_test _ _ (base-lies client m leaf (forest_of client m s f.was f.showing) q) (k.whole q);
+      known = λ q has. known_before q (k.whole q has);
+    }
+
+    -- a visible point is known after the waiting commands
+    known_after : (p : Point) → is_visible m leaf p ≡ true →
+        is_none (after (look m) (base client m leaf) (batch_of client m leaf) (in_leaf m.tree leaf p)) ≡ false
+    known_after p seen =
+        let q : Point = in_leaf m.tree leaf p in
+        let there : (base client m leaf).visible q ≡ true = base_sees client m leaf p seen in
+        ap (λ (cs : List Paint). is_none (after (look m) (base client m leaf) cs q)) (sym k.same)
+        ∙ k.keeps (base client m leaf) (λ _. rw k.size known_whole) q there (known_before q there)
+
+    -- after these the surface shows what is shown after a repaint
+    pub kept_shows : IsShowing client (repainted client leaf m) n
+    kept_shows =
+        let found : Point → Bool = λ p. is_none (after (look m) (base client m leaf) (batch_of client m leaf) (in_leaf m.tree leaf p)) in
+        brought_shows client m s n leaf (repainted client leaf m).bad
+        (record {
+          was = f.was;
+          is = f.is;
+          tree = f.tree;
+          showing = f.showing;
+          window = f.window;
+          at = f.at;
+          batch = batch_of client m leaf;
+          executed = by_state s n leaf f.font_is f.batch_is f.executed;
+          brings = f.fits.each leaf;
+          inside = λ p seen. ap (λ b. cond b (found p) (m.bad p) && not b) seen ∙ and_false (found p) ∙ sym (known_after p seen);
+          outside = λ p hidden. ap (λ b. cond b (found p) (m.bad p) && not b) hidden ∙ and_true (m.bad p);
+        })
+      where
+        and_false : (b : Bool) → (b && false) ≡ false
+        and_false true = refl
+        and_false false = refl
+
+        and_true : (b : Bool) → (b && true) ≡ b
+        and_true true = refl
+        and_true false = refl

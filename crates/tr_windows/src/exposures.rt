@@ -1,0 +1,11 @@
+use tr_base::{Rect, Size};
+
+/// How a window stands on the screen before it is repainted.
+#[derive(Clone, Copy, Debug)]
+pub struct Exposure {
+    pub size: Size,
+    /// The least rectangle round its bad points.
+    pub bad: Rect,
+    /// Whether each of its points is visible.
+    pub is_whole: bool,
+}
