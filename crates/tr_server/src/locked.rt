@@ -147,6 +147,10 @@ impl<C: Client, L: Session> Locked<C, L> {
         ensures err_levels { OnErr result (basket.new.levels ≡ basket.old.levels) }
         ensures err_handed { OnErr result (basket.new.handed ≡ basket.old.handed) }
     {
+        // For most windows nothing waits, most of the time: then nothing is compared, and nothing copied.
+        if basket.waiting() == 0 {
+            return Ok(());
+        }
         self.counted.audit(&mut basket.share);
         fit(self.alloc, &self.stage, leaf, &mut basket.book)?;
         let fresh = fresh_over(self.alloc, basket.book.prepared())?;
@@ -202,6 +206,9 @@ impl<C: Client, L: Session> Locked<C, L> {
         let level = Held::none().with(Level::Mu).with(Level::Win(leaf));
         let reply = self.step(pass, level, step)?;
         pass.posted = 0;
+        // What its client posts next is prepared over what this step left. Where memory is wanted for that,
+        // it is prepared anew once it is handed over.
+        let _ = fit(self.alloc, &self.stage, leaf, &mut basket.book);
         Ok(reply)
     }
 }
