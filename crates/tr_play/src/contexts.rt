@@ -1,3 +1,4 @@
+use crate::counters::Counter;
 use crate::gates::Gate;
 use std::alloc::Global;
 use tr_client::Client;
@@ -10,4 +11,5 @@ pub(crate) struct Context<'a, C: Client, L: Session, R, G: Gate> {
     pub(crate) alloc: Global,
     pub(crate) gate: &'a G,
     pub(crate) server: &'a Server<C, L>,
+    pub(crate) made: &'a Counter,
 }

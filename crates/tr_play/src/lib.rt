@@ -3,6 +3,7 @@
 #![tactic(auto)]
 
 mod contexts;
+mod counters;
 mod gates;
 mod lists;
 mod painters;

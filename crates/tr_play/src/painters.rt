@@ -3,6 +3,7 @@ ghost use Rattle.tr_journal.specs.declared.Actor.TheVariants.{Painter};
 
 use crate::contexts::Context;
 use crate::gates::Gate;
+use crate::threads::STEPS_A_REPAINT;
 use std::sync::Wait;
 use std::thread::Threads;
 use tr_base::{LeafId, NoMemory};
@@ -11,12 +12,22 @@ use tr_levels::Ladder;
 use tr_server::{Mu, Pass, Session};
 
 impl<C: Client, L: Session, R: Threads + Wait + Sync, G: Gate> Context<'_, C, L, R, G> {
-    /// The painter brings the screen up to date so many times, until memory runs out.
+    /// The painter brings the screen up to date so many times, until memory runs out. He comes after 16 steps,
+    /// after 32, 64 and so on, and repaints each time as often as in all before, so that the others mostly find
+    /// the tree's lock free. Once he has waited for them in vain he waits no more.
     pub(crate) fn paint(&self, pass: &mut Pass<C, L>, repaints: usize)
         requires { pass.old.actor ≡ Painter }
         ensures { pass.new.actor ≡ pass.old.actor }
     {
-        for _repaint in 0..repaints {
+        let mut next: usize = 1;
+        for repaint in 0..repaints {
+            if repaint == next {
+                next = if self.made.wait_for(steps_before(repaint)) {
+                    next.saturating_mul(2)
+                } else {
+                    usize::MAX
+                };
+            }
             if self.paint_once(pass).is_err() {
                 return;
             }
@@ -51,4 +62,9 @@ impl<C: Client, L: Session, R: Threads + Wait + Sync, G: Gate> Context<'_, C, L,
         }
         Ok(())
     }
+}
+
+/// How many steps are to be made before the repaint with this number.
+fn steps_before(repaint: usize) -> u64 {
+    (repaint as u64).saturating_mul(STEPS_A_REPAINT as u64)
 }

@@ -9,6 +9,7 @@ ghost use Rattle.tr_play.specs.Sessions.{AreWhole, IsLeft};
 ghost use Rattle.tr_play.specs.Workers.{AreReady, HasTaken, IsWorker};
 
 use crate::contexts::Context;
+use crate::counters::Counter;
 use crate::gates::Gate;
 use crate::threads::Workers;
 use std::sync::Wait;
@@ -43,11 +44,13 @@ pub(crate) fn session<C: Client, L: Session, R: Threads + Wait + Sync, G: Gate +
     let Ok((server, mut passes)) = Server::<C, L>::start(workers.alloc, blank, stage) else {
         return Err(CloseRefused::NoMemory);
     };
+    let made = Counter::new();
     let context = Context {
         rt: workers.rt,
         alloc: workers.alloc,
         gate: workers.gate,
         server: &server,
+        made: &made,
     };
     all_at_work(&context, &mut passes.workers, lists, repaints);
     let is_whole = are_whole(&passes.workers, lists);

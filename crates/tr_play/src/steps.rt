@@ -31,8 +31,10 @@ impl<C: Client, L: Session, R: Wait, G: Gate> Context<'_, C, L, R, G> {
             made = made.saturating_add(1);
             self.gate.turn(self.rt, pass.actor(), made);
             if self.make(pass, step).is_err() {
+                self.made.add(list.len() as u64);
                 return;
             }
+            self.made.add(1);
         }
     }
 

@@ -28,7 +28,7 @@ pub struct Workers<'a, R, G> {
 }
 
 /// How many steps of a part there are for one more repaint.
-const STEPS_A_REPAINT: usize = 16;
+pub(crate) const STEPS_A_REPAINT: usize = 16;
 
 /// Makes the steps of a part on a stage, each actor's in a thread of its own. Meanwhile the painter brings
 /// the screen up to date, once and once more for each 16 steps.
