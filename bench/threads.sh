@@ -51,26 +51,6 @@ write() {
     }' >"$folder/$1"
 }
 
-desktop() {
-    awk '
-    BEGIN {
-        print "trestle 1\nscreen 1024 768 map8\nnode desk z 24\nnode edge border 250 4\nnode panel page 5 2"
-        print "leaf text 0 640 640 0 192 192 lines\nleaf dots 0 300 300 0 200 200 canvas\nleaf load 0 128 128 0 100 100 meter 16"
-        for (i = 0; i < 4; i++) print "leaf lamp" i, "0 60 60 0 40 40 solid", 40 + i
-        print "put text edge\nput edge desk 20 20"
-        for (i = 0; i < 4; i++) print "put lamp" i, "panel"
-        print "put dots desk 500 300\nput load desk 700 100\nput panel desk 100 400\nroot desk\nbegin\ndump"
-        for (i = 1; i <= 1000; i++) {
-            print "@text line LINE", i "\n@dots rect", i % 250, i % 250 + 40, i % 150, i % 150 + 40, i % 256
-            print "@load bar", i % 16, i % 100 "\n@lamp0 tint", i % 256 "\n@lamp1 tint", i % 128
-            if (i % 10 == 0) print "move edge", i % 300, i % 200
-            if (i % 20 == 0) print "lift dots"
-            if (i % 200 == 0) print "turn panel", i / 200 % 2
-        }
-        print "sync\ndump\nrescreen mono\nsync\ndump\nend"
-    }' >"$folder/desktop"
-}
-
 # timed WORD FILE: the nanoseconds that the program takes for a script.
 timed() {
     start=$(date +%s%N)
@@ -100,7 +80,7 @@ measure() {
 }
 
 echo "processors $(getconf _NPROCESSORS_ONLN)"
-desktop
+"$top/bench/workloads.sh" --write desktop 1000 >"$folder/desktop"
 measure desktop ''
 write eight 8 4000 25
 measure eight 0.6

@@ -12,10 +12,11 @@
 #           all must come out as without; or it ends for want of memory, where it was still making its stage. Any other
 #           end is an error. The random runs are left out: they have too many growths, and their model asks for none
 #           again. PROGRAM is a linked program of tests; where it is left out, `rt test` proves and builds it.
-# steps     Two stages side by side (bench/twins) play scripts of each sort of step, and where a step of the first wants
+# steps     Two stages side by side (bench/twins) play a script with each sort of step, and where a step of the first wants
 #           memory it is compared with the second, field by field. The growths of the numbers FIRST to LAST are refused,
-#           of the numbers 1 to 40 where they are left out. Nothing is proved here, and each number takes a minute,
-#           since `rt try` compiles it anew.
+#           one in each run, or from FIRST on, or all of them: some 2,000, each in two ways, in a second of the processor.
+#           It is not proved, only compiled by `rt try`, once for all runs, and once more where the growths are to be
+#           counted first, in a minute.
 #
 # The first two want cc.
 set -eu
@@ -54,6 +55,7 @@ tests() {
     fi
     program=$1
     wrong=0
+    tried=0
     for test in $("$program" --list | sed -n '/^trials::/d; s/^\([^ ]*::[^ :]*\).*/\1/p'); do
         run "$test" 0
         count=$(sed -n 's/^allocations //p' "$folder/out")
@@ -73,37 +75,81 @@ tests() {
             fi
         done
         echo "$test: of $count allocations $same are asked for again, $ended end the test"
+        tried=$((tried + count))
     done
+    echo "tests: $tried growths refused, $wrong wrong"
     exit $((wrong > 0))
 }
 
+# The growth that `rt try` refuses. The twins spend as many before as make it the one that is meant.
+refused=5000
+
+# twins FIRST LAST: plays bench/twins/script once for each of these growths and each way, or once for each way where both are
+# `count`, in which case no growth is refused but the one behind the play. What is printed is in $folder/out, and the cases
+# with their statuses are in $folder/cases.
+twins() {
+    rm -rf "$folder/given"
+    mkdir "$folder/given"
+    awk -v first="$1" -v last="$2" -v refused="$refused" -v folder="$folder/given" '
+    function give(name, spare, way) {
+        name = folder "/" name "." way
+        printf "%s", script >name
+        print spare "\n" way >(name ".args")
+        close(name)
+        close(name ".args")
+    }
+    function both(name, spare) { give(name, spare, "plain"); give(name, spare, "shared") }
+    { script = script $0 "\n" }
+    END {
+        if (first == "count") both("count", "count")
+        else for (growth = first; growth <= last; growth++) both(growth, refused - growth)
+    }' "$top/bench/twins/script"
+    # (the interpreter, which knows no arguments, gets one step)
+    (cd "$crate" && rt try --steps 1 --fail-alloc "$refused" --cases "$folder/given") >"$folder/out" 2>"$folder/cases" || {
+        status=$?
+        [ "$status" -ge 4 ] || { tail -n 5 "$folder/cases" >&2; exit "$status"; }
+    }
+}
+
 steps() {
-    mkdir -p "$folder/copy/crates/twins/src" "$folder/copy/crates/twins/specs" "$folder/copy/crates/twins/proofs"
-    (cd "$top" && git ls-files -z crates crates.txt HANDLES | xargs -0 tar -cf -) | tar -C "$folder/copy" -xf -
-    git init -q "$folder/copy"
     crate=$folder/copy/crates/twins
+    mkdir -p "$crate/src" "$crate/specs" "$crate/proofs"
+    (cd "$top" && git ls-files -co --exclude-standard -z crates crates.txt HANDLES | tar --null -T - -cf -) |
+        tar -C "$folder/copy" -xf -
+    git init -q "$folder/copy"
     for file in main sameness; do cp "$top/bench/twins/$file.txt" "$crate/src/$file.rt"; done
     : >"$crate/specs/Lib.antt"
     : >"$crate/proofs/Lib.antt"
     cat "$top/bench/twins/crate" >>"$folder/copy/crates.txt"
-    number=${1:-1}
-    last=${2:-$((number + 39))}
-    wrong=0
-    tried=0
-    while [ "$number" -le "$last" ]; do
-        for word in '' shared; do
-            status=0
-            (cd "$crate" && rt try --fail-alloc "$number" -- $word) <"$top/bench/twins/script" >"$folder/out" 2>&1 || status=$?
-            tried=$((tried + 1))
-            case $status in
-            0 | 6 | 10) ;;
-            *) wrong=$((wrong + 1)); echo "growth $number $word: status $status"; tail -n 5 "$folder/out" ;;
-            esac
-        done
-        number=$((number + 1))
-    done
-    echo "steps: $tried growths refused, $wrong wrong"
-    exit $((wrong > 0))
+    first=${1:-1}
+    last=${2:-}
+    if [ -z "$last" ]; then
+        twins count count
+        last=$(awk -v refused="$refused" '
+            $1 == "left" { growths = refused - 1 - $2; most = growths > most ? growths : most }
+            END { print most + 0 }' "$folder/out")
+        [ "$last" -ge "$first" ] || { cat "$folder/out" "$folder/cases" >&2; exit 1; }
+    fi
+    twins "$first" "$last"
+    grep '^the stages differ' "$folder/out" || true
+    awk -v due=$((2 * (last - first + 1))) '
+        !/^case=/ { said = said $0 "\n"; next }
+        {
+            tried++
+            if ($2 == "run=ended" && $3 == "status=10") compared++
+            else if ($2 == "run=ended" && $3 == "status=6") elsewhere++
+            else if ($2 == "run=ended" && $3 == "status=0") without++
+            else { wrong++; printf "%s%s\n", said, $0 }
+            said = ""
+        }
+        END {
+            printf "steps: %d growths refused: after %d the stages were compared, ", tried, compared
+            printf "%d were wanted before or between steps, %d by the other stage ", elsewhere, without
+            printf "or by what does without, %d wrong\n", wrong
+            if (tried == due && !wrong) exit 0
+            printf "%s", said
+            exit 1
+        }' "$folder/cases"
 }
 
 [ $# -gt 0 ] || usage

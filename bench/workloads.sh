@@ -6,14 +6,16 @@
 #     bench/workloads.sh [ROUNDS] [PROGRAM]
 #     bench/workloads.sh --write NAME SIZE
 #
-# The second call prints the script of a name and a size; `bench/threads.sh` plays them by threads.
+# The second call prints the script of a name and a size; `bench/threads.sh` plays them by threads, and
+# `bench/against_xvfb.sh` some of them on an X server.
 #
 # Each time is the best of ROUNDS (3 if left out), which a busy machine disturbs least. PROGRAM is a built
 # trestle; where it is left out, the launcher proves and builds it. It wants date with %N.
 #
 # A script has at most 100,000 lines, 4 MiB and 64 reports, and one for check 2,000 steps and 65,536 pixels.
-# So the greatest sizes that fit are about 96,000 lines of the typescript, 99,000 moves, 90,000 figures and
-# 90,000 events, and exactly 64 dumps and 2,000 checked steps. The script of gen 1 has one size, and no ratio.
+# So the greatest sizes that fit are about 96,000 lines of the typescript, 89,000 with a repaint after each
+# ninth, 99,000 moves, 90,000 figures, 90,000 events and 19,000 rounds of the desktop, and exactly 64 dumps
+# and 2,000 checked steps. The script of gen 1 has one size, and no ratio.
 set -eu
 top=$(CDPATH= cd -P -- "$(dirname -- "$0")/.." && pwd)
 rounds=${1:-3}
@@ -59,12 +61,39 @@ write() {
         for (i = 1; i <= n; i++) print "@t line " text(16 + draw(24)) (i % 25 ? "" : "\n@t flush")
         print "sync\ndump"
     }
+    # Nothing shows before the end, where the last screenful is all that does.
+    function unseen(    i) {
+        opening(1024, 768)
+        whole("t", "lines")
+        for (i = 1; i <= n; i++) print "@t line " text(16 + draw(24))
+        print "sync\ndump"
+    }
+    # The window is painted anew after each ninth line.
+    function repaints(    i) {
+        opening(1024, 768)
+        whole("t", "lines")
+        print "dump"
+        for (i = 1; i <= n; i++) print "@t line " text(16 + draw(24)) (i % 9 ? "" : "\n@t force")
+        print "sync\ndump"
+    }
+    function edit() {
+        if (draw(2)) print "lift w" 1 + draw(31)
+        else print "move w" 1 + draw(31), draw(900), draw(650)
+    }
     function moves(    i) {
         opening(1024, 768)
         windows(200, 150)
+        for (i = 1; i <= n; i++) edit()
+        print "sync\ndump"
+    }
+    # The same on a painted screen, where each window is painted anew after each hundredth edit.
+    function painted(    i, w) {
+        opening(1024, 768)
+        windows(200, 150)
+        print "dump"
         for (i = 1; i <= n; i++) {
-            if (draw(2)) print "lift w" 1 + draw(31)
-            else print "move w" 1 + draw(31), draw(900), draw(650)
+            edit()
+            for (w = 1; i % 100 == 0 && w <= 31; w++) print "@w" w, "force"
         }
         print "sync\ndump"
     }
@@ -116,6 +145,31 @@ write() {
         whole("w", "board 8040201008040201 0 0")
         for (i = 1; i <= n; i++) print "dump"
     }
+    # A window on the whole screen has another colour in each dump.
+    function colours(    i) {
+        opening(1024, 1024)
+        whole("w", "solid 7")
+        for (i = 1; i <= n; i++) print "@w tint", i * 4 % 256 "\nsync\ndump"
+    }
+    # Seven windows have a command each in turn; some are moved, and in the end the screen gets other pixels.
+    function desktop(    i) {
+        opening(1024, 768)
+        print "node desk z 24\nnode edge border 250 4\nnode panel page 5 2"
+        print "leaf text 0 640 640 0 192 192 lines\nleaf dots 0 300 300 0 200 200 canvas"
+        print "leaf load 0 128 128 0 100 100 meter 16"
+        for (i = 0; i < 4; i++) print "leaf lamp" i, "0 60 60 0 40 40 solid", 40 + i
+        print "put text edge\nput edge desk 20 20"
+        for (i = 0; i < 4; i++) print "put lamp" i, "panel"
+        print "put dots desk 500 300\nput load desk 700 100\nput panel desk 100 400\nroot desk\nbegin\ndump"
+        for (i = 1; i <= n; i++) {
+            print "@text line LINE", i "\n@dots rect", i % 250, i % 250 + 40, i % 150, i % 150 + 40, i % 256
+            print "@load bar", i % 16, i % 100 "\n@lamp0 tint", i % 256 "\n@lamp1 tint", i % 128
+            if (i % 10 == 0) print "move edge", i % 300, i % 200
+            if (i % 20 == 0) print "lift dots"
+            if (i % 200 == 0) print "turn panel", i / 200 % 2
+        }
+        print "sync\ndump\nrescreen mono\nsync\ndump"
+    }
     # A typescript and a canvas side by side, 256 by 256 together.
     function steps(    i) {
         opening(256, 256)
@@ -133,11 +187,16 @@ write() {
     BEGIN {
         state = 12345
         if (name == "typescript") typescript()
+        if (name == "unseen") unseen()
+        if (name == "repaints") repaints()
         if (name == "editor") editor()
         if (name == "moves") moves()
+        if (name == "painted") painted()
         if (name == "figures") figures()
         if (name == "events") events()
         if (name == "dumps") dumps()
+        if (name == "colours") colours()
+        if (name == "desktop") desktop()
         if (name == "steps") steps()
         print "end"
     }' >"$folder/$1.$2"
@@ -177,11 +236,17 @@ if [ "$rounds" = --write ]; then
     exit
 fi
 measure typescript serial 40000
+measure unseen serial 45000
+measure repaints serial 40000
 measure editor serial 20000
 measure moves serial 10000
+measure painted serial 10000
 measure figures serial 30000
 measure events serial 45000
+measure dumps serial 1
 measure dumps serial 30
+measure colours serial 30
+measure desktop serial 1000
 measure steps check 1000
 taken=$(best 'gen 1' /dev/null)
 echo "$taken" | awk '{

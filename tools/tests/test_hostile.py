@@ -1,6 +1,7 @@
 """That the second reader and the model of tools/hostile agree with what is stored of the program, and that what is drawn
 is what it says. bench/hostile.sh compares them with the program itself."""
 
+import signal
 import sys
 import unittest
 from pathlib import Path
@@ -13,6 +14,7 @@ from hostile.drawing import draw  # noqa: E402
 from hostile.limits import cases  # noqa: E402
 from hostile.model import output_of  # noqa: E402
 from hostile.outputs import wrong_check, wrong_output  # noqa: E402
+from hostile.program import Limits, Ran, Runner  # noqa: E402
 from hostile.reader import Refusal, refusal_of  # noqa: E402
 from hostile.worst import SCRIPTS, script  # noqa: E402
 
@@ -107,6 +109,39 @@ class Scripts(unittest.TestCase):
         scripts = [draw("1", number, []) for number in range(40)]
         self.assertEqual(scripts, [draw("1", number, []) for number in range(40)])
         self.assertIn(None, map(refusal_of, scripts))
+
+
+class Runs(unittest.TestCase):
+    """What is told of a run."""
+
+    def setUp(self) -> None:
+        self.runner = Runner(sys.executable)
+        self.addCleanup(self.runner.close)
+
+    def python(self, text: str, given: bytes = b"", **more: object) -> Ran:
+        """Runs a program in Python."""
+        return self.runner.run(["-ISc", text], given, **more)
+
+    def test_memory(self) -> None:
+        """The memory is the program's own, however much its caller has."""
+        caller = b"\1" * (256 << 20)
+        little = self.python("").kilobytes
+        much = self.python("bytearray(64 << 20)").kilobytes
+        self.assertLess(little, 64 << 10)
+        self.assertLess(abs(much - little - (64 << 10)), 8 << 10)
+        del caller
+
+    def test_streams(self) -> None:
+        """It reads what it is given, and what it writes and its status are told."""
+        ran = self.python("import sys; sys.stderr.write(sys.stdin.read() + '!'); print(sys.argv); sys.exit(7)", b"read")
+        self.assertEqual((ran.status, ran.output, ran.errors), (7, b"['-c']\n", b"read!"))
+        ran = self.python("import os; print(os.environ['NAME'])", environment={"NAME": "it's $1"})
+        self.assertEqual((ran.status, ran.output, ran.errors), (0, b"it's $1\n", b""))
+
+    def test_limits(self) -> None:
+        """It is ended where it takes too much time."""
+        self.assertEqual(self.python("while True: pass", limits=Limits(seconds=1)).status, -signal.SIGXCPU)
+        self.assertEqual(self.python("import time; time.sleep(60)", limits=Limits(patience=1)).status, -signal.SIGKILL)
 
 
 if __name__ == "__main__":
