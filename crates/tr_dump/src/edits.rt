@@ -19,7 +19,8 @@ pub(crate) fn append_edit<N: NameOf>(
     out: &mut Vec<u8>,
 ) -> Result<(), NoMemory>
     requires { IsNamedEdit (names_of N.NameOf names.now) edit.now }
-    ensures ok { OnOk result (out.new.items ≡ out.old.items ++ edit_text (names_of N.NameOf names.now) edit.now) }
+    ensures ok { OnOk result (out.new.items
+        ≡ out.old.items ++ edit_text (names_of N.NameOf names.now) edit.now) }
     ensures err { OnErr result (Begins out.new.items out.old.items) }
 {
     match *edit {

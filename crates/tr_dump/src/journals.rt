@@ -59,7 +59,8 @@ fn append_entries<M: Command, N: NameOf>(
 ) -> Result<(), NoMemory>
     requires { All (IsNamedLine (names_of N.NameOf names.now)) journal.now.lines }
     ensures ok { OnOk result (out.new.items ≡ out.old.items ++
-        flat_map (spec.journal_line M.words (names_of N.NameOf names.now)) (enumerate_from 1 journal.now.lines)) }
+        flat_map (spec.journal_line M.words (names_of N.NameOf names.now))
+        (enumerate_from 1 journal.now.lines)) }
     ensures err { OnErr result (Begins out.new.items out.old.items) }
 {
     for k in 0..journal.len() {

@@ -24,7 +24,8 @@ pub(crate) fn append_actor<N: NameOf>(
     out: &mut Vec<u8>,
 ) -> Result<(), NoMemory>
     requires { IsNamedActor (names_of N.NameOf names.now) actor }
-    ensures ok { OnOk result (out.new.items ≡ out.old.items ++ spec.actor_text (names_of N.NameOf names.now) actor) }
+    ensures ok { OnOk result (out.new.items
+        ≡ out.old.items ++ spec.actor_text (names_of N.NameOf names.now) actor) }
     ensures err { OnErr result (out.new.items ≡ out.old.items) }
 {
     match actor {

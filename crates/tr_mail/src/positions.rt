@@ -119,7 +119,8 @@ impl Mail {
         requires leaves { leaf_count is.now.nodes ≡ length self.old.inboxes }
         requires room { length out.old + length self.old.inboxes ≤ 64 }
         ensures sent { record { mail = self.new; sent = out.new } ≡
-            spec.reshape_below (length self.old.inboxes) was.now is.now (record { mail = self.old; sent = out.old }) }
+            spec.reshape_below (length self.old.inboxes) was.now is.now
+            (record { mail = self.old; sent = out.old }) }
         ensures few { length out.new ≤ length out.old + length self.old.inboxes }
         ensures inboxes { length self.new.inboxes ≡ length self.old.inboxes }
     {

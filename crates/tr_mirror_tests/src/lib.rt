@@ -1,5 +1,5 @@
-//! Tests of the mirror: a stream that is read in pieces, against a plain and slow reading that is proved to be the
-//! definition. Nothing but tests is in here.
+//! Tests of the mirror: a stream that is read in pieces, against a plain and slow reading that is proved to
+//! be the definition. Nothing but tests is in here.
 #![tactic(auto)]
 
 #[cfg(test)]

@@ -9,8 +9,8 @@ use tr_base::NoMemory;
 use tr_mirror::{Mirror, MirrorFault};
 use tr_screen::Screen;
 
-/// A screen 3 wide and 2 high of 16 colours, of which a Run sets two pixels and a Fill a row; then the second row
-/// changes, then the kind and the size.
+/// A screen 3 wide and 2 high of 16 colours, of which a Run sets two pixels and a Fill a row; then the second
+/// row changes, then the kind and the size.
 const STREAM: [u8; 60] = [
     1, 0, 3, 0, 2, 2, 2, 0, 1, 0, 0, 0, 2, 5, 4, 3, 0, 0, 0, 1, 0, 3, 15, 4, 0, 0, 0, 1, 3, 0, 0,
     0, 1, 0, 2, 7, 4, 0, 0, 0, 2, 1, 0, 1, 0, 1, 0, 3, 0, 0, 0, 0, 0, 1, 1, 4, 0, 0, 0, 3,

@@ -1,5 +1,5 @@
-//! Where a stream stands after whole records, plainly: each Screen makes a screen anew, and each record writes one row
-//! of it.
+//! Where a stream stands after whole records, plainly: each Screen makes a screen anew, and each record
+//! writes one row of it.
 ghost use Rattle.std.specs.Prelude.{◌≡◌, ◌+◌, ◌≤◌, ◌<◌, length, true, false, None, replicate, IfOk, OnOk};
 ghost use Rattle.std.specs.List.{list_all};
 ghost use Rattle.tr_base.specs.Ops.{values_of};

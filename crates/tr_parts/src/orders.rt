@@ -11,7 +11,8 @@ use tr_client::Client;
 use tr_journal::{Actor, Step, stated};
 use tr_stage::Stage;
 
-/// Makes the steps of a part in the order of the script: one of the orders in which they may come.
+/// Makes the steps of a part in the order of the script: one of the orders in which they may come. After an
+/// `Err` the first of them were made.
 pub fn make_in_order<C: Client>(
     alloc: Global,
     stage: &mut Stage<C>,

@@ -17,7 +17,8 @@ use tr_journal::{Actor, NameOf, Query, Step};
 use tr_run::{Finished, Run};
 use tr_stage::Stage;
 
-/// The player begins a part, a later one with a sync, and makes its reports.
+/// The player begins a part, a later one with a sync, and makes its reports. After an `Err` the run is of no
+/// use.
 pub fn begin_part<C: Client, N: NameOf>(
     run: &mut Run<C, N>,
     is_later: bool,

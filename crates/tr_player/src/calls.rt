@@ -156,7 +156,8 @@ pub fn serial_call<S: Source, K: Sink>(
         Grew (K.written sink.old) (K.written sink.new) (gen_text number)
         × IsSomeAnd result.stage (λ stage. HasPlayed (drawn number) stage)) }
 
-    // Of a stream the screens at its cuts are dumped. One that was written for a script shows the script's dumps.
+    // Of a stream the screens at its cuts are dumped. One that was written for a script shows the script's
+    // dumps.
     ensures shown { result.status ≡ code Status.Done →
         OfStreamRead (asked_by (texts_of words.now)) (S.left source.old) (λ bytes.
         Grew (K.written sink.old) (K.written sink.new) (shown_text bytes)) }
@@ -273,7 +274,8 @@ pub fn trestle_call<R: Threads + Wait + Sync, S: Source, K: Sink, G: Gate + Sync
         Grew (K.written sink.old) (K.written sink.new) (gen_text number)
         × IsSomeAnd result.stage (λ stage. HasPlayed (drawn number) stage)) }
 
-    // Of a stream the screens at its cuts are dumped. One that was written for a script shows the script's dumps.
+    // Of a stream the screens at its cuts are dumped. One that was written for a script shows the script's
+    // dumps.
     ensures shown { result.status ≡ code Status.Done →
         OfStreamRead (command_of (texts_of words.now)) (S.left source.old) (λ bytes.
         Grew (K.written sink.old) (K.written sink.new) (shown_text bytes)) }

@@ -100,7 +100,8 @@ pub fn response_on_one_thread<S: Source>(
     source: &mut S,
 ) -> Result<Response, NoMemory>
     ensures due { let asked = of_one_thread (the_command_of (texts_of words.now)) in IfOk result (λ response.
-        (due : Due) × IsResponse due response × IsDue asked (source_change S.Source source.old source.new) due) }
+        (due : Due) × IsResponse due response
+        × IsDue asked (source_change S.Source source.old source.new) due) }
     ensures unread { ReadsNone (of_one_thread (the_command_of (texts_of words.now))) →
         (S.left source.new ≡ S.left source.old) × (S.faults source.new ≡ S.faults source.old) }
     ensures rising { S.faults source.old ≤ S.faults source.new }
@@ -123,7 +124,8 @@ pub fn response_by_threads<R: Threads + Wait + Sync, S: Source, G: Gate + Sync>(
     source: &mut S,
 ) -> Result<Response, NoMemory>
     ensures due { let asked = the_command_of (texts_of words.now) in IfOk result (λ response.
-        (due : Due) × IsResponse due response × IsDue asked (source_change S.Source source.old source.new) due) }
+        (due : Due) × IsResponse due response
+        × IsDue asked (source_change S.Source source.old source.new) due) }
     ensures unread { ReadsNone (the_command_of (texts_of words.now)) →
         (S.left source.new ≡ S.left source.old) × (S.faults source.new ≡ S.faults source.old) }
     ensures rising { S.faults source.old ≤ S.faults source.new }

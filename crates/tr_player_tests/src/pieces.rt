@@ -4,8 +4,8 @@ use std::alloc::{AllocError, Global};
 use std::test::Fail;
 use tr_io::{MemorySink, PieceSource};
 
-/// A call: its words, the script, and the read and the write that fail, 0 for none. A read gives one byte, and a
-/// write takes 4 at most.
+/// A call: its words, the script, and the read and the write that fail, 0 for none. A read gives one byte,
+/// and a write takes 4 at most.
 #[derive(Clone, Copy)]
 struct Call<'a> {
     texts: &'a [&'a str],

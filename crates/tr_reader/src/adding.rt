@@ -100,7 +100,8 @@ impl<'a> Reader<'a> {
         self.place = Place::Ended;
     }
 
-    /// What a line says comes behind what the lines before it said. Its second word is `name`.
+    /// What a line says comes behind what the lines before it said. Its second word is `name`. After an
+    /// `Err` the reader is of no use.
     pub fn add(&mut self, name: &'a str, meaning: Meaning) -> Result<(), LineRefused>
         requires sound { IsSoundMeaning self.old name.now meaning }
         requires room { is_one_too_many self.old meaning ≡ false }

@@ -110,7 +110,8 @@ impl<'a> NameTable<'a> {
         self.numbers.get(name).copied()
     }
 
-    /// One name more, which gets the next number.
+    /// One name more, which gets the next number. After an `Err` the table is of no use: its two parts may
+    /// differ.
     pub fn declare(&mut self, name: &'a str) -> Result<(), NoMemory>
         requires new { number_of self.old name.now ≡ None }
         requires room { length self.old < MOST_NAMES }

@@ -48,8 +48,9 @@ impl Region {
         &rects[start..end]
     }
 
-    /// The first of its bands that has a row from `north` on and before `south`, cut to these rows.
-    /// Where there is none it begins and ends at `south`.
+    /// A band that has the first row from `north` on and before `south` in which it holds points,
+    /// cut to these rows; in those before it holds nothing. Where it holds nothing in any of them the
+    /// band begins and ends at `south`.
     pub fn first_band(&self, north: u16, south: u16) -> Band<'_>
         requires { north ≤ south }
         ensures from { north ≤ result.north }
@@ -73,8 +74,9 @@ impl Region {
         self.band_at(at, north, south)
     }
 
-    /// The last of its bands that has a row from `north` on and before `south`, cut to these rows.
-    /// Where there is none it begins and ends at `north`.
+    /// A band that has the last row from `north` on and before `south` in which it holds points, cut
+    /// to these rows; in those behind it holds nothing. Where it holds nothing in any of them the band
+    /// begins and ends at `north`.
     pub fn last_band(&self, north: u16, south: u16) -> Band<'_>
         requires { north ≤ south }
         ensures from { north ≤ result.north }

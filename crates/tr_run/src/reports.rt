@@ -43,7 +43,8 @@ pub(crate) fn append_report<C: Client, N: NameOf>(
 
 /// Appends how far the screen lags behind.
 fn append_peek<C: Client>(stage: &Stage<C>, out: &mut Vec<u8>) -> Result<(), NoMemory>
-    ensures { OnOk result (out.new.items ≡ out.old.items ++ peek_text (lag C.Client (state C.Client stage.now))) }
+    ensures { OnOk result (out.new.items
+        ≡ out.old.items ++ peek_text (lag C.Client (state C.Client stage.now))) }
 {
     peek_line(&stage.peek()?, out)
 }

@@ -95,7 +95,8 @@ impl<'a, C: Client, N: NameOf> Run<'a, C, N> {
         }
     }
 
-    /// An actor makes a step other than a report, holding exactly the step's levels.
+    /// An actor makes a step other than a report, holding exactly the step's levels. After an `Err` the run
+    /// is of no use: the step may stand in the journal, and its line not in the text.
     pub fn make(&mut self, actor: Actor, step: Step<C::Cmd>) -> Result<(), NoMemory>
         requires may { may actor step ≡ true }
         requires values { IsStep (tree_of self.old.stage.opening).nodes step }
@@ -110,7 +111,8 @@ impl<'a, C: Client, N: NameOf> Run<'a, C, N> {
         Ok(())
     }
 
-    /// The player makes a report. The screen is settled before it is dumped.
+    /// The player makes a report. The screen is settled before it is dumped. After an `Err` the run is of no
+    /// use, as after one of `make`.
     pub fn report(&mut self, query: Query) -> Result<(), NoMemory>
         requires { IsQuery (tree_of self.old.stage.opening).nodes query }
         ensures { OnOk result (Does C.Client C.Cmd.words self.old self.new (reporting query)) }
@@ -247,7 +249,8 @@ impl<'a, C: Client, N: NameOf> Run<'a, C, N> {
         ensures names { self.new.names ≡ self.old.names }
         ensures mode { self.new.mode ≡ self.old.mode }
         ensures text { OnOk result (self.new.text ≡ self.old.text ++ written C.Client C.Cmd.words
-            self.old.names self.old.mode self.old.stage.journal (state C.Client self.old.stage) (Report query.now)) }
+            self.old.names self.old.mode self.old.stage.journal (state C.Client self.old.stage)
+            (Report query.now)) }
         ensures sum { OnOk result (self.new.sum ≡
             sum_after C.Client self.old.mode (state C.Client self.old.stage) self.old.sum (Report query.now)) }
     {

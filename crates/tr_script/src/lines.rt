@@ -122,7 +122,7 @@ fn take_meaning<'a>(
     Ok(())
 }
 
-/// Reads the line of this number.
+/// Reads the line of this number. After an `Err` the reader is of no use.
 #[tactic(auto, unfolding(tr_grammar::specs::Faults::fault_of, tr_grammar::specs::Scripts::next))]
 pub fn take<'a>(
     alloc: Global,

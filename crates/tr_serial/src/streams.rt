@@ -40,7 +40,7 @@ impl ScreenStream {
         }
     }
 
-    /// Appends the group of one screen more.
+    /// Appends the group of one screen more. After an `Err` the bytes are no stream.
     pub fn append(&mut self, now: &Screen) -> Result<(), NoMemory>
         requires few { self.old.groups < 64 }
         requires pixels { HasItsPixels now.now }

@@ -106,10 +106,13 @@ impl<C: Client, L: Session> Server<C, L> {
     /// answers.
     pub fn close<R: Wait>(self, rt: &R, passes: Passes<C, L>) -> Result<Stage<C>, CloseRefused<C>>
         requires { vec_len passes.workers ≡ L.leaves + 2 }
-        ensures ok { let workers = passes.workers.items in let lists = lists_of L.leaves workers passes.player in
+        ensures ok { let workers = passes.workers.items in
+            let lists = lists_of L.leaves workers passes.player in
             IfOk result (λ s. IsClosed self lists (made_with workers passes.player) s) }
-        ensures differs { let workers = passes.workers.items in let lists = lists_of L.leaves workers passes.player in
-            IfErr result (λ e. IfDiffers e (λ d. HasDiffered self lists (made_with workers passes.player) d)) }
+        ensures differs { let workers = passes.workers.items in
+            let lists = lists_of L.leaves workers passes.player in
+            IfErr result (λ e. IfDiffers e (λ d.
+            HasDiffered self lists (made_with workers passes.player) d)) }
     {
         let lists = self.hand_over_all(rt);
         let Server {
@@ -221,7 +224,8 @@ fn compare<C: Client>(
 ) -> Result<Stage<C>, CloseRefused<C>>
     requires { length lists.leaves ≡ leaf_count (tree_of stage.opening).nodes }
     ensures stage { IfOk result (λ s. s ≡ stage) }
-    ensures matches { OnOk result (Matches (account_of opening kept.lines) lists (account_of stage.opening stage.journal)) }
+    ensures matches { OnOk result (Matches (account_of opening kept.lines) lists
+        (account_of stage.opening stage.journal)) }
     ensures differs { IfErr result (λ e. IfDiffers e (λ d. (d.stage ≡ stage) × (d.opening ≡ opening)
         × (d.kept ≡ kept.lines) × (d.lists ≡ lists) × IsDifference d)) }
 {

@@ -178,10 +178,12 @@ impl<C: Client, L: Session> Locked<C, L> {
         requires may { may pass.old.actor step ≡ true }
         requires values { IsStep (tree_of self.old.opening).nodes step }
         ensures opening { self.new.opening ≡ self.old.opening }
-        ensures ok { let mid = with_acts C.Client self.old leaf basket.old.prepared.commands basket.old.levels in
+        ensures ok { let cmds = basket.old.prepared.commands in
+            let mid = with_acts C.Client self.old leaf cmds basket.old.levels in
             OnOk result (self.new.journal ≡ mid.journal
             ++ line C.Client mid (Leaf leaf) (both_locks leaf) step ∷ []) }
-        ensures reply { let mid = with_acts C.Client self.old leaf basket.old.prepared.commands basket.old.levels in
+        ensures reply { let cmds = basket.old.prepared.commands in
+            let mid = with_acts C.Client self.old leaf cmds basket.old.levels in
             IfOk result (λ r. r ≡ (line C.Client mid (Leaf leaf) (both_locks leaf) step).entry.reply) }
         ensures none { OnOk result (basket.new.prepared.commands ≡ []) }
         ensures no_levels { OnOk result (basket.new.levels ≡ []) }
@@ -221,7 +223,8 @@ fn fit<C: Client>(
     book: &mut Book<C>,
 ) -> Result<(), NoMemory>
     requires leaf { leaf.0 < leaf_count (tree_of stage.now.opening).nodes }
-    ensures from { OnOk result (content_of C.Client (state C.Client stage.now) leaf ≡ Some book.new.prepared.from) }
+    ensures from { OnOk result (content_of C.Client (state C.Client stage.now) leaf
+        ≡ Some book.new.prepared.from) }
     ensures font { OnOk result (book.new.prepared.font ≡ (state C.Client stage.now).font) }
     ensures size { OnOk result (book.new.prepared.size ≡ leaf_size (state C.Client stage.now).tree leaf) }
     ensures kind { OnOk result (book.new.prepared.kind ≡ (state C.Client stage.now).tree.kind) }

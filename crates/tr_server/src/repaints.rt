@@ -60,7 +60,8 @@ impl<C: Client, L: Session> Locked<C, L> {
         ensures err_screen { OnErr result (self.new.screen ≡ self.old.screen) }
         ensures err_pass { OnErr result (pass.new ≡ pass.old) }
         ensures others { let t = (state C.Client self.old).tree in
-            OnOk result (KeepsOthers {M = C.Cmd} t (Step.Repaint painted.leaf) self.old.screen self.new.screen) }
+            OnOk result (KeepsOthers {M = C.Cmd} t (Step.Repaint painted.leaf)
+            self.old.screen self.new.screen) }
     {
         let leaf = painted.leaf;
         pass.mine.push(Step::Repaint { leaf })?;

@@ -93,7 +93,8 @@ impl<C: Client, L: Session> Mu<'_, C, L> {
         ensures err_screen { OnErr result (self.new.screen ≡ self.old.screen) }
         ensures err_pass { OnErr result (pass.new ≡ pass.old) }
         ensures others { let t = (state C.Client self.old).tree in
-            OnOk result (KeepsOthers {M = C.Cmd} t (Step.Repaint painted.leaf) self.old.screen self.new.screen) }
+            OnOk result (KeepsOthers {M = C.Cmd} t (Step.Repaint painted.leaf)
+            self.old.screen self.new.screen) }
     {
         let locked = &mut *self.guard;
         locked.put_painted(pass, painted)

@@ -87,7 +87,8 @@ impl<C: Client, L: Session> Window<C, L> {
     ) -> Result<(), NoMemory>
         requires actor { pass.old.actor ≡ Leaf self.now }
         ensures opening { mu.new.opening ≡ mu.old.opening }
-        ensures ok { OnOk result ((r : _) × HandedAndStepped C.Client self.now (Step.Act self.now cmd) r mu.old mu.new) }
+        ensures ok { OnOk result ((r : _) ×
+            HandedAndStepped C.Client self.now (Step.Act self.now cmd) r mu.old mu.new) }
         ensures mine { OnOk result (pass.new ≡ record pass.old {
           mine = pass.old.mine ++ Step.Act self.now cmd ∷ [];
           posted = 0;

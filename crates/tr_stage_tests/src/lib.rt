@@ -1,5 +1,5 @@
-//! Tests of the stage: random runs against a slow model, and calls that no script makes. Nothing but tests is in
-//! here: what steps make of the screen, and what they send, is tried by scripts.
+//! Tests of the stage: random runs against a slow model, and calls that no script makes. Nothing but tests
+//! is in here: what steps make of the screen, and what they send, is tried by scripts.
 #![tactic(auto)]
 
 #[cfg(test)]
