@@ -9,3 +9,4 @@ pub mod BrushLemmas
 pub mod ShownLemmas
 pub mod PaintingLemmas
 pub mod TracedLemmas
+pub mod GlyphLemmas

@@ -9,7 +9,7 @@ use Rattle.tr_base.specs.Fonts.{glyph_of, glyph_bit}
 use Rattle.std.specs.Int.{int_rem_euclid}
 use Rattle.std.proofs.lemmas.Int.{ints, int_rem_euclid_is}
 use Rattle.tr_base.specs.Tiles.{is_set, place_of}
-use Rattle.tr_exec.specs.Strokes.{IsWithin, east_of}
+use Rattle.tr_exec.specs.Strokes.{IsWithin, AreGlyphRows, east_of}
 
 -- a coordinate from 0 on is a number
 pub abs_is : (x : ℤ) → pos 0 ≤ℤ x → x ≡ pos (unsigned_abs x)
@@ -59,16 +59,18 @@ run_of_pixmap m at n row part within is_row is_part k below =
     ∙ get_or-take m.size.wide (drop start m.pixels) (h + k) 0 (omega (arith, fits)) ∙ get_or-drop start m.pixels (h + k) 0
     ∙ ap (λ i. slice_index m.pixels (start + i)) (sym (abs-later at.h k within.west))
 
--- the bit of a text along a run that begins in column h of its cells, from the bytes that hold the rows of its glyphs
-pub bit_of_text : (font : List (List ℕ)) (text bits cells : List ℕ) (h v n count : ℕ) → ((k : ℕ) → k < length text → slice_index bits k ≡ slice_index (glyph_of font (slice_index text k)) v) →
-    cells ≡ take (count - h / 8) (drop (h / 8) bits) → count ≡ length text → h + n ≤ 8 * length text → (k : ℕ) → k < n →
+-- the bit of a text along a run that begins in column h of its cells, from the bytes of row v of its glyphs
+pub bit_of_text : (font : List (List ℕ)) (text bits cells : List ℕ) (h v n : ℕ) → AreGlyphRows font text bits → v < 8 → length text ≤ 80 →
+    cells ≡ take (80 * v + 80 - (80 * v + h / 8)) (drop (80 * v + h / 8) bits) → h + n ≤ 8 * length text → (k : ℕ) → k < n →
     is_set (slice_index cells ((k + h % 8) / 8)) (k + h % 8) ≡ glyph_bit font (slice_index text ((h + k) / 8)) (h + k) v
-bit_of_text font text bits cells h v n count rows part whole fits k below =
+bit_of_text font text bits cells h v n rows row short part fits k below =
     let cell = (k + h % 8) / 8 in
+    let from = 80 * v + h / 8 in
+    let count = 80 * v + 80 - from in
     let place : (k + h % 8) % 8 ≡ (h + k) % 8 = omega arith in
-    let further : h / 8 + cell ≡ (h + k) / 8 = omega arith in
-    let within : cell < count - h / 8 = omega (arith, whole, fits) in
+    let further : from + cell ≡ 80 * v + (h + k) / 8 = omega arith in
+    let within : cell < count = omega (arith, short, fits) in
     let byte : slice_index cells cell ≡ slice_index (glyph_of font (slice_index text ((h + k) / 8))) v =
-    ap (λ (l : List ℕ). slice_index l cell) part ∙ get_or-take (count - h / 8) (drop (h / 8) bits) cell 0 within ∙ get_or-drop (h / 8) bits cell 0
-    ∙ ap (λ i. slice_index bits i) further ∙ rows ((h + k) / 8) (omega (arith, fits)) in
+    ap (λ (l : List ℕ). slice_index l cell) part ∙ get_or-take count (drop from bits) cell 0 within ∙ get_or-drop from bits cell 0
+    ∙ ap (λ i. slice_index bits i) further ∙ rows v ((h + k) / 8) row (omega (arith, fits)) in
     ap (λ b. bit_at b (7 - (k + h % 8) % 8) == 1) byte ∙ ap (λ p. bit_at (slice_index (glyph_of font (slice_index text ((h + k) / 8))) v) (7 - p) == 1) place

@@ -1,7 +1,8 @@
 -- Only private contracts cite this file. What a command paints along a run of points.
-use Rattle.std.specs.Prelude.{ℕ, ◌*◌, pos, neg_ℤ, ◌+ℤ◌, ◌≤ℤ◌, ◌<ℤ◌}
+use Rattle.std.specs.Prelude.{◌≡◌, ℕ, ◌+◌, ◌*◌, ◌<◌, pos, neg_ℤ, ◌+ℤ◌, ◌≤ℤ◌, ◌<ℤ◌, List, length, slice_index}
 use Rattle.tr_base.specs.declared.Point.{Point}
 use Rattle.tr_base.specs.declared.Size.{Size}
+use Rattle.tr_base.specs.Fonts.{glyph_of}
 
 -- the point that lies k columns east
 abbrev pub east_of : Point → ℕ → Point
@@ -27,3 +28,8 @@ pub record IsCorner (at : Point) : Type 0 where
   pub east : at.h ≤ℤ pos 131072
   pub north : neg_ℤ (pos 131072) ≤ℤ at.v
   pub south : at.v ≤ℤ pos 131072
+
+-- the bits are the rows of the glyphs of a text, each 80 bytes long
+abbrev pub AreGlyphRows : List (List ℕ) → List ℕ → List ℕ → Type 0
+AreGlyphRows font text bits =
+    (v k : ℕ) → v < 8 → k < length text → slice_index bits (80 * v + k) ≡ slice_index (glyph_of font (slice_index text k)) v

@@ -11,9 +11,9 @@ ghost use Rattle.tr_kernel.specs.Masks.{painted};
 ghost use Rattle.tr_screen.specs.Runs.{in_run, point_in};
 ghost use Rattle.tr_exec.specs.Strokes.{IsCorner};
 
-use crate::strokes::{pixels_run, text_run, texture_run, tint_run};
+use crate::strokes::{GlyphRows, pixels_run, text_run, texture_run, tint_run};
 use crate::walks::Brush;
-use tr_base::{Font, Kind, Line, Op, Pixmap, Point, Rect, Tile};
+use tr_base::{Kind, Op, Pixmap, Point, Rect, Tile};
 use tr_kernel::Mask;
 use tr_screen::Run;
 
@@ -43,7 +43,8 @@ pub(crate) struct PixelsBrush<'a> {
     pub src: &'a Pixmap,
     pub at: Point,
     pub ghost corner: { IsCorner at },
-    pub ghost within: { (p : Point) → has_point area p ≡ true → has_point (whole_of src.now.size) (before_shift p at) ≡ true },
+    pub ghost within: { (p : Point) → has_point area p ≡ true →
+        has_point (whole_of src.now.size) (before_shift p at) ≡ true },
 }
 
 /// Applies the operation for the glyph's bit of a text whose cells begin at `at` and have all points
@@ -52,12 +53,12 @@ pub(crate) struct PixelsBrush<'a> {
 pub(crate) struct TextBrush<'a> {
     pub area: Rect,
     pub mask: &'a Mask,
-    pub font: &'a Font,
-    pub text: &'a Line,
+    pub glyphs: &'a GlyphRows<'a>,
     pub at: Point,
     pub ghost corner: { IsCorner at },
     pub ghost within: { (p : Point) → has_point area p ≡ true →
-        has_point (rect_of (pos 0) (pos (8 * length text.now)) (pos 0) (pos 8)) (before_shift p at) ≡ true },
+        has_point (rect_of (pos 0) (pos (8 * length glyphs.now.text.now)) (pos 0) (pos 8))
+        (before_shift p at) ≡ true },
 }
 
 impl Brush for TintBrush {
@@ -115,7 +116,8 @@ impl Brush for PixelsBrush<'_> {
 impl Brush for TextBrush<'_> {
     ghost area = { λ b. b.area };
 
-    ghost pixel = { λ b p old. painted b.mask.now (text_bit b.font.now b.at b.text.now p) old };
+    ghost pixel = { λ b p old.
+        painted b.mask.now (text_bit b.glyphs.now.font.now b.at b.glyphs.now.text.now p) old };
 
     fn area(&self) -> Rect {
         self.area
@@ -124,8 +126,7 @@ impl Brush for TextBrush<'_> {
     fn paint(&self, run: Run, pixels: &mut [u8]) {
         text_run(
             self.mask,
-            self.font,
-            self.text,
+            self.glyphs,
             start_in(self.at, &self.area, run),
             pixels,
         );

@@ -16,6 +16,7 @@ ghost use Rattle.tr_exec.specs.Painted.{IsPainted, IsShown};
 
 use crate::brushes::{PixelsBrush, TextBrush, TextureBrush, TintBrush};
 use crate::sites::Site;
+use crate::strokes::GlyphRows;
 use crate::walks::paint_within;
 use tr_base::{Env, Point, moved};
 use tr_kernel::Mask;
@@ -90,8 +91,7 @@ impl Site<'_> {
                 let brush = TextBrush {
                     area,
                     mask: &Mask::of(*ops, env.kind),
-                    font: env.font,
-                    text,
+                    glyphs: &GlyphRows::of(env.font, text),
                     at: self.place(*at),
                 };
                 paint_within(screen, self.visible, &brush);

@@ -27,10 +27,12 @@ impl Site<'_> {
     pub fn plan(&self, batch: &Batch, bad: &Region) -> Result<Plan, NoMemory>
         requires origin { IsOrigin self.now.origin }
         requires visible { LiesOn greatest_screen self.now.visible.now }
-        ensures moves { IfOk result (λ plan. AllZip (IsMovedBy self.now.origin self.now.visible.now) batch.now plan.moves.items) }
+        ensures moves { IfOk result (λ plan.
+            AllZip (IsMovedBy self.now.origin self.now.visible.now) batch.now plan.moves.items) }
         ensures count { IfOk result (λ plan. length plan.moves.items ≡ length batch.now) }
         ensures bad { IfOk result (λ plan. (look : Look) (screen : Picture) (p : Point) →
-            holds plan.bad p ≡ bad_after look (base_of self.now.origin self.now.visible.now bad.now screen) batch.now self.now.origin self.now.visible.now bad.now p) }
+            holds plan.bad p ≡ bad_after look (base_of self.now.origin self.now.visible.now bad.now screen)
+            batch.now self.now.origin self.now.visible.now bad.now p) }
     {
         let mut moves = Vec::with_capacity(self.alloc, batch.len())?;
         let mut unknown = self.visible.meet(bad)?;

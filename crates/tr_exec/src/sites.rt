@@ -26,7 +26,8 @@ impl Site<'_> {
     pub fn area(&self, paint: &Paint) -> Rect
         requires near { IsNearPaint paint.now }
         requires origin { IsOrigin self.now.origin }
-        ensures { (p : Point) → has_point result p ≡ has_point (area_of paint.now) (before_shift p self.now.origin) }
+        ensures { (p : Point) → has_point result p
+            ≡ has_point (area_of paint.now) (before_shift p self.now.origin) }
     {
         paint.area().shift(self.origin)
     }
@@ -41,7 +42,8 @@ impl Site<'_> {
         requires near { spec.IsNearEffect effect }
         requires visible { LiesOn greatest_screen self.now.visible.now }
         requires seen { Includes self.now.visible.now unknown }
-        ensures { IfOk result (λ r. (p : Point) → holds r p ≡ spec.unknown_after effect area.now self.now.visible.now unknown p) }
+        ensures { IfOk result (λ r. (p : Point) → holds r p
+            ≡ spec.unknown_after effect area.now self.now.visible.now unknown p) }
     {
         match effect {
             Effect::Tells => unknown.minus(area),
@@ -61,7 +63,8 @@ impl Site<'_> {
         requires delta { IsNearPoint delta }
         requires visible { LiesOn greatest_screen self.now.visible.now }
         requires seen { Includes self.now.visible.now unknown.now }
-        ensures { IfOk result (λ r. (p : Point) → holds r p ≡ spec.unknown_after (Effect.Moves delta) area.now self.now.visible.now unknown.now p) }
+        ensures { IfOk result (λ r. (p : Point) → holds r p
+            ≡ spec.unknown_after (Effect.Moves delta) area.now self.now.visible.now unknown.now p) }
     {
         let known = self.moved(&self.visible.minus(unknown)?, delta)?;
         let lost = self.visible.meet(area)?.minus(&known)?;
@@ -72,7 +75,8 @@ impl Site<'_> {
     pub fn moved_by(&self, effect: Effect, area: &Region) -> Result<Region, NoMemory>
         requires near { spec.IsNearEffect effect }
         requires visible { LiesOn greatest_screen self.now.visible.now }
-        ensures { IfOk result (λ r. (p : Point) → holds r p ≡ spec.moved_by effect area.now self.now.visible.now p) }
+        ensures { IfOk result (λ r. (p : Point) → holds r p
+            ≡ spec.moved_by effect area.now self.now.visible.now p) }
     {
         match effect {
             Effect::Moves(delta) => {

@@ -1,18 +1,21 @@
 ghost use Rattle.std.specs.Prelude.{◌≡◌, ◌<◌, ◌≤◌, ◌+◌, ◌/◌, ◌*◌, ◌≤ℤ◌, ◌<ℤ◌, ℕ, pos, ◌+ℤ◌, List, length, slice_index, unsigned_abs};
 ghost use Rattle.tr_base.specs.Ops.{eff, resolved as resolved_of};
 ghost use Rattle.tr_base.specs.Tiles.{tile_bit, place_of as place_in_tile};
-ghost use Rattle.tr_base.specs.Fonts as spec;
 ghost use Rattle.tr_base.specs.Fonts.{glyph_bit};
 ghost use Rattle.tr_base.specs.Pixmaps.{pixmap_at};
 ghost use Rattle.tr_kernel.specs.Masks.{painted};
-ghost use Rattle.tr_exec.specs.Strokes.{IsWithin, IsInCells, east_of};
+ghost use Rattle.tr_exec.specs.Strokes.{IsWithin, IsInCells, AreGlyphRows, east_of};
 
 use tr_base::{Font, Kind, LINE, Line, Op, Pixmap, Point, Tile, eff, place_of, resolved};
 use tr_kernel::{Mask, copy_row, exchange_row, fill_row};
 
+/// How many bytes the glyphs of the longest text have.
+const BITS: usize = 8 * LINE;
+
 /// Applies one operation to each pixel of a run.
 pub(crate) fn tint_run(kind: Kind, op: Op, pixels: &mut [u8])
-    ensures { (k : ℕ) → k < length pixels.old → slice_index pixels.new k ≡ eff kind op (slice_index pixels.old k) }
+    ensures { (k : ℕ) → k < length pixels.old →
+        slice_index pixels.new k ≡ eff kind op (slice_index pixels.old k) }
 {
     match op {
         Op::Transparent => {}
@@ -24,7 +27,8 @@ pub(crate) fn tint_run(kind: Kind, op: Op, pixels: &mut [u8])
 /// Paints a run through a tile. The run begins at the point `at` of the tile.
 pub(crate) fn texture_run(mask: &Mask, tile: &Tile, at: Point, pixels: &mut [u8])
     ensures { (k : ℕ) → k < length pixels.old →
-        slice_index pixels.new k ≡ painted mask.now (tile_bit tile.now (at.h +ℤ pos k) at.v) (slice_index pixels.old k) }
+        slice_index pixels.new k
+        ≡ painted mask.now (tile_bit tile.now (at.h +ℤ pos k) at.v) (slice_index pixels.old k) }
 {
     mask.row(pixels, tile_row(tile, at.v), place_of(at.h));
 }
@@ -39,7 +43,8 @@ fn tile_row(tile: &Tile, v: i32) -> u8
 /// Writes the pixels of a picture along a run. The run begins at the point `at` of the picture.
 pub(crate) fn pixels_run(kind: Kind, src: &Pixmap, at: Point, pixels: &mut [u8])
     requires { IsWithin src.now.size at (length pixels.old) }
-    ensures { (k : ℕ) → k < length pixels.old → slice_index pixels.new k ≡ resolved_of kind (pixmap_at src.now (east_of at k)) }
+    ensures { (k : ℕ) → k < length pixels.old →
+        slice_index pixels.new k ≡ resolved_of kind (pixmap_at src.now (east_of at k)) }
 {
     let west = at.h.unsigned_abs() as usize;
     let row = src.row(row_of(at.v, src.size().high));
@@ -59,7 +64,8 @@ fn row_of(v: i32, high: u16) -> u16
 
 /// Cuts each pixel to the values of the kind.
 fn resolve_row(kind: Kind, pixels: &mut [u8])
-    ensures { (k : ℕ) → k < length pixels.old → slice_index pixels.new k ≡ resolved_of kind (slice_index pixels.old k) }
+    ensures { (k : ℕ) → k < length pixels.old →
+        slice_index pixels.new k ≡ resolved_of kind (slice_index pixels.old k) }
 {
     if kind == Kind::Map8 {
         return;
@@ -69,27 +75,66 @@ fn resolve_row(kind: Kind, pixels: &mut [u8])
     }
 }
 
-/// Paints a run through the glyphs of a text. The run begins at the point `at` of the text's cells.
-pub(crate) fn text_run(mask: &Mask, font: &Font, text: &Line, at: Point, pixels: &mut [u8])
-    requires { IsInCells (length text.now) at (length pixels.old) }
-    ensures { (k : ℕ) → k < length pixels.old →
-        slice_index pixels.new k ≡ painted mask.now
-        (glyph_bit font.now (slice_index text.now ((unsigned_abs at.h + k) / 8)) (unsigned_abs at.h + k) (unsigned_abs at.v)) (slice_index pixels.old k) }
-{
-    let h = at.h.unsigned_abs() as usize;
-    let bits = glyph_row(font, text.bytes(), at.v.unsigned_abs() as usize);
-    mask.cells(pixels, &bits[h / 8..text.bytes().len()], (h % 8) as u8);
+/// The glyphs of a text, row by row from north to south: each row has a byte for each cell.
+#[derive(Drop)]
+pub(crate) struct GlyphRows<'a> {
+    pub font: &'a Font,
+    pub text: &'a Line,
+    pub bits: [u8; BITS],
+    pub ghost rows: { AreGlyphRows font.now text.now bits },
 }
 
-/// Row `v` of the glyph of each byte of a text.
-fn glyph_row(font: &Font, text: &[u8], v: usize) -> [u8; LINE]
-    requires short { length text.now ≤ LINE }
-    requires row { v < 8 }
-    ensures { (k : ℕ) → k < length text.now → slice_index result k ≡ slice_index (spec.glyph_of font.now (slice_index text.now k)) v }
+impl<'a> GlyphRows<'a> {
+    /// The rows of a text's glyphs.
+    pub fn of(font: &'a Font, text: &'a Line) -> GlyphRows<'a>
+        ensures font { result.font.now ≡ font.now }
+        ensures text { result.text.now ≡ text.now }
+    {
+        GlyphRows {
+            font,
+            text,
+            bits: glyph_rows(font, text.bytes()),
+        }
+    }
+}
+
+/// Paints a run through the glyphs of a text. The run begins at the point `at` of the text's cells.
+pub(crate) fn text_run(mask: &Mask, glyphs: &GlyphRows<'_>, at: Point, pixels: &mut [u8])
+    requires { IsInCells (length glyphs.now.text.now) at (length pixels.old) }
+    ensures { (k : ℕ) → k < length pixels.old →
+        let column = unsigned_abs at.h + k in
+        let byte = slice_index glyphs.now.text.now (column / 8) in
+        slice_index pixels.new k ≡ painted mask.now
+        (glyph_bit glyphs.now.font.now byte column (unsigned_abs at.v)) (slice_index pixels.old k) }
 {
-    let mut bits = [0; LINE];
+    let h = at.h.unsigned_abs() as usize;
+    let row = LINE * at.v.unsigned_abs() as usize;
+    // Called for what it tells the prover: that the text isn't longer than a row.
+    let _ = glyphs.text.bytes();
+    mask.cells(pixels, &glyphs.bits[row + h / 8..row + LINE], (h % 8) as u8);
+}
+
+/// The rows of the glyphs of these bytes.
+fn glyph_rows(font: &Font, text: &[u8]) -> [u8; BITS]
+    requires short { length text.now ≤ LINE }
+    ensures { AreGlyphRows font.now text.now result }
+{
+    let mut bits = [0; BITS];
     for (i, byte) in text.iter().enumerate() {
-        bits[i] = font.glyph_of(*byte)[v];
+        put_glyph(&mut bits, i, font.glyph_of(*byte));
     }
     bits
+}
+
+/// Puts the rows of a glyph into cell `i`.
+#[inline(always)]
+fn put_glyph(bits: &mut [u8; BITS], i: usize, glyph: [u8; 8])
+    requires { i < LINE }
+    ensures put { (v : ℕ) → v < 8 → slice_index bits.new (LINE * v + i) ≡ slice_index glyph v }
+    ensures before { (v k : ℕ) → k < i →
+        slice_index bits.new (LINE * v + k) ≡ slice_index bits.old (LINE * v + k) }
+{
+    for (v, row) in glyph.iter().enumerate() {
+        bits[LINE * v + i] = *row;
+    }
 }

@@ -59,8 +59,11 @@ fn paint_band<B: Brush>(screen: &mut Screen, band: &Band<'_>, brush: &B)
     requires order { band.now.north ≤ band.now.south }
     requires rows { (v : ℕ) → band.now.north ≤ v → v < band.now.south → HasRow (B.area brush.now) v }
     requires apart { AreApart (spans_of band.now.rects.now) }
-    requires on { AreOn screen.old.size (in_area (in_band band.now.north band.now.south band.now.rects.now) (B.area brush.now)) }
-    ensures { Repaints (in_area (in_band band.now.north band.now.south band.now.rects.now) (B.area brush.now)) (λ p. B.pixel brush.now p (pixel_of screen.old p)) screen.old screen.new }
+    requires on { let held = in_band band.now.north band.now.south band.now.rects.now in
+        AreOn screen.old.size (in_area held (B.area brush.now)) }
+    ensures { let held = in_band band.now.north band.now.south band.now.rects.now in
+        Repaints (in_area held (B.area brush.now))
+        (λ p. B.pixel brush.now p (pixel_of screen.old p)) screen.old screen.new }
 {
     let area = brush.area();
     let row = band.between(area.west(), area.east());
@@ -75,7 +78,8 @@ fn paint_row<B: Brush>(screen: &mut Screen, row: &[Rect], v: u16, brush: &B)
     requires meet { All (Meets (B.area brush.now)) row.now }
     requires apart { AreApart (spans_of row.now) }
     requires on { AreOn screen.old.size (in_area (in_row v row.now) (B.area brush.now)) }
-    ensures { Repaints (in_area (in_row v row.now) (B.area brush.now)) (λ p. B.pixel brush.now p (pixel_of screen.old p)) screen.old screen.new }
+    ensures { Repaints (in_area (in_row v row.now) (B.area brush.now))
+        (λ p. B.pixel brush.now p (pixel_of screen.old p)) screen.old screen.new }
 {
     let area = brush.area();
     for rect in row {

@@ -2,7 +2,7 @@
 use Rattle.std.proofs.Common.{◌≡◌, ℕ, ◌<◌, ◌||◌, Bool, true, false, eqb, eqb-true, if◌then◌else◌, bit_and, bit_or, bit_xor, refl, sym, ap, ◌∙◌, arith}
 use Rattle.std.specs.Int.Bits.{xor_self, xor_assoc, xor_zero_r}
 use Rattle.std.proofs.lemmas.Nat.{xor_comm}
-use lib.Bits.{and_mask, or_zero_r}
+use lib.Bits.{and_mask, and_zero_r, or_zero_l, or_zero_r}
 use Rattle.tr_base.specs.Ops.{exchanged}
 use Rattle.tr_kernel.specs.Steps.{flipped}
 
@@ -45,3 +45,7 @@ flipped-same x old = ap (bit_xor old) (none (eqb old x || eqb old x)) ∙ xor_ze
     none : (b : Bool) → (if b then bit_xor x x else 0) ≡ 0
     none true = xor_self x
     none false = refl
+
+-- where no bit is kept, what is written is left
+pub overwritten : (n kept written : ℕ) → kept ≡ 0 → bit_or (bit_and n kept) written ≡ written
+overwritten n kept written none = ap (λ k. bit_or (bit_and n k) written) none ∙ ap (λ m. bit_or m written) (and_zero_r n) ∙ or_zero_l written

@@ -1,13 +1,13 @@
 -- The lanes that hold the bits of 16 pixels.
-use Rattle.std.proofs.Common.{◌≡◌, ℕ, zero, suc, ◌+◌, ◌-◌, ◌*◌, ◌/◌, ◌%◌, ◌^◌, ◌<◌, ◌≤◌, ◌==◌, true, not, cond, eqb, eqb-true, eq-eqb, ne_eqb, List, map, length, take, drop, get_or, replicate, bit_and, refl, ap, ◌∙◌, arith, pow_pos}
+use Rattle.std.proofs.Common.{◌≡◌, ℕ, zero, suc, ◌+◌, ◌-◌, ◌*◌, ◌/◌, ◌%◌, ◌^◌, ◌<◌, ◌≤◌, ◌==◌, true, not, cond, eqb, eqb-true, eq-eqb, ne_eqb, List, ◌++◌, map, length, take, drop, get_or, replicate, bit_and, refl, ap, ◌∙◌, arith, pow_pos}
 use Rattle.std.specs.Int.{bit_at}
 use Rattle.std.proofs.lemmas.Bool.{agree_below_at}
 use Rattle.std.proofs.lemmas.List.{get_or-take, get_or-drop, length-take-le, length-drop}
 use Rattle.std.proofs.lemmas.List.FromFn.{fill_by_all}
 use Rattle.std.proofs.lemmas.Nat.Bits.{and_pow, bit_at-lt}
-use Rattle.std.proofs.lemmas.Simd.{zip2_of_maps}
+use Rattle.std.proofs.lemmas.Simd.{zip2_of_maps, pick_l_left, length-chunk, get_or-chunk}
 use borrow.Rule.Slice.PartMut.{mid_of}
-use lib.Lanes.{zip2, sel_l, chunk, top}
+use lib.Lanes.{zip2, sel_l, pick_l, chunk, top}
 use Rattle.tr_base.specs.Tiles.{is_set}
 use Rattle.tr_kernel.specs.declared.patterns.TheConstants.{BITS, CELLS}
 use Rattle.tr_kernel.proofs.LaneLemmas.{sixteen, lanes_made, lane_made, sel_of_maps, same_lanes, equal_lanes, splat_made}
@@ -115,3 +115,35 @@ cell_bit cells phase at next far is_next is_far k lt low within =
     (get_or cells far 0) (omega arith)) k 0 lt)
     ∙ ap (λ n. eqb (bit_and n (bit_value (p + k))) 0) here
     ∙ tested (get_or cells ((at + k + phase) / 8) 0) (7 - (p + k) % 8) ∙ ap (λ j. not (bit_at (get_or cells ((at + k + phase) / 8) 0) (7 - j) == 1)) same
+
+-- which of two bytes each of 16 places lies in
+abbrev halves : List ℕ
+halves = map (λ k. k / 8) sixteen
+
+-- the lanes of two whole bytes
+abbrev pub whole_lanes : List ℕ → List ℕ
+whole_lanes two = zip2 bit_and (pick_l 0 (two ++ two) halves) (chunk 0 16 BITS)
+
+whole_made : (two : List ℕ) → length two ≡ 2 → whole_lanes two ≡ map (λ k. bit_and (get_or two (k / 8) 0) (bit_value k)) sixteen
+whole_made two long =
+    zip2_of_maps bit_and (λ k. get_or two (k / 8) 0) bit_value sixteen (pick_l_left 0 two two 2 halves long tt) refl
+
+pub whole_bit : (cells : List ℕ) (at : ℕ) → at % 8 ≡ 0 → at + 15 < 8 * length cells → (k : ℕ) → k < 16
+    → eqb (get_or (whole_lanes (chunk 0 2 (mid_of (at / 8) (length cells - at / 8) cells))) k 0) 0 ≡ not (is_set (get_or cells ((at + k + 0) / 8) 0) (at + k + 0))
+whole_bit cells at even reach k lt =
+    let first = at / 8 in
+    let count = length cells - first in
+    let rest = mid_of first count cells in
+    let q = k / 8 in
+    let long : length rest ≡ count = length-take-le count (drop first cells) (omega (arith, length-drop first cells)) in
+    let two : length (chunk 0 2 rest) ≡ 2 = length-chunk 0 2 rest (omega (arith, long)) in
+    let place : first + q ≡ (at + k + 0) / 8 = omega arith in
+    let same : k % 8 ≡ (at + k + 0) % 8 = omega arith in
+    let from_zero : 0 + q ≡ q = omega arith in
+    let here : get_or (chunk 0 2 rest) q 0 ≡ get_or cells ((at + k + 0) / 8) 0 =
+    get_or-chunk 0 2 rest q 0 (omega arith) ∙ ap (λ i. get_or rest i 0) from_zero
+    ∙ get_or-take count (drop first cells) q 0 (omega arith) ∙ get_or-drop first cells q 0 ∙ ap (λ i. get_or cells i 0) place in
+    let byte = get_or cells ((at + k + 0) / 8) 0 in
+    ap (λ n. eqb n 0) (lane_made (λ j. bit_and (get_or (chunk 0 2 rest) (j / 8) 0) (bit_value j)) (whole_lanes (chunk 0 2 rest)) (whole_made (chunk 0 2 rest) two) k 0 lt)
+    ∙ ap (λ n. eqb (bit_and n (bit_value k)) 0) here
+    ∙ tested byte (7 - k % 8) ∙ ap (λ j. not (bit_at byte (7 - j) == 1)) same

@@ -1,5 +1,5 @@
 //! Two operations on 16 pixels at once.
-ghost use Rattle.std.specs.Prelude.{◌≡◌, ◌<◌, ◌^◌, ◌==◌, ℕ, not, false, length, slice_index};
+ghost use Rattle.std.specs.Prelude.{◌≡◌, ◌<◌, ◌^◌, ◌==◌, ◌↔◌, ℕ, Bool, not, false, length, slice_index, IsTrue};
 ghost use Rattle.std.specs.Bool.{OnFalse};
 ghost use Rattle.tr_base.specs.Ops.{eff, exchanged};
 ghost use Rattle.tr_kernel.specs.Steps.{flipped, stepped, stepped_by, AreStill};
@@ -37,8 +37,10 @@ pub(crate) fn step_of(kind: Kind, op: Op) -> Step
     }
 }
 
+#[inline(always)]
 fn write(pixel: u8) -> Step
-    ensures { (old : ℕ) → stepped result old ≡ pixel }
+    ensures value { (old : ℕ) → stepped result old ≡ pixel }
+    ensures still { result.x ≡ result.y }
 {
     Step {
         x: 0,
@@ -66,6 +68,27 @@ impl Steps {
         ensures moving { AreStill self.now → result ≡ false }
     {
         self.one.x != self.one.y || self.zero.x != self.zero.y
+    }
+
+    /// Whether both steps only write.
+    pub fn overwrite(&self) -> bool
+        ensures { IsTrue result ↔ ((self.now.one.kept ≡ 0) × (self.now.zero.kept ≡ 0)) }
+    {
+        self.one.kept == 0 && self.zero.kept == 0
+    }
+
+    /// The same, of steps that only write.
+    #[inline(always)]
+    pub fn overwriting(self) -> Steps
+        requires one { self.one.kept ≡ 0 }
+        requires zero { self.zero.kept ≡ 0 }
+        ensures still { AreStill result }
+        ensures same { (bit : Bool) (old : ℕ) → stepped_by result bit old ≡ stepped_by self bit old }
+    {
+        Steps {
+            one: write(self.one.written),
+            zero: write(self.zero.written),
+        }
     }
 
     /// What becomes of 16 pixels, where `bits` has a byte for each that isn't 0 where its bit is

@@ -7,7 +7,7 @@ ghost use Rattle.tr_kernel.specs.Masks.{bit_in_byte, bit_in_cells, painted, mask
 ghost use Rattle.tr_kernel.specs.Steps.{AreStill, stepped_by};
 
 use crate::lanes::{Steps, step_of};
-use crate::patterns::{Byte, Cells, Pattern};
+use crate::patterns::{Byte, Cells, Pattern, WholeCells};
 use std::marker::Model;
 use std::simd::prelude::*;
 use tr_base::{Kind, Pair};
@@ -83,8 +83,21 @@ impl Mask {
             let byte = slice_index cells.now ((k + phase) / 8) in
             slice_index row.new k ≡ painted self.now (is_set byte (k + phase)) (slice_index row.old k) }
     {
-        let pattern = Cells { cells, phase };
-        paint(row, self.steps, &pattern);
+        paint_cells(row, self.steps, cells, phase);
+    }
+}
+
+/// Paints a row by the bits of these bytes, whole bytes faster.
+fn paint_cells(row: &mut [u8], steps: Steps, cells: &[u8], phase: u8)
+    requires phase { phase < 8 }
+    requires enough { length row.old + phase ≤ 8 * length cells.now }
+    ensures { (k : ℕ) → k < length row.old → slice_index row.new k
+        ≡ stepped_by steps (bit_in_cells cells.now phase k) (slice_index row.old k) }
+{
+    if phase == 0 {
+        paint(row, steps, &WholeCells { cells });
+    } else {
+        paint(row, steps, &Cells { cells, phase });
     }
 }
 
@@ -96,6 +109,9 @@ fn paint<P: Pattern>(row: &mut [u8], steps: Steps, pattern: &P)
 {
     if steps.exchange() {
         paint_by::<P, true>(row, steps, pattern);
+    } else if steps.overwrite() {
+        // The same steps, as the compiler sees that they don't read the row.
+        paint_by::<P, false>(row, steps.overwriting(), pattern);
     } else {
         paint_by::<P, false>(row, steps, pattern);
     }
@@ -130,7 +146,7 @@ fn paint_many<P: Pattern, const EXCHANGES: bool>(row: &mut [u8], steps: Steps, p
     let last = steps.lanes::<EXCHANGES>(u8x16::from_slice(&row[start..]), last_bits);
     for chunk in 0..start.div_ceil(LANES) {
         let at = chunk * LANES;
-        let bits = pattern.bits_at(at);
+        let bits = pattern.whole_bits_at(at);
         let old = u8x16::from_slice(&row[at..]);
         steps
             .lanes::<EXCHANGES>(old, bits)

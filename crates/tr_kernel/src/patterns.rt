@@ -1,5 +1,5 @@
 //! The bits of a row, read from one byte or from many.
-ghost use Rattle.std.specs.Prelude.{◌≡◌, ◌<◌, ◌≤◌, ◌+◌, ◌*◌, ◌==◌, ℕ, Bool, not, length, slice_index};
+ghost use Rattle.std.specs.Prelude.{◌≡◌, ◌<◌, ◌≤◌, ◌+◌, ◌*◌, ◌%◌, ◌==◌, ℕ, Bool, not, length, slice_index};
 ghost use Rattle.tr_kernel.specs.Masks.{bit_in_byte, bit_in_cells};
 
 use std::simd::prelude::*;
@@ -28,6 +28,14 @@ pub(crate) trait Pattern {
         ensures lanes { length result ≡ 16 }
         ensures bits { (k : ℕ) → k < 16 → Reaches self.now (at + k) →
             (slice_index result k == 0) ≡ not (bit_for self.now (at + k)) };
+
+    /// The same for 16 pixels that follow whole bytes, and all have a bit.
+    fn whole_bits_at(&self, at: usize) -> u8x16
+        requires even { at % 8 ≡ 0 }
+        requires reached { (k : ℕ) → k < 16 → Reaches self.now (at + k) }
+        ensures lanes { length result ≡ 16 }
+        ensures bits { (k : ℕ) → k < 16 →
+            (slice_index result k == 0) ≡ not (bit_for self.now (at + k)) };
 }
 
 /// The bits of one byte, again and again. The first pixel has the bit `phase`.
@@ -46,6 +54,11 @@ impl Pattern for Byte {
     fn bits_at(&self, at: usize) -> u8x16 {
         let phase = (usize::from(self.phase) + at % 8) % 8;
         u8x16::splat(self.bits) & u8x16::from_slice(&BITS[phase..])
+    }
+
+    #[inline(always)]
+    fn whole_bits_at(&self, at: usize) -> u8x16 {
+        self.bits_at(at)
     }
 }
 
@@ -74,5 +87,38 @@ impl Pattern for Cells<'_> {
         let beyond = cell.simd_eq(u8x16::splat(1)).select(next, far);
         let cells = cell.simd_eq(u8x16::splat(0)).select(near, beyond);
         cells & u8x16::from_slice(&BITS[phase..])
+    }
+
+    #[inline(always)]
+    fn whole_bits_at(&self, at: usize) -> u8x16 {
+        self.bits_at(at)
+    }
+}
+
+/// The same, where the first pixel has the first bit: then 16 pixels have two bytes.
+#[derive(Clone, Copy)]
+pub(crate) struct WholeCells<'a> {
+    pub cells: &'a [u8],
+}
+
+impl Pattern for WholeCells<'_> {
+    ghost Reaches = { λ c k. k < 8 * length c.cells.now };
+
+    ghost bit_for = { λ c k. bit_in_cells c.cells.now 0 k };
+
+    #[inline(always)]
+    fn bits_at(&self, at: usize) -> u8x16 {
+        let cells = Cells {
+            cells: self.cells,
+            phase: 0,
+        };
+        cells.bits_at(at)
+    }
+
+    #[inline(always)]
+    fn whole_bits_at(&self, at: usize) -> u8x16 {
+        let two = u8x2::from_slice(&self.cells[at / 8..]);
+        let cells: u8x16 = two.swizzle([0, 0, 0, 0, 0, 0, 0, 0, 1, 1, 1, 1, 1, 1, 1, 1]);
+        cells & u8x16::from_slice(&BITS)
     }
 }

@@ -13,8 +13,8 @@ loop-chunk-preserved g c =
     let ys = c.lanes.result in
     let long = c.lanes.ensures.lanes in
     let painted =
-    lanes_painted c.args.steps bit old c.bits_at-bits.result _ ys at c.lanes.ensures.each
-    (λ k lt. c.bits_at-bits.ensures.bits k lt (c.requires.reached (at + k) (omega arith)))
+    lanes_painted c.args.steps bit old c.whole_bits_at-bits.result _ ys at c.lanes.ensures.each
+    c.whole_bits_at-bits.ensures.bits
     (λ k lt. get_or-chunk at 16 c.loop-chunk.row k 0 lt ∙ c.loop-chunk.invariant.left (at + k) (omega arith)) in
     many_done (λ k. stepped_by c.args.steps (bit k) (get_or old k 0)) old c.loop-chunk.row at c.loop-chunk.invariant at ys ((c.loop-chunk.chunk + 1) * 16)
     (omega arith) (omega arith) (omega arith) (omega arith) (λ j lt. painted j (omega arith))

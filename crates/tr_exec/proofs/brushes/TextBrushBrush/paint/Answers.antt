@@ -10,16 +10,16 @@ use Rattle.tr_exec.proofs.brushes.TextBrushBrush.paint.Goals as goal
 pub text_run-requires : goal.text_run-requires
 text_run-requires c =
     let brush = c.args.self.now in
-    let within = run_in_picture c.args.run brush.area brush.at (8 * length brush.text.now) 8 c.requires.some c.requires.within brush.within in
+    let within = run_in_picture c.args.run brush.area brush.at (8 * length brush.glyphs.now.text.now) 8 c.requires.some c.requires.within brush.within in
     rw (c.start_in.ensures, c.requires.long) (record { west = within.west; east = within.east; north = within.north; south = within.south })
 
 pub returns : goal.returns
 returns c = λ k lt.
     let brush = c.args.self.now in
     let run = c.args.run in
-    let within = run_in_picture run brush.area brush.at (8 * length brush.text.now) 8 c.requires.some c.requires.within brush.within in
+    let within = run_in_picture run brush.area brush.at (8 * length brush.glyphs.now.text.now) 8 c.requires.some c.requires.within brush.within in
     let start = (run.west +ℤ pos 0) -ℤ brush.at.h in
     let further : start +ℤ pos k ≡ (run.west +ℤ pos k) -ℤ brush.at.h = omega (arith, ints) in
     let column = sym (abs-later start k within.west) ∙ ap (λ x. unsigned_abs x) further in
     rw c.start_in.ensures at (c.text_run.ensures k lt)
-    ∙ ap (λ (h : ℕ). painted brush.mask.now (glyph_bit brush.font.now (slice_index brush.text.now (h / 8)) h (unsigned_abs (run.v -ℤ brush.at.v))) (slice_index c.args.pixels.now k)) column
+    ∙ ap (λ (h : ℕ). painted brush.mask.now (glyph_bit brush.glyphs.now.font.now (slice_index brush.glyphs.now.text.now (h / 8)) h (unsigned_abs (run.v -ℤ brush.at.v))) (slice_index c.args.pixels.now k)) column

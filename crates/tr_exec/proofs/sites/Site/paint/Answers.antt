@@ -27,7 +27,7 @@ paint_within-requires-in-Pixels c = λ p on. c.requires.visible p (and_parts _ _
 pub invariant_of-brush-in-Text : goal.invariant_of-brush-in-Text
 invariant_of-brush-in-Text c = record {
   corner = c.place-in-Text.ensures.corner;
-  within = rw c.place-in-Text.ensures.value
+  within = rw (c.place-in-Text.ensures.value, c.of-in-Text-2.ensures.text)
       (text_within c.area-area.result c.in-Text.clip (length c.in-Text.text) c.args.self.now.origin c.in-Text.at (rw c.in-Text.is at c.area-area.ensures));
 }
 
@@ -70,7 +70,7 @@ returns-in-Text c =
     let kind = c.args.env.now.kind in
     let font = c.args.env.now.font.now in
     let area = rw c.in-Text.is at c.area-area.ensures in
-    rw c.in-Text.is (repaints_as _ _ _ _ old c.paint_within-in-Text.new.screen (rw (c.of-in-Text.ensures, c.place-in-Text.ensures.value) at c.paint_within-in-Text.ensures)
+    rw c.in-Text.is (repaints_as _ _ _ _ old c.paint_within-in-Text.new.screen (rw (c.of-in-Text.ensures, c.of-in-Text-2.ensures.font, c.of-in-Text-2.ensures.text, c.place-in-Text.ensures.value) at c.paint_within-in-Text.ensures)
     (λ p. ap (λ b. holds visible p && b) (sym (area p)))
     (λ p. ap (λ (r : Point). eff kind (chosen c.in-Text.ops (glyph_bit font (slice_index c.in-Text.text (unsigned_abs r.h / 8)) (unsigned_abs r.h) (unsigned_abs r.v))) (pixel_of old p))
     (before-both origin p c.in-Text.at)))
