@@ -65,6 +65,32 @@ rest_next t n i cs all old now new clip left part rest rects r lt same has is_pa
     (subst (λ (ks : List NodeId). Rest old clip all now left (owner_among t n ks)) (drop_next cs i lt) r) same
     (λ p. is_part p ∙ ap (λ b. holds left p && b) (has p)) (λ p. is_rest p ∙ ap (λ b. holds left p && not b) (has p)) gains
 
+-- nothing is gained of a part with no point
+pub gains_none : (part : List Edges) (who : Point → NodeId) (now : List (List Edges)) → ((p : Point) → holds part p ≡ false) → Gains part who now now
+gains_none part who now none = record {
+  points = λ m p h. by_test (holds (region_of now m) p) ∙ ap (λ b. holds (region_of now m) p || (b && ((who p).0 == m.0))) (sym (none p));
+}
+  where
+    by_test : (b : Bool) → b ≡ (b || false)
+    by_test true = refl
+    by_test false = refl
+
+-- what has no point of a child is left as it is
+kept_apart : (l a : Bool) → (l && a) ≡ false → l ≡ (l && not a)
+kept_apart true true h = h
+kept_apart true false h = refl
+kept_apart false a h = refl
+
+-- a child that has no point of what is left, as the code goes past it
+pub rest_past : (t : Seen) (n : NodeId) (i : ℕ) (cs : List NodeId) (all : Point → NodeId) (old now : List (List Edges)) (clip left part rects : List Edges) →
+    Rest old clip all now left (owner_among t n (drop i cs)) → i < length cs → length now ≡ length old →
+    ((p : Point) → holds rects p ≡ has_point (domain t (get_or cs i zero_node)) p) →
+    ((p : Point) → holds part p ≡ (holds left p && holds rects p)) → ((p : Point) → holds part p ≡ false) →
+    Rest old clip all now left (owner_among t n (drop (i + 1) cs))
+rest_past t n i cs all old now clip left part rects r lt same has is_part none =
+    rest_next t n i cs all old now now clip left part left rects r lt same has is_part (λ p. kept_apart (holds left p) (holds rects p) (sym (is_part p) ∙ none p))
+    (gains_none part (owner t (get_or cs i zero_node)) now none)
+
 -- no child is left
 pub rest_last : (t : Seen) → IsForest t.nodes → (n : NodeId) (i : ℕ) (cs : List NodeId) (old now new : List (List Edges)) (clip left : List Edges) →
     cs ≡ (node t.nodes n).children → Rest old clip (owner_among t n cs) now left (owner_among t n (drop i cs)) → length cs ≤ i → length now ≡ length old →

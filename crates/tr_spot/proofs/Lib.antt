@@ -5,3 +5,4 @@ pub mod ChildLemmas
 pub mod SpotLemmas
 pub mod GainLemmas
 pub mod LeafLemmas
+pub mod ChangeLemmas

@@ -13,7 +13,7 @@ use Rattle.tr_spot.specs.Ways.{front}
 use Rattle.tr_spot.specs.Gains.{owner_among}
 use Rattle.tr_spot.proofs.NodeLemmas.{IsBelow, child_below, find_among}
 
-followed_same : (n : NodeId) (o : Option NodeId) (u v : NodeId → NodeId) → ((c : NodeId) → o ≡ Some c → u c ≡ v c) → followed n u o ≡ followed n v o
+pub followed_same : (n : NodeId) (o : Option NodeId) (u v : NodeId → NodeId) → ((c : NodeId) → o ≡ Some c → u c ≡ v c) → followed n u o ≡ followed n v o
 followed_same n None u v h = refl
 followed_same n (Some c) u v h = h c refl
 

@@ -1,4 +1,4 @@
-ghost use Rattle.std.specs.Prelude.{◌≡◌, ◌<◌, ℕ, [], length, IfOk, OnOk};
+ghost use Rattle.std.specs.Prelude.{◌≡◌, ◌<◌, ◌&&◌, not, [], length, IfOk, OnOk};
 ghost use Rattle.tr_base.specs.declared.Point.{Point};
 ghost use Rattle.tr_base.specs.declared.NodeId.{NodeId};
 ghost use Rattle.tr_base.specs.Rects.{whole_of};
@@ -6,6 +6,7 @@ ghost use Rattle.tr_region.specs.Points.{holds};
 ghost use Rattle.tr_forest.specs.Nodes.{IsNode};
 ghost use Rattle.tr_forest.specs.Forests.{IsForest};
 ghost use Rattle.tr_spot.specs.Spots.{HasRoot, CoverOnce, owner, spot, is_spot_of, region_of};
+ghost use Rattle.tr_spot.specs.Changes.{AreRegionsOutside};
 ghost use Rattle.tr_spot.specs.Gains.{Gains, always};
 
 use crate::owners::domain_of;
@@ -27,6 +28,48 @@ pub fn regions(alloc: Global, tree: &Tree) -> Result<Vec<Region>, NoMemory>
     let mut regions = empty_regions(alloc, tree.count())?;
     let screen = Region::of_rect(alloc, whole(tree.size()))?;
     fill(alloc, tree, root, screen, &mut regions)?;
+    Ok(regions)
+}
+
+/// The same, by regions that are those of the nodes outside of some points: it looks only at these.
+pub fn regions_within(
+    alloc: Global,
+    tree: &Tree,
+    within: &Region,
+    before: &[Region],
+) -> Result<Vec<Region>, NoMemory>
+    requires root { HasRoot tree.now }
+    requires before { AreRegionsOutside within.now tree.now before.now }
+    ensures count { IfOk result (λ r. length r.items ≡ length tree.now.nodes.entries) }
+    ensures points { IfOk result (λ r. (n : NodeId) (p : Point) → IsNode tree.now.nodes n →
+        holds (region_of r.items n) p ≡ is_spot_of tree.now n (spot tree.now p)) }
+    ensures cover { IfOk result (λ r. CoverOnce (whole_of tree.now.size) r.items) }
+{
+    // Called for what it tells the prover: that the nodes are a forest.
+    let _ = tree.count();
+    let root = tree.root().unwrap();
+    let mut regions = regions_outside(alloc, within, before)?;
+    let screen = Region::of_rect(alloc, whole(tree.size()))?;
+    let part = screen.meet(within)?;
+    fill(alloc, tree, root, part, &mut regions)?;
+    Ok(regions)
+}
+
+/// Each of the regions without some points.
+fn regions_outside(
+    alloc: Global,
+    within: &Region,
+    before: &[Region],
+) -> Result<Vec<Region>, NoMemory>
+    ensures count { IfOk result (λ r. length r.items ≡ length before.now) }
+    ensures points { IfOk result (λ r. (n : NodeId) (p : Point) →
+        holds (region_of r.items n) p ≡ (holds (region_of before.now n) p && not (holds within.now p))) }
+{
+    let mut regions = Vec::with_capacity(alloc, before.len())?;
+    for region in before {
+        let outside = region.minus(within)?;
+        regions.push(outside)?;
+    }
     Ok(regions)
 }
 
@@ -59,6 +102,9 @@ fn fill(
     for child in tree.children(n) {
         let domain = domain_of(alloc, tree, *child)?;
         let below = left.meet(&domain)?;
+        if below.is_empty() {
+            continue;
+        }
         left = left.minus(&domain)?;
         fill(alloc, tree, *child, below, regions)?;
     }
@@ -71,6 +117,9 @@ fn add(regions: &mut Vec<Region>, n: NodeId, part: &Region) -> Result<(), NoMemo
     ensures count { OnOk result (length regions.new.items ≡ length regions.old.items) }
     ensures gains { OnOk result (Gains part.now (always n) regions.old.items regions.new.items) }
 {
+    if part.is_empty() {
+        return Ok(());
+    }
     let n = usize::from(n.0);
     let sum = regions[n].union(part)?;
     regions[n] = sum;

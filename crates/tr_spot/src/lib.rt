@@ -5,13 +5,15 @@
 //! front, and a child that reaches past its parent shows nothing there.
 #![tactic(auto)]
 
+mod changes;
 mod fills;
 mod leaves;
 mod owners;
 mod spots;
 mod windows;
 
-pub use fills::regions;
+pub use changes::changed_points;
+pub use fills::{regions, regions_within};
 pub use leaves::{in_leaf, leaf_corner, leaf_size};
 pub use owners::levels_suffice;
 pub use spots::{from_corner, size_of, spot_at};

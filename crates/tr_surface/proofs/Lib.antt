@@ -9,3 +9,4 @@ pub mod PixelLemmas
 pub mod EditLemmas
 pub mod TintLemmas
 pub mod PutLemmas
+pub mod PlacedLemmas

@@ -8,6 +8,8 @@ use Rattle.tr_base.specs.Rects.{Edges, before_shift, has_point, whole_of}
 use Rattle.tr_screen.specs.Pictures.{Picture, pixel_of}
 use Rattle.tr_region.specs.Points.{holds}
 use Rattle.tr_client.specs.Laws.{IsWindowSize}
+use Rattle.tr_forest.specs.declared.Edit.{Edit}
+use Rattle.tr_forest.specs.declared.Edit.TheVariants as edits
 use Rattle.tr_forest.specs.Nodes.{Nodes, node, leaf_of}
 use Rattle.tr_forest.specs.Families.{is_under}
 use Rattle.tr_tree.specs.Trees.{Seen}
@@ -152,6 +154,13 @@ pub record IsLike (was is : Seen) : Type 0 where
   pub leaves : (n : NodeId) → leaf_of (node is.nodes n).kind ≡ leaf_of (node was.nodes n).kind
   pub count : length is.nodes.entries ≡ length was.nodes.entries
   pub root : is.nodes.root ≡ was.nodes.root
+
+-- the child that an edit gives another place among the children of a node, or hangs there, or takes away
+abbrev pub placed_child : Edit → Option NodeId
+placed_child (edits.Attach child parent at) = Some child
+placed_child (edits.Detach child) = Some child
+placed_child (edits.Lift child) = Some child
+placed_child edit = None
 
 -- a screen is fitted to a tree: where their kinds are the same, the points of both keep their pixels
 pub record IsFitted (t : Seen) (old new : Picture) : Type 0 where

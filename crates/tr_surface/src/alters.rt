@@ -1,11 +1,13 @@
 ghost use Rattle.std.specs.Prelude.{◌≡◌, ◌==◌, true, false, length, None, IfOk, IfErr, IfSome, IsTrue, OnOk, OnErr};
 ghost use Rattle.tr_base.specs.declared.Point.{Point};
+ghost use Rattle.tr_base.specs.declared.NodeId.{NodeId};
+ghost use Rattle.tr_base.specs.Rects.{whole_of};
 ghost use Rattle.tr_region.specs.Points.{holds};
 ghost use Rattle.tr_screen.specs.Pictures.{pixel_of};
 ghost use Rattle.tr_forest.specs.Nodes.{IsNode, leaf_count, node};
 ghost use Rattle.tr_forest.specs.Edits.{IsCause, IsEdit, refusal};
 ghost use Rattle.tr_tree.specs.Trees.{edited_tree};
-ghost use Rattle.tr_spot.specs.Spots.{is_spot_of, spot};
+ghost use Rattle.tr_spot.specs.Spots.{CoverOnce, is_spot_of, region_of, spot};
 ghost use Rattle.tr_spot.specs.Leaves.{same_kind};
 ghost use Rattle.tr_surface.specs.Surfaces.{AreRegions, is_on};
 ghost use Rattle.tr_surface.specs.TreeSteps.{bad_after, child_of as spec_child, first_node, good_after, moved_child as spec_moved, source};
@@ -20,7 +22,7 @@ use tr_base::{Kind, NoMemory, NodeId, Point, whole};
 use tr_region::Region;
 use tr_repair::move_pixels;
 use tr_screen::Screen;
-use tr_spot::regions;
+use tr_spot::{changed_points, regions, regions_within};
 use tr_tree::{Edit, EditRefused, Tree};
 
 impl Surface {
@@ -35,8 +37,10 @@ impl Surface {
         ensures bad { OnOk result ((p : Point) → holds self.new.bad p ≡
             bad_after (K.keeping keeper.now) self.old.tree self.new.tree edit.now (holds self.old.bad) p) }
         ensures pixels { OnOk result ((p : Point) →
-            good_after (K.keeping keeper.now) self.old.tree self.new.tree edit.now (holds self.old.bad) p ≡ true →
-            pixel_of self.new.screen p ≡ pixel_of self.old.screen (source self.old.tree self.new.tree edit.now p)) }
+            good_after (K.keeping keeper.now) self.old.tree self.new.tree edit.now (holds self.old.bad) p
+            ≡ true →
+            pixel_of self.new.screen p
+            ≡ pixel_of self.old.screen (source self.old.tree self.new.tree edit.now p)) }
         ensures allowed { OnOk result (refusal self.old.tree.nodes edit.now ≡ None) }
         ensures cause { IfErr result (λ e. IsCause (refusal self.old.tree.nodes edit.now) e) }
         ensures err { OnErr result (self.new ≡ self.old) }
@@ -55,7 +59,7 @@ impl Surface {
             return Ok(mem::replace(&mut self.tree, is));
         }
         let moved = moved_child(&self.tree, edit);
-        let after = regions(self.alloc, &is)?;
+        let after = self.regions_after(&is, edit)?;
         let known = self.known(&is, &after, moved, keeper)?;
         let way = way_of_moved(&self.tree, &is, moved);
         fit_screen(&mut self.screen, &is)?;
@@ -65,13 +69,34 @@ impl Surface {
         Ok(mem::replace(&mut self.tree, is))
     }
 
+    /// The regions of the nodes once the tree is what the edit makes of it. On a screen of the same size
+    /// only the points of the domains that it changes are looked at.
+    fn regions_after(&self, is: &Tree, edit: &Edit) -> Result<Vec<Region>, NoMemory>
+        requires edit { IsEdit self.now.tree.nodes edit.now }
+        requires allowed { refusal self.now.tree.nodes edit.now ≡ None }
+        requires is { is.now ≡ edited_tree self.now.tree edit.now }
+        ensures count { IfOk result (λ r. length r.items ≡ length is.now.nodes.entries) }
+        ensures points { IfOk result (λ r. (n : NodeId) (p : Point) → IsNode is.now.nodes n →
+            holds (region_of r.items n) p ≡ is_spot_of is.now n (spot is.now p)) }
+        ensures cover { IfOk result (λ r. CoverOnce (whole_of is.now.size) r.items) }
+    {
+        // Called for what it tells the prover: that the nodes are a forest.
+        let _ = self.tree.count();
+        if self.tree.size() != is.size() {
+            return regions(self.alloc, is);
+        }
+        let changed = changed_points(self.alloc, &self.tree, is, placed_child(edit))?;
+        regions_within(self.alloc, is, &changed, &self.regions)
+    }
+
     /// The bad points once the frame of a node has the tint of another tree.
     fn bad_tinted(&self, is: &Tree, n: NodeId) -> Result<Region, NoMemory>
         requires was { IsNode self.now.tree.nodes n }
         requires is { IsNode is.now.nodes n }
         ensures { let t = self.now.tree in
             let same = (node t.nodes n).tint == (node is.now.nodes n).tint in
-            IfOk result (λ r. (p : Point) → holds r p ≡ spec.tint_bad same (holds self.now.bad p) (is_spot_of t n (spot t p))) }
+            IfOk result (λ r. (p : Point) → holds r p
+            ≡ spec.tint_bad same (holds self.now.bad p) (is_spot_of t n (spot t p))) }
     {
         if self.tree.tint_of(n) == is.tint_of(n) {
             let bad = self.bad.copy()?;
@@ -124,6 +149,18 @@ fn is_other(was: Kind, is: Kind) -> bool
     ensures same { result ≡ false → is ≡ was }
 {
     was != is
+}
+
+/// The child whose place among the children of a node an edit changes.
+fn placed_child(edit: &Edit) -> Option<NodeId>
+    ensures { result ≡ spec.placed_child edit.now }
+{
+    match edit {
+        Edit::Attach { child, .. } => Some(*child),
+        Edit::Detach { child } => Some(*child),
+        Edit::Lift { child } => Some(*child),
+        _ => None,
+    }
 }
 
 /// How far the moved child comes, if one is moved.

@@ -2,7 +2,7 @@ use Rattle.std.proofs.Common.{get_or, sym, ◌∙◌, arith}
 use Rattle.std.proofs.lemmas.Result.{on_ok_weaker}
 use Rattle.tr_spot.specs.Gains.{owner_among}
 use Rattle.tr_spot.proofs.NodeLemmas.{IsBelow, listed_below, zero_node}
-use Rattle.tr_spot.proofs.GainLemmas.{rest_next, rest_last}
+use Rattle.tr_spot.proofs.GainLemmas.{rest_next, rest_past, rest_last}
 use Rattle.tr_spot.proofs.fills.+fill.Goals as goal
 
 pub domain_of-requires : goal.domain_of-requires
@@ -23,6 +23,16 @@ loop-child-preserved t c = record {
       c.args.regions.now.items c.loop-child.regions.items c.fill.new.regions.items c.args.part c.loop-child.left c.in_ok-below.below c.in_ok-left.left c.in_ok-domain.domain
       c.loop-child.invariant.rest (omega arith) (c.loop-child.invariant.count ∙ sym c.requires.regions)
       c.in_ok-domain.ensures c.in_ok-below.ensures.points c.in_ok-left.ensures.points c.in_ok-fill.ensures.gains;
+}
+
+pub loop-child-preserved-then-is_empty : goal.loop-child-preserved-then-is_empty
+loop-child-preserved-then-is_empty t c = record {
+  count = c.loop-child.invariant.count;
+  rest = rest_past c.args.tree.now c.args.n c.loop-child.child-index c.children-child-items.result.now
+      (owner_among c.args.tree.now c.args.n c.children-child-items.result.now)
+      c.args.regions.now.items c.loop-child.regions.items c.args.part c.loop-child.left c.in_ok-below.below c.in_ok-domain.domain
+      c.loop-child.invariant.rest (omega arith) (c.loop-child.invariant.count ∙ sym c.requires.regions)
+      c.in_ok-domain.ensures c.in_ok-below.ensures.points (c.is_empty.ensures.points.0 c.if-is_empty.true);
 }
 
 pub returns-clause-gains : goal.returns-clause-gains
