@@ -14,7 +14,8 @@ use Rattle.tr_region.specs.Points.{holds}
 use Rattle.tr_paint.specs.declared.Paint.{Paint}
 use Rattle.tr_paint.specs.Batches.{touches}
 use Rattle.tr_paint.specs.Paintings.{IsPainting}
-use Rattle.tr_paint.specs.Traces.{after}
+use Rattle.tr_paint.specs.declared.Paint.{Paint}
+use Rattle.tr_paint.specs.Traces.{Look, Base, after}
 use Rattle.tr_exec.specs.Executions.{placed}
 use Rattle.tr_client.specs.declared.clients.Client.{Ghosts}
 use Rattle.tr_spot.specs.Leaves.{leaf_corner, leaf_size, in_leaf}
@@ -25,10 +26,15 @@ use Rattle.tr_machine.specs.Windows.{Window, content}
 use Rattle.tr_machine.specs.States.{State, base, batch_of, content_of, look, window_of}
 use Rattle.tr_machine.specs.Paintings.{is_visible, repainted}
 use Rattle.tr_machine.specs.Pictures.{colour_in, shown_of}
-use Rattle.tr_machine.specs.Promises.{Fits, LosesNothing}
+use Rattle.tr_machine.specs.Promises.{Fits}
 use Rattle.tr_machine.proofs.BaseLemmas.{base-lies, in_leaf-placed}
 use Rattle.tr_machine.proofs.ShownLemmas.{IsShowing, after-untouched, base_good, base_sees, untouched_colour}
 use Rattle.tr_machine.proofs.FlushLemmas.{brought_shows, by_state, forest_of, some_of}
+
+-- commands lose nothing: of each visible point whose colour is known before them, one is known after them
+abbrev pub LosesNothing : Look → List Paint → Type 0
+LosesNothing look batch =
+    (known : Base) (q : Point) → known.visible q ≡ true → is_none (known.known q) ≡ false → is_none (after look known batch q) ≡ false
 
 -- a test that would give what is false fails
 fails : (b c : Bool) → (b ≡ true → c ≡ true) → c ≡ false → b ≡ false

@@ -1,11 +1,10 @@
 -- What holds of each state of the machine, and of a screen that shows it.
-use Rattle.std.specs.Prelude.{◌≡◌, ◌≢◌, true, false, ◌⊎◌, List, Some, IfSome, is_none, length}
+use Rattle.std.specs.Prelude.{◌≡◌, ◌≢◌, true, false, ◌⊎◌, Some, IfSome, length}
 use Rattle.tr_base.specs.declared.Point.{Point}
 use Rattle.tr_base.specs.declared.LeafId.{LeafId}
 use Rattle.tr_screen.specs.Pictures.{Picture, pixel_of}
-use Rattle.tr_paint.specs.declared.Paint.{Paint}
 use Rattle.tr_paint.specs.Batches.{touches}
-use Rattle.tr_paint.specs.Traces.{Look, Base, after}
+use Rattle.tr_paint.specs.Traces.{after}
 use Rattle.tr_paint.specs.Patches.{IsPatch}
 use Rattle.tr_client.specs.declared.clients.Client.{Ghosts}
 use Rattle.tr_forest.specs.Nodes.{leaf_count}
@@ -15,11 +14,6 @@ use Rattle.tr_machine.specs.Windows.{Window, batch, content}
 use Rattle.tr_machine.specs.States.{State, base, batch_of, content_of, look, window_of}
 use Rattle.tr_machine.specs.Paintings.{is_visible}
 use Rattle.tr_machine.specs.Pictures.{colour_in, shown, want}
-
--- commands lose nothing: of each visible point whose colour is known before them, one is known after them
-abbrev pub LosesNothing : Look → List Paint → Type 0
-LosesNothing look batch =
-    (base : Base) (q : Point) → base.visible q ≡ true → is_none (base.known q) ≡ false → is_none (after look base batch q) ≡ false
 
 module _ {C M : Type 0} (client : Ghosts C M) where
   -- A state fits: after its batch each visible point of a leaf is unknown, or has its colour in the present content's picture.

@@ -7,12 +7,13 @@ use Rattle.tr_paint.specs.declared.Paint.{Paint}
 use Rattle.tr_paint.specs.declared.Paint.TheVariants.{Scroll, Spoil}
 use Rattle.tr_windows.specs.declared.exposures.Exposure.{Exposure}
 
--- what a scroll brings into a window of this size are points of the window
+-- a scroll brings only points of a window of this size into it
 abbrev pub BringsOwn : Size → Edges → Point → Type 0
 BringsOwn size clip delta =
     (q : Point) → has_point clip q ≡ true → has_point (whole_of size) q ≡ true → has_point (whole_of size) (before_shift q delta) ≡ true
 
--- A command spares what is known of a window: a spoil never does, a scroll where the window is whole and it brings in points of it alone.
+-- A command spares what is known of a window: a spoil never does, a scroll where the window is whole and it brings in points of it alone;
+-- any other command does.
 abbrev pub Spares : Exposure → Paint → Type 0
 Spares e (Scroll clip delta) = (e.is_whole ≡ true) × BringsOwn e.size clip delta
 Spares e (Spoil clip) = ⊥

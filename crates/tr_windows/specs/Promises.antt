@@ -21,8 +21,8 @@ pub record IsKnownWhole (size : Size) (base : Base) : Type 0 where
   pub visible : (q : Point) → base.visible q ≡ has_point (whole_of size) q
   pub known : (q : Point) → has_point (whole_of size) q ≡ true → is_none (base.known q) ≡ false
 
--- Commands lose nothing of a window: of each visible point whose colour is known before them, one is known after them. In a window that is
--- whole and has no bad point all points are known, and the commands may count on that: a scroll may bring in any point of the window.
+-- Commands lose nothing of a window: of each visible point whose colour is known before them, one is known after them. Where the window is
+-- whole they may count on all of its points being known, as they are in a whole window with no bad point: a scroll may bring in any of them.
 abbrev pub LosesNothingOf : Exposure → Look → List Paint → Type 0
 LosesNothingOf e look batch =
     (base : Base) → (e.is_whole ≡ true → IsKnownWhole e.size base) → (q : Point) → base.visible q ≡ true → is_none (base.known q) ≡ false →
@@ -38,8 +38,9 @@ module _ {C M : Type 0} (client : Ghosts C M) where
     pub few : length ws ≤ 32
     pub contents : (n : ℕ) (w : Present C) → slice_get ws n ≡ Some w → client.valid w.content
 
-  -- A batch repaints a window by a painting, whatever waits: it paints the part of the present picture that lies in the least rectangle round
-  -- all bad points and all that the waiting commands would touch: any other that has all of these has all of its points, too.
+  -- A batch repaints a window by a painting, whatever waits: it paints the part of the present picture that lies in the window and in the
+  -- least rectangle round all bad points and all that the waiting commands would touch: any other that has all of these has all of its
+  -- points, too.
   pub record IsByPainting (look : Look) (e : Exposure) (w : Present C) (batch : List Paint) : Type 0 where
     pub clip : Edges
     pub paints : IsPainting look (meet_of (whole_of e.size) clip) batch (client.pic look e.size w.content)

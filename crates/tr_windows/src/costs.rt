@@ -12,8 +12,8 @@ use tr_base::{Point, Rect, Size};
 use tr_client::window;
 use tr_paint::{Batch, Paint};
 
-/// Whether what waits for a window does as well as a painting of it, and costs less: nothing is bad,
-/// and no point is lost on the way.
+/// Whether what waits for a window costs less than a painting of it and, as far as is looked at, does as
+/// well: nothing is bad, and no point is lost on the way. Where it is false, painting is right all the same.
 pub(crate) fn is_cheaper(waiting: &Batch, painting: &Batch, exposure: &Exposure) -> bool
     requires { IsWindowSize exposure.now.size }
     ensures good { IsTrue result → (q : Point) → has_point exposure.now.bad q ≡ false }
@@ -83,6 +83,6 @@ fn weight(paint: &Paint) -> u64 {
     match paint {
         Paint::Tint { .. } | Paint::Pixels { .. } | Paint::Spoil { .. } => 1,
         Paint::Texture { .. } | Paint::Scroll { .. } => 2,
-        Paint::Text { .. } => 7,
+        Paint::Text { .. } => 3,
     }
 }

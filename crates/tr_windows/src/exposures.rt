@@ -4,7 +4,7 @@ use tr_base::{Rect, Size};
 #[derive(Clone, Copy, Debug)]
 pub struct Exposure {
     pub size: Size,
-    /// The least rectangle round its bad points.
+    /// The least rectangle round its bad points, in the window's own coordinates.
     pub bad: Rect,
     /// Whether each of its points is visible.
     pub is_whole: bool,
