@@ -13,3 +13,4 @@ pub mod StaleLemmas
 pub mod HandingLemmas
 pub mod SharingLemmas
 pub mod SharedLemmas
+pub mod ApartLemmas

@@ -14,6 +14,7 @@ use Rattle.tr_paint.specs.declared.Paint.{Paint}
 use Rattle.tr_paint.specs.Batches.{touches}
 use Rattle.tr_paint.specs.Traces.{Look, after}
 use Rattle.tr_exec.specs.Executions.{base_of, colour_after, placed}
+use Rattle.tr_exec.proofs.PlacedLemmas.{before-placed}
 use Rattle.tr_client.specs.declared.clients.Client.{Ghosts}
 use Rattle.tr_forest.specs.Forests.{IsForest}
 use Rattle.tr_tree.specs.Trees.{Seen}
@@ -29,7 +30,7 @@ use Rattle.tr_machine.specs.Paintings.{is_visible, repainted}
 use Rattle.tr_machine.specs.Pictures.{colour_in, shown, shown_of, want}
 use Rattle.tr_machine.specs.Promises.{Fits}
 use Rattle.tr_machine.specs.Machines.{done}
-use Rattle.tr_machine.proofs.BaseLemmas.{leaf_on, placed-in_leaf}
+use Rattle.tr_machine.proofs.BaseLemmas.{leaf_on}
 use Rattle.tr_machine.proofs.FlushLemmas.{apart, forest_of, now_shown}
 use Rattle.tr_machine.proofs.ListLemmas.{window_there}
 use Rattle.tr_machine.proofs.ShownLemmas.{IsShowing, colour_in_leaf, colour_same, untouched_colour}
@@ -62,20 +63,19 @@ left_out false = refl
 module _ {C M : Type 0} (client : Ghosts C M) where
   -- ---- painting apart
 
-  -- executed within visible points of the leaf, a painting of its window gives each of them the colour that it is to have
-  pub painted_part : {m : State C M} {leaf : LeafId} {how : Look} {extent : Size} {origin : Point} {content : C} {batch : List Paint}
-      (part bad : List Edges) (old new : Picture) → IsForest m.tree.nodes → IsPlan client m leaf how extent origin content batch →
-      ((p : Point) → holds part p ≡ true → is_visible m leaf p ≡ true) →
-      ((p : Point) (x : ℕ) → holds part p ≡ true → colour_after how (base_of origin part bad old) batch origin p ≡ Some x → pixel_of new p ≡ x) →
-      (p : Point) → holds part p ≡ true → pixel_of new p ≡ want client m p
-  painted_part {m} {leaf} {how} {extent} {origin} {content} {batch} part bad old new forest plan sees known p held =
-      known p (want client m p) held (plan_paints client (base_of origin part bad old) p forest plan (sees p held) seen)
+  -- executed anywhere, a painting of the leaf's window gives each visible point of the leaf, where it lies then, the colour that it is to have
+  pub painted_window : {m : State C M} {leaf : LeafId} {how : Look} {extent : Size} {content : C} {batch : List Paint} (origin : Point)
+      (part bad : List Edges) (old new : Picture) → IsForest m.tree.nodes → IsPlan client m leaf how extent content batch →
+      ((q : Point) (x : ℕ) → holds part q ≡ true → colour_after how (base_of origin part bad old) batch origin q ≡ Some x → pixel_of new q ≡ x) →
+      (p : Point) → is_visible m leaf p ≡ true → holds part (placed origin (in_leaf m.tree leaf p)) ≡ true →
+      pixel_of new (placed origin (in_leaf m.tree leaf p)) ≡ want client m p
+  painted_window {m} {leaf} {how} {extent} {content} {batch} origin part bad old new forest plan known p seen held =
+      known (placed origin q) (want client m p) held
+      (ap (λ (r : Point). after how (base_of origin part bad old) batch r) (before-placed origin q)
+      ∙ plan_paints client (base_of origin part bad old) p forest plan seen held)
     where
-      placed_is : placed origin (in_leaf m.tree leaf p) ≡ p
-      placed_is = ap (λ (c : Point). placed c (in_leaf m.tree leaf p)) plan.corner ∙ placed-in_leaf m.tree leaf p
-
-      seen : holds part (placed origin (in_leaf m.tree leaf p)) ≡ true
-      seen = ap (λ (r : Point). holds part r) placed_is ∙ held
+      q : Point
+      q = in_leaf m.tree leaf p
 
   -- ---- putting
 

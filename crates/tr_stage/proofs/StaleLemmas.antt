@@ -15,14 +15,13 @@ use Rattle.tr_screen.specs.Pictures.{IsScreenSize, Picture, pixel_of}
 use Rattle.tr_paint.specs.declared.paints.Paint.{Paint}
 use Rattle.tr_paint.specs.Batches.{touches}
 use Rattle.tr_paint.specs.Paintings.{IsPainting}
-use Rattle.tr_paint.specs.Traces.{Base, Look}
+use Rattle.tr_paint.specs.Traces.{Base, Look, after}
 use Rattle.tr_region.specs.Points.{count_in_square, holds}
-use Rattle.tr_exec.specs.Executions.{colour_after}
 use Rattle.tr_client.specs.declared.clients.Client.{Ghosts}
 use Rattle.tr_forest.specs.Forests.{IsForest}
 use Rattle.tr_tree.specs.Trees.{Seen}
 use Rattle.tr_spot.specs.Spots.{spot, is_in_leaf}
-use Rattle.tr_spot.specs.Leaves.{in_leaf, leaf_corner, leaf_size}
+use Rattle.tr_spot.specs.Leaves.{in_leaf, leaf_size}
 use Rattle.tr_spot.proofs.WayLemmas.{and_left, and_right}
 use Rattle.tr_surface.specs.Counts.{count_on}
 use Rattle.tr_journal.specs.declared.items.Item.{Item}
@@ -195,21 +194,19 @@ module _ {C M : Type 0} (client : Ghosts C M) where
 
   -- ---- how a leaf's window is painted
 
-  -- a batch that paints all of a leaf's window: its look, its size, where it lies, and its content
-  pub record IsPlan (m : State C M) (leaf : LeafId) (how : Look) (extent : Size) (origin : Point) (content : C) (batch : List Paint) : Type 0 where
+  -- a batch that paints all of a leaf's window: its look, its size and its content
+  pub record IsPlan (m : State C M) (leaf : LeafId) (how : Look) (extent : Size) (content : C) (batch : List Paint) : Type 0 where
     pub look : how ≡ look m
     pub size : extent ≡ leaf_size m.tree leaf
-    pub corner : origin ≡ leaf_corner m.tree leaf
     pub is : content_of client m leaf ≡ Some content
     pub paints : IsPainting how (meet_of (whole_of extent) (whole_of extent)) batch (client.pic how extent content)
 
   -- it gives each visible point the colour that it is to have
-  pub plan_paints : {m : State C M} {leaf : LeafId} {how : Look} {extent : Size} {origin : Point} {content : C} {batch : List Paint} (base : Base) (p : Point) →
-      IsForest m.tree.nodes → IsPlan m leaf how extent origin content batch → is_visible m leaf p ≡ true → base.visible (in_leaf m.tree leaf p) ≡ true →
-      colour_after how base batch origin p ≡ Some (want client m p)
-  plan_paints {m} {leaf} {how} {extent} {origin} {content} {batch} base p forest plan seen known =
-      ap (λ (c : Point). colour_after how base batch c p) plan.corner
-      ∙ plan.paints.shows base q known within
+  pub plan_paints : {m : State C M} {leaf : LeafId} {how : Look} {extent : Size} {content : C} {batch : List Paint} (base : Base) (p : Point) →
+      IsForest m.tree.nodes → IsPlan m leaf how extent content batch → is_visible m leaf p ≡ true → base.visible (in_leaf m.tree leaf p) ≡ true →
+      after how base batch (in_leaf m.tree leaf p) ≡ Some (want client m p)
+  plan_paints {m} {leaf} {how} {extent} {content} {batch} base p forest plan seen known =
+      plan.paints.shows base q known within
       ∙ ap (λ (l : Look). Some (client.pic l extent content q)) plan.look
       ∙ ap (λ (s : Size). Some (client.pic (look m) s content q)) plan.size
       ∙ ap (λ (o : Option C). Some (colour_in client m (leaf_size m.tree leaf) q o)) (sym plan.is)

@@ -1,12 +1,11 @@
 -- A window that is whole: each of its points is visible. Where none of them is bad, all are known before the waiting commands, and after them if
 -- these lose nothing.
-use Rattle.std.proofs.Common.{◌≡◌, ℕ, ℤ, pos, ◌+ℤ◌, ◌-ℤ◌, ◌≤ℤ◌, Bool, true, false, cond, not, ◌&&◌, List, ◌∷◌, [], ◌||◌, Option, Some, refl, sym, ap, ◌∙◌, get_or, length, ◌<◌, arith}
+use Rattle.std.proofs.Common.{◌≡◌, ℤ, pos, ◌+ℤ◌, ◌-ℤ◌, ◌≤ℤ◌, Bool, true, false, cond, not, ◌&&◌, List, ◌∷◌, [], ◌||◌, Option, refl, sym, ap, ◌∙◌, get_or, length, ◌<◌, arith}
 use Rattle.std.specs.Prelude.{is_none, unsigned_abs}
 use Rattle.std.specs.Option.{option_map}
 use Rattle.std.proofs.lemmas.Bool.{and_from, and_parts}
 use Rattle.std.proofs.lemmas.Int.{ints}
 use Rattle.tr_base.specs.declared.Point.{Point}
-use Rattle.tr_base.specs.declared.Size.{Size}
 use Rattle.tr_base.specs.declared.LeafId.{LeafId}
 use Rattle.tr_base.specs.Rects.{Edges, IsRect, between, has_point, whole_of}
 use Rattle.tr_base.proofs.RectLemmas.{false-true, has_point-rect_of}
@@ -20,7 +19,7 @@ use Rattle.tr_spot.specs.Spots.{size_of}
 use Rattle.tr_spot.specs.Leaves.{leaf_corner, leaf_size, in_leaf}
 use Rattle.tr_surface.specs.Surfaces.{Shown}
 use Rattle.tr_machine.specs.Windows.{Window}
-use Rattle.tr_machine.specs.States.{State, base, batch_of, look, window_of}
+use Rattle.tr_machine.specs.States.{State, base, batch_of, look}
 use Rattle.tr_machine.specs.Paintings.{is_visible, repainted}
 use Rattle.tr_machine.proofs.BaseLemmas.{base-lies}
 use Rattle.tr_machine.proofs.ShownLemmas.{IsShowing, base_good, base_sees}

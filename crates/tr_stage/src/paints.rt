@@ -41,7 +41,8 @@ impl<C: Client> Stage<C> {
         Ok(write(&mut self.journal, entry, &[]))
     }
 
-    /// What waits for a leaf is painted, and then each of its points that is bad.
+    /// A leaf comes to show its present content: what waits for it is executed, or a painting is that
+    /// covers all that waits and all that is bad.
     pub(crate) fn repaint(&mut self, by: &By, leaf: LeafId) -> Result<Reply, NoMemory>
         requires allowed { let t = (tree_of self.old.opening).nodes in
             IsFor {M = C.Cmd} t by.now.actor by.now.level (Step.Repaint leaf) }
@@ -90,7 +91,7 @@ impl<C: Client> Stage<C> {
     }
 }
 
-/// Whether the points of a region are all those of a leaf's window.
+/// Whether a region is one rectangle, that of a leaf's window, so that it has all points of it.
 fn is_whole(tree: &Tree, leaf: LeafId, visible: &Region) -> bool
     requires { leaf.0 < leaf_count tree.now.nodes }
     ensures { IsTrue result → (q : Point) → has_point (whole_of (leaf_size tree.now leaf)) q ≡ true →

@@ -1,10 +1,14 @@
-ghost use Rattle.std.specs.Prelude.{◌≡◌, ◌<◌, ◌++◌, ◌∷◌, [], true, IfOk, OnOk, OnErr};
+ghost use Rattle.std.specs.Prelude.{◌≡◌, ◌<◌, ◌++◌, ◌∷◌, [], true, length, slice_index, IfOk, OnOk, OnErr};
 ghost use Rattle.tr_base.specs.declared.Point.{Point};
+ghost use Rattle.tr_base.specs.Layouts.{IsDomain};
+ghost use Rattle.tr_base.specs.Rects.{IsRect};
+ghost use Rattle.tr_region.specs.Areas.{total_area};
+ghost use Rattle.tr_region.specs.Places.{place_in};
 ghost use Rattle.tr_region.specs.Points.{holds};
 ghost use Rattle.tr_screen.specs.Pictures.{pixel_of};
-ghost use Rattle.tr_exec.specs.Executions.{IsOrigin};
+ghost use Rattle.tr_exec.specs.Executions.{IsOrigin, LiesOn, placed};
 ghost use Rattle.tr_forest.specs.Nodes.{leaf_count};
-ghost use Rattle.tr_spot.specs.Leaves.{leaf_corner};
+ghost use Rattle.tr_spot.specs.Leaves.{in_leaf, leaf_corner, leaf_domain};
 ghost use Rattle.tr_levels.specs.declared.Level.TheVariants.{Share};
 ghost use Rattle.tr_journal.specs.declared.Actor.TheVariants.{Painter};
 ghost use Rattle.tr_journal.specs.Openings.{tree_of};
@@ -25,7 +29,7 @@ use tr_journal::{Actor, Answer, Reply, Step};
 use tr_levels::{Held, Level};
 use tr_region::Region;
 use tr_screen::Screen;
-use tr_spot::leaf_size;
+use tr_spot::{from_corner, leaf_size, size_of};
 use tr_surface::pixels_at;
 use tr_tree::Tree;
 
@@ -47,14 +51,39 @@ impl<C: Client> Stage<C> {
         ensures painted { IfOk result (λ painted.
             IsPaintedOf C.Client (state C.Client self.now) leaf painted.part painted.pixels.items) }
     {
-        // Called for what it tells the prover: that the screen has a size, and agrees with the state.
-        self.stands();
-        let screen = self.surface.screen();
         let part = self.surface.bad_of(leaf)?;
-        let mut wanted = Screen::blank(self.alloc, screen.size(), screen.kind())?;
-        self.paint_part(leaf, &part, &mut wanted)?;
-        let pixels = pixels_at(&wanted, &part)?;
+        let pixels = self.paint_apart(leaf, &part)?;
         Ok(Painted { leaf, part, pixels })
+    }
+
+    /// The pixels that visible points of a leaf are to have, by the rectangles of `part` in order and by
+    /// rows within each. They are painted on a screen that is only as large as the points' extents.
+    fn paint_apart(&self, leaf: LeafId, part: &Region) -> Result<Vec<u8>, NoMemory>
+        requires leaf { leaf.0 < leaf_count (tree_of self.now.opening).nodes }
+        requires part { let m = state C.Client self.now in
+            (p : Point) → holds part.now p ≡ true → is_visible m leaf p ≡ true }
+        ensures many { IfOk result (λ v. length v.items ≡ total_area part.now) }
+        ensures colours { let m = state C.Client self.now in
+            IfOk result (λ v. (p : Point) → holds part.now p ≡ true →
+            slice_index v.items (place_in part.now p) ≡ want C.Client m p) }
+    {
+        // Called for what they tell the prover: that the screen has a size, and that the part's list is
+        // canonical.
+        self.stands();
+        let _ = part.rects();
+        if part.is_empty() {
+            return Ok(Vec::new(self.alloc));
+        }
+        let tree = self.surface.tree();
+        let corner = corner_of(tree, leaf);
+        let area = part.extents();
+        // Where the corners of the screen and of the window lie, from that of the extents.
+        let by = from_corner(&area, Point { h: 0, v: 0 });
+        let origin = from_corner(&area, corner);
+        let here = part.shift(by)?;
+        let mut wanted = Screen::blank(self.alloc, size_of(&area), tree.kind())?;
+        self.paint_window(leaf, origin, &here, &mut wanted)?;
+        pixels_at(&wanted, &here)
     }
 
     /// Gives visible points of a leaf the colour that they are to have.
@@ -77,6 +106,32 @@ impl<C: Client> Stage<C> {
     {
         // Called for what it tells the prover: that the screen has the tree's size and kind.
         self.stands();
+        let corner = corner_of(self.surface.tree(), leaf);
+        self.paint_window(leaf, corner, part, wanted)
+    }
+
+    /// Paints a leaf's window with its north-west corner at `origin`, within some points of a screen, which
+    /// may be another than the stage's.
+    fn paint_window(
+        &self,
+        leaf: LeafId,
+        origin: Point,
+        part: &Region,
+        wanted: &mut Screen,
+    ) -> Result<(), NoMemory>
+        requires leaf { leaf.0 < leaf_count (tree_of self.now.opening).nodes }
+        requires origin { IsOrigin origin }
+        requires part { LiesOn wanted.old.size part.now }
+        requires kind { wanted.old.kind ≡ self.now.screen.kind }
+        ensures painted { let m = state C.Client self.now in
+            OnOk result ((p : Point) → is_visible m leaf p ≡ true →
+            holds part.now (placed origin (in_leaf m.tree leaf p)) ≡ true →
+            pixel_of wanted.new (placed origin (in_leaf m.tree leaf p)) ≡ want C.Client m p) }
+        ensures size { wanted.new.size ≡ wanted.old.size }
+        ensures kind { wanted.new.kind ≡ wanted.old.kind }
+    {
+        // Called for what it tells the prover: that the screen has the tree's kind.
+        self.stands();
         let tree = self.surface.tree();
         let env = Env {
             kind: tree.kind(),
@@ -85,13 +140,12 @@ impl<C: Client> Stage<C> {
         let size = leaf_size(tree, leaf);
         let content = self.windows.content(leaf);
         let painting = content.paint(self.alloc, &env, size, whole(size))?;
-        let corner = corner_of(tree, leaf);
         let mut unknown = Region::empty(self.alloc);
         execute(
             self.alloc,
             &painting,
             &env,
-            corner,
+            origin,
             part,
             wanted,
             &mut unknown,
@@ -113,7 +167,8 @@ impl<C: Client> Stage<C> {
         ensures err_journal { OnErr result (self.new.journal ≡ self.old.journal) }
         ensures err_screen { OnErr result (self.new.screen ≡ self.old.screen) }
         ensures others { let t = (state C.Client self.old).tree in
-            OnOk result (KeepsOthers {M = C.Cmd} t (Step.Repaint painted.leaf) self.old.screen self.new.screen) }
+            OnOk result (KeepsOthers {M = C.Cmd} t (Step.Repaint painted.leaf)
+            self.old.screen self.new.screen) }
     {
         let by = By {
             actor: Actor::Painter,
@@ -156,6 +211,8 @@ fn corner_of(tree: &Tree, leaf: LeafId) -> Point
     requires { leaf.0 < leaf_count tree.now.nodes }
     ensures value { result ≡ leaf_corner tree.now leaf }
     ensures origin { IsOrigin result }
+    ensures domain { IsDomain (leaf_domain tree.now leaf) }
+    ensures rect { IsRect (leaf_domain tree.now leaf) }
 {
     let domain = tree.domain(tree.node_of(leaf));
     // Called for what it tells the prover: that the edges are those of a rectangle.
