@@ -1,8 +1,9 @@
 -- What the workers of a session are given, and what they make of it.
-use Rattle.std.proofs.Common.{◌≡◌, ℕ, ◌+◌, ◌<◌, ◌≤◌, Bool, true, false, nat_lt, cond, List, [], ◌∷◌, length, take, get_or, refl, sym, ap, subst, ◌∙◌, arith}
+use Rattle.std.proofs.Common.{◌≡◌, ℕ, ◌+◌, ◌<◌, ◌≤◌, Bool, true, false, nat_lt, cond, List, [], ◌∷◌, ◌==◌, length, take, get_or, refl, sym, ap, subst, ◌∙◌, arith}
 use Rattle.std.specs.Prelude.{All}
 use Rattle.std.proofs.lemmas.Bool.{ltb-false, ltb-true}
-use Rattle.std.proofs.lemmas.List.{get_or_default, get_or_past, get_or-take, length-take-le}
+use Rattle.std.proofs.lemmas.Bool.Decides.{nat_tests}
+use Rattle.std.proofs.lemmas.List.{append-nil, get_or_default, get_or_past, get_or-take, length-take-le}
 use Rattle.std.proofs.lemmas.List.Elements.{All-cons, All-head, All-nil, All-tail, All-weaker}
 use Rattle.tr_base.specs.declared.LeafId.{LeafId}
 use Rattle.tr_base.proofs.RectLemmas.{false-true}
@@ -15,7 +16,8 @@ use Rattle.tr_journal.specs.Lists.{HasList, ListsView, list_of}
 use Rattle.tr_journal.specs.Steps.{IsLeaf, IsStep, may}
 use Rattle.tr_journal.proofs.ActorLemmas.{same_actor}
 use Rattle.tr_interleaves.proofs.LegalLemmas.{leaf_acts}
-use Rattle.tr_parts.specs.Turns.{IsMade}
+use Rattle.tr_parts.specs.Turns.{HasRun, IsMade}
+use Rattle.tr_stage.specs.Stages.{StageView}
 use Rattle.tr_server.specs.Passes.{PassView}
 use Rattle.tr_play.specs.Lists.{AreListed, HaveLists}
 use Rattle.tr_play.specs.Sessions.{AreWhole}
@@ -144,3 +146,14 @@ pub still_workers : {M : Type 0} (leaves : ℕ) (before after : List (PassView M
 still_workers {M} leaves before after lists all many taken = λ i d within.
     let low : i < length before = omega (arith, within, many) in
     subst (λ (actor : Actor). IsWorker leaves actor) (sym (taken i d low).actor) (all i d low)
+
+-- where there is no step, a stage that stays has run
+pub ran_nothing : {C M : Type 0} (s : StageView C M) (steps : List (Actor × Step M)) → (length steps == 0) ≡ true → HasRun s s steps
+ran_nothing s [] none = record {
+  lines = [];
+  opening = refl;
+  journal = sym (append-nil s.journal);
+  made = λ actor maker. refl;
+  player = refl;
+}
+ran_nothing s (x ∷ xs) some = let none : length (x ∷ xs) ≡ 0 = grind (arith, nat_tests) in absurd (omega arith)

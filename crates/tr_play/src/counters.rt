@@ -3,7 +3,7 @@ use std::thread;
 
 /// How often somebody who waits for steps looks in vain, one time after another, before he gives up: where no
 /// thread can be made, those who are to make them come after him.
-const MOST_LOOKS: u32 = 2_000;
+const MOST_LOOKS: u32 = 10_000;
 
 /// How many steps of a part were made so far, by all workers together. A hint for whoever comes from time to
 /// time: no contract counts on it.

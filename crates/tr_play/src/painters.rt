@@ -12,22 +12,19 @@ use tr_levels::Ladder;
 use tr_server::{Mu, Pass, Session};
 
 impl<C: Client, L: Session, R: Threads + Wait + Sync, G: Gate> Context<'_, C, L, R, G> {
-    /// The painter brings the screen up to date so many times, until memory runs out. He comes after 16 steps,
-    /// after 32, 64 and so on, and repaints each time as often as in all before, so that the others mostly find
-    /// the tree's lock free. Once he has waited for them in vain he waits no more.
+    /// The painter brings the screen up to date so many times, until memory runs out: at once, after 16 steps,
+    /// after 32, 64 and so on, and once all steps were made as often as is left. So the others mostly find the
+    /// tree's lock free. Once he has waited for them in vain he waits no more.
     pub(crate) fn paint(&self, pass: &mut Pass<C, L>, repaints: usize)
         requires { pass.old.actor ≡ Painter }
         ensures { pass.new.actor ≡ pass.old.actor }
     {
-        let mut next: usize = 1;
-        for repaint in 0..repaints {
-            if repaint == next {
-                next = if self.made.wait_for(steps_before(repaint)) {
-                    next.saturating_mul(2)
-                } else {
-                    usize::MAX
-                };
-            }
+        let all = repaints.saturating_sub(1).saturating_mul(STEPS_A_REPAINT);
+        let mut next: usize = 0;
+        let mut is_patient = true;
+        for _repaint in 0..repaints {
+            is_patient = is_patient && self.made.wait_for(next.min(all) as u64);
+            next = next.saturating_mul(2).max(STEPS_A_REPAINT);
             if self.paint_once(pass).is_err() {
                 return;
             }
@@ -62,9 +59,4 @@ impl<C: Client, L: Session, R: Threads + Wait + Sync, G: Gate> Context<'_, C, L,
         }
         Ok(())
     }
-}
-
-/// How many steps are to be made before the repaint with this number.
-fn steps_before(repaint: usize) -> u64 {
-    (repaint as u64).saturating_mul(STEPS_A_REPAINT as u64)
 }

@@ -18,6 +18,9 @@ use tr_server::{Pass, Session, Window};
 /// How many commands may be posted with a pass before one is made under the tree's lock.
 const MOST_POSTED: u8 = 64;
 
+/// After how many steps of its own a worker tells whoever waits for steps.
+const STEPS_A_NOTE: u32 = 8;
+
 impl<C: Client, L: Session, R: Wait, G: Gate> Context<'_, C, L, R, G> {
     /// Makes the steps of a list, one after another, until memory runs out. Before each the gate is asked,
     /// with no lock held.
@@ -34,8 +37,11 @@ impl<C: Client, L: Session, R: Wait, G: Gate> Context<'_, C, L, R, G> {
                 self.made.add(list.len() as u64);
                 return;
             }
-            self.made.add(1);
+            if made % STEPS_A_NOTE == 0 {
+                self.made.add(u64::from(STEPS_A_NOTE));
+            }
         }
+        self.made.add(u64::from(made % STEPS_A_NOTE));
     }
 
     /// Makes a step.

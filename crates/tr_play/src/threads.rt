@@ -1,5 +1,7 @@
-ghost use Rattle.std.specs.Prelude.{◌≡◌, All, IfErr, IfOk};
+ghost use Rattle.std.specs.Prelude.{◌≡◌, [], All, IfErr, IfOk, IsTrue};
 ghost use Rattle.tr_journal.specs.Openings.{tree_of};
+ghost use Rattle.tr_machine.specs.Settling.{settling};
+ghost use Rattle.tr_stage.specs.Stages.{state};
 ghost use Rattle.tr_parts.specs.Turns.{HasRun, IsMade};
 ghost use Rattle.tr_server.specs.Closing.{IfDiffers};
 ghost use Rattle.tr_play.specs.Plays.{HasLeft};
@@ -31,7 +33,8 @@ pub struct Workers<'a, R, G> {
 pub(crate) const STEPS_A_REPAINT: usize = 16;
 
 /// Makes the steps of a part on a stage, each actor's in a thread of its own. Meanwhile the painter brings
-/// the screen up to date, once and once more for each 16 steps.
+/// the screen up to date, once and once more for each 16 steps. Where there is no step and the painter
+/// would find nothing to do, nobody is started.
 pub(crate) fn make_side_by_side<C: Client, R: Threads + Wait + Sync, G: Gate + Sync>(
     workers: &Workers<'_, R, G>,
     stage: Stage<C>,
@@ -41,6 +44,9 @@ pub(crate) fn make_side_by_side<C: Client, R: Threads + Wait + Sync, G: Gate + S
     ensures ok { IfOk result (λ s. HasRun stage s steps.now) }
     ensures differs { IfErr result (λ e. IfDiffers e (λ d. HasLeft C.Client stage.opening steps.now d)) }
 {
+    if steps.is_empty() && is_settled(&stage) {
+        return Ok(stage);
+    }
     let leaves = stage.opening().tree().leaves();
     let Ok(lists) = lists_of(workers.alloc, steps, leaves) else {
         return Err(CloseRefused::NoMemory);
@@ -52,4 +58,15 @@ pub(crate) fn make_side_by_side<C: Client, R: Threads + Wait + Sync, G: Gate + S
     let stage = session::<C, Brand, R, G>(workers, blank, stage, &lists, repaints)?;
     stands(&stage);
     Ok(stage)
+}
+
+/// Whether nothing waits for a window, and no point is bad. Where memory is wanted to see that, the painter
+/// is to look.
+fn is_settled<C: Client>(stage: &Stage<C>) -> bool
+    ensures { IsTrue result → settling C.Client (state C.Client stage.now) ≡ [] }
+{
+    match stage.steps_to_settle() {
+        Ok(steps) => steps.is_empty(),
+        Err(_) => false,
+    }
 }

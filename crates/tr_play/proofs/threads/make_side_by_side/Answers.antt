@@ -4,7 +4,7 @@ use Rattle.tr_forest.specs.Nodes.{leaf_count}
 use Rattle.tr_journal.specs.declared.steps.Actor.TheVariants.{Player}
 use Rattle.tr_journal.specs.Openings.{tree_of}
 use Rattle.tr_play.specs.Lists.{AreListed, HaveLists}
-use Rattle.tr_play.proofs.WorkerLemmas.{have_lists, lists_ready, no_player}
+use Rattle.tr_play.proofs.WorkerLemmas.{have_lists, lists_ready, no_player, ran_nothing}
 use Rattle.tr_play.proofs.SessionLemmas.{has_run, left_by}
 use Rattle.tr_play.proofs.threads.make_side_by_side.Goals as goal
 
@@ -45,3 +45,7 @@ returns-clause-ok g c =
       player = c.in-Ok.ensures.steps Player tt ∙ no_player (tree_of c.args.stage.opening).nodes c.args.steps.now c.requires;
       made = c.requires;
     })
+
+pub returns-then-is_settled-clause-ok : goal.returns-then-is_settled-clause-ok
+returns-then-is_settled-clause-ok g c =
+    ran_nothing c.args.stage c.args.steps.now (sym c.is_empty.ensures ∙ c.if-is_empty.true)
