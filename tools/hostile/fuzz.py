@@ -13,7 +13,8 @@ prints, where the screen is small (10). A run has one second of the processor, a
 `play` four seconds, and a minute by the clock.
 
 A script that differs is shown by its number: the same call with `--from NUMBER --show` prints it. At the end stand the
-number of the scripts that were played and refused, and the slowest. The status is 1 where any differed."""
+number of the scripts that were played and refused, and the slowest, each by its number and the seed. The status is 1 where
+any differed."""
 
 import argparse
 import multiprocessing
@@ -197,7 +198,8 @@ def try_chunk(work: Work) -> List[Tried]:
 class Summary:
     """What all runs came to."""
 
-    def __init__(self, most_spare: int) -> None:
+    def __init__(self, seed: str, most_spare: int) -> None:
+        self.seed = seed
         self.codes: Counter = Counter()
         self.problems = 0
         self.by_threads = 0
@@ -230,7 +232,7 @@ class Summary:
         yield f"fuzz: {self.by_threads} of them played by threads too, {self.others} in another order than the script's"
         yield f"fuzz: {self.problems} differ; {self.seconds:.0f} processor seconds"
         for seconds, number, size in self.slowest:
-            yield f"fuzz: among the slowest: script {number} of {size} bytes takes {1000 * seconds:.0f} ms"
+            yield f"fuzz: among the slowest of seed {self.seed}: script {number} of {size} bytes takes {1000 * seconds:.0f} ms"
         yield f"fuzz: the most memory beside script and output: {self.greatest[0] // 1024} KB, script {self.greatest[1]}"
 
 
@@ -258,7 +260,7 @@ def main() -> int:
     if given.show:
         sys.stdout.buffer.write(draw(given.seed, given.begin, others()))
         return 0
-    summary = Summary(given.megabytes * MEGABYTE)
+    summary = Summary(given.seed, given.megabytes * MEGABYTE)
     end = given.begin + given.count
     chunks = [Work(given, at, min(at + CHUNK, end)) for at in range(given.begin, end, CHUNK)]
     with multiprocessing.Pool(given.workers) as pool:

@@ -13,8 +13,8 @@ sys.path.insert(0, str(Path(__file__).resolve().parents[1]))
 
 from hostile.program import PLAYED, REFUSED, Limits, Runner  # noqa: E402
 from hostile.reader import Refusal, refusal_of  # noqa: E402
-from trestle_tools.scripts import CHECK_STEPS, DEPTH, LEAVES, LINE_BYTES, LINES, REPORTS, SYNCS  # noqa: E402
-from trestle_tools.scripts import TEXT_BYTES, WINDOWS  # noqa: E402
+from trestle_tools.scripts import CHECK_STEPS, DEPTH, LEAVES, LINE_BYTES, LINES, NAME_BYTES, REPORTS, STR_BYTES  # noqa: E402
+from trestle_tools.scripts import SYNCS, TEXT_BYTES, WINDOWS  # noqa: E402
 
 HEAD = ["trestle 2", "screen 1 1 map8"]
 LEAF = "leaf a 1 1 1 1 1 1 solid 7"
@@ -73,6 +73,36 @@ def texts() -> Iterator[Case]:
     yield plays("a line of 1,024 bytes", text(BEGIN, ["#" * LINE_BYTES, "dump", "end"]), *dump)
     yield refused("a line of 1,025 bytes", text(BEGIN, ["#" * (LINE_BYTES + 1), "dump", "end"]), 6, 9)
     yield refused("and behind the end", text(BEGIN, ["dump", "end", "#" * (LINE_BYTES + 1)]), 8, 9)
+
+
+def strings() -> Iterator[Case]:
+    """The texts of a label, a typescript and an editor, also where a key would make them longer."""
+    wide = 8 * STR_BYTES
+    head = ["trestle 2", f"screen {wide} 8 map8", f"glyph 78 {FULL}"]
+    leaf = f"leaf a {wide} {wide} {wide} 8 8 8"
+    written, dump = "x" * STR_BYTES, [f"dump {wide} 8 map8", *["01" * wide] * 8]
+    label = [*head, f"{leaf} label {written}"]
+    yield plays("a label of 80 bytes", text(label, ["root a", "begin", "dump", "end"]), *dump)
+    yield refused("a label of 81 bytes", text(label[:-1], [f"{label[-1]}x"]), 4, 2)
+    owning = ["root a", "begin", "motion 1 0 0", "mouse 2 down 1", "sync", "@a own key 2", "@a take", "sync"]
+    keyed = [*owning, "key 3 120", "sync", "@a take", "sync", "dump", "end"]
+    yield plays("a label of 80 bytes by a key", text(head, [f"{leaf} label {written[:-1]}"], keyed), *dump)
+    yield plays("a key on a label of 80 bytes", text(label, keyed), *dump)
+    for widget, command in (("lines", "line"), ("edit", "insert")):
+        body = [*head, f"{leaf} {widget}", "root a", "begin", f"@a {command} {written}"]
+        yield plays(f"{command} of 80 bytes", text(body, ["sync", "dump", "end"]), *dump)
+        yield refused(f"{command} of 81 bytes", text(body[:-1], [f"{body[-1]}x"]), 7, 2)
+    yield plays("a byte more for a line of 80", text(body, ["@a insert x", "sync", "dump", "end"]), *dump)
+
+
+def names() -> Iterator[Case]:
+    """The letters of a name."""
+    name, other = "a" * NAME_BYTES, "b" * NAME_BYTES
+    shape = LEAF.split(" ", 2)[2]
+    body = [f"leaf {name} {shape}", f"node {other} h 0", f"put {name} {other}", f"root {other}", "begin", "where 0 0", "end"]
+    yield plays("names of 16 letters", text(HEAD, body), f"where 0 0 leaf {name} 0 0")
+    yield refused("a leaf with a name of 17", text(HEAD, [f"leaf {name}a {shape}"]), 3, 2)
+    yield refused("a node with a name of 17", text(HEAD, [f"node {name}a h 0"]), 3, 2)
 
 
 def counts() -> Iterator[Case]:
@@ -189,7 +219,7 @@ def threads() -> Iterator[Case]:
 
 def cases() -> Iterator[Case]:
     """All of them."""
-    for group in (texts, counts, windows, levels, screens, contents, checks, threads):
+    for group in (texts, strings, names, counts, windows, levels, screens, contents, checks, threads):
         yield from group()
 
 

@@ -9,7 +9,9 @@ is none."""
 
 import fcntl
 import os
+import re
 import resource
+import shutil
 import signal
 import subprocess
 import sys
@@ -22,9 +24,10 @@ from typing import Callable, Iterator, List, Optional, Tuple
 sys.path.insert(0, str(Path(__file__).resolve().parents[1]))
 
 from hostile.program import NO_MEMORY, PLAYED, READ_FAULT, REFUSED, WRITE_FAULT  # noqa: E402
+from hostile.reader import refusal_of  # noqa: E402
 from hostile.threads import LAST  # noqa: E402
 
-TOP = Path(__file__).resolve().parents[2]
+HERE = Path(__file__).resolve().parent
 MEGABYTE = 1 << 20
 PIPE = subprocess.PIPE
 # The least room that a pipe can have, and the call that sets it (fcntl.F_SETPIPE_SZ, which older Pythons don't name).
@@ -32,6 +35,8 @@ PAGE, SET_ROOM = 4096, 1031
 
 SMALL = b"trestle 1\nscreen 1 1 map8\nleaf a 1 1 1 1 1 1 solid 7\nroot a\nbegin\ndump\nend\n"
 WRITTEN = b"dump 1 1 map8\n07\n"
+# What nth_thread.c tells: how many threads were asked for.
+ASKED = re.compile(rb"threads (\d+)\n")
 
 
 def dumps(side: int, count: int) -> Tuple[bytes, bytes]:
@@ -41,13 +46,21 @@ def dumps(side: int, count: int) -> Tuple[bytes, bytes]:
     return head + b"dump\n" * count + b"end\n", dump * count
 
 
-def clients(count: int) -> Tuple[bytes, bytes]:
-    """A script in which so many clients have ten lines each, in two parts, and what `play` writes of it."""
+def clients(count: int, rounds: int = 1) -> Tuple[bytes, bytes]:
+    """A script in which so many clients have ten lines each, or more, in two parts, and what `play` writes of it."""
     head = b"trestle 1\nscreen %d 1 map8\nnode r h 0\n" % count
     leaves = b"".join(b"leaf l%d 1 1 1 1 1 1 solid 0\nput l%d r\n" % (it, it) for it in range(count))
     tints = b"".join(b"@l%d tint %d\n" % (it, tint) for tint in range(7, 17) for it in range(count))
     dump = b"dump %d 1 map8\n%s\n" % (count, b"10" * count)
-    return head + leaves + b"root r\nbegin\n" + 2 * (tints + b"sync\ndump\n") + b"end\n", 2 * dump + LAST
+    return head + leaves + b"root r\nbegin\n" + 2 * (rounds * tints + b"sync\ndump\n") + b"end\n", 2 * dump + LAST
+
+
+def threads_of(number: int) -> int:
+    """How many threads a process has; none, where it has ended."""
+    try:
+        return len(os.listdir(f"/proc/{number}/task"))
+    except FileNotFoundError:
+        return 0
 
 
 class Trials:
@@ -97,6 +110,22 @@ class Trials:
         child.stdin.close()
         return self.finish(child, PLAYED, child.stdout.read(), WRITTEN)
 
+    def given_in_part(self) -> Optional[str]:
+        """A script whose writer goes away after some bytes, mostly within a line, and not at once."""
+        for count in (0, 1, 9, 10, 30, 59, 62, 66, 69, 71, 74):
+            refusal = refusal_of(SMALL[:count])
+            child = self.start(bufsize=0)
+            child.stdin.write(SMALL[:count])
+            time.sleep(0.05)
+            if child.poll() is not None:
+                return f"after {count} bytes: it has ended before its input has"
+            child.stdin.close()
+            due = (REFUSED, refusal.text()) if refusal else (PLAYED, WRITTEN)
+            found = self.finish(child, due[0], child.stdout.read(), due[1])
+            if found:
+                return f"after {count} bytes: {found}"
+        return None
+
     def given_a_folder(self) -> Optional[str]:
         """A folder in place of a script."""
         folder = os.open("/", os.O_RDONLY)
@@ -137,6 +166,20 @@ class Trials:
             if count % 50 == 0:
                 time.sleep(0.005)
         return self.finish(child, PLAYED, output, want)
+
+    def read_slowly(self) -> Optional[str]:
+        """A reader who takes a byte a second, twenty of them, while the program waits for room in the pipe; and then the rest."""
+        script, want = dumps(64, 1)
+        child = self.start(bufsize=0)
+        child.stdin.write(script)
+        child.stdin.close()
+        output = b""
+        for _ in range(20):
+            output += child.stdout.read(1)
+            time.sleep(1)
+        has_waited = child.poll() is None
+        found = self.finish(child, PLAYED, output + child.stdout.read(), want)
+        return found or (None if has_waited else "it has not waited for its reader")
 
     def read_in_part(self) -> Optional[str]:
         """A reader who goes away after some bytes."""
@@ -247,23 +290,75 @@ class Trials:
 
     def without_threads(self) -> Optional[str]:
         """The system starts no thread, so one does the work of all. It wants the right to be another user."""
-        script, want = clients(8)
-        if os.geteuid() != 0:
-            print("streams: nobody can be another user here, so that a system without threads was not tried")
-            return None
+        return self._with_threads([1], *clients(8))
 
-        def alone() -> None:
-            resource.setrlimit(resource.RLIMIT_NPROC, (1, 1))
+    def with_few_threads(self) -> Optional[str]:
+        """The system lets some threads be there at once, and starts no other then. The first one can always be started. A part
+        of 32 clients halves its work again and again, each time with another thread for the one half, down to one actor: where
+        each could be started, six would be there at once, each waiting for the next. So at least one is refused. Which ones,
+        and how many, hangs on when the others end."""
+        return self._with_threads([2, 3, 4, 5], *clients(32, 20))
+
+    def _with_threads(self, numbers: List[int], script: bytes, want: bytes) -> Optional[str]:
+        """Plays a script where so many threads may be there at once, the first one among them, for each of some numbers."""
+        if os.geteuid() != 0:
+            print("streams: nobody can be another user here, so that a system with few threads was not tried")
+            return None
+        for number in numbers:
+            try:
+                child = self._limited(number)
+            except (OSError, subprocess.SubprocessError) as error:
+                print(f"streams: another user can't run the program ({error}), so that a system with few threads was not tried")
+                return None
+            found = self._watched(child, number, script, want)
+            if found:
+                return f"with {number} at once: {found}"
+        return None
+
+    def _limited(self, allowed: int) -> subprocess.Popen:
+        """Starts the program, for another user, where so many threads may be there at once."""
+
+        def limited() -> None:
+            resource.setrlimit(resource.RLIMIT_NPROC, (allowed, allowed))
             os.setuid(54321)
 
-        try:
-            child = self.start(["play"], preexec_fn=alone)
-        except (OSError, subprocess.SubprocessError) as error:
-            print(f"streams: the program can't be run by another user ({error}), so that a system without threads was not tried")
-            return None
+        return self.start(["play"], preexec_fn=limited)
+
+    def _watched(self, child: subprocess.Popen, allowed: int, script: bytes, want: bytes) -> Optional[str]:
+        """Has it play a script, and looks that so many threads are there at once."""
         child.stdin.write(script)
         child.stdin.close()
-        return self.finish(child, PLAYED, child.stdout.read(), want)
+        most = 1
+        while child.poll() is None:
+            most = max(most, threads_of(child.pid))
+            time.sleep(0.0002)
+        found = self.finish(child, PLAYED, child.stdout.read(), want)
+        if most > allowed:
+            print(f"streams: this system does not keep to a limit of {allowed}, so that it was not tried with few threads")
+        return found or (None if most >= allowed else f"no more than {most} were seen at once")
+
+    def with_one_thread_less(self) -> Optional[str]:
+        """One of the threads that are asked for can't be started: the first, the second, and so on. It wants cc."""
+        if shutil.which("cc") is None:
+            print("streams: there is no cc, so that a thread that can't be started by itself was not tried")
+            return None
+        script, want = clients(8)
+        with tempfile.TemporaryDirectory() as folder:
+            library = f"{folder}/nth.so"
+            subprocess.run(["cc", "-O2", "-shared", "-fPIC", "-o", library, str(HERE / "nth_thread.c"), "-ldl"], check=True)
+            refused = 0
+            while True:
+                environment = {"LD_PRELOAD": library, "REFUSED": str(refused + 1)}
+                ran = subprocess.run([self.program, "play"], input=script, env=environment, capture_output=True, check=False)
+                told = ASKED.fullmatch(ran.stderr)
+                if not told or (ran.returncode, ran.stdout) != (PLAYED, want):
+                    return f"without the thread of number {refused + 1}: status {ran.returncode}, {ran.stderr[:100]!r}"
+                if int(told[1]) <= refused:
+                    break
+                refused += 1
+        print(f"streams: one thread less: {refused} threads, of which each was refused once")
+        # (ten actors want nine more in each of the two parts)
+        return None if refused >= 18 else f"only {refused} threads were asked for"
 
     def many_at_once(self) -> Optional[str]:
         """64 programs at once."""
