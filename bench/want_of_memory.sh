@@ -14,9 +14,9 @@
 #           again. PROGRAM is a linked program of tests; where it is left out, `rt test` proves and builds it.
 # steps     Two stages side by side (bench/twins) play a script with each sort of step, and where a step of the first wants
 #           memory it is compared with the second, field by field. The growths of the numbers FIRST to LAST are refused,
-#           one in each run, or from FIRST on, or all of them: some 2,000, each in two ways, in a second of the processor.
-#           It is not proved, only compiled by `rt try`, once for all runs, and once more where the growths are to be
-#           counted first, in a minute.
+#           one in each run, or from FIRST on, or all of them: some 1,800 in each of two ways, in 12 minutes of the
+#           processor. The twins are not proved, only linked by `rt try`, with its checks, in a minute of the processor. It
+#           keeps no program, so theirs is taken out of its folder while it counts the growths.
 #
 # The first two want cc.
 set -eu
@@ -81,37 +81,11 @@ tests() {
     exit $((wrong > 0))
 }
 
-# The growth that `rt try` refuses. The twins spend as many before as make it the one that is meant.
+# The growth that is refused in each run of the twins. They spend as many before as make it the one that is meant.
 refused=5000
 
-# twins FIRST LAST: plays bench/twins/script once for each of these growths and each way, or once for each way where both are
-# `count`, in which case no growth is refused but the one behind the play. What is printed is in $folder/out, and the cases
-# with their statuses are in $folder/cases.
-twins() {
-    rm -rf "$folder/given"
-    mkdir "$folder/given"
-    awk -v first="$1" -v last="$2" -v refused="$refused" -v folder="$folder/given" '
-    function give(name, spare, way) {
-        name = folder "/" name "." way
-        printf "%s", script >name
-        print spare "\n" way >(name ".args")
-        close(name)
-        close(name ".args")
-    }
-    function both(name, spare) { give(name, spare, "plain"); give(name, spare, "shared") }
-    { script = script $0 "\n" }
-    END {
-        if (first == "count") both("count", "count")
-        else for (growth = first; growth <= last; growth++) both(growth, refused - growth)
-    }' "$top/bench/twins/script"
-    # (the interpreter, which knows no arguments, gets one step)
-    (cd "$crate" && rt try --steps 1 --fail-alloc "$refused" --cases "$folder/given") >"$folder/out" 2>"$folder/cases" || {
-        status=$?
-        [ "$status" -ge 4 ] || { tail -n 5 "$folder/cases" >&2; exit "$status"; }
-    }
-}
-
-steps() {
+# Copies the crates, with the twins as one more in $crate.
+copy() {
     crate=$folder/copy/crates/twins
     mkdir -p "$crate/src" "$crate/specs" "$crate/proofs"
     (cd "$top" && git ls-files -co --exclude-standard -z crates crates.txt HANDLES | tar --null -T - -cf -) |
@@ -121,35 +95,73 @@ steps() {
     : >"$crate/specs/Lib.antt"
     : >"$crate/proofs/Lib.antt"
     cat "$top/bench/twins/crate" >>"$folder/copy/crates.txt"
-    first=${1:-1}
-    last=${2:-}
-    if [ -z "$last" ]; then
-        twins count count
-        last=$(awk -v refused="$refused" '
-            $1 == "left" { growths = refused - 1 - $2; most = growths > most ? growths : most }
-            END { print most + 0 }' "$folder/out")
-        [ "$last" -ge "$first" ] || { cat "$folder/out" "$folder/cases" >&2; exit 1; }
-    fi
-    twins "$first" "$last"
-    grep '^the stages differ' "$folder/out" || true
-    awk -v due=$((2 * (last - first + 1))) '
-        !/^case=/ { said = said $0 "\n"; next }
-        {
-            tried++
-            if ($2 == "run=ended" && $3 == "status=10") compared++
-            else if ($2 == "run=ended" && $3 == "status=6") elsewhere++
-            else if ($2 == "run=ended" && $3 == "status=0") without++
-            else { wrong++; printf "%s%s\n", said, $0 }
-            said = ""
-        }
-        END {
-            printf "steps: %d growths refused: after %d the stages were compared, ", tried, compared
-            printf "%d were wanted before or between steps, %d by the other stage ", elsewhere, without
-            printf "or by what does without, %d wrong\n", wrong
-            if (tried == due && !wrong) exit 0
-            printf "%s", said
+}
+
+# Links $folder/twins, and counts the growths in both ways: the counts are in $folder/counted, and what else is said is in
+# $folder/said.
+build() {
+    mkdir "$folder/given" "$folder/tries"
+    for way in plain shared; do
+        cp "$top/bench/twins/script" "$folder/given/$way"
+        printf '%s\n' count "$way" >"$folder/given/$way.args"
+    done
+    while kill -0 $$ 2>/dev/null && ! ln "$folder"/tries/*/*/program "$folder/twins" 2>/dev/null; do sleep 0.1; done &
+    waiting=$!
+    # (the interpreter, which knows no arguments, gets one step)
+    (cd "$crate" && TMPDIR=$folder/tries rt try --steps 1 --fail-alloc "$refused" --cases "$folder/given") \
+        >"$folder/counted" 2>"$folder/said" || true
+    kill "$waiting" 2>/dev/null || true
+}
+
+# twins GROWTH WAY: plays the script with this growth refused, and counts in which way it ended.
+twins() {
+    status=0
+    # (at most 20 seconds of the processor: on a crowded machine those of the clock say nothing)
+    (ulimit -t 20 && exec "$folder/twins" $((refused - $1)) "$2") <"$top/bench/twins/script" >"$folder/out" 2>&1 || status=$?
+    tried=$((tried + 1))
+    # (where it stopped at a fault, it says which, whatever the status)
+    [ -s "$folder/out" ] && status="$status, and it wrote"
+    case $status in
+    0) without=$((without + 1)) ;;
+    6) elsewhere=$((elsewhere + 1)) ;;
+    10) compared=$((compared + 1)) ;;
+    *)
+        wrong=$((wrong + 1))
+        echo "growth $1, $2: status $status"
+        cat "$folder/out"
+        ;;
+    esac
+}
+
+# growths WAY: how many growths the play has in this way.
+growths() {
+    awk -v way="$1" -v refused="$refused" '
+        $1 == "==" { is_asked = $2 == way }
+        $1 == "left" && is_asked { growths = refused - 1 - $2 }
+        END { print (growths > 0 ? growths : 0) }' "$folder/counted"
+}
+
+steps() {
+    copy
+    build
+    tried=0 compared=0 elsewhere=0 without=0 wrong=0
+    for way in plain shared; do
+        growth=${1:-1}
+        last=$(growths "$way")
+        if [ ! -e "$folder/twins" ] || [ "$last" -eq 0 ]; then
+            cat "$folder/counted" "$folder/said" >&2
             exit 1
-        }' "$folder/cases"
+        fi
+        [ "$last" -le "${2:-$last}" ] || last=$2
+        while [ "$growth" -le "$last" ]; do
+            twins "$growth" "$way"
+            growth=$((growth + 1))
+        done
+    done
+    printf 'steps: %d growths refused: after %d the stages were compared, ' "$tried" "$compared"
+    printf '%d were wanted before or between steps, %d by the other stage ' "$elsewhere" "$without"
+    printf 'or by what does without, %d wrong\n' "$wrong"
+    exit $((wrong > 0))
 }
 
 [ $# -gt 0 ] || usage
