@@ -4,7 +4,8 @@
 #     bench/hostile.sh [COUNT [SEED [PROGRAM]]]
 #
 # 1. scripts at each limit: the last value that passes, and the first that is refused;
-# 2. streams that are slow, cut, full, closed, or stopped on the way, scarce memory, and 64 programs at once;
+# 2. streams that are slow, cut, full, closed, or stopped on the way, scarce memory, threads that can't be started, and 64
+#    programs at once;
 # 3. COUNT scripts (2,000 if left out) that are drawn from SEED, cut, joined and bent: which is refused and why is
 #    compared with a second reader, and what some of them print with a plain model, which know nothing of the program;
 # 4. the dearest scripts that the limits allow, at a hundredth of their size and at twice that: time and memory.

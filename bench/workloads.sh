@@ -41,10 +41,10 @@ write() {
         print "leaf", leaf, "0 1024 1024 0 1024 1024", widget
         print "root", leaf "\nbegin"
     }
-    function windows(wide, high,    w) {
+    function windows(count, wide, high,    w) {
         print "node desk z 24"
-        for (w = 1; w <= 31; w++) print "leaf w" w, 0, wide, wide, 0, high, high, "solid", 8 * w
-        for (w = 1; w <= 31; w++) print "put w" w, "desk", draw(900), draw(650)
+        for (w = 1; w <= count; w++) print "leaf w" w, 0, wide, wide, 0, high, high, "solid", 8 * w
+        for (w = 1; w <= count; w++) print "put w" w, "desk", draw(900), draw(650)
         print "root desk\nbegin"
     }
     function rectangle(    west, north) {
@@ -82,14 +82,14 @@ write() {
     }
     function moves(    i) {
         opening(1024, 768)
-        windows(200, 150)
+        windows(31, 200, 150)
         for (i = 1; i <= n; i++) edit()
         print "sync\ndump"
     }
     # The same on a painted screen, where each window is painted anew after each hundredth edit.
     function painted(    i, w) {
         opening(1024, 768)
-        windows(200, 150)
+        windows(31, 200, 150)
         print "dump"
         for (i = 1; i <= n; i++) {
             edit()
@@ -129,9 +129,9 @@ write() {
     # A cage is set after each tenth event, and events are taken from time to time.
     function events(    i, w) {
         opening(1024, 768)
-        windows(200, 150)
+        windows(16, 200, 150)
         for (i = 1; i <= n; i++) {
-            w = 1 + draw(31)
+            w = 1 + draw(16)
             if (i % 20 == 5) print "mouse", i, "down 1"
             else if (i % 20 == 15) print "mouse", i, "up 1"
             else if (i % 20 == 10) print "key", i, draw(256)
