@@ -9,6 +9,7 @@ use Rattle.std.proofs.lemmas.Simd.{zip2_of_maps, pick_l_left, length-chunk, get_
 use borrow.Rule.Slice.PartMut.{mid_of}
 use lib.Lanes.{zip2, sel_l, pick_l, chunk, top}
 use Rattle.tr_base.specs.Tiles.{is_set}
+use Rattle.tr_kernel.specs.Masks.{bit_in_cells}
 use Rattle.tr_kernel.specs.declared.patterns.TheConstants.{BITS, CELLS}
 use Rattle.tr_kernel.proofs.LaneLemmas.{sixteen, lanes_made, lane_made, sel_of_maps, same_lanes, equal_lanes, splat_made}
 
@@ -147,3 +148,15 @@ whole_bit cells at even reach k lt =
     ap (λ n. eqb n 0) (lane_made (λ j. bit_and (get_or (chunk 0 2 rest) (j / 8) 0) (bit_value j)) (whole_lanes (chunk 0 2 rest)) (whole_made (chunk 0 2 rest) two) k 0 lt)
     ∙ ap (λ n. eqb (bit_and n (bit_value k)) 0) here
     ∙ tested byte (7 - k % 8) ∙ ap (λ j. not (bit_at byte (7 - j) == 1)) same
+
+-- behind the bits of the first byte come those of the others
+pub bit_behind : (cells : List ℕ) (phase n k : ℕ) → n + phase ≡ 8 → n ≤ k → k + phase < 8 * length cells
+    → bit_in_cells (take (length cells - 1) (drop 1 cells)) 0 (k - n) ≡ bit_in_cells cells phase k
+bit_behind cells phase n k first behind within =
+    let cell = (k - n + 0) / 8 in
+    let count = length cells - 1 in
+    let place : (k - n + 0) % 8 ≡ (k + phase) % 8 = omega arith in
+    let further : 1 + cell ≡ (k + phase) / 8 = omega arith in
+    let byte : get_or (take count (drop 1 cells)) cell 0 ≡ get_or cells ((k + phase) / 8) 0 =
+    get_or-take count (drop 1 cells) cell 0 (omega arith) ∙ get_or-drop 1 cells cell 0 ∙ ap (λ i. get_or cells i 0) further in
+    ap (λ b. bit_at b (7 - (k - n + 0) % 8) == 1) byte ∙ ap (λ p. bit_at (get_or cells ((k + phase) / 8) 0) (7 - p) == 1) place

@@ -87,7 +87,8 @@ impl Mask {
     }
 }
 
-/// Paints a row by the bits of these bytes, whole bytes faster.
+/// Paints a row by the bits of these bytes: those of the first, and then those of whole ones, which
+/// is faster.
 fn paint_cells(row: &mut [u8], steps: Steps, cells: &[u8], phase: u8)
     requires phase { phase < 8 }
     requires enough { length row.old + phase ≤ 8 * length cells.now }
@@ -96,9 +97,12 @@ fn paint_cells(row: &mut [u8], steps: Steps, cells: &[u8], phase: u8)
 {
     if phase == 0 {
         paint(row, steps, &WholeCells { cells });
-    } else {
-        paint(row, steps, &Cells { cells, phase });
+        return;
     }
+    let n = row.len().min(usize::from(8 - phase));
+    let (first, rest) = row.split_at_mut(n);
+    paint(first, steps, &Cells { cells, phase });
+    paint(rest, steps, &WholeCells { cells: &cells[1..] });
 }
 
 /// Paints a row by a pattern.
