@@ -5,14 +5,14 @@ use Rattle.std.proofs.lemmas.Int.{ints}
 use Rattle.std.proofs.lemmas.Bool.{and_from, and_parts}
 use Rattle.std.proofs.lemmas.List.Sums.{sum_by-cons}
 use Rattle.tr_base.specs.declared.Point.{Point}
-use Rattle.tr_base.specs.declared.LeafId.{LeafId}
 use Rattle.tr_base.specs.declared.Size.{Size}
+use Rattle.tr_base.specs.declared.LeafId.{LeafId}
 use Rattle.tr_base.specs.Layouts.{IsBetween, IsDomain}
 use Rattle.tr_base.specs.Rects.{Edges, IsRect, before_shift, between, empty_rect, has_point, shifted, sides_of, whole_of}
 use Rattle.tr_base.proofs.RectFacts.{rect_of-full}
 use Rattle.tr_base.proofs.RectLemmas.{has_point-rect_of}
-use Rattle.tr_region.specs.Bands.{IsCanonical}
 use Rattle.tr_region.specs.Areas.{area_of, total_area}
+use Rattle.tr_region.specs.Bands.{IsCanonical}
 use Rattle.tr_region.specs.Extents.{extents_of}
 use Rattle.tr_region.specs.Places.{place_in, place_within}
 use Rattle.tr_region.specs.Points.{holds}
@@ -23,8 +23,8 @@ use Rattle.tr_region.proofs.ShiftLemmas.{holds-shifted}
 use Rattle.tr_screen.specs.Pictures.{IsScreenSize}
 use Rattle.tr_paint.specs.Paints.{IsNearPoint}
 use Rattle.tr_exec.specs.Executions.{IsOrigin, LiesOn, greatest_screen, placed}
-use Rattle.tr_exec.proofs.SiteLemmas.{on_greatest}
 use Rattle.tr_exec.proofs.PlacedLemmas.{points}
+use Rattle.tr_exec.proofs.SiteLemmas.{on_greatest}
 use Rattle.tr_client.specs.declared.clients.Client.{Ghosts}
 use Rattle.tr_forest.specs.Forests.{IsForest}
 use Rattle.tr_tree.specs.Trees.{Seen}
@@ -179,13 +179,20 @@ placed_on area q full has =
     has_point-rect_of (pos 0) (pos (size_of area).wide) (pos 0) (pos (size_of area).high) q
     ∙ and_from _ _ (between_back area.west area.east q.h full.across both.0) (between_back area.north area.south q.v full.down both.1)
 
--- all of them do, moved there
-pub placed_lies : (area : Edges) (part here : List Edges) (by : Point) (size : Size) → IsFull area → by ≡ from_corner area zero_point →
-    size ≡ size_of area → ((p : Point) → holds part p ≡ true → has_point area p ≡ true) →
-    ((q : Point) → holds here q ≡ holds part (before_shift q by)) → LiesOn size here
-placed_lies area part here by size full by_is size_is round moved q held =
-    ap (λ (z : Size). has_point (whole_of z) q) size_is
-    ∙ placed_on area q full (ap (λ (d : Point). has_point area (before_shift q d)) (sym by_is) ∙ round (before_shift q by) (sym (moved q) ∙ held))
+-- a region that is moved to there, with its extents
+pub record IsMoved (area : Edges) (part here : List Edges) (by : Point) : Type 0 where
+  pub full : IsFull area
+  pub round : (p : Point) → holds part p ≡ true → has_point area p ≡ true
+  pub way : by ≡ from_corner area zero_point
+  pub points : (q : Point) → holds here q ≡ holds part (before_shift q by)
+
+-- all of it lies on that screen
+pub moved_on : {area : Edges} {part here : List Edges} {by : Point} (size : Size) → size ≡ size_of area → IsMoved area part here by → LiesOn size here
+moved_on {area} {part} {here} {by} size same is q held =
+    ap (λ (z : Size). has_point (whole_of z) q) same ∙ placed_on area q is.full (ap (λ (d : Point). has_point area (before_shift q d)) (sym is.way) ∙ there)
+  where
+    there : has_point area (before_shift q by) ≡ true
+    there = is.round (before_shift q by) (sym (is.points q) ∙ held)
 
 -- a point of the window is the same point of the screen, whichever way it is found
 pub placed_back : (area : Edges) (corner p : Point) →

@@ -1,8 +1,9 @@
--- A window that is whole: each of its points is visible. Where none of them is bad, all are known before the waiting commands, and after them if
--- these lose nothing.
-use Rattle.std.proofs.Common.{◌≡◌, ℤ, pos, ◌+ℤ◌, ◌-ℤ◌, ◌≤ℤ◌, Bool, true, false, cond, not, ◌&&◌, List, ◌∷◌, [], ◌||◌, Option, refl, sym, ap, ◌∙◌, get_or, length, ◌<◌, arith}
+-- A window none of whose visible points is bad, and whose waiting commands lose nothing: these points are known before the commands and after
+-- them, so a flush comes to the same as a repaint. Where the window is whole, each of its points is visible.
+use Rattle.std.proofs.Common.{◌≡◌, ℤ, pos, ◌+ℤ◌, ◌-ℤ◌, ◌≤ℤ◌, Bool, true, false, cond, not, ◌&&◌, List, ◌∷◌, [], ◌||◌, Option, Some, refl, sym, ap, ◌∙◌, get_or, length, ◌<◌, arith}
 use Rattle.std.specs.Prelude.{is_none, unsigned_abs}
 use Rattle.std.specs.Option.{option_map}
+use Rattle.std.proofs.Math.Path.{fun_ext}
 use Rattle.std.proofs.lemmas.Bool.{and_from, and_parts}
 use Rattle.std.proofs.lemmas.Int.{ints}
 use Rattle.tr_base.specs.declared.Point.{Point}
@@ -11,19 +12,18 @@ use Rattle.tr_base.specs.Rects.{Edges, IsRect, between, has_point, whole_of}
 use Rattle.tr_base.proofs.RectLemmas.{false-true, has_point-rect_of}
 use Rattle.tr_base.proofs.LayoutLemmas.{ordered}
 use Rattle.tr_region.specs.Points.{holds}
-use Rattle.tr_paint.specs.declared.Paint.{Paint}
 use Rattle.tr_paint.specs.Traces.{after}
 use Rattle.tr_exec.specs.Executions.{placed}
 use Rattle.tr_client.specs.declared.clients.Client.{Ghosts}
 use Rattle.tr_spot.specs.Spots.{size_of}
 use Rattle.tr_spot.specs.Leaves.{leaf_corner, leaf_size, in_leaf}
-use Rattle.tr_surface.specs.Surfaces.{Shown}
+use Rattle.tr_surface.specs.Surfaces.{IsShown, Shown}
 use Rattle.tr_machine.specs.Windows.{Window}
-use Rattle.tr_machine.specs.States.{State, base, batch_of, look}
-use Rattle.tr_machine.specs.Paintings.{is_visible, repainted}
+use Rattle.tr_machine.specs.States.{State, base, batch_of, look, window_of}
+use Rattle.tr_machine.specs.Paintings.{flushed, is_visible, repainted}
 use Rattle.tr_machine.proofs.BaseLemmas.{base-lies}
 use Rattle.tr_machine.proofs.ShownLemmas.{IsShowing, base_good, base_sees}
-use Rattle.tr_machine.proofs.FlushLemmas.{IsFlush, brought_shows, by_state, forest_of}
+use Rattle.tr_machine.proofs.FlushLemmas.{brought, forest_of}
 use Rattle.tr_windows.specs.declared.exposures.Exposure.{Exposure}
 use Rattle.tr_windows.specs.Promises.{IsKnownWhole, LosesNothingOf}
 
@@ -55,34 +55,43 @@ same_test true b to from = sym (to refl)
 same_test false true to from = absurd (false-true (from refl))
 same_test false false to from = refl
 
+-- what is false where a test passes stays as it is if it is made false there
+none_left : (a test : Bool) → (test ≡ true → a ≡ false) → a ≡ (a && not test)
+none_left true true h = h refl
+none_left true false h = refl
+none_left false test h = refl
+
 module _ {C M : Type 0} (client : Ghosts C M) where
   -- each point of a leaf's window is visible
   abbrev pub IsWhole : State C M → LeafId → Type 0
   IsWhole m leaf = (q : Point) → has_point (whole_of (leaf_size m.tree leaf)) q ≡ true → (base client m leaf).visible q ≡ true
 
-  -- a window that is whole and has no bad point, whose waiting commands lose nothing
-  pub record IsAllKept (m : State C M) (s : Shown) (leaf : LeafId) (e : Exposure) (batch : List Paint) : Type 0 where
+  -- a window that has no bad point, and whose waiting commands lose nothing
+  pub record IsAllKept (m : State C M) (s : Shown) (leaf : LeafId) (e : Exposure) : Type 0 where
+    pub was : IsShown s
+    pub showing : IsShowing client m s
+    pub window : Window C M
+    pub at : window_of m leaf ≡ Some window
     pub size : e.size ≡ leaf_size m.tree leaf
-    pub whole : IsWhole m leaf
+    pub whole : e.is_whole ≡ true → IsWhole m leaf
     pub good : (p : Point) → is_visible m leaf p ≡ true → holds s.bad p ≡ false
-    pub same : batch ≡ batch_of client m leaf
-    pub keeps : LosesNothingOf e (look m) batch
+    pub keeps : LosesNothingOf e (look m) (batch_of client m leaf)
 
-  module _ (m : State C M) (s n : Shown) (leaf : LeafId) (e : Exposure) (f : IsFlush client m s n leaf) (k : IsAllKept m s leaf e f.batch) where
+  module _ (m : State C M) (s : Shown) (leaf : LeafId) (e : Exposure) (k : IsAllKept m s leaf e) where
     -- a visible point is known
     known_before : (q : Point) → (base client m leaf).visible q ≡ true → is_none ((base client m leaf).known q) ≡ false
     known_before q seen =
         let p : Point = placed (leaf_corner m.tree leaf) q in
-        let good : m.bad p ≡ false = sym (f.showing.bad p) ∙ k.good p seen in
+        let good : m.bad p ≡ false = sym (k.showing.bad p) ∙ k.good p seen in
         ap is_none
         (base_good client m leaf q good
-        ∙ ap (λ (o : Option (Window C M)). option_map (λ w. client.pic (look m) (leaf_size m.tree leaf) w.shown q) o) f.at)
+        ∙ ap (λ (o : Option (Window C M)). option_map (λ w. client.pic (look m) (leaf_size m.tree leaf) w.shown q) o) k.at)
 
-    -- and so all of the window is
-    known_whole : IsKnownWhole (leaf_size m.tree leaf) (base client m leaf)
-    known_whole = record {
-      visible = λ q. same_test _ _ (base-lies client m leaf (forest_of client m s f.was f.showing) q) (k.whole q);
-      known = λ q has. known_before q (k.whole q has);
+    -- and so, where all points are visible, all of the window is
+    known_whole : IsWhole m leaf → IsKnownWhole (leaf_size m.tree leaf) (base client m leaf)
+    known_whole whole = record {
+      visible = λ q. same_test _ _ (base-lies client m leaf (forest_of client m s k.was k.showing) q) (whole q);
+      known = λ q has. known_before q (whole q has);
     }
 
     -- a visible point is known after the waiting commands
@@ -91,32 +100,12 @@ module _ {C M : Type 0} (client : Ghosts C M) where
     known_after p seen =
         let q : Point = in_leaf m.tree leaf p in
         let there : (base client m leaf).visible q ≡ true = base_sees client m leaf p seen in
-        ap (λ (cs : List Paint). is_none (after (look m) (base client m leaf) cs q)) (sym k.same)
-        ∙ k.keeps (base client m leaf) (λ _. rw k.size known_whole) q there (known_before q there)
+        k.keeps (base client m leaf) (λ whole. rw k.size (known_whole (k.whole whole))) q there (known_before q there)
 
-    -- after these the surface shows what is shown after a repaint
-    pub kept_shows : IsShowing client (repainted client leaf m) n
-    kept_shows =
+    -- so none is bad after a flush, which comes to the same as a repaint
+    pub flushed_is_repainted : flushed client leaf m ≡ repainted client leaf m
+    flushed_is_repainted =
         let found : Point → Bool = λ p. is_none (after (look m) (base client m leaf) (batch_of client m leaf) (in_leaf m.tree leaf p)) in
-        brought_shows client m s n leaf (repainted client leaf m).bad
-        (record {
-          was = f.was;
-          is = f.is;
-          tree = f.tree;
-          showing = f.showing;
-          window = f.window;
-          at = f.at;
-          batch = batch_of client m leaf;
-          executed = by_state s n leaf f.font_is f.batch_is f.executed;
-          brings = f.fits.each leaf;
-          inside = λ p seen. ap (λ b. cond b (found p) (m.bad p) && not b) seen ∙ and_false (found p) ∙ sym (known_after p seen);
-          outside = λ p hidden. ap (λ b. cond b (found p) (m.bad p) && not b) hidden ∙ and_true (m.bad p);
-        })
-      where
-        and_false : (b : Bool) → (b && false) ≡ false
-        and_false true = refl
-        and_false false = refl
-
-        and_true : (b : Bool) → (b && true) ≡ b
-        and_true true = refl
-        and_true false = refl
+        ap (λ (bad : Point → Bool). brought client leaf bad m)
+        (fun_ext λ p. none_left ((flushed client leaf m).bad p) (is_visible m leaf p)
+        (λ seen. ap (λ b. cond b (found p) (m.bad p)) seen ∙ known_after p seen))

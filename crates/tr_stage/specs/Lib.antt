@@ -1,4 +1,5 @@
 pub mod Stages
 pub mod Standings
 pub mod Making
+pub mod Exposures
 pub mod Sharing

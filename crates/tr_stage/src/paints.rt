@@ -1,27 +1,33 @@
-ghost use Rattle.std.specs.Prelude.{◌≡◌, ◌<◌, true, [], IsTrue, OnOk};
+ghost use Rattle.std.specs.Prelude.{◌≡◌, ◌<◌, true, [], length, slice_get, Some, None, IsTrue, IfOk, IfSome, OnOk};
 ghost use Rattle.tr_base.specs.declared.Point.{Point};
 ghost use Rattle.tr_base.specs.Rects.{has_point, whole_of};
 ghost use Rattle.tr_region.specs.Points.{holds};
 ghost use Rattle.tr_exec.specs.Executions.{placed};
+ghost use Rattle.tr_client.specs.Laws.{IsWindowSize};
 ghost use Rattle.tr_forest.specs.Nodes.{leaf_count};
 ghost use Rattle.tr_spot.specs.Leaves.{leaf_corner, leaf_size};
 ghost use Rattle.tr_journal.specs.Openings.{tree_of};
 ghost use Rattle.tr_journal.specs.Steps.{IsFor};
+ghost use Rattle.tr_windows.specs.Presents.{Present};
+ghost use Rattle.tr_stage.specs.Exposures.{IsExposure, IsFlushing};
 ghost use Rattle.tr_stage.specs.Making.{Makes};
 ghost use Rattle.tr_stage.specs.Stages.{KeepsOthers, state};
 
 use crate::lines::{By, write};
 use crate::stages::Stage;
-use tr_base::{Env, LeafId, NoMemory};
+use tr_base::{Env, Font, LeafId, NoMemory};
 use tr_client::Client;
 use tr_journal::{Answer, Reply, Step};
+use tr_paint::Batch;
 use tr_region::Region;
 use tr_spot::leaf_size;
+use tr_surface::Surface;
 use tr_tree::Tree;
-use tr_windows::Exposure;
+use tr_windows::{Exposure, Windows};
 
 impl<C: Client> Stage<C> {
-    /// What waits for a leaf is painted.
+    /// What waits for a leaf is executed, or, where that comes to the same and costs less, a painting of all
+    /// that it would touch.
     pub(crate) fn flush(&mut self, by: &By, leaf: LeafId) -> Result<Reply, NoMemory>
         requires allowed { let t = (tree_of self.old.opening).nodes in
             IsFor {M = C.Cmd} t by.now.actor by.now.level (Step.Flush leaf) }
@@ -34,7 +40,9 @@ impl<C: Client> Stage<C> {
         // Called, here and below, for what it tells the prover: that the surface is one.
         let _ = self.surface.tree();
         let font = self.opening.font();
-        self.surface.execute(font, leaf, self.windows.batch(leaf))?;
+        let painting = flushing(&self.surface, &self.windows, font, leaf)?;
+        let batch = either(&painting, self.windows.batch(leaf));
+        self.surface.execute(font, leaf, batch)?;
         let _ = self.surface.tree();
         self.windows.clear(leaf);
         let entry = by.entry(Step::Flush { leaf }, Answer::Done, 0);
@@ -52,16 +60,10 @@ impl<C: Client> Stage<C> {
             OnOk result (KeepsOthers {M = C.Cmd} t (Step.Repaint leaf) self.old.screen self.new.screen) }
     {
         self.journal.reserve(1)?;
-        let bad = self.surface.bad_extents(leaf)?;
-        let tree = self.surface.tree();
+        let exposure = exposure_of(&self.surface, leaf)?;
         let env = Env {
-            kind: tree.kind(),
+            kind: self.surface.tree().kind(),
             font: self.opening.font(),
-        };
-        let exposure = Exposure {
-            size: leaf_size(tree, leaf),
-            bad,
-            is_whole: is_whole(tree, leaf, self.surface.visible(leaf)),
         };
         let batch = self.windows.repainting(leaf, &env, &exposure)?;
         self.surface.execute(env.font, leaf, &batch)?;
@@ -89,6 +91,56 @@ impl<C: Client> Stage<C> {
         let entry = by.entry(Step::PaintFrame, Answer::Done, 0);
         Ok(write(&mut self.journal, entry, &[]))
     }
+}
+
+/// A painting of what waits for a leaf, where it comes to the same as executing that and costs less.
+fn flushing<C: Client>(
+    surface: &Surface,
+    windows: &Windows<C>,
+    font: &Font,
+    leaf: LeafId,
+) -> Result<Option<Batch>, NoMemory>
+    requires leaf { leaf.0 < leaf_count surface.now.tree.nodes }
+    requires window { leaf.0 < length windows.now }
+    ensures { IfOk result (λ painting. IfSome painting (λ batch.
+        (w : Present C) → slice_get windows.now leaf.0 ≡ Some w →
+        IsFlushing C.Client surface.now font.now w leaf batch)) }
+{
+    if windows.batch(leaf).is_empty() {
+        return Ok(None);
+    }
+    let exposure = exposure_of(surface, leaf)?;
+    let env = Env {
+        kind: surface.tree().kind(),
+        font,
+    };
+    let painting = windows.flushing(leaf, &env, &exposure)?;
+    Ok(painting)
+}
+
+/// The painting, if there is one, else what waits.
+fn either<'a>(painting: &'a Option<Batch>, waiting: &'a Batch) -> &'a Batch
+    ensures painting { IfSome painting.now (λ batch. result.now ≡ batch) }
+    ensures waiting { painting.now ≡ None → result.now ≡ waiting.now }
+{
+    match painting {
+        Some(batch) => batch,
+        None => waiting,
+    }
+}
+
+/// How a leaf's window stands on the screen.
+fn exposure_of(surface: &Surface, leaf: LeafId) -> Result<Exposure, NoMemory>
+    requires { leaf.0 < leaf_count surface.now.tree.nodes }
+    ensures stands { IfOk result (IsExposure surface.now leaf) }
+    ensures size { IfOk result (λ e. IsWindowSize e.size) }
+{
+    let tree = surface.tree();
+    Ok(Exposure {
+        size: leaf_size(tree, leaf),
+        bad: surface.bad_extents(leaf)?,
+        is_whole: is_whole(tree, leaf, surface.visible(leaf)),
+    })
 }
 
 /// Whether a region is one rectangle, that of a leaf's window, so that it has all points of it.

@@ -1,4 +1,4 @@
--- What the windows promise: their contents, what a batch repaints, and what a change of size leaves.
+-- What the windows promise: their contents, what a batch flushes or repaints, and what a change of size leaves.
 use Rattle.std.specs.Prelude.{◌≡◌, ◌⊎◌, ℕ, ◌-◌, ◌≤◌, ◌^◌, Bool, true, false, List, length, min, sum_by, slice_get, Some, is_none}
 use Rattle.tr_base.specs.declared.Point.{Point}
 use Rattle.tr_base.specs.declared.Size.{Size}
@@ -57,6 +57,13 @@ module _ {C M : Type 0} (client : Ghosts C M) where
   -- A batch repaints a window in one of two ways. Which of them is a question of cost alone.
   abbrev pub Repaints : Look → Exposure → Present C → List Paint → Type 0
   Repaints look e w batch = IsByPainting look e w batch ⊎ IsByWaiting look e w batch
+
+  -- A batch flushes a window by a painting: nothing is bad, and the waiting commands would lose nothing, so that they, too, would leave
+  -- each visible point with its colour in the present picture.
+  pub record FlushesByPainting (look : Look) (e : Exposure) (w : Present C) (batch : List Paint) : Type 0 where
+    pub painting : IsByPainting look e w batch
+    pub good : (q : Point) → has_point e.bad q ≡ false
+    pub keeps : LosesNothingOf e look w.batch
 
   -- what a window keeps when its size changes lies in both windows, and has the same colours in both
   pub record Keeps (look : Look) (w : Present C) : Type 0 where

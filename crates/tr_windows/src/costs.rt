@@ -7,6 +7,7 @@ ghost use Rattle.tr_client.specs.Laws.{IsWindowSize};
 ghost use Rattle.tr_windows.specs.Losses.{BringsOwn, Spares};
 ghost use Rattle.tr_windows.specs.Promises.{LosesNothingOf};
 
+use crate::areas::{part_in_window, spanned};
 use crate::exposures::Exposure;
 use tr_base::{Point, Rect, Size};
 use tr_client::window;
@@ -19,13 +20,27 @@ pub(crate) fn is_cheaper(waiting: &Batch, painting: &Batch, exposure: &Exposure)
     ensures good { IsTrue result → (q : Point) → has_point exposure.now.bad q ≡ false }
     ensures keeps { IsTrue result → (look : Look) → LosesNothingOf exposure.now look waiting.now }
 {
-    if !exposure.bad.is_empty() {
-        return false;
-    }
-    if !loses_nothing(waiting, exposure) {
-        return false;
-    }
-    cost(waiting) < cost(painting)
+    keeps_all(waiting, exposure) && cost(waiting) < cost(painting)
+}
+
+/// Whether a painting may be made in place of what waits for a window, and may cost less: it costs at least
+/// the area of what it paints, which is all that waits.
+pub(crate) fn is_replaceable(waiting: &Batch, exposure: &Exposure) -> bool
+    requires { IsWindowSize exposure.now.size }
+    ensures good { IsTrue result → (q : Point) → has_point exposure.now.bad q ≡ false }
+    ensures keeps { IsTrue result → (look : Look) → LosesNothingOf exposure.now look waiting.now }
+{
+    let clip = part_in_window(&spanned(exposure.bad, waiting), exposure.size);
+    area_of(&clip) < cost(waiting) && keeps_all(waiting, exposure)
+}
+
+/// Whether nothing of a window is bad, and what waits for it loses nothing, as far as is looked at.
+fn keeps_all(waiting: &Batch, exposure: &Exposure) -> bool
+    requires { IsWindowSize exposure.now.size }
+    ensures good { IsTrue result → (q : Point) → has_point exposure.now.bad q ≡ false }
+    ensures keeps { IsTrue result → (look : Look) → LosesNothingOf exposure.now look waiting.now }
+{
+    exposure.bad.is_empty() && loses_nothing(waiting, exposure)
 }
 
 /// Whether no command can make a point unknown.
@@ -68,14 +83,18 @@ fn brings_own(size: Size, clip: &Rect, delta: Point) -> bool
 }
 
 /// What executing commands costs: the sum of their areas, each by its weight, which stops at 2^64 - 1.
-fn cost(batch: &Batch) -> u64 {
+pub(crate) fn cost(batch: &Batch) -> u64 {
     let mut sum: u64 = 0;
     for paint in batch.paints() {
-        let (wide, high) = paint.area().size();
-        let area = u64::from(wide) * u64::from(high);
-        sum = sum.saturating_add(area.saturating_mul(weight(paint)));
+        sum = sum.saturating_add(area_of(&paint.area()).saturating_mul(weight(paint)));
     }
     sum
+}
+
+/// How many points a rectangle has.
+fn area_of(rect: &Rect) -> u64 {
+    let (wide, high) = rect.size();
+    u64::from(wide) * u64::from(high)
 }
 
 /// What a point of a command's area costs, as measured, beside a point that is filled.

@@ -1,11 +1,11 @@
-ghost use Rattle.std.specs.Prelude.{◌≡◌, IfOk, OnOk, OnErr};
+ghost use Rattle.std.specs.Prelude.{◌≡◌, IfOk, IfSome, OnOk, OnErr};
 ghost use Rattle.tr_paint.specs.Traces.{look_of};
 ghost use Rattle.tr_client.specs.Laws.{IsWindowSize};
 ghost use Rattle.tr_windows.specs.Presents as spec;
-ghost use Rattle.tr_windows.specs.Promises.{Repaints};
+ghost use Rattle.tr_windows.specs.Promises.{FlushesByPainting, IsByPainting, Repaints};
 
 use crate::areas::{part_in_window, spanned};
-use crate::costs::is_cheaper;
+use crate::costs::{cost, is_cheaper, is_replaceable};
 use crate::exposures::Exposure;
 use std::alloc::Global;
 use std::marker::Model;
@@ -110,12 +110,44 @@ impl<C: Client> Window<C> {
         ensures { let look = look_of env.now.kind env.now.font.now in
             IfOk result (λ batch. Repaints C.Client look exposure.now self.now batch) }
     {
-        let clip = spanned(exposure.bad, &self.batch);
-        let painting = self.content.paint(alloc, env, exposure.size, clip)?;
+        let painting = self.painting(alloc, env, exposure)?;
         if is_cheaper(&self.batch, &painting, exposure) {
             let waiting = self.batch.copy()?;
             return Ok(waiting);
         }
+        Ok(painting)
+    }
+
+    /// A painting of what the waiting commands would touch, where it comes to the same as executing them
+    /// and costs less; else none. Nothing is let go.
+    pub fn flushing(
+        &self,
+        alloc: Global,
+        env: &Env,
+        exposure: &Exposure,
+    ) -> Result<Option<Batch>, NoMemory>
+        requires { IsWindowSize exposure.now.size }
+        ensures { let look = look_of env.now.kind env.now.font.now in IfOk result (λ painting.
+            IfSome painting (λ batch. FlushesByPainting C.Client look exposure.now self.now batch)) }
+    {
+        if !is_replaceable(&self.batch, exposure) {
+            return Ok(None);
+        }
+        let painting = self.painting(alloc, env, exposure)?;
+        if cost(&self.batch) <= cost(&painting) {
+            return Ok(None);
+        }
+        Ok(Some(painting))
+    }
+
+    /// A painting of all points that are bad or that the waiting commands would touch.
+    fn painting(&self, alloc: Global, env: &Env, exposure: &Exposure) -> Result<Batch, NoMemory>
+        requires { IsWindowSize exposure.now.size }
+        ensures { let look = look_of env.now.kind env.now.font.now in
+            IfOk result (λ batch. IsByPainting C.Client look exposure.now self.now batch) }
+    {
+        let clip = spanned(exposure.bad, &self.batch);
+        let painting = self.content.paint(alloc, env, exposure.size, clip)?;
         Ok(painting)
     }
 }

@@ -1,4 +1,4 @@
-ghost use Rattle.std.specs.Prelude.{◌≡◌, ◌<◌, length, map, slice_get, Some, IfOk, OnOk, OnErr};
+ghost use Rattle.std.specs.Prelude.{◌≡◌, ◌<◌, length, map, slice_get, Some, IfOk, IfSome, OnOk, OnErr};
 ghost use Rattle.tr_base.specs.declared.LeafId.{LeafId};
 ghost use Rattle.tr_paint.specs.Traces.{Look, look_of};
 ghost use Rattle.tr_paint.specs.Patches.{IsPatch};
@@ -7,7 +7,7 @@ ghost use Rattle.tr_forest.specs.Nodes.{leaf_count};
 ghost use Rattle.tr_journal.specs.Openings.{contents_of};
 ghost use Rattle.tr_machine.specs.States.{changed_at};
 ghost use Rattle.tr_windows.specs.Presents as spec;
-ghost use Rattle.tr_windows.specs.Promises.{AreWindows, Keeps, Repaints, waiting_in};
+ghost use Rattle.tr_windows.specs.Promises.{AreWindows, FlushesByPainting, Keeps, Repaints, waiting_in};
 
 use crate::exposures::Exposure;
 use crate::present::Window;
@@ -164,6 +164,24 @@ impl<C: Client> Windows<C> {
     {
         let alloc = *self.windows.allocator();
         self.windows[usize::from(leaf.0)].repainting(alloc, env, exposure)
+    }
+
+    /// A painting of what the commands that wait for a leaf's window would touch, where it comes to the same
+    /// as executing them and costs less; else none. The window stands so on the screen. Nothing is let go.
+    pub fn flushing(
+        &self,
+        leaf: LeafId,
+        env: &Env,
+        exposure: &Exposure,
+    ) -> Result<Option<Batch>, NoMemory>
+        requires leaf { leaf.0 < length self.now }
+        requires size { IsWindowSize exposure.now.size }
+        ensures { let look = look_of env.now.kind env.now.font.now in IfOk result (λ painting.
+            IfSome painting (λ batch. (w : spec.Present C) → slice_get self.now leaf.0 ≡ Some w →
+            FlushesByPainting C.Client look exposure.now w batch)) }
+    {
+        let alloc = *self.windows.allocator();
+        self.windows[usize::from(leaf.0)].flushing(alloc, env, exposure)
     }
 
     /// How many paint commands wait for all windows; the count stops at 2^64 - 1.

@@ -1,10 +1,22 @@
-use Rattle.std.proofs.Common.{ap, refl}
+use Rattle.std.proofs.Common.{ap, refl, ◌∙◌}
 use Rattle.tr_journal.specs.declared.steps.Step.TheVariants.{Flush}
 use Rattle.tr_stage.specs.Stages.{Parts}
 use Rattle.tr_stage.proofs.PartLemmas.{kept_others}
 use Rattle.tr_stage.proofs.DeviceLemmas.{Before, IsMaking}
 use Rattle.tr_stage.proofs.PaintLemmas.{flush_made, leaf_within}
 use Rattle.tr_stage.proofs.stages.Stage.flush.Goals as goal
+
+pub flushing-requires-clause-window : goal.flushing-requires-clause-window
+flushing-requires-clause-window g c κs within =
+    let s = c.self.inside in
+    let b : Before g.row.C.Denot g.row.C-Cmd.Denot = record {
+      opening = s.opening;
+      lines = s.journal.lines;
+      parts = record { surface = s.surface; windows = s.windows; mail = s.mail };
+      actor = c.args.by.now.actor;
+      held = c.args.by.now.level;
+    } in
+    leaf_within g.C.Client c.args.self.now b c.args.leaf (ap (λ v. v.opening) c.self.view_is) c.self.invariant c.requires.allowed.values
 
 pub batch-requires-after_bounds : goal.batch-requires-after_bounds
 batch-requires-after_bounds g c κs within =
@@ -55,12 +67,17 @@ invariant_of-self-2 g c =
       tree = c.execute.ensures.tree;
       font = c.font-font.result.now;
       font_is = c.font-font.ensures;
-      batch = c.batch.result.now;
+      batch = c.either-batch.result.now;
       executed = record { known = done.known; unknown = done.unknown; untouched = done.untouched; pixels = done.pixels; others = done.others };
       windows = c.clear.ensures;
       mail = refl;
     })
-    c.batch.ensures)
+    (record {
+      painting = c.in_ok-painting.painting;
+      flushes = c.in_ok-painting.ensures;
+      some = c.either-batch.ensures.painting;
+      none = λ h. c.either-batch.ensures.waiting h ∙ c.batch.ensures;
+    }))
 
 pub returns-clause-others : goal.returns-clause-others
 returns-clause-others g c =

@@ -15,7 +15,7 @@ use Rattle.tr_exec.proofs.SiteLemmas.{region_in_reach}
 use Rattle.tr_spot.specs.Leaves.{in_leaf, leaf_corner, leaf_domain}
 use Rattle.tr_spot.specs.Spots.{from_corner}
 use Rattle.tr_stage.specs.Stages.{state}
-use Rattle.tr_stage.proofs.ApartLemmas.{AreSeen, IsPlaced, place_in-moved, placed_back, placed_lies, placed_near, placed_origin, placed_size, placed_small, seen_on, seen_placed, total_area-moved, zero_point}
+use Rattle.tr_stage.proofs.ApartLemmas.{AreSeen, IsMoved, IsPlaced, moved_on, place_in-moved, placed_back, placed_near, placed_origin, placed_size, placed_small, seen_on, seen_placed, total_area-moved, zero_point}
 use Rattle.tr_stage.proofs.stages.Stage.paint_apart.Goals as goal
 
 pub shift-requires : goal.shift-requires
@@ -88,8 +88,13 @@ paint_window-requires-clause-part g c κs within =
     let domain = leaf_domain c.tree-tree.result.now c.args.leaf in
     let is : IsPlaced area domain = seen_placed g.C.Client are c.corner_of-corner.ensures.rect
     (λ e. false-true (sym c.if-is_empty.false ∙ c.is_empty.ensures.list.1 e)) c.extents-area.ensures.value in
-    placed_lies area c.args.part.now c.in_ok-here.here c.from_corner-by.result c.in_ok-wanted.wanted.size is.full c.from_corner-by.ensures
-    (ap (λ w. w.size) c.in_ok-wanted.ensures ∙ c.size_of.ensures) c.extents-area.ensures.points c.in_ok-here.ensures.points
+    let moved : IsMoved area c.args.part.now c.in_ok-here.here c.from_corner-by.result = record {
+      full = is.full;
+      round = c.extents-area.ensures.points;
+      way = c.from_corner-by.ensures;
+      points = c.in_ok-here.ensures.points;
+    } in
+    moved_on c.in_ok-wanted.wanted.size (ap (λ w. w.size) c.in_ok-wanted.ensures ∙ c.size_of.ensures) moved
 
 pub pixels_at-requires : goal.pixels_at-requires
 pixels_at-requires g c =
@@ -103,10 +108,15 @@ pixels_at-requires g c =
     let domain = leaf_domain c.tree-tree.result.now c.args.leaf in
     let is : IsPlaced area domain = seen_placed g.C.Client are c.corner_of-corner.ensures.rect
     (λ e. false-true (sym c.if-is_empty.false ∙ c.is_empty.ensures.list.1 e)) c.extents-area.ensures.value in
+    let moved : IsMoved area c.args.part.now c.in_ok-here.here c.from_corner-by.result = record {
+      full = is.full;
+      round = c.extents-area.ensures.points;
+      way = c.from_corner-by.ensures;
+      points = c.in_ok-here.ensures.points;
+    } in
     record {
-      on = placed_lies area c.args.part.now c.in_ok-here.here c.from_corner-by.result c.paint_window.new.wanted.size is.full c.from_corner-by.ensures
-          (c.in_ok-paint_window.ensures.size ∙ ap (λ w. w.size) c.in_ok-wanted.ensures ∙ c.size_of.ensures) c.extents-area.ensures.points
-          c.in_ok-here.ensures.points;
+      on = moved_on c.paint_window.new.wanted.size
+          (c.in_ok-paint_window.ensures.size ∙ ap (λ w. w.size) c.in_ok-wanted.ensures ∙ c.size_of.ensures) moved;
     }
 
 pub returns-clause-many : goal.returns-clause-many

@@ -1,6 +1,4 @@
 use Rattle.std.proofs.Common.{ap, refl, sym, ◌∙◌}
-use Rattle.tr_exec.specs.Executions.{placed}
-use Rattle.tr_spot.specs.Leaves.{leaf_corner}
 use Rattle.tr_journal.specs.declared.steps.Step.TheVariants.{Repaint}
 use Rattle.tr_stage.specs.Stages.{Parts}
 use Rattle.tr_stage.proofs.PartLemmas.{kept_others}
@@ -44,7 +42,7 @@ invariant_of-self-2 g c =
     } in
     let m : IsMaking g.C.Client b (Repaint c.args.leaf) = record {
       is = c.self.invariant;
-      shown = c.tree-tree.ensures.invariant;
+      shown = c.tree.ensures.invariant;
       view = c.args.self.now;
       same = ap (λ v. v.opening) c.self.view_is;
       allowed = c.requires.allowed;
@@ -53,7 +51,7 @@ invariant_of-self-2 g c =
     let done = c.in_ok-execute.ensures in
     rw (c.write.ensures.lines, c.entry-entry.ensures, c.reserve.ensures.lines)
     (repaint_made g.C.Client b c.args.leaf new m (record {
-      shown = c.tree.ensures.invariant;
+      shown = c.tree-2.ensures.invariant;
       tree = c.execute.ensures.tree;
       font = c.font.result.now;
       font_is = c.font.ensures;
@@ -63,15 +61,9 @@ invariant_of-self-2 g c =
       mail = refl;
     })
     (record {
-      tree = c.tree-tree.result.now;
-      same = c.tree-tree.ensures.value;
-      exposure = record { size = c.leaf_size.result; bad = c.in_ok-bad.bad; is_whole = c.is_whole.result };
-      stands = record {
-        size = c.leaf_size.ensures.value;
-        has_bad = c.in_ok-bad.ensures.all;
-        whole = λ all q has. sym (c.visible.ensures (placed (leaf_corner c.tree-tree.result.now c.args.leaf) q)) ∙ c.is_whole.ensures all q has;
-      };
-      repaints = rw c.kind.ensures at c.in_ok-batch.ensures;
+      exposure = c.in_ok-exposure.exposure;
+      stands = c.in_ok-exposure.ensures.stands;
+      repaints = rw (c.kind.ensures, c.tree.ensures.value) at c.in_ok-batch.ensures;
     }))
 
 pub returns-clause-others : goal.returns-clause-others
