@@ -1,5 +1,6 @@
 ghost use Rattle.std.specs.Prelude.{◌≡◌, ◌<◌, ◌+◌, ◌^◌, ◌++◌, ◌∷◌, [], length, IfOk, OnOk, OnErr};
 ghost use Rattle.tr_client.specs.Laws.{IsWindowSize};
+ghost use Rattle.tr_client.specs.Runs.{content_after};
 ghost use Rattle.tr_levels.specs.Levels.{HaveLevels, HoldsNoLeaf};
 ghost use Rattle.tr_book.specs.Books.{view_of};
 
@@ -106,6 +107,22 @@ impl<C: Client> Book<C> {
         self.prepared = fresh;
     }
 
+    /// The waiting commands were handed over: they are counted, and the next ones are prepared over
+    /// what these left, of which `from` is a copy. The lists keep their memory, and the font stays.
+    pub fn restart(&mut self, from: C)
+        requires from { from ≡
+            content_after C.Client self.old.prepared.from self.old.prepared.commands }
+        requires count { self.old.handed + length self.old.prepared.commands < 2 ^ 64 }
+        ensures prepared { self.new.prepared ≡
+            record self.old.prepared { from = from; commands = [] } }
+        ensures levels { self.new.levels ≡ [] }
+        ensures handed { self.new.handed ≡ self.old.handed + length self.old.prepared.commands }
+    {
+        let more = self.waiting() as u64;
+        start_over(&mut self.prepared, &mut self.levels, from);
+        self.handed += more;
+    }
+
     /// How many commands wait.
     pub fn waiting(&self) -> usize
         ensures waiting { result ≡ length self.now.prepared.commands }
@@ -134,4 +151,17 @@ impl<C: Client> Book<C> {
     {
         &self.levels
     }
+}
+
+/// No command waits any more, and the next ones are prepared over `from`, a copy of what those left.
+fn start_over<C: Client>(prepared: &mut Prepared<C>, levels: &mut Vec<Held>, from: C)
+    requires { from ≡ prepared.old.to }
+    ensures prepared { view_of prepared.new ≡
+        record (view_of prepared.old) { from = from; commands = [] } }
+    ensures levels { levels.new.items ≡ [] }
+{
+    levels.clear();
+    prepared.from = from;
+    prepared.commands.clear();
+    prepared.batch.clear();
 }

@@ -74,9 +74,32 @@ fn counts_what_it_hands_over(alloc: Global) -> Result<bool, NoMemory> {
     Ok(is_first && hand_over(alloc, &mut book)? && has(&book, &[], 3))
 }
 
+/// What waits is handed over, and the next commands are prepared over a copy of what it leaves. False where too much
+/// was handed over.
+fn go_on(book: &mut Book<Solid>) -> bool {
+    let content = book.prepared().to;
+    if book.handed() >= 100 || book.waiting() >= 100 {
+        return false;
+    }
+    book.restart(content);
+    true
+}
+
+/// Whether a book that goes on counts what it hands over, and prepares what comes next over it.
+fn goes_on(alloc: Global) -> Result<bool, NoMemory> {
+    let mut book = book(alloc, 5)?;
+    book.post(Held::none(), SolidCmd::Tint(7))?;
+    book.post(Held::none(), SolidCmd::Tint(8))?;
+    let is_first = go_on(&mut book) && has(&book, &[], 2) && leads(&book, 8, 8, &[]);
+    book.post(Held::none(), SolidCmd::Tint(9))?;
+    let is_second = has(&book, &[Held::none()], 2) && leads(&book, 8, 9, &[SolidCmd::Tint(9)]);
+    Ok(is_first && is_second && go_on(&mut book) && has(&book, &[], 3))
+}
+
 #[test]
 fn books_keep_and_count_commands(rt: HostRuntime) -> Result<(), Fail> {
     assert!(rt; keeps_its_commands(rt.alloc())?);
     assert!(rt; counts_what_it_hands_over(rt.alloc())?);
+    assert!(rt; goes_on(rt.alloc())?);
     Ok(())
 }

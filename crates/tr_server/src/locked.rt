@@ -153,14 +153,14 @@ impl<C: Client, L: Session> Locked<C, L> {
         }
         self.counted.audit(&mut basket.share);
         fit(self.alloc, &self.stage, leaf, &mut basket.book)?;
-        let fresh = fresh_over(self.alloc, basket.book.prepared())?;
+        let from = basket.book.prepared().to.copy(self.alloc)?;
         let more = basket.book.waiting() as u64;
         self.stage
             .take_over(leaf, basket.book.prepared(), basket.book.levels())?;
         // Called for what it tells the prover: that the entries can be counted.
         let _ = self.stage.journal().len();
         self.counted.add(&mut basket.share, more);
-        basket.book.renew(fresh);
+        basket.book.restart(from);
         Ok(())
     }
 
@@ -206,13 +206,17 @@ impl<C: Client, L: Session> Locked<C, L> {
     {
         self.hand_over(leaf, basket)?;
         let level = Held::none().with(Level::Mu).with(Level::Win(leaf));
+        let is_changed = may_change(&step);
         let reply = self.step(pass, level, step)?;
         pass.posted = 0;
-        // What its client posts next is prepared over what this step left. Where memory is wanted for that,
-        // it is prepared anew once it is handed over.
-        let _ = fit(self.alloc, &self.stage, leaf, &mut basket.book);
+        fit_if(is_changed, self.alloc, &self.stage, leaf, &mut basket.book);
         Ok(reply)
     }
+}
+
+/// Whether a step may change the content of its client's window.
+fn may_change<M>(step: &Step<M>) -> bool {
+    matches!(step, Step::Act { .. } | Step::Take { .. })
 }
 
 /// Sees to it that a book's commands are prepared over the leaf's present content.
@@ -242,6 +246,25 @@ fn fit<C: Client>(
     Ok(())
 }
 
+/// The same where the content may have changed, so that what its client posts next is prepared over what is there
+/// now. Where memory is wanted for that, it is prepared anew once it is handed over.
+fn fit_if<C: Client>(
+    is_changed: bool,
+    alloc: Global,
+    stage: &Stage<C>,
+    leaf: LeafId,
+    book: &mut Book<C>,
+)
+    requires leaf { leaf.0 < leaf_count (tree_of stage.now.opening).nodes }
+    ensures commands { book.new.prepared.commands ≡ book.old.prepared.commands }
+    ensures levels { book.new.levels ≡ book.old.levels }
+    ensures handed { book.new.handed ≡ book.old.handed }
+{
+    if is_changed {
+        let _ = fit(alloc, stage, leaf, book);
+    }
+}
+
 /// Whether commands were prepared over this content, for this font, size and kind.
 fn is_current<C: Client>(
     prepared: &Prepared<C>,
@@ -265,12 +288,4 @@ fn is_current<C: Client>(
         return false;
     }
     prepared.kind == kind
-}
-
-/// No commands, over what prepared ones leave.
-fn fresh_over<C: Client>(alloc: Global, prepared: &Prepared<C>) -> Result<Prepared<C>, NoMemory>
-    ensures { IfOk result (λ p. p.commands.items ≡ []) }
-{
-    let content = prepared.to.copy(alloc)?;
-    Prepared::fresh(alloc, content, &prepared.font, prepared.size, prepared.kind)
 }

@@ -12,8 +12,8 @@ take_over-requires-clause-levels g c κs within =
       free = c.waiting-more.ensures.invariant.free;
     })
 
-pub renew-requires-clause-count : goal.renew-requires-clause-count
-renew-requires-clause-count g c κs within =
+pub restart-requires-clause-count : goal.restart-requires-clause-count
+restart-requires-clause-count g c κs within =
     let cmds = c.prepared-2.result.now.commands.items in
     let all : length cmds ≡ length c.fit.new.book.prepared.commands = ap (λ (p : PreparedView _ _). length p.commands) c.prepared-2.ensures in
     let same : length c.levels.result.now ≡ length cmds = rw c.levels.ensures (c.waiting-more.ensures.invariant.counts ∙ sym all) in
