@@ -1,33 +1,61 @@
+use std::sync::Wait;
 use std::sync::atomic::{AtomicU64, Ordering};
-use std::thread;
+use std::thread::Parker;
+use std::time::Duration;
 
 /// How often somebody who waits for steps looks in vain, one time after another, before he gives up: where no
 /// thread can be made, those who are to make them come after him.
-const MOST_LOOKS: u32 = 10_000;
+const MOST_LOOKS: u32 = 20;
+
+/// How many milliseconds he sleeps until he looks again, if nobody wakes him.
+const NAP: u64 = 2;
+
+/// So many steps are never made: nobody waits.
+const NEVER: u64 = u64::MAX;
 
 /// How many steps of a part were made so far, by all workers together. A hint for whoever comes from time to
 /// time: no contract counts on it.
 #[derive(Drop)]
 pub(crate) struct Counter {
-    steps: AtomicU64,
+    made: AtomicU64,
+    /// For how many steps somebody waits.
+    awaited: AtomicU64,
+    sleeper: Parker,
 }
 
 impl Counter {
     pub(crate) fn new() -> Counter {
         Counter {
-            steps: AtomicU64::new(0),
+            made: AtomicU64::new(0),
+            awaited: AtomicU64::new(NEVER),
+            sleeper: Parker::new(),
         }
     }
 
     /// So many steps more were made, or nobody is to wait for them.
     pub(crate) fn add(&self, steps: u64) {
-        self.steps.fetch_add(steps, Ordering::SeqCst);
+        let before = self.made.fetch_add(steps, Ordering::SeqCst);
+        if before.saturating_add(steps) >= self.awaited.load(Ordering::SeqCst) {
+            self.sleeper.unpark();
+        }
     }
 
-    /// Lets other threads run until so many steps were made, but no longer than some are made meanwhile.
-    /// Answers whether they were made.
-    pub(crate) fn wait_for(&self, steps: u64) -> bool {
-        let mut seen = self.steps.load(Ordering::SeqCst);
+    /// Whether so many steps were made.
+    pub(crate) fn has(&self, steps: u64) -> bool {
+        self.made.load(Ordering::SeqCst) >= steps
+    }
+
+    /// Sleeps until so many steps were made, but no longer than some are made meanwhile. Answers whether they
+    /// were made.
+    pub(crate) fn wait_for<R: Wait>(&self, rt: &R, steps: u64) -> bool {
+        self.awaited.store(steps, Ordering::SeqCst);
+        let made = self.sleep_until(rt, steps);
+        self.awaited.store(NEVER, Ordering::SeqCst);
+        made
+    }
+
+    fn sleep_until<R: Wait>(&self, rt: &R, steps: u64) -> bool {
+        let mut seen = self.made.load(Ordering::SeqCst);
         let mut looks: u32 = 0;
         // (no run comes to the end of this range)
         for _look in 0..u64::MAX {
@@ -37,8 +65,8 @@ impl Counter {
             if looks >= MOST_LOOKS {
                 return false;
             }
-            thread::yield_now();
-            let now = self.steps.load(Ordering::SeqCst);
+            self.sleeper.park_timeout(rt, Duration::from_millis(NAP));
+            let now = self.made.load(Ordering::SeqCst);
             looks = if now == seen {
                 looks.saturating_add(1)
             } else {

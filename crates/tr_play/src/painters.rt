@@ -12,20 +12,22 @@ use tr_levels::Ladder;
 use tr_server::{Mu, Pass, Session};
 
 impl<C: Client, L: Session, R: Threads + Wait + Sync, G: Gate> Context<'_, C, L, R, G> {
-    /// The painter brings the screen up to date so many times, until memory runs out: at once, after 16 steps,
-    /// after 32, 64 and so on, and once all steps were made as often as is left. So the others mostly find the
-    /// tree's lock free. Once he has waited for them in vain he waits no more.
-    pub(crate) fn paint(&self, pass: &mut Pass<C, L>, repaints: usize)
+    /// The painter brings the screen up to date, once and once more for each 16 steps of the part, until memory
+    /// runs out: when clients have made 16 commands, 32, 64 and so on, so that the others mostly find the tree's
+    /// lock free. Once all steps were made, one time does for all that are left: the others would find nothing.
+    /// Once he has waited in vain he waits no more.
+    pub(crate) fn paint(&self, pass: &mut Pass<C, L>, steps: usize)
         requires { pass.old.actor ≡ Painter }
         ensures { pass.new.actor ≡ pass.old.actor }
     {
-        let all = repaints.saturating_sub(1).saturating_mul(STEPS_A_REPAINT);
-        let mut next: usize = 0;
+        let all = steps as u64;
+        let mut next = STEPS_A_REPAINT as u64;
         let mut is_patient = true;
-        for _repaint in 0..repaints {
-            is_patient = is_patient && self.made.wait_for(next.min(all) as u64);
-            next = next.saturating_mul(2).max(STEPS_A_REPAINT);
-            if self.paint_once(pass).is_err() {
+        for _repaint in 0..1 + steps / STEPS_A_REPAINT {
+            is_patient = is_patient && self.made.wait_for(self.rt, next.min(all));
+            next = next.saturating_mul(2);
+            let is_last = self.made.has(all);
+            if self.paint_once(pass).is_err() || is_last {
                 return;
             }
         }

@@ -21,14 +21,14 @@ use tr_journal::{Actor, Lists};
 use tr_server::{CloseRefused, Pass, Server, Session};
 use tr_stage::Stage;
 
-/// A session on a stage: each actor makes the steps of its list in a thread of its own, and the painter
-/// repaints the screen so many times.
+/// A session on a stage: each actor makes the steps of its list in a thread of its own, so many in all, and the
+/// painter repaints the screen meanwhile.
 pub(crate) fn session<C: Client, L: Session, R: Threads + Wait + Sync, G: Gate + Sync>(
     workers: &Workers<'_, R, G>,
     blank: Blank,
     stage: Stage<C>,
     lists: &Lists<C::Cmd>,
-    repaints: usize,
+    steps: usize,
 ) -> Result<Stage<C>, CloseRefused<C>>
     requires name { blank.name ≡ L.name }
     requires parts { (blank.parts ≡ L.parts) × (L.parts ≡ 2 * L.leaves + 3) }
@@ -52,7 +52,7 @@ pub(crate) fn session<C: Client, L: Session, R: Threads + Wait + Sync, G: Gate +
         server: &server,
         made: &made,
     };
-    all_at_work(&context, &mut passes.workers, lists, repaints);
+    all_at_work(&context, &mut passes.workers, lists, steps);
     let is_whole = are_whole(&passes.workers, lists);
     let closed = server.close(workers.rt, passes);
     if !is_whole {
@@ -66,7 +66,7 @@ fn all_at_work<C: Client, L: Session, R: Threads + Wait + Sync, G: Gate + Sync>(
     context: &Context<'_, C, L, R, G>,
     workers: &mut Vec<Pass<C, L>>,
     lists: &Lists<C::Cmd>,
-    repaints: usize,
+    steps: usize,
 )
     requires some { 0 < vec_len workers.old }
     requires workers { All (λ pass. IsWorker (length lists.now.leaves) pass.actor) workers.old.items }
@@ -75,7 +75,7 @@ fn all_at_work<C: Client, L: Session, R: Threads + Wait + Sync, G: Gate + Sync>(
     ensures taken { (i : ℕ) (d : _) → i < vec_len workers.old →
         HasTaken lists.now (slice_index_or workers.old.items i d) (slice_index_or workers.new.items i d) }
 {
-    all_work(context, workers.as_mut_slice(), lists, repaints);
+    all_work(context, workers.as_mut_slice(), lists, steps);
 }
 
 /// All workers do what is theirs, each in a thread of its own.
@@ -83,7 +83,7 @@ fn all_work<C: Client, L: Session, R: Threads + Wait + Sync, G: Gate + Sync>(
     context: &Context<'_, C, L, R, G>,
     workers: &mut [Pass<C, L>],
     lists: &Lists<C::Cmd>,
-    repaints: usize,
+    steps: usize,
 )
     requires some { 0 < length workers.old }
     requires workers { All (λ pass. IsWorker (length lists.now.leaves) pass.actor) workers.old }
@@ -100,24 +100,24 @@ fn all_work<C: Client, L: Session, R: Threads + Wait + Sync, G: Gate + Sync>(
             requires { IsWorker (length lists.now.leaves) pass.now.actor
                 × AreReady (tree_of context.now.server.now.opening).nodes lists.now }
             ensures { HasTaken lists.entry.now pass.entry.now pass.exit.now }
-        { take_part(context, pass, lists, repaints) },
+        { take_part(context, pass, lists, steps) },
     );
 }
 
-/// A worker does what is its own: the painter repaints the screen so many times, and each other actor makes
-/// the steps of its list.
+/// A worker does what is its own: the painter repaints the screen, and each other actor makes the steps of its
+/// list.
 fn take_part<C: Client, L: Session, R: Threads + Wait + Sync, G: Gate + Sync>(
     context: &Context<'_, C, L, R, G>,
     pass: &mut Pass<C, L>,
     lists: &Lists<C::Cmd>,
-    repaints: usize,
+    steps: usize,
 )
     requires worker { IsWorker (length lists.now.leaves) pass.old.actor }
     requires ready { AreReady (tree_of context.now.server.now.opening).nodes lists.now }
     ensures { HasTaken lists.now pass.old pass.new }
 {
     match pass.actor() {
-        Actor::Painter => context.paint(pass, repaints),
+        Actor::Painter => context.paint(pass, steps),
         actor => context.work(pass, lists.of(actor)),
     }
 }

@@ -18,30 +18,35 @@ use tr_server::{Pass, Session, Window};
 /// How many commands may be posted with a pass before one is made under the tree's lock.
 const MOST_POSTED: u8 = 64;
 
-/// After how many steps of its own a worker tells whoever waits for steps.
-const STEPS_A_NOTE: u32 = 8;
+/// After how many commands of its own a worker tells whoever waits for steps.
+const COMMANDS_A_NOTE: u64 = 8;
 
 impl<C: Client, L: Session, R: Wait, G: Gate> Context<'_, C, L, R, G> {
     /// Makes the steps of a list, one after another, until memory runs out. Before each the gate is asked,
-    /// with no lock held.
+    /// with no lock held. The painter is told of commands as they are made, since they wait for him, and of the
+    /// other steps in the end: what an edit of the tree makes bad the next one may cover.
     pub(crate) fn work(&self, pass: &mut Pass<C, L>, list: &[Step<C::Cmd>])
         requires { All (λ step.
             IsMade (tree_of self.now.server.now.opening).nodes (pass.old.actor, step)) list.now }
         ensures { HasWorked pass.old pass.new list.now }
     {
         let mut made: u32 = 0;
+        let mut commands: u64 = 0;
+        let mut told: u64 = 0;
         for step in list {
             made = made.saturating_add(1);
             self.gate.turn(self.rt, pass.actor(), made);
             if self.make(pass, step).is_err() {
-                self.made.add(list.len() as u64);
+                self.made.add((list.len() as u64).saturating_sub(told));
                 return;
             }
-            if made % STEPS_A_NOTE == 0 {
-                self.made.add(u64::from(STEPS_A_NOTE));
+            commands = commands.saturating_add(u64::from(is_command(step)));
+            if commands >= told.saturating_add(COMMANDS_A_NOTE) {
+                self.made.add(COMMANDS_A_NOTE);
+                told = told.saturating_add(COMMANDS_A_NOTE);
             }
         }
-        self.made.add(u64::from(made % STEPS_A_NOTE));
+        self.made.add((list.len() as u64).saturating_sub(told));
     }
 
     /// Makes a step.
@@ -132,4 +137,9 @@ impl<C: Client, L: Session, R: Wait, G: Gate> Context<'_, C, L, R, G> {
         made?;
         Ok(())
     }
+}
+
+/// Whether a step is a command of a client.
+fn is_command<M>(step: &Step<M>) -> bool {
+    matches!(step, Step::Act { .. })
 }

@@ -33,8 +33,8 @@ pub struct Workers<'a, R, G> {
 pub(crate) const STEPS_A_REPAINT: usize = 16;
 
 /// Makes the steps of a part on a stage, each actor's in a thread of its own. Meanwhile the painter brings
-/// the screen up to date, once and once more for each 16 steps. Where there is no step and the painter
-/// would find nothing to do, nobody is started.
+/// the screen up to date, as often as he finds something to do and at most once and once more for each 16
+/// steps. Where there is no step and he would find nothing to do, nobody is started.
 pub(crate) fn make_side_by_side<C: Client, R: Threads + Wait + Sync, G: Gate + Sync>(
     workers: &Workers<'_, R, G>,
     stage: Stage<C>,
@@ -51,11 +51,10 @@ pub(crate) fn make_side_by_side<C: Client, R: Threads + Wait + Sync, G: Gate + S
     let Ok(lists) = lists_of(workers.alloc, steps, leaves) else {
         return Err(CloseRefused::NoMemory);
     };
-    let repaints = 1 + steps.len() / STEPS_A_REPAINT;
     let blank = Blank::new(2 * u64::from(leaves) + 3);
     // Called, before and after, for what it tells the prover.
     stands(&stage);
-    let stage = session::<C, Brand, R, G>(workers, blank, stage, &lists, repaints)?;
+    let stage = session::<C, Brand, R, G>(workers, blank, stage, &lists, steps.len())?;
     stands(&stage);
     Ok(stage)
 }
