@@ -286,19 +286,6 @@ kept_item r c d new w item is kept more a v taken =
     kept_after r (record r { declared = Some new }) c w (meanings.Item item) is kept (rw more.sort a) v taken
     (made_item r d new w item more here) (rw more.reports (omega arith))
 
--- nor does it break where the opening is lost
-pub lost : (r : Inside) (c : SoFar) → so_far r ≡ c → IsKept r → allows c.place opening_line ≡ true → IsKept (record r { declared = None })
-lost r c is kept a =
-    let opening : allows r.place opening_line ≡ true = subst (λ (s : SoFar). allows s.place opening_line ≡ true) (sym is) a in
-    let here : r.place ≡ places.Opening = place_is r.place opening in
-    let none = before_item r.place (so_far r) opening kept.law.read in
-    let gone : SoFar = so_far (record r { declared = None }) in
-    let read : HasRead places.Opening gone = record { ended = none.ended; part = none.part } in
-    record {
-      law = record { nodes = refl; leaves = refl; shared = λ q new. new; read = subst (λ (p : Place). HasRead p gone) (sym here) read };
-      reports = kept.reports;
-    }
-
 -- where the opening refuses nothing, the script so far doesn't
 pub not_refused : (r : Inside) (c : SoFar) (d : Declared) (fault : List (Item Widget) → Option NodeFault) → so_far r ≡ c → r.declared ≡ Some d →
     fault d.opening ≡ None → is_some (fault c.items) ≡ false

@@ -45,6 +45,16 @@ number_of-push (n ∷ ns) w q new =
       | inr differs ↦ rw (differs, later) (one_more ns (bytes_eq w q) (number_of ns q))
     ]
 
+-- without the last name, which is none of the others, each of these has the number that it had
+pub number_of-pop : (ns : List (List ℕ)) (w q : List ℕ) → number_of ns w ≡ None →
+    cond (bytes_eq w q) None (number_of (ns ++ w ∷ []) q) ≡ number_of ns q
+number_of-pop ns w q new =
+    let pushed = number_of-push ns w q new in
+    elim (cases_Bool (bytes_eq w q)) [
+      | inl same ↦ rw same (sym new ∙ ap (λ (v : List ℕ). number_of ns v) ((bytes_eq-Decides w q).0 same))
+      | inr differs ↦ rw (pushed, differs) refl
+    ]
+
 -- a number of the names is less than their count
 pub number_of-within : (ns : List (List ℕ)) (w : List ℕ) (k : ℕ) → number_of ns w ≡ Some k → k < length ns
 number_of-within [] w k e = cc

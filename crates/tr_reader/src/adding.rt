@@ -1,5 +1,5 @@
 //! What a line adds.
-ghost use Rattle.std.specs.Prelude.{◌≡◌, [], true, false, OnOk, is_some};
+ghost use Rattle.std.specs.Prelude.{◌≡◌, [], true, false, OnOk, OnErr, is_some};
 ghost use Rattle.tr_journal.specs.Steps.{IsQuery};
 ghost use Rattle.tr_grammar.specs.Faults.{version_line, opening_line, step_line, report_line, allows, is_one_too_many, nodes_so_far};
 ghost use Rattle.tr_grammar.specs.Scripts.{after, IsPlayable};
@@ -40,7 +40,8 @@ impl<'a> Reader<'a> {
     /// The opening ends, if it has a root.
     fn begin(&mut self) -> Result<(), LineRefused>
         requires { allows self.old.place opening_line ≡ true }
-        ensures { Adds self.old [] Meaning.Begin self.new result }
+        ensures answer { Adds self.old [] Meaning.Begin self.new result }
+        ensures err { OnErr result (self.new ≡ self.old) }
     {
         if !self.has_root() {
             return Err(LineRefused::Fault(Code::B6));
@@ -53,7 +54,8 @@ impl<'a> Reader<'a> {
     fn add_step(&mut self, actor: Actor, step: Step<WidgetCmd>) -> Result<(), NoMemory>
         requires place { allows self.old.place step_line ≡ true }
         requires playable { IsPlayable (nodes_so_far self.old) (actor, step) }
-        ensures { OnOk result (self.new ≡ after self.old [] (Meaning.Step actor step)) }
+        ensures ok { OnOk result (self.new ≡ after self.old [] (Meaning.Step actor step)) }
+        ensures err { OnErr result (self.new ≡ self.old) }
     {
         // For the prover: its borrow checker finds the types within a command, and so a rule for the
         // steps, only where the body names them.
@@ -66,7 +68,8 @@ impl<'a> Reader<'a> {
     /// The part ends, and another begins.
     fn end_part(&mut self) -> Result<(), NoMemory>
         requires { allows self.old.place step_line ≡ true }
-        ensures { OnOk result (self.new ≡ after self.old [] Meaning.Sync) }
+        ensures ok { OnOk result (self.new ≡ after self.old [] Meaning.Sync) }
+        ensures err { OnErr result (self.new ≡ self.old) }
     {
         self.ended.reserve(1)?;
         let reports = std::mem::replace(&mut self.reports, Vec::new(self.alloc));
@@ -84,7 +87,8 @@ impl<'a> Reader<'a> {
         requires place { allows self.old.place report_line ≡ true }
         requires query { IsQuery (nodes_so_far self.old) query }
         requires room { is_one_too_many self.old (Meaning.Report query) ≡ false }
-        ensures { OnOk result (self.new ≡ after self.old [] (Meaning.Report query)) }
+        ensures ok { OnOk result (self.new ≡ after self.old [] (Meaning.Report query)) }
+        ensures err { OnErr result (self.new ≡ self.old) }
     {
         push(&mut self.reports, query)?;
         self.report_count += 1;
@@ -100,12 +104,12 @@ impl<'a> Reader<'a> {
         self.place = Place::Ended;
     }
 
-    /// What a line says comes behind what the lines before it said. Its second word is `name`. After an
-    /// `Err` the reader is of no use.
+    /// What a line says comes behind what the lines before it said. Its second word is `name`.
     pub fn add(&mut self, name: &'a str, meaning: Meaning) -> Result<(), LineRefused>
         requires sound { IsSoundMeaning self.old name.now meaning }
         requires room { is_one_too_many self.old meaning ≡ false }
-        ensures { Adds self.old name.now meaning self.new result }
+        ensures answer { Adds self.old name.now meaning self.new result }
+        ensures err { OnErr result (self.new ≡ self.old) }
     {
         match meaning {
             Meaning::Version(version) => self.set_version(version),

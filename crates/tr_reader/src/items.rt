@@ -1,15 +1,15 @@
 //! The items of an opening.
-ghost use Rattle.std.specs.Prelude.{◌≡◌, ◌≤◌, ◌++◌, ◌∷◌, [], true, false, None, Option, IfErr, OnOk, OnErr};
+ghost use Rattle.std.specs.Prelude.{◌≡◌, ◌<◌, ◌≤◌, ◌++◌, ◌∷◌, [], true, false, None, Option, IfErr, OnOk, OnErr, length};
 ghost use Rattle.tr_forest.specs.declared.NodeFault.{NodeFault};
-ghost use Rattle.tr_forest.specs.Nodes.{IsNode};
+ghost use Rattle.tr_forest.specs.Nodes.{IsNode, IsNodeKind, is_leaf, leaf_count, shown_by};
 ghost use Rattle.tr_forest.specs.Edits.{IsCause, IsEdit, IsScreenSize, refusal};
 ghost use Rattle.tr_journal.specs.Openings.{root_refusal, tree_of};
+ghost use Rattle.tr_grammar.specs.Names.{number_of};
 ghost use Rattle.tr_grammar.specs.Faults.{screen_line, opening_line, allows, nodes_so_far, is_one_too_many};
 ghost use Rattle.tr_grammar.specs.Scripts.{after};
 ghost use Rattle.tr_reader.specs.Adding.{Adds, IsRefusal, IsSoundMeaning};
 
 use crate::names::NameTable;
-use crate::parts::push;
 use crate::readers::{Declared, Reader};
 use tr_base::{Kind, NoMemory, NodeId, Point, Shapes, Size};
 use tr_client::Client;
@@ -18,8 +18,8 @@ use tr_grammar::{Code, LineRefused, Meaning, Place};
 use tr_journal::{Item, Opening};
 use tr_widget::Widget;
 
-/// What is answered where the opening is gone: a call before wanted memory, and lost it. It never comes to
-/// this in a reader that is dropped after the first `Err`.
+/// What is answered where there is no opening. It never comes to this: an item stands behind the screen
+/// line, and the opening is kept from there on.
 const LOST: NoMemory = NoMemory;
 
 /// What a refused edit says of a line.
@@ -67,12 +67,80 @@ fn set_root<C: Client>(opening: &mut Opening<C>, node: NodeId) -> Result<(), Lin
     }
 }
 
+impl<'a> Declared<'a> {
+    /// A node more that isn't a leaf, and its name.
+    fn add_node(&mut self, name: &'a str, kind: NodeKind, tint: u8) -> Result<(), NoMemory>
+        requires new { number_of self.old.nodes name.now ≡ None }
+        requires names { length self.old.nodes < 256 }
+        requires room { length (tree_of self.old.opening).nodes.entries < 256 }
+        requires kind { IsNodeKind kind }
+        requires shown { shown_by kind ≡ None }
+        requires inner { is_leaf kind ≡ false }
+        ensures ok { OnOk result (self.new ≡ record self.old {
+          opening = self.old.opening ++ Item.Node kind tint ∷ [];
+          nodes = self.old.nodes ++ name.now ∷ [];
+        }) }
+        ensures err { OnErr result (self.new ≡ self.old) }
+    {
+        self.nodes.declare(name)?;
+        if let Err(e) = self.opening.node(kind, tint) {
+            self.nodes.withdraw(name);
+            return Err(e);
+        }
+        Ok(())
+    }
+
+    /// A leaf more, and its name.
+    fn add_leaf(&mut self, name: &'a str, shapes: Shapes, content: Widget) -> Result<(), NoMemory>
+        requires new_node { number_of self.old.nodes name.now ≡ None }
+        requires new_leaf { number_of self.old.leaves name.now ≡ None }
+        requires node_names { length self.old.nodes < 256 }
+        requires leaf_names { length self.old.leaves < 256 }
+        requires nodes { length (tree_of self.old.opening).nodes.entries < 256 }
+        requires leaves { leaf_count (tree_of self.old.opening).nodes < 32 }
+        ensures ok { OnOk result (self.new ≡ record {
+          opening = self.old.opening ++ Item.Leaf shapes content ∷ [];
+          nodes = self.old.nodes ++ name.now ∷ [];
+          leaves = self.old.leaves ++ name.now ∷ [];
+        }) }
+        ensures err { OnErr result (self.new ≡ self.old) }
+    {
+        self.nodes.declare(name)?;
+        if let Err(e) = self.add_shown(name, shapes, content) {
+            self.nodes.withdraw(name);
+            return Err(e);
+        }
+        Ok(())
+    }
+
+    /// A leaf more, whose node has its name.
+    fn add_shown(&mut self, name: &'a str, shapes: Shapes, content: Widget) -> Result<(), NoMemory>
+        requires new { number_of self.old.leaves name.now ≡ None }
+        requires names { length self.old.leaves < 256 }
+        requires nodes { length (tree_of self.old.opening).nodes.entries < 256 }
+        requires leaves { leaf_count (tree_of self.old.opening).nodes < 32 }
+        ensures ok { OnOk result (self.new ≡ record self.old {
+          opening = self.old.opening ++ Item.Leaf shapes content ∷ [];
+          leaves = self.old.leaves ++ name.now ∷ [];
+        }) }
+        ensures err { OnErr result (self.new ≡ self.old) }
+    {
+        self.leaves.declare(name)?;
+        if let Err(e) = self.opening.leaf(shapes, content) {
+            self.leaves.withdraw(name);
+            return Err(e);
+        }
+        Ok(())
+    }
+}
+
 impl<'a> Reader<'a> {
     /// The opening begins with its screen.
     fn set_screen(&mut self, size: Size, kind: Kind) -> Result<(), NoMemory>
         requires place { allows self.old.place screen_line ≡ true }
         requires size { IsScreenSize size }
-        ensures { OnOk result (self.new ≡ after self.old [] (Meaning.Item (Item.Screen size kind))) }
+        ensures ok { OnOk result (self.new ≡ after self.old [] (Meaning.Item (Item.Screen size kind))) }
+        ensures err { OnErr result (self.new ≡ self.old) }
     {
         let opening = Opening::new(self.alloc, size, kind)?;
         self.declared = Some(Declared {
@@ -89,28 +157,33 @@ impl<'a> Reader<'a> {
         requires place { allows self.old.place opening_line ≡ true }
         requires first { 32 ≤ byte }
         requires last { byte ≤ 126 }
-        ensures { OnOk result (self.new ≡ after self.old [] (Meaning.Item (Item.Glyph byte rows))) }
+        ensures ok { OnOk result (self.new ≡ after self.old [] (Meaning.Item (Item.Glyph byte rows))) }
+        ensures err { OnErr result (self.new ≡ self.old) }
     {
+        self.glyphs.reserve(1)?;
         let Some(mut declared) = self.declared.take() else {
             return Err(LOST);
         };
-        declared.opening.glyph(byte, rows)?;
+        let added = declared.opening.glyph(byte, rows);
         self.declared = Some(declared);
-        push(&mut self.glyphs, byte)
+        added?;
+        self.glyphs.push_reserved(byte);
+        Ok(())
     }
 
     /// A node more that isn't a leaf, and its name.
     fn add_node(&mut self, name: &'a str, kind: NodeKind, tint: u8) -> Result<(), NoMemory>
         requires sound { IsSoundMeaning self.old name.now (Meaning.Item (Item.Node kind tint)) }
         requires room { is_one_too_many self.old (Meaning.Item (Item.Node kind tint)) ≡ false }
-        ensures { OnOk result (self.new ≡ after self.old name.now (Meaning.Item (Item.Node kind tint))) }
+        ensures ok { OnOk result (self.new ≡ after self.old name.now (Meaning.Item (Item.Node kind tint))) }
+        ensures err { OnErr result (self.new ≡ self.old) }
     {
         let Some(mut declared) = self.declared.take() else {
             return Err(LOST);
         };
-        declared.opening.node(kind, tint)?;
-        declared.nodes.declare(name)?;
+        let added = declared.add_node(name, kind, tint);
         self.declared = Some(declared);
+        added?;
         Ok(())
     }
 
@@ -118,15 +191,15 @@ impl<'a> Reader<'a> {
     fn add_leaf(&mut self, name: &'a str, shapes: Shapes, content: Widget) -> Result<(), NoMemory>
         requires sound { IsSoundMeaning self.old name.now (Meaning.Item (Item.Leaf shapes content)) }
         requires room { is_one_too_many self.old (Meaning.Item (Item.Leaf shapes content)) ≡ false }
-        ensures { OnOk result (self.new ≡ after self.old name.now (Meaning.Item (Item.Leaf shapes content))) }
+        ensures ok { OnOk result (self.new ≡ after self.old name.now (Meaning.Item (Item.Leaf shapes content))) }
+        ensures err { OnErr result (self.new ≡ self.old) }
     {
         let Some(mut declared) = self.declared.take() else {
             return Err(LOST);
         };
-        declared.opening.leaf(shapes, content)?;
-        declared.nodes.declare(name)?;
-        declared.leaves.declare(name)?;
+        let added = declared.add_leaf(name, shapes, content);
         self.declared = Some(declared);
+        added?;
         Ok(())
     }
 
@@ -134,13 +207,15 @@ impl<'a> Reader<'a> {
     fn put(&mut self, child: NodeId, parent: NodeId, at: Point) -> Result<(), LineRefused>
         requires place { allows self.old.place opening_line ≡ true }
         requires edit { IsEdit (nodes_so_far self.old) (Edit.Attach child parent at) }
-        ensures { Adds self.old [] (Meaning.Item (Item.Put child parent at)) self.new result }
+        ensures answer { Adds self.old [] (Meaning.Item (Item.Put child parent at)) self.new result }
+        ensures err { OnErr result (self.new ≡ self.old) }
     {
         let Some(mut declared) = self.declared.take() else {
             return Err(LOST.into());
         };
-        put(&mut declared.opening, child, parent, at)?;
+        let added = put(&mut declared.opening, child, parent, at);
         self.declared = Some(declared);
+        added?;
         Ok(())
     }
 
@@ -148,13 +223,15 @@ impl<'a> Reader<'a> {
     fn set_root(&mut self, node: NodeId) -> Result<(), LineRefused>
         requires place { allows self.old.place opening_line ≡ true }
         requires node { IsNode (nodes_so_far self.old) node }
-        ensures { Adds self.old [] (Meaning.Item (Item.Root node)) self.new result }
+        ensures answer { Adds self.old [] (Meaning.Item (Item.Root node)) self.new result }
+        ensures err { OnErr result (self.new ≡ self.old) }
     {
         let Some(mut declared) = self.declared.take() else {
             return Err(LOST.into());
         };
-        set_root(&mut declared.opening, node)?;
+        let added = set_root(&mut declared.opening, node);
         self.declared = Some(declared);
+        added?;
         Ok(())
     }
 
@@ -162,7 +239,8 @@ impl<'a> Reader<'a> {
     pub(crate) fn add_item(&mut self, name: &'a str, item: Item<Widget>) -> Result<(), LineRefused>
         requires sound { IsSoundMeaning self.old name.now (Meaning.Item item) }
         requires room { is_one_too_many self.old (Meaning.Item item) ≡ false }
-        ensures { Adds self.old name.now (Meaning.Item item) self.new result }
+        ensures answer { Adds self.old name.now (Meaning.Item item) self.new result }
+        ensures err { OnErr result (self.new ≡ self.old) }
     {
         match item {
             Item::Screen { size, kind } => self.set_screen(size, kind)?,

@@ -1,4 +1,4 @@
-ghost use Rattle.std.specs.Prelude.{◌≡◌, ◌≤◌, ◌<◌, [], ◌∷◌, ◌++◌, None, IfOk, OnOk, IfSome, length, map};
+ghost use Rattle.std.specs.Prelude.{◌≡◌, ◌≤◌, ◌<◌, ℕ, List, [], ◌∷◌, ◌++◌, None, IfOk, OnOk, OnErr, IfSome, length, map};
 ghost use Rattle.tr_grammar.specs.Names.{number_of};
 ghost use Rattle.tr_words.specs.Answers.{texts};
 
@@ -110,18 +110,28 @@ impl<'a> NameTable<'a> {
         self.numbers.get(name).copied()
     }
 
-    /// One name more, which gets the next number. After an `Err` the table is of no use: its two parts may
-    /// differ.
+    /// One name more, which gets the next number.
     pub fn declare(&mut self, name: &'a str) -> Result<(), NoMemory>
         requires new { number_of self.old name.now ≡ None }
         requires room { length self.old < MOST_NAMES }
-        ensures { OnOk result (self.new ≡ self.old ++ name.now ∷ []) }
+        ensures ok { OnOk result (self.new ≡ self.old ++ name.now ∷ []) }
+        ensures err { OnErr result (self.new ≡ self.old) }
     {
         let number = self.len() as u16;
         self.names.reserve(1)?;
         self.numbers.insert(name, number)?;
-        self.names.push(name)?;
+        self.names.push_reserved(name);
         Ok(())
+    }
+
+    /// Takes back the name that was declared last.
+    pub fn withdraw(&mut self, name: &str)
+        requires last { (before : List (List ℕ)) ×
+            (self.old ≡ before ++ name.now ∷ []) × (number_of before name.now ≡ None) }
+        ensures { self.old ≡ self.new ++ name.now ∷ [] }
+    {
+        self.names.pop();
+        self.numbers.remove(name);
     }
 
     /// Copies of the names.

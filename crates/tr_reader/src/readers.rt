@@ -18,8 +18,7 @@ pub(crate) struct Declared<'a> {
     pub(crate) leaves: NameTable<'a>,
 }
 
-/// What the lines of a script say so far. After an `Err` of `add` nothing is said of it: the opening, or
-/// the steps of the part that goes on, may be gone.
+/// What the lines of a script say so far.
 #[derive(Drop)]
 pub struct Reader<'a> {
     pub(crate) alloc: Global,
