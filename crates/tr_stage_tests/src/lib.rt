@@ -11,6 +11,8 @@ mod calls;
 #[cfg(test)]
 mod draws;
 #[cfg(test)]
+mod flushes;
+#[cfg(test)]
 mod openings;
 #[cfg(test)]
 mod played;

@@ -147,3 +147,13 @@ pub fn waits<P: Played>(rt: &impl Abort, stage: &P, leaf: LeafId, events: &[Even
         assert_eq!(rt; stage.event(rt, leaf, i), *event);
     }
 }
+
+/// Whether the screens of two stages of one size have the same pixels.
+pub fn have_same_rows<P: Played>(rt: &impl Abort, one: &P, other: &P) -> bool {
+    for v in 0..one.size().high {
+        if one.row(rt, v) != other.row(rt, v) {
+            return false;
+        }
+    }
+    true
+}

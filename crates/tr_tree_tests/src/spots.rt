@@ -1,14 +1,17 @@
 //! Whose each point is, by its spot and by the regions of nodes.
-ghost use Rattle.std.specs.Prelude.{◌≡◌, ◌<◌, ◌≤◌, false, length, None, IfOk};
+ghost use Rattle.std.specs.Prelude.{◌≡◌, ◌<◌, ◌≤◌, false, length, None, IfOk, OnOk};
+ghost use Rattle.tr_base.specs.Layouts.{IsOffset, farthest};
 ghost use Rattle.tr_forest.specs.Nodes.{IsNode, IsNodeKind, shown_by, is_leaf};
-ghost use Rattle.tr_forest.specs.Edits.{IsEdit, IsScreenSize};
+ghost use Rattle.tr_forest.specs.Edits.{IsEdit, IsScreenSize, refusal};
+ghost use Rattle.tr_tree.specs.Trees.{edited_tree};
 ghost use Rattle.tr_spot.specs.Spots.{HasRoot};
+ghost use Rattle.tr_surface.specs.Survivors as spec;
 
 use std::process::Abort;
 use std::test::Fail;
 use tr_base::{Kind, LeafId, NoMemory, NodeId, Point, Shape, Shapes, Size};
 use tr_region::Region;
-use tr_spot::{Spot, frame, regions, spot_at, visible};
+use tr_spot::{Spot, changed_points, frame, regions, regions_within, spot_at, visible};
 use tr_testing::Numbers;
 use tr_tree::{Edit, NodeKind, Tree};
 
@@ -83,7 +86,9 @@ fn add_leaf(
 }
 
 /// Seven nodes of several kinds, of which the first is the root, and four leaves.
-fn loose(rt: &(impl Abort + AllocGlobal)) -> Result<Tree, NoMemory> {
+fn loose(rt: &(impl Abort + AllocGlobal), size: Size) -> Result<Tree, NoMemory>
+    requires { IsScreenSize size }
+{
     let by = Point { h: 1, v: -1 };
     let others = [
         NodeKind::Z,
@@ -94,7 +99,6 @@ fn loose(rt: &(impl Abort + AllocGlobal)) -> Result<Tree, NoMemory> {
         NodeKind::Page { per: 2, page: 0 },
     ];
     let leaves = [square(), pair(), square(), pair()];
-    let size = Size { wide: 6, high: 5 };
     let mut tree = tree_of(rt, size, &NodeKind::Z, &leaves)?;
     for kind in &others {
         assert!(rt; tree.count() < 256);
@@ -103,26 +107,49 @@ fn loose(rt: &(impl Abort + AllocGlobal)) -> Result<Tree, NoMemory> {
     Ok(tree)
 }
 
-/// Changes a tree of eleven nodes in one of several ways, where that isn't refused.
-fn shuffle(numbers: &mut Numbers, tree: &mut Tree)
-    requires { 11 ≤ length tree.old.nodes.entries }
-    ensures { length tree.new.nodes.entries ≡ length tree.old.nodes.entries }
+/// A place a little way off.
+fn near(numbers: &mut Numbers) -> Point
+    ensures { IsOffset farthest result }
 {
-    let node = NodeId(numbers.below(11));
-    let child = NodeId(numbers.below(11));
-    let at = Point {
+    Point {
         h: i32::from(numbers.below(6)) - 2,
         v: i32::from(numbers.below(4)) - 1,
-    };
-    match numbers.below(8) {
-        0 => change(tree, Edit::Detach { child }),
-        1 => change(tree, Edit::Move { child, at }),
-        2 => change(tree, Edit::Lift { child }),
-        3 => change(tree, Edit::Show { node, child }),
-        _ => {
-            let parent = node;
-            change(tree, Edit::Attach { child, parent, at });
-        }
+    }
+}
+
+/// A change of a tree of eleven nodes: of the children of one, or of a node that has something to change.
+fn drawn(numbers: &mut Numbers, tree: &Tree) -> Edit
+    requires { 11 ≤ length tree.now.nodes.entries }
+    ensures { IsEdit tree.now.nodes result }
+{
+    let parent = NodeId(numbers.below(11));
+    let child = NodeId(numbers.below(11));
+    let at = near(numbers);
+    match numbers.below(12) {
+        0 => Edit::Detach { child },
+        1 => Edit::Move { child, at },
+        2 => Edit::Lift { child },
+        3 => Edit::Show {
+            node: NodeId(7),
+            child,
+        },
+        4 => Edit::Border {
+            node: NodeId(8),
+            width: numbers.byte() % 4,
+        },
+        5 => Edit::Offset {
+            node: NodeId(9),
+            by: at,
+        },
+        6 => Edit::Turn {
+            node: NodeId(10),
+            page: numbers.byte() % 4,
+        },
+        7 => Edit::Shapes {
+            node: NodeId(2),
+            shapes: square(),
+        },
+        _ => Edit::Attach { child, parent, at },
     }
 }
 
@@ -202,10 +229,11 @@ fn agrees_after_each_edit(
     rt: &(impl Abort + AllocGlobal),
     numbers: &mut Numbers,
 ) -> Result<bool, NoMemory> {
-    let mut tree = loose(rt)?;
+    let mut tree = loose(rt, Size { wide: 6, high: 5 })?;
     for _edit in 0..40 {
         assert!(rt; tree.count() == 11);
-        shuffle(numbers, &mut tree);
+        let edit = drawn(numbers, &tree);
+        change(&mut tree, edit);
         if !all_agree(rt, &tree)? {
             return Ok(false);
         }
@@ -218,6 +246,104 @@ fn regions_agree_with_spots(rt: HostRuntime) -> Result<(), Fail> {
     let mut numbers = Numbers::new(1);
     for count in 0..20 {
         assert!(rt; agrees_after_each_edit(&rt, &mut numbers)?, "tree {count}");
+    }
+    Ok(())
+}
+
+/// The child whose place among the children of a node an edit changes.
+fn placed_child(edit: &Edit) -> Option<NodeId>
+    ensures { result ≡ spec.placed_child edit.now }
+{
+    match edit {
+        Edit::Attach { child, .. } | Edit::Detach { child } | Edit::Lift { child } => Some(*child),
+        _ => None,
+    }
+}
+
+fn are_same(some: &[Region], others: &[Region]) -> bool {
+    some.len() == others.len() && some.iter().zip(others).all(|(a, b)| a.same(b))
+}
+
+/// Whether each point of the screen has the same spot in both trees, but for some points.
+fn spots_stay(rt: &impl Abort, was: &Tree, is: &Tree, changed: &Region) -> bool {
+    assert!(rt; was.root().is_some() && is.root().is_some());
+    let size = is.size();
+    for v in 0..size.high {
+        for h in 0..size.wide {
+            let (h, v) = (i32::from(h), i32::from(v));
+            let p = Point { h, v };
+            if spot_at(was, p) != spot_at(is, p) && !changed.has(p) {
+                return false;
+            }
+        }
+    }
+    true
+}
+
+/// Whether the regions after an edit are those of a walk over the whole screen where only the points are
+/// looked at that it may change, and all others have the spot that they had.
+fn is_seen_in_box(
+    rt: &(impl Abort + AllocGlobal),
+    was: &Tree,
+    is: &Tree,
+    edit: &Edit,
+) -> Result<bool, NoMemory>
+    requires edit { IsEdit was.now.nodes edit.now }
+    requires allowed { refusal was.now.nodes edit.now ≡ None }
+    requires is { is.now ≡ edited_tree was.now edit.now }
+{
+    // Called for what it tells the prover: that the nodes are a forest.
+    let _ = was.count();
+    if was.size() != is.size() {
+        return Ok(true);
+    }
+    assert!(rt; was.root().is_some() && is.root().is_some());
+    let before = regions(rt.alloc(), was)?;
+    let changed = changed_points(rt.alloc(), was, is, placed_child(edit))?;
+    let after = regions_within(rt.alloc(), is, &changed, &before)?;
+    let all = regions(rt.alloc(), is)?;
+    Ok(are_same(&after, &all) && spots_stay(rt, was, is, &changed))
+}
+
+/// Whether that is so of an edit, unless it is refused. Then the tree is as it says.
+fn edits_in_box(
+    rt: &(impl Abort + AllocGlobal),
+    tree: &mut Tree,
+    edit: Edit,
+) -> Result<bool, NoMemory>
+    requires { IsEdit tree.old.nodes edit }
+    ensures { OnOk result (length tree.new.nodes.entries ≡ length tree.old.nodes.entries) }
+{
+    let was = tree.copy()?;
+    match tree.edit(&edit) {
+        Ok(()) => is_seen_in_box(rt, &was, tree, &edit),
+        Err(_refused) => Ok(true),
+    }
+}
+
+/// Whether that is so of each of 40 edits on a screen of any small size.
+fn walks_in_boxes(
+    rt: &(impl Abort + AllocGlobal),
+    numbers: &mut Numbers,
+) -> Result<bool, NoMemory> {
+    let wide = numbers.below(24) + 1;
+    let high = numbers.below(24) + 1;
+    let mut tree = loose(rt, Size { wide, high })?;
+    for _edit in 0..40 {
+        assert!(rt; tree.count() == 11);
+        let edit = drawn(numbers, &tree);
+        if !edits_in_box(rt, &mut tree, edit)? {
+            return Ok(false);
+        }
+    }
+    Ok(true)
+}
+
+#[test]
+fn a_walk_in_a_box_finds_what_one_over_the_screen_does(rt: HostRuntime) -> Result<(), Fail> {
+    let mut numbers = Numbers::new(26);
+    for count in 0..5 {
+        assert!(rt; walks_in_boxes(&rt, &mut numbers)?, "tree {count}");
     }
     Ok(())
 }
