@@ -1,4 +1,5 @@
--- A Counter obeys the laws of clients. These are proofs, which stand here since an impl cites nothing else of its crate; no contract cites them.
+-- A Counter obeys the laws of clients.
+-- These are proofs, which stand here since an impl cites nothing else of its crate; no contract cites them.
 use Rattle.std.proofs.Common.{◌≡◌, ℕ, ◌+◌, ◌<◌, ◌≤◌, ◌^◌, ◌==◌, ◌&&◌, min, ℤ, pos, Bool, true, false, cond, [], ◌∷◌, Some, None, refl, ap, ◌∙◌, arith}
 use Rattle.std.specs.Prelude.{IfSome}
 use Rattle.std.proofs.lemmas.Int.{ints}
@@ -38,12 +39,14 @@ and_true true = refl
 and_true false = refl
 
 -- a point of a part lies in some columns of it by its column alone
-columns-have : (part : Edges) (from to : ℕ) (q : Point) → has_point part q ≡ true → has_point (columns_of part from to) q ≡ between (pos from) (pos to) q.h
+columns-have : (part : Edges) (from to : ℕ) (q : Point) → has_point part q ≡ true →
+    has_point (columns_of part from to) q ≡ between (pos from) (pos to) q.h
 columns-have part from to q here =
     has_point-meet_of part (rect_of (pos from) (pos to) part.north part.south) q
     ∙ ap (λ b. b && has_point (rect_of (pos from) (pos to) part.north part.south) q) here
     ∙ has_point-rect_of (pos from) (pos to) part.north part.south q
-    ∙ ap (λ b. between (pos from) (pos to) q.h && b) (both_hold (between part.west part.east q.h) (between part.north part.south q.v) here).1
+    ∙ ap (λ b. between (pos from) (pos to) q.h && b)
+    (both_hold (between part.west part.east q.h) (between part.north part.south q.v) here).1
     ∙ and_true (between (pos from) (pos to) q.h)
 
 -- what a bar grows by lies in the longer bar
@@ -51,7 +54,8 @@ grown-in : (low high : ℕ) (h : ℤ) → between (pos low) (pos high) h ≡ tru
 grown-in low high h within = grind (arith, ints)
 
 -- elsewhere both bars have the same columns
-grown-beside : (low high : ℕ) (h : ℤ) → low ≤ high → between (pos low) (pos high) h ≡ false → between (pos 0) (pos low) h ≡ between (pos 0) (pos high) h
+grown-beside : (low high : ℕ) (h : ℤ) → low ≤ high → between (pos low) (pos high) h ≡ false →
+    between (pos 0) (pos low) h ≡ between (pos 0) (pos high) h
 grown-beside low high h order beside = grind (arith, ints)
 
 -- ---- a part of the picture is painted
@@ -62,7 +66,8 @@ bar-makes : (look : Look) (tint : ℕ) (bar : Bool) →
 bar-makes look tint true = refl
 bar-makes look tint false = refl
 
-pub counter_painting : (look : Look) (size : Size) (part : Edges) (x : Counter) → IsPainting look part (counter_paints part x) (counter_pic look size x)
+pub counter_painting : (look : Look) (size : Size) (part : Edges) (x : Counter) →
+    IsPainting look part (counter_paints part x) (counter_pic look size x)
 counter_painting look size part x =
     painting_pushed look part (Tint part Bg ∷ []) bar (λ q. 0) (counter_pic look size x)
     (painting_alone look part (Tint part Bg) (λ q. 0) (λ q here. rw here refl) (λ q h. h))
@@ -91,7 +96,8 @@ key_answers code = by_test (code == plus)
     by_test true = omega arith
     by_test false = tt
 
-pub counter_answers : (x : Counter) (event : Event) → IsCounter x → IsEvent event → IfSome (counter_answer x event) (λ cmd. IsCounterCmd cmd)
+pub counter_answers : (x : Counter) (event : Event) → IsCounter x → IsEvent event →
+    IfSome (counter_answer x event) (λ cmd. IsCounterCmd cmd)
 counter_answers x (Mouse time click button at) valid known = click_answers click
 counter_answers x (Key time code) valid known = key_answers code
 counter_answers x event valid known = tt
@@ -132,11 +138,12 @@ counter_patches look size x (Add n) valid known small =
         (between (pos 0) (pos x.count) q.h) old q refl (grown-in x.count high q.h)
         (grown-beside x.count high q.h order))
 
-pub counter_empty_patches : (look : Look) (size : Size) (x : Counter) (cmd : CounterCmd) → IsCounter x → IsCounterCmd cmd → IsWindowSize size →
-    is_flat size ≡ true → counter_patch look size x cmd ≡ []
+pub counter_empty_patches : (look : Look) (size : Size) (x : Counter) (cmd : CounterCmd) → IsCounter x → IsCounterCmd cmd →
+    IsWindowSize size → is_flat size ≡ true → counter_patch look size x cmd ≡ []
 counter_empty_patches look size x (Add n) valid known small flat =
     ap (λ (part : Edges). batch_of (Tint (columns_of part x.count (min (x.count + n) greatest)) (Set x.tint) ∷ [])) (flat-whole size flat)
-    ∙ ap (λ (part : Edges). batch_of (Tint part (Set x.tint) ∷ [])) (meet-nothing (rect_of (pos x.count) (pos (min (x.count + n) greatest)) (pos 0) (pos 0)))
+    ∙ ap (λ (part : Edges). batch_of (Tint part (Set x.tint) ∷ []))
+    (meet-nothing (rect_of (pos x.count) (pos (min (x.count + n) greatest)) (pos 0) (pos 0)))
 
 pub counter_keeping : (look : Look) (from to : Size) (x : Counter) → IsCounter x → IsWindowSize from → IsWindowSize to →
     Survives (counter_keeps x from to) from to (counter_pic look from x) (counter_pic look to x)
@@ -147,5 +154,6 @@ bar-kinds : (kind : Kind) (tint : ℕ) (bar : Bool) → tint < 2 ^ 8 → IsPixel
 bar-kinds kind tint true byte = pixel-resolved kind tint byte
 bar-kinds kind tint false byte = pixel-bit kind 0 (omega arith)
 
-pub counter_kinds : (look : Look) (size : Size) (x : Counter) (p : Point) → IsCounter x → IsWindowSize size → IsPixel look.kind (counter_pic look size x p)
+pub counter_kinds : (look : Look) (size : Size) (x : Counter) (p : Point) → IsCounter x → IsWindowSize size →
+    IsPixel look.kind (counter_pic look size x p)
 counter_kinds look size x p valid small = bar-kinds look.kind x.tint (between (pos 0) (pos x.count) p.h) valid.tint

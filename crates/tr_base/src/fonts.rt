@@ -59,7 +59,8 @@ impl Font {
         requires first { 32 ≤ byte }
         requires last { byte ≤ 126 }
         ensures glyphs { self.new ≡ slice_set self.old (byte - 32) rows }
-        ensures glyph { (b : ℕ) → spec.glyph_of self.new b ≡ (if b == byte then rows else spec.glyph_of self.old b) }
+        ensures glyph { (b : ℕ) →
+            spec.glyph_of self.new b ≡ (if b == byte then rows else spec.glyph_of self.old b) }
     {
         self.glyphs[usize::from(byte - FIRST)] = rows;
     }

@@ -27,7 +27,8 @@ impl Model for Line {
 
     ghost inverse = { λ text. record { bytes = padded text; len = length text } };
 
-    ghost inverse_ok = { λ l keeps. kept_back (λ bytes len. record { bytes = bytes; len = len }) l.bytes l.len keeps };
+    ghost inverse_ok = { λ l keeps.
+        kept_back (λ bytes len. record { bytes = bytes; len = len }) l.bytes l.len keeps };
 
     ghost invariant = { λ l. KeepsLine l.bytes l.len };
 }

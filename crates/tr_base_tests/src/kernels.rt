@@ -111,7 +111,8 @@ fn op_at(ops: Pair, byte: u8, place: usize) -> Op {
     }
 }
 
-/// Whether an exchange behind a third of a row does what it says, and the differences that it makes are found.
+/// Whether an exchange behind a third of a row does what it says, and the differences that it makes are
+/// found.
 fn differs_where_exchanged(n: usize) -> bool
     requires { n ≤ LONGEST }
 {

@@ -171,7 +171,8 @@ impl Desk {
     /// A leaf was sent a mouse or key event.
     pub fn delivered(&mut self, leaf: LeafId, time: u32)
         requires { leaf.0 < length self.old.leaves }
-        ensures { self.new ≡ spec.with_state leaf (record (spec.state_of self.old leaf) { last = time }) self.old }
+        ensures { self.new
+            ≡ spec.with_state leaf (record (spec.state_of self.old leaf) { last = time }) self.old }
     {
         let state = &mut self.leaves[usize::from(leaf.0)];
         state.last = time;
@@ -180,7 +181,8 @@ impl Desk {
     /// A leaf has another cage.
     pub fn set_cage(&mut self, leaf: LeafId, cage: Cage)
         requires { leaf.0 < length self.old.leaves }
-        ensures { self.new ≡ spec.with_state leaf (record (spec.state_of self.old leaf) { cage = cage }) self.old }
+        ensures { self.new
+            ≡ spec.with_state leaf (record (spec.state_of self.old leaf) { cage = cage }) self.old }
     {
         let state = &mut self.leaves[usize::from(leaf.0)];
         state.cage = cage;

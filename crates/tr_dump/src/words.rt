@@ -33,7 +33,8 @@ fn append_word(word: &Word, out: &mut Vec<u8>) -> Result<(), NoMemory>
 /// Appends a word, and then others, each behind a space.
 #[tactic(auto, using(crate::proofs::BeginsLemmas::begins_itself, crate::proofs::BeginsLemmas::begins_before))]
 pub(crate) fn append_words(out: &mut Vec<u8>, word: &[u8], others: &[Word]) -> Result<(), NoMemory>
-    ensures ok { OnOk result (out.new.items ≡ out.old.items ++ (word.now ++ flat_map behind_space others.now)) }
+    ensures ok { OnOk result
+        (out.new.items ≡ out.old.items ++ (word.now ++ flat_map behind_space others.now)) }
     ensures err { OnErr result (Begins out.new.items out.old.items) }
 {
     out.extend_from_slice(word)?;

@@ -1,5 +1,5 @@
-//! The editor held against a slow model over one row of bytes, and its patches against the model's picture, point by
-//! point. Nothing but tests is in here.
+//! The editor held against a slow model over one row of bytes, and its patches against the model's picture,
+//! point by point. Nothing but tests is in here.
 #![tactic(auto)]
 
 #[cfg(test)]

@@ -76,8 +76,8 @@ impl Run {
     }
 }
 
-/// Whether an editor is that of the slow model after each of the commands that are drawn. In each second thousand
-/// fewer lines are broken, so that they grow.
+/// Whether an editor is that of the slow model after each of the commands that are drawn. In each second
+/// thousand fewer lines are broken, so that they grow.
 fn holds(at: Place, draw: &mut Draw) -> Result<bool, NoMemory>
     requires { IsWindowSize at.size }
 {

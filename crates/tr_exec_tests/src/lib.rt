@@ -1,5 +1,5 @@
-//! Tests of paint commands, of what is executed of them on a screen, and of pixels that are moved. Nothing but
-//! tests is in here.
+//! Tests of paint commands, of what is executed of them on a screen, and of pixels that are moved. Nothing
+//! but tests is in here.
 #![tactic(auto)]
 
 #[cfg(test)]

@@ -23,7 +23,8 @@ impl Model for Node {
 
     ghost Value = { Entry };
 
-    ghost view = { λ n. record { kind = n.kind; tint = n.tint; at = n.at; parent = n.parent; children = n.children.items } };
+    ghost view = { λ n.
+        record { kind = n.kind; tint = n.tint; at = n.at; parent = n.parent; children = n.children.items } };
 }
 
 /// Takes one out of a list of children.

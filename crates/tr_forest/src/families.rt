@@ -93,7 +93,8 @@ impl Family {
     }
 
     pub(crate) fn add(&mut self, kind: NodeKind, tint: u8) -> Result<(), NoMemory>
-        ensures ok { OnOk result (self.new ≡ record self.old { entries = self.old.entries ++ fresh kind tint ∷ [] }) }
+        ensures ok { OnOk result
+            (self.new ≡ record self.old { entries = self.old.entries ++ fresh kind tint ∷ [] }) }
         ensures err { OnErr result (self.new ≡ self.old) }
     {
         let node = Node::new(*self.nodes.allocator(), kind, tint);

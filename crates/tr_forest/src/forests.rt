@@ -53,7 +53,8 @@ impl Forest {
         requires shown { shown_by kind ≡ None }
         requires leaf { IsNextLeaf self.old kind }
         ensures id { IfOk result (λ n. n.0 ≡ length self.old.entries) }
-        ensures ok { OnOk result (self.new ≡ record self.old { entries = self.old.entries ++ fresh kind tint ∷ [] }) }
+        ensures ok { OnOk result
+            (self.new ≡ record self.old { entries = self.old.entries ++ fresh kind tint ∷ [] }) }
         ensures err { OnErr result (self.new ≡ self.old) }
     {
         add_in(&mut self.family, &mut self.leaves, kind, tint)
@@ -183,8 +184,10 @@ impl Forest {
     /// depth. It does nothing.
     pub fn levels_suffice(&self)
         ensures depths { (n : NodeId) → depth self.now n ≡ deeper (node self.now n).parent (depth self.now) }
-        ensures heights { (n : NodeId) → height self.now n ≡ greatest_by (height self.now) (node self.now n).children + 1 }
-        ensures under { (top n : NodeId) → is_under self.now top n ≡ ((n.0 == top.0) || of_parent (node self.now n).parent (is_under self.now top)) }
+        ensures heights { (n : NodeId) →
+            height self.now n ≡ greatest_by (height self.now) (node self.now n).children + 1 }
+        ensures under { (top n : NodeId) → is_under self.now top n
+            ≡ ((n.0 == top.0) || of_parent (node self.now n).parent (is_under self.now top)) }
     {
         let _family = &self.family;
     }
@@ -203,7 +206,8 @@ fn add_in(
     requires leaf { IsNextLeaf family.old kind }
     ensures kept { IsKept family.new leaves.new.items }
     ensures id { IfOk result (λ n. n.0 ≡ length family.old.entries) }
-    ensures ok { OnOk result (family.new ≡ record family.old { entries = family.old.entries ++ fresh kind tint ∷ [] }) }
+    ensures ok { OnOk result
+        (family.new ≡ record family.old { entries = family.old.entries ++ fresh kind tint ∷ [] }) }
     ensures err { OnErr result (family.new ≡ family.old) }
 {
     let n = NodeId(family.count() as u16);

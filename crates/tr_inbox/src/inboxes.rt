@@ -53,7 +53,8 @@ impl Inbox {
     pub fn put(&mut self, event: Event) -> Result<(), Dropped>
         ensures full { IsErr result ↔ (length self.old.events ≡ CAPACITY) }
         ensures ok { OnOk result (self.new ≡ record self.old { events = self.old.events ++ event ∷ [] }) }
-        ensures err { OnErr result (self.new ≡ record self.old { dropped = min (self.old.dropped + 1) u32.MAX }) }
+        ensures err { OnErr result
+            (self.new ≡ record self.old { dropped = min (self.old.dropped + 1) u32.MAX }) }
     {
         match self.events.try_push_back(event) {
             Ok(()) => Ok(()),

@@ -19,8 +19,8 @@ not_tried attempt None = tt
 not_tried attempt (Some xs) = record { tries = []; answers = sym (append-nil xs); interrupted = All-nil (λ x. attempt x ≡ Again); count = refl }
 
 -- one more interruption
-again : (attempt : Result ℕ Error → Attempt) (n : ℕ) (answer : Result ℕ Error) (xs ys zs : List (Result ℕ Error)) → attempt answer ≡ Again → Tried attempt n xs ys →
-    zs ≡ ys ++ answer ∷ [] → Tried attempt (n + 1) xs zs
+again : (attempt : Result ℕ Error → Attempt) (n : ℕ) (answer : Result ℕ Error) (xs ys zs : List (Result ℕ Error)) →
+    attempt answer ≡ Again → Tried attempt n xs ys → zs ≡ ys ++ answer ∷ [] → Tried attempt (n + 1) xs zs
 again attempt n answer xs ys zs is h e = record {
   tries = h.tries ++ answer ∷ [];
   answers = e ∙ ap (λ (l : List (Result ℕ Error)). l ++ answer ∷ []) h.answers ∙ append_assoc xs h.tries (answer ∷ []);
@@ -37,7 +37,8 @@ tried_again attempt n answer (Some xs) (Some ys) (Some zs) is h e = again attemp
 
 -- the last answer settles the result
 pub asked : (attempt : Result ℕ Error → Attempt) (n : ℕ) (answer : Result ℕ Error) (result : Result ℕ Failed) (x y z : Option (List (Result ℕ Error))) →
-    settled (attempt answer) ≡ Some result → OfKnown x y (Tried attempt n) → OfKnown y z (λ before after. after ≡ before ++ answer ∷ []) → OfKnown x z (Asked attempt result)
+    settled (attempt answer) ≡ Some result → OfKnown x y (Tried attempt n) → OfKnown y z (λ before after. after ≡ before ++ answer ∷ []) →
+    OfKnown x z (Asked attempt result)
 asked attempt n answer result None y z is h e = tt
 asked attempt n answer result (Some xs) None z is h e = absurd h
 asked attempt n answer result (Some xs) (Some ys) None is h e = absurd e

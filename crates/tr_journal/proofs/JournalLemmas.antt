@@ -87,7 +87,10 @@ kept-push {M} es ends sent line kept counted = record {
         get_or (ends ++ (length sent + length line.sent) ∷ []) k 0 ≡ total (take (k + 1) (es ++ line.entry ∷ []))
     each k lt true is =
         let old : k < length es = grind (arith, nat_tests) in
-        rw (get_or_append_left ends ((length sent + length line.sent) ∷ []) 0 k (omega (arith, kept.count)), take-append-le (k + 1) es (line.entry ∷ []) (omega arith))
+        rw (
+          get_or_append_left ends ((length sent + length line.sent) ∷ []) 0 k (omega (arith, kept.count)),
+          take-append-le (k + 1) es (line.entry ∷ []) (omega arith),
+        )
         (kept.each k old)
     each k lt false is =
         let last : length es ≤ k = grind (arith, nat_tests) in

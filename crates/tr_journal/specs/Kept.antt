@@ -14,7 +14,8 @@ leaf_places (Leaf shapes content ∷ items) = 0 ∷ map suc (leaf_places items)
 leaf_places (item ∷ items) = map suc (leaf_places items)
 
 -- The tree, the font and the places are those of the items, and each leaf has a content.
-pub record IsKept {C M : Type 0} (client : Ghosts C M) (items : List (Item C)) (tree : Seen) (font : List (List ℕ)) (leaves : List ℕ) : Type 0 where
+pub record IsKept {C M : Type 0} (client : Ghosts C M) (items : List (Item C)) (tree : Seen) (font : List (List ℕ)) (leaves : List ℕ) :
+    Type 0 where
   pub tree_is : tree ≡ tree_of items
   pub font_is : font ≡ font_of items
   pub leaves_are : leaves ≡ leaf_places items

@@ -53,7 +53,8 @@ impl<M: Drop> Journal<M> {
     /// Adds an entry, with what its step sent.
     pub fn push(&mut self, entry: Entry<M>, sent: &[Delivery]) -> Result<(), NoMemory>
         requires counted { entry.reply.sent ≡ length sent.now }
-        ensures ok { OnOk result (self.new.lines ≡ self.old.lines ++ record { entry = entry; sent = sent.now } ∷ []) }
+        ensures ok { OnOk result
+            (self.new.lines ≡ self.old.lines ++ record { entry = entry; sent = sent.now } ∷ []) }
         ensures err { OnErr result (self.new.lines ≡ self.old.lines) }
         ensures room { 0 < self.old.spare → length sent.now ≤ DELIVERIES * self.old.spare → IsOk result }
         ensures spare { length sent.now ≤ DELIVERIES → self.old.spare ≤ self.new.spare + 1 }

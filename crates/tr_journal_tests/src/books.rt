@@ -51,8 +51,8 @@ fn keeps_its_commands(alloc: Global) -> Result<bool, NoMemory> {
     )
 }
 
-/// What waits is handed over, and the next commands are prepared over what it leaves. False where too much was
-/// handed over.
+/// What waits is handed over, and the next commands are prepared over what it leaves. False where too much
+/// was handed over.
 fn hand_over(alloc: Global, book: &mut Book<Solid>) -> Result<bool, NoMemory> {
     let font = Font::empty(alloc)?;
     let content = book.prepared().to;
@@ -74,8 +74,8 @@ fn counts_what_it_hands_over(alloc: Global) -> Result<bool, NoMemory> {
     Ok(is_first && hand_over(alloc, &mut book)? && has(&book, &[], 3))
 }
 
-/// What waits is handed over, and the next commands are prepared over a copy of what it leaves. False where too much
-/// was handed over.
+/// What waits is handed over, and the next commands are prepared over a copy of what it leaves. False where
+/// too much was handed over.
 fn go_on(book: &mut Book<Solid>) -> bool {
     let content = book.prepared().to;
     if book.handed() >= 100 || book.waiting() >= 100 {

@@ -33,8 +33,8 @@ fn delivery(time: u32) -> Delivery {
     }
 }
 
-/// A journal of four entries, which sent none, two, none and one of three deliveries; the last two are put into
-/// reserved room.
+/// A journal of four entries, which sent none, two, none and one of three deliveries; the last two are put
+/// into reserved room.
 fn journal(alloc: Global, sent: &[Delivery; 3]) -> Result<Journal<Digit>, NoMemory> {
     let mut journal = Journal::new(alloc);
     journal.push(entry(1, 0), &[])?;

@@ -130,7 +130,8 @@ whole_made two long =
     zip2_of_maps bit_and (λ k. get_or two (k / 8) 0) bit_value sixteen (pick_l_left 0 two two 2 halves long tt) refl
 
 pub whole_bit : (cells : List ℕ) (at : ℕ) → at % 8 ≡ 0 → at + 15 < 8 * length cells → (k : ℕ) → k < 16
-    → eqb (get_or (whole_lanes (chunk 0 2 (mid_of (at / 8) (length cells - at / 8) cells))) k 0) 0 ≡ not (is_set (get_or cells ((at + k + 0) / 8) 0) (at + k + 0))
+    → eqb (get_or (whole_lanes (chunk 0 2 (mid_of (at / 8) (length cells - at / 8) cells))) k 0) 0
+    ≡ not (is_set (get_or cells ((at + k + 0) / 8) 0) (at + k + 0))
 whole_bit cells at even reach k lt =
     let first = at / 8 in
     let count = length cells - first in
@@ -145,7 +146,8 @@ whole_bit cells at even reach k lt =
     get_or-chunk 0 2 rest q 0 (omega arith) ∙ ap (λ i. get_or rest i 0) from_zero
     ∙ get_or-take count (drop first cells) q 0 (omega arith) ∙ get_or-drop first cells q 0 ∙ ap (λ i. get_or cells i 0) place in
     let byte = get_or cells ((at + k + 0) / 8) 0 in
-    ap (λ n. eqb n 0) (lane_made (λ j. bit_and (get_or (chunk 0 2 rest) (j / 8) 0) (bit_value j)) (whole_lanes (chunk 0 2 rest)) (whole_made (chunk 0 2 rest) two) k 0 lt)
+    ap (λ n. eqb n 0)
+    (lane_made (λ j. bit_and (get_or (chunk 0 2 rest) (j / 8) 0) (bit_value j)) (whole_lanes (chunk 0 2 rest)) (whole_made (chunk 0 2 rest) two) k 0 lt)
     ∙ ap (λ n. eqb (bit_and n (bit_value k)) 0) here
     ∙ tested byte (7 - k % 8) ∙ ap (λ j. not (bit_at byte (7 - j) == 1)) same
 

@@ -24,7 +24,8 @@ impl Model for Held {
 
     ghost view = { λ h. levels_of h.mu h.share h.win };
 
-    ghost inverse = { λ levels. record { mu = has_mu levels; share = first_share levels; win = first_window levels } };
+    ghost inverse = { λ levels.
+        record { mu = has_mu levels; share = first_share levels; win = first_window levels } };
 }
 
 impl Held {

@@ -78,8 +78,8 @@ impl Mirror {
         }
     }
 
-    /// Reads the next piece of a stream as far as its first cut, and to its end where it has none. Answers how
-    /// many bytes were read. After a fault each later piece has the same answer, and changes nothing.
+    /// Reads the next piece of a stream as far as its first cut, and to its end where it has none. Answers
+    /// how many bytes were read. After a fault each later piece has the same answer, and changes nothing.
     pub fn feed_to_cut(&mut self, piece: &[u8]) -> Result<usize, MirrorFault>
         requires { self.old.fed + length self.old.begun + length piece.now ≤ longest_stream }
         ensures count { IfOk result (λ n. n ≤ length piece.now) }

@@ -26,7 +26,8 @@ impl Model for PlainReading {
 
     ghost Value = { Reading };
 
-    ghost view = { λ r. record { standing = r.standing; begun = r.begun.items; fed = r.fed; fault = r.fault } };
+    ghost view = { λ r.
+        record { standing = r.standing; begun = r.begun.items; fed = r.fed; fault = r.fault } };
 }
 
 /// The reading of a stream. It is the definition.

@@ -42,7 +42,8 @@ pub fn pack_place(
     ensures cut { let room = room_of down rect in let xs = extents down room children.now in
         OnOk result (IsCut room gap xs (cut room gap xs)) }
     ensures only { let room = room_of down rect in let xs = extents down room children.now in
-        IfOk result (λ v. (rows : List (List Extent)) → IsCut room gap xs rows → v.items ≡ places_in down gap rect rows) }
+        IfOk result (λ v. (rows : List (List Extent)) →
+        IsCut room gap xs rows → v.items ≡ places_in down gap rect rows) }
 
     ensures count { IfOk result (λ v. vec_len v ≡ length children.now) }
     ensures part { IfOk result (λ v. All (λ child. IsPartOf child rect) v.items) }

@@ -65,8 +65,8 @@ fn before_mark(stage: &Stage<Widget>, leaf: LeafId) -> usize {
     journal.len()
 }
 
-/// Whether the second client's first mark comes before the first client's, and the threads say that the journal
-/// is their own.
+/// Whether the second client's first mark comes before the first client's, and the threads say that the
+/// journal is their own.
 fn is_second_first(end: &Finished<Widget>) -> bool {
     let second = before_mark(&end.stage, LeafId(1));
     second < before_mark(&end.stage, LeafId(0)) && end.text.as_slice() == PLAYED

@@ -101,8 +101,8 @@ abbrev AreAllowed : {A : Type 0} → (List ℕ → Option A) → Command → Opt
 AreAllowed fault command left = IsSomeAnd left (λ bytes. fault (take (most_read command) bytes) ≡ None)
 
 -- bytes that are refused aren't bytes that aren't
-not_both : {A : Type 0} (fault : List ℕ → Option A) (command : Command) (r : A) (left : Option (List ℕ)) → OfBytesRead command left (λ bytes. fault bytes ≡ Some r) →
-    AreAllowed fault command left → ⊥
+not_both : {A : Type 0} (fault : List ℕ → Option A) (command : Command) (r : A) (left : Option (List ℕ)) →
+    OfBytesRead command left (λ bytes. fault bytes ≡ Some r) → AreAllowed fault command left → ⊥
 not_both fault command r None h allowed = allowed
 not_both fault command r (Some xs) h allowed = none-some r (sym allowed ∙ h)
 

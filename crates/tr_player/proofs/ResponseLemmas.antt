@@ -65,7 +65,12 @@ due_of_made command bytes s (Err e) other none is made back = tt
 -- a script is read from a text: it has a part
 pub some_parts : (bytes : List ℕ) (s : Script) → s ≡ script_of bytes → 0 < length s.parts
 unfolding script_of
-some_parts bytes s is = omega (arith, ap (λ (x : Script). length x.parts) is, length_push (after_all nothing_yet (lines_of bytes)).ended (after_all nothing_yet (lines_of bytes)).part)
+some_parts bytes s is =
+    omega (
+      arith,
+      ap (λ (x : Script). length x.parts) is,
+      length_push (after_all nothing_yet (lines_of bytes)).ended (after_all nothing_yet (lines_of bytes)).part,
+    )
 
 -- a text that is no script
 pub due_refused : (command : Command) (bytes : List ℕ) (r : Refusal) → refusal_of bytes ≡ Some r → IsDueOfText command bytes (refused r)

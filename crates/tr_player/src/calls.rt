@@ -193,9 +193,9 @@ pub fn serial_call<S: Source, K: Sink>(
     deliver(sink, response)
 }
 
-/// Plays a script by threads where the words are `play`, and else does what `serial_call` does. For `play` a
-/// thread makes the steps of each leaf's client, one those of the desk, and one is the painter, who brings the
-/// screen up to date meanwhile; the gate is asked before each step of a script. What is written are the
+/// Plays a script by threads where the words are `play`, and else does what `serial_call` does. For `play`
+/// a thread makes the steps of each leaf's client, one those of the desk, and one is the painter, who brings
+/// the screen up to date meanwhile; the gate is asked before each step of a script. What is written are the
 /// script's reports, and `played threads`. Should a session find its stage other than its passes say, all is
 /// played again on one thread, and what is written says so.
 ///
@@ -259,7 +259,8 @@ pub fn trestle_call<R: Threads + Wait + Sync, S: Source, K: Sink, G: Gate + Sync
 
     // Done: the source was read to its end. The script in the bytes read was played: what is written is its
     // text, the stage has its opening, and the journal is the serial one.
-    ensures read_to_end { result.status ≡ code Status.Done → (ReadsNone (command_of (texts_of words.now)) → ⊥) →
+    ensures read_to_end { result.status ≡ code Status.Done →
+        (ReadsNone (command_of (texts_of words.now)) → ⊥) →
         IfSome (S.left source.new) (λ rest. rest ≡ []) }
     ensures output { result.status ≡ code Status.Done →
         OfOneThread (command_of (texts_of words.now)) (S.left source.old) (λ command bytes.
@@ -283,11 +284,12 @@ pub fn trestle_call<R: Threads + Wait + Sync, S: Source, K: Sink, G: Gate + Sync
         OfOneThread (command_of (texts_of words.now)) (S.left source.old) (λ command bytes.
         IsReadBack command (script_of bytes)) }
 
-    // `play`: threads made the steps of the script in the bytes read, in whatever order they came. The stage's
-    // journal is one of the machine and interleaves the script, and what is written is the text of this very
-    // journal.
+    // `play`: threads made the steps of the script in the bytes read, in whatever order they came. The
+    // stage's journal is one of the machine and interleaves the script, and what is written is the text of
+    // this very journal.
     ensures threads { result.status ≡ code Status.Done → IsNone result.differs →
-        OfThreads (command_of (texts_of words.now)) (S.left source.old) (λ bytes. IsSomeAnd result.stage (λ stage.
+        OfThreads (command_of (texts_of words.now)) (S.left source.old) (λ bytes.
+        IsSomeAnd result.stage (λ stage.
         HasInterleaved widgets (script_of bytes).opening (parts_of (script_of bytes).parts) stage
         × Grew (K.written sink.old) (K.written sink.new) (threads_text (script_of bytes) stage))) }
 
@@ -295,7 +297,8 @@ pub fn trestle_call<R: Threads + Wait + Sync, S: Source, K: Sink, G: Gate + Sync
     // played again on one thread.
     ensures again { result.status ≡ code Status.Done →
         OfThreads (command_of (texts_of words.now)) (S.left source.old) (λ bytes. IfSome result.differs (λ d.
-        HasDifferedIn (script_of bytes) d × IsSomeAnd result.stage (λ stage. HasPlayed (script_of bytes) stage)
+        HasDifferedIn (script_of bytes) d
+        × IsSomeAnd result.stage (λ stage. HasPlayed (script_of bytes) stage)
         × Grew (K.written sink.old) (K.written sink.new)
         (out_text (script_of bytes) ++ again_text (script_of bytes) d))) }
     ensures differs { IsSome result.differs →

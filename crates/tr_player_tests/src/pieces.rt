@@ -14,7 +14,8 @@ struct Call<'a> {
     write: u64,
 }
 
-/// Whether a call ends with this status, with this text written, and with a stage exactly where the status is 0.
+/// Whether a call ends with this status, with this text written, and with a stage exactly where the status
+/// is 0.
 fn ends(alloc: Global, call: &Call, status: u8, text: &[u8]) -> Result<bool, AllocError> {
     let mut source = PieceSource::new(
         Vec::from_slice(alloc, call.script)?,

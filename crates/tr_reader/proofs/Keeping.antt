@@ -179,7 +179,11 @@ keeps c w meanings.Sync h a v r =
       nodes = h.nodes;
       leaves = h.leaves;
       shared = h.shared;
-      read = record { root = old.root; ended = All-push (IsPlayablePart (nodes_so_far c)) c.ended c.part old.ended old.part; part = no_reports (nodes_so_far c) };
+      read = record {
+        root = old.root;
+        ended = All-push (IsPlayablePart (nodes_so_far c)) c.ended c.part old.ended old.part;
+        part = no_reports (nodes_so_far c);
+      };
     }
 keeps c w (meanings.Report query) h a v r =
     let old = before_report c.place c a h.read in

@@ -191,7 +191,8 @@ impl<'a> Reader<'a> {
     fn add_leaf(&mut self, name: &'a str, shapes: Shapes, content: Widget) -> Result<(), NoMemory>
         requires sound { IsSoundMeaning self.old name.now (Meaning.Item (Item.Leaf shapes content)) }
         requires room { is_one_too_many self.old (Meaning.Item (Item.Leaf shapes content)) ≡ false }
-        ensures ok { OnOk result (self.new ≡ after self.old name.now (Meaning.Item (Item.Leaf shapes content))) }
+        ensures ok { OnOk result
+            (self.new ≡ after self.old name.now (Meaning.Item (Item.Leaf shapes content))) }
         ensures err { OnErr result (self.new ≡ self.old) }
     {
         let Some(mut declared) = self.declared.take() else {

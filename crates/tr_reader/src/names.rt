@@ -80,7 +80,8 @@ impl<'a> Model for NameTable<'a> {
     ghost view = { λ t. texts t.names.items };
 
     ghost invariant = { λ t. (vec_len t.names ≤ 256)
-        × ((q : List ℕ) → get_by (λ k. slice_cmp nat_cmp q k.now) t.numbers ≡ number_of (texts t.names.items) q) };
+        × ((q : List ℕ) →
+        get_by (λ k. slice_cmp nat_cmp q k.now) t.numbers ≡ number_of (texts t.names.items) q) };
 }
 
 impl<'a> NameTable<'a> {

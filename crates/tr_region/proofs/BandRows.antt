@@ -72,7 +72,9 @@ band_points region r low high b band p from to outside =
     by_test false t = outside t
 
 -- where such a row lies, if it is north of the band's end, or south of its begin
-module _ (region : List Edges) (r : Edges) (low high : ℕ) (b : Band) (band : IsBandOf r region low high b) (y : ℤ) (from : pos low ≤ℤ y) (to : y <ℤ pos high) (outside : between r.north r.south y ≡ false) where
+module _ (region : List Edges) (r : Edges) (low high : ℕ) (b : Band)
+    (band : IsBandOf r region low high b)
+    (y : ℤ) (from : pos low ≤ℤ y) (to : y <ℤ pos high) (outside : between r.north r.south y ≡ false) where
   pub north_of_band : y <ℤ pos b.south → y <ℤ r.north
   north_of_band before = by_order (int_cases r.north y) (int_cases r.south y)
     where

@@ -17,7 +17,9 @@ some_at (r ∷ rects) zero d h lt = (AreApart-parts (span_of r) (spans_of rects)
 some_at (r ∷ rects) (suc k) d h lt = some_at rects k d (AreApart-parts (span_of r) (spans_of rects) h).1 (omega arith)
 
 -- a column of one of them is a column of all
-pub in_one : (rects : List Edges) (k : ℕ) (d : Edges) (x : ℤ) → k < length rects → between (get_or rects k d).west (get_or rects k d).east x ≡ true → in_spans (spans_of rects) x ≡ true
+pub in_one : (rects : List Edges) (k : ℕ) (d : Edges) (x : ℤ) →
+    k < length rects → between (get_or rects k d).west (get_or rects k d).east x ≡ true →
+    in_spans (spans_of rects) x ≡ true
 in_one [] k d x lt h = absurd (omega arith)
 in_one (r ∷ rects) zero d x lt h = rw h refl
 in_one (r ∷ rects) (suc k) d x lt h = or_right (between r.west r.east x) (in_spans (spans_of rects) x) (in_one rects k d x (omega arith) h)
@@ -31,7 +33,9 @@ west_of r (e ∷ rects) (suc k) d h lt =
     omega (arith, ints, h.1, west_of e rects k d h.2 (omega arith))
 
 -- from the west edge of one on, a column is in none of those before it
-pub none_west : (rects : List Edges) (k : ℕ) (d : Edges) (x : ℤ) → AreApart (spans_of rects) → k < length rects → (get_or rects k d).west ≤ℤ x → in_spans (spans_of (take k rects)) x ≡ false
+pub none_west : (rects : List Edges) (k : ℕ) (d : Edges) (x : ℤ) →
+    AreApart (spans_of rects) → k < length rects → (get_or rects k d).west ≤ℤ x →
+    in_spans (spans_of (take k rects)) x ≡ false
 none_west rects zero d x h lt from = refl
 none_west [] (suc k) d x h lt from = absurd (omega arith)
 none_west (r ∷ rects) (suc k) d x h lt from =
@@ -39,7 +43,9 @@ none_west (r ∷ rects) (suc k) d x h lt from =
     rw past (none_west rects k d x (AreApart-parts (span_of r) (spans_of rects) h).1 (omega arith) from)
 
 -- before the east edge of one, a column is in none of those after it
-pub none_east : (rects : List Edges) (k : ℕ) (d : Edges) (x : ℤ) → AreApart (spans_of rects) → k < length rects → x <ℤ (get_or rects k d).east → in_spans (spans_of (drop (suc k) rects)) x ≡ false
+pub none_east : (rects : List Edges) (k : ℕ) (d : Edges) (x : ℤ) →
+    AreApart (spans_of rects) → k < length rects → x <ℤ (get_or rects k d).east →
+    in_spans (spans_of (drop (suc k) rects)) x ≡ false
 none_east [] k d x h lt to = absurd (omega arith)
 none_east (r ∷ rects) (suc k) d x h lt to = none_east rects k d x (AreApart-parts (span_of r) (spans_of rects) h).1 (omega arith) to
 none_east (r ∷ rects) zero d x h lt to = after r rects h to
@@ -63,7 +69,8 @@ in_spans-push (e ∷ rects) r x = rw (in_spans-push rects r x) (swapped (between
     swapped false b c = refl
 
 -- one ends west of each that follows it
-apart_at : (rects : List Edges) (i j : ℕ) (d : Edges) → AreApart (spans_of rects) → i < j → j < length rects → (get_or rects i d).east <ℤ (get_or rects j d).west
+apart_at : (rects : List Edges) (i j : ℕ) (d : Edges) → AreApart (spans_of rects) → i < j → j < length rects →
+    (get_or rects i d).east <ℤ (get_or rects j d).west
 apart_at [] i j d h lt fits = absurd (omega arith)
 apart_at (r ∷ rects) i zero d h lt fits = absurd (omega arith)
 apart_at (r ∷ rects) zero (suc j) d h lt fits = west_of r rects j d h (omega arith)
@@ -71,7 +78,8 @@ apart_at (r ∷ rects) (suc i) (suc j) d h lt fits = apart_at rects i j d (AreAp
 
 -- so both edges never fall along the list, and a search by one of them parts it
 module _ (rects : List Edges) (h : AreApart (spans_of rects)) where
-  edges_rise : (i j : ℕ) (d : Edges) → i ≤ j → j < length rects → ((get_or rects i d).west ≤ℤ (get_or rects j d).west) × ((get_or rects i d).east ≤ℤ (get_or rects j d).east)
+  edges_rise : (i j : ℕ) (d : Edges) → i ≤ j → j < length rects →
+      ((get_or rects i d).west ≤ℤ (get_or rects j d).west) × ((get_or rects i d).east ≤ℤ (get_or rects j d).east)
   edges_rise i j d le fits = by_order (cases_order i j)
     where
       by_order : (i ≡ j) ⊎ ((i < j) ⊎ (j < i)) → ((get_or rects i d).west ≤ℤ (get_or rects j d).west) × ((get_or rects i d).east ≤ℤ (get_or rects j d).east)
@@ -94,7 +102,9 @@ module _ (rects : List Edges) (h : AreApart (spans_of rects)) where
       grind (arith, ints)
 
 -- the columns of those that are left after the first n, which end west of the column
-pub columns-drop : (rects : List Edges) (n : ℕ) (x : ℤ) → n ≤ length rects → ((k : ℕ) (d : Edges) → k < n → (get_or rects k d).east ≤ℤ x) → in_spans (spans_of (drop n rects)) x ≡ in_spans (spans_of rects) x
+pub columns-drop : (rects : List Edges) (n : ℕ) (x : ℤ) → n ≤ length rects →
+    ((k : ℕ) (d : Edges) → k < n → (get_or rects k d).east ≤ℤ x) →
+    in_spans (spans_of (drop n rects)) x ≡ in_spans (spans_of rects) x
 columns-drop rects zero x fits past = refl
 columns-drop [] (suc n) x fits past = absurd (omega arith)
 columns-drop (r ∷ rects) (suc n) x fits past =
@@ -102,10 +112,14 @@ columns-drop (r ∷ rects) (suc n) x fits past =
     rw out (columns-drop rects n x (omega arith) (λ k d lt. past (suc k) d (omega arith)))
 
 -- the columns of the first n, where the others begin east of the column
-pub columns-take : (rects : List Edges) (n : ℕ) (x : ℤ) → ((k : ℕ) (d : Edges) → n ≤ k → k < length rects → x <ℤ (get_or rects k d).west) → in_spans (spans_of (take n rects)) x ≡ in_spans (spans_of rects) x
+pub columns-take : (rects : List Edges) (n : ℕ) (x : ℤ) →
+    ((k : ℕ) (d : Edges) → n ≤ k → k < length rects → x <ℤ (get_or rects k d).west) →
+    in_spans (spans_of (take n rects)) x ≡ in_spans (spans_of rects) x
 columns-take [] zero x later = refl
 columns-take [] (suc n) x later = refl
-columns-take (r ∷ rects) (suc n) x later = ap (λ b. between r.west r.east x || b) (columns-take rects n x (λ k d ge lt. later (suc k) d (omega arith) (omega arith)))
+columns-take (r ∷ rects) (suc n) x later =
+    ap (λ b. between r.west r.east x || b)
+    (columns-take rects n x (λ k d ge lt. later (suc k) d (omega arith) (omega arith)))
 columns-take (r ∷ rects) zero x later =
     let out : between r.west r.east x ≡ false = between-before r.west r.east x (later 0 r (omega arith) (omega arith)) in
     rw out (columns-take rects zero x (λ k d ge lt. later (suc k) d (omega arith) (omega arith)))
@@ -124,7 +138,8 @@ apart-take (r ∷ e ∷ rects) (suc zero) h = h.0
 apart-take (r ∷ e ∷ rects) (suc (suc n)) h = (h.0, h.1, apart-take (e ∷ rects) (suc n) h.2)
 
 -- those from the first on that ends east of a column, and of these those that begin west of another
-module _ (rects : List Edges) (west east : ℤ) (start n : ℕ) (h : AreApart (spans_of rects)) (fits : start ≤ length rects) (fits' : n ≤ length (drop start rects))
+module _ (rects : List Edges) (west east : ℤ) (start n : ℕ)
+    (h : AreApart (spans_of rects)) (fits : start ≤ length rects) (fits' : n ≤ length (drop start rects))
     (ended : IsPartitionPoint (λ (r : Edges). int_le r.east west ≡ true) (λ (r : Edges). int_le r.east west ≡ false) rects start)
     (begun : IsPartitionPoint (λ (r : Edges). int_lt r.west east ≡ true) (λ (r : Edges). int_lt r.west east ≡ false) (drop start rects) n) where
   pub between-columns : (x : ℤ) → west ≤ℤ x → x <ℤ east → in_spans (spans_of (take n (drop start rects))) x ≡ in_spans (spans_of rects) x

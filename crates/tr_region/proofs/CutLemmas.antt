@@ -355,7 +355,11 @@ pub swept_first : (operation : Operation) (first second out : List Edges) (n las
 swept_first operation first second out n last h k cut is begins = rw is (record {
   made = front_made (keeps operation true false) first (north_of (bands_of second)) _ n last h cut (north_of-reach second k) refl begins;
   kept = λ y x.
-      rw (in_kept (keeps operation true false) (take n first) y x, cut.bands, in_parts (bands_of (take n first)) (bands_of (drop n first)) y x (rw cut.bands at h.bands))
+      rw (
+        in_kept (keeps operation true false) (take n first) y x,
+        cut.bands,
+        in_parts (bands_of (take n first)) (bands_of (drop n first)) y x (rw cut.bands at h.bands),
+      )
       (first_kept operation (in_spans (spans_at (bands_of (take n first)) y) x) (in_spans (spans_at (bands_of (drop n first)) y) x)
       (in_spans (spans_at (bands_of second) y) x) (apart (bands_of (take n first)) (bands_of second) y x k.bands cut.before));
 })
@@ -369,7 +373,11 @@ swept_second operation first second out n last h k cut is begins = rw is (record
   made = front_made (keeps operation false true) second (north_of (bands_of first)) _ n last k cut (north_of-reach first h)
       (min_swap (north_of (bands_of first)) (north_of (bands_of (drop n second)))) begins;
   kept = λ y x.
-      rw (in_kept (keeps operation false true) (take n second) y x, cut.bands, in_parts (bands_of (take n second)) (bands_of (drop n second)) y x (rw cut.bands at k.bands))
+      rw (
+        in_kept (keeps operation false true) (take n second) y x,
+        cut.bands,
+        in_parts (bands_of (take n second)) (bands_of (drop n second)) y x (rw cut.bands at k.bands),
+      )
       (second_kept operation (in_spans (spans_at (bands_of first) y) x) (in_spans (spans_at (bands_of (take n second)) y) x)
       (in_spans (spans_at (bands_of (drop n second)) y) x)
       (and_swap (in_spans (spans_at (bands_of first) y) x) (in_spans (spans_at (bands_of (take n second)) y) x)

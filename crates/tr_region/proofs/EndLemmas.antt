@@ -44,7 +44,8 @@ ends_with (b ∷ c ∷ bands) y spans h ends is some =
     by_test recur false e = recur (rw e at is)
 
 -- bands that end with a band's spans, where that ends, go on with what follows it
-AreBands-continued : (bands : List Band) (b : Band) (more : List Band) → AreBands bands → Continues bands b.south b.spans → FollowsFirst b more → AreBands more →
+AreBands-continued : (bands : List Band) (b : Band) (more : List Band) →
+    AreBands bands → Continues bands b.south b.spans → FollowsFirst b more → AreBands more →
     AreBands (bands ++ more)
 AreBands-continued [] b more h last follows k = absurd last
 AreBands-continued (c ∷ []) b [] h last follows k = h

@@ -34,20 +34,26 @@ all_bands_south b (c ∷ bands) h =
 -- and of all their rectangles
 all_south : (y : ℤ) (bands : List Band) → AllByRecursion (λ b. y ≤ℤ b.north) bands → AllByRecursion (λ r. y ≤ℤ r.north) (rects_of bands)
 all_south y [] k = tt
-all_south y (b ∷ bands) k = AllByRecursion-append (λ r. y ≤ℤ r.north) (rects_in b) (rects_of bands) (AllByRecursion-map (λ r. y ≤ℤ r.north) (rect_in b) b.spans (each b.spans)) (all_south y bands k.1)
+all_south y (b ∷ bands) k =
+    AllByRecursion-append (λ r. y ≤ℤ r.north) (rects_in b) (rects_of bands)
+    (AllByRecursion-map (λ r. y ≤ℤ r.north) (rect_in b) b.spans (each b.spans))
+    (all_south y bands k.1)
   where
     each : (spans : List Span) → AllByRecursion (λ (s : Span). y ≤ℤ b.north) spans
     each [] = tt
     each (s ∷ spans) = (k.0, each spans)
 
-in_order-band : (b : Band) (spans : List Span) (rest : List Edges) → b.north <ℤ b.south → AreApart spans → AllByRecursion (λ r. b.south ≤ℤ r.north) rest → AreInOrder rest → AreInOrder (map (rect_in b) spans ++ rest)
+in_order-band : (b : Band) (spans : List Span) (rest : List Edges) → b.north <ℤ b.south → AreApart spans →
+    AllByRecursion (λ r. b.south ≤ℤ r.north) rest → AreInOrder rest →
+    AreInOrder (map (rect_in b) spans ++ rest)
 in_order-band b [] rest rows h south k = k
 in_order-band b (s ∷ spans) rest rows h south k =
     let parts = AreApart-parts s spans h in
     let r = rect_in b s in (
       (parts.0, rows),
       AllByRecursion-append (ComesBefore r) (map (rect_in b) spans) rest
-          (AllByRecursion-map (ComesBefore r) (rect_in b) spans (AllByRecursion-weaker (λ t. s.east <ℤ t.west) (λ t. ComesBefore r (rect_in b t)) (λ t e. inr (refl, refl, e)) spans (all_east s spans h)))
+          (AllByRecursion-map (ComesBefore r) (rect_in b) spans
+          (AllByRecursion-weaker (λ t. s.east <ℤ t.west) (λ t. ComesBefore r (rect_in b t)) (λ t e. inr (refl, refl, e)) spans (all_east s spans h)))
           (AllByRecursion-weaker (λ e. b.south ≤ℤ e.north) (ComesBefore r) (λ e g. inl g) rest south),
       in_order-band b spans rest rows parts.1 south k,
     )
@@ -86,7 +92,9 @@ module _ (edge : Edges → ℤ) (step : (a b : Edges) → IsFull a → IsFull b 
     where
       by_order : (i ≡ j) ⊎ ((i < j) ⊎ (j < i)) → edge (get_or rects i d) ≤ℤ edge (get_or rects j d)
       by_order (inl same) = rw same (omega (arith, ints))
-      by_order (inr (inl lt)) = step (get_or rects i d) (get_or rects j d) (full_at rects i d h (omega arith)) (full_at rects j d h fits) (order_at rects i j d h lt fits)
+      by_order (inr (inl lt)) =
+          step (get_or rects i d) (get_or rects j d) (full_at rects i d h (omega arith)) (full_at rects j d h fits)
+          (order_at rects i j d h lt fits)
       by_order (inr (inr gt)) = absurd (omega arith)
 
 souths : (a b : Edges) → IsFull a → IsFull b → ComesBefore a b → a.south ≤ℤ b.south
@@ -199,7 +207,10 @@ module _ (v y : ℤ) (rects : List Edges) (start end k : ℕ) (h : AreInOrder re
         by_order (inl e) = omega (arith, ints, has.high)
         by_order (inr e) = absurd (omega (arith, ints, e.0, south, has.north))
 
-  pub part_alike : (d : Edges) → (get_or rects k d).north ≤ℤ v → v <ℤ (get_or rects k d).south → (get_or rects k d).north ≤ℤ y → y <ℤ (get_or rects k d).south → IsRowPart y rects start end
+  pub part_alike : (d : Edges) →
+      (get_or rects k d).north ≤ℤ v → v <ℤ (get_or rects k d).south →
+      (get_or rects k d).north ≤ℤ y → y <ℤ (get_or rects k d).south →
+      IsRowPart y rects start end
   part_alike d north south low high = record {
     order = part.order;
     fits = part.fits;
@@ -258,10 +269,14 @@ part_points (r ∷ rects) v (suc start) (suc end) h p at =
     rw (count, out) (part_points rects v start end (part_after v r rects start end h) p at)
 
 -- the rectangles of the row that follow one lie east of it
-east_of : (r : Edges) (v : ℤ) (rects : List Edges) (end : ℕ) → v <ℤ r.south → AllWithin (λ e. (e.north ≤ℤ v) × (v <ℤ e.south)) rects 0 end → end ≤ length rects → AllByRecursion (ComesBefore r) rects → AllByRecursion (λ t. r.east <ℤ t.west) (spans_of (take end rects))
+east_of : (r : Edges) (v : ℤ) (rects : List Edges) (end : ℕ) → v <ℤ r.south →
+    AllWithin (λ e. (e.north ≤ℤ v) × (v <ℤ e.south)) rects 0 end → end ≤ length rects →
+    AllByRecursion (ComesBefore r) rects →
+    AllByRecursion (λ t. r.east <ℤ t.west) (spans_of (take end rects))
 east_of r v rects zero south has fits h = tt
 east_of r v [] (suc end) south has fits h = tt
-east_of r v (e ∷ rects) (suc end) south has fits h = (first h.0, east_of r v rects end south (λ k d low high. has (suc k) d (omega arith) (omega arith)) (omega arith) h.1)
+east_of r v (e ∷ rects) (suc end) south has fits h =
+    (first h.0, east_of r v rects end south (λ k d low high. has (suc k) d (omega arith) (omega arith)) (omega arith) h.1)
   where
     first : ComesBefore r e → r.east <ℤ e.west
     first (inl lt) = let north : e.north ≤ℤ v = (has 0 e (omega arith) (omega arith)).0 in absurd (omega (arith, ints))
@@ -272,7 +287,8 @@ AreApart-before s [] some h k = some
 AreApart-before s (t ∷ spans) some h k = (some, h.0, k)
 
 -- the rectangles of a row lie apart
-pub part_apart : (rects : List Edges) (v : ℤ) (start end : ℕ) → AreInOrder rects → IsRowPart v rects start end → AreApart (spans_of (take (end - start) (drop start rects)))
+pub part_apart : (rects : List Edges) (v : ℤ) (start end : ℕ) →
+    AreInOrder rects → IsRowPart v rects start end → AreApart (spans_of (take (end - start) (drop start rects)))
 part_apart [] v zero zero o h = tt
 part_apart [] v zero (suc end) o h = absurd (omega (arith, h.fits))
 part_apart [] v (suc start) end o h = absurd (omega (arith, h.fits, h.order))
@@ -320,7 +336,9 @@ module _ (rects : List Edges) (at : ℕ) (y : ℤ) (h : AreInOrder rects) (fits 
 
 -- a row that one of the rectangles has isn't empty
 pub row_some : (rects row : List Edges) (k : ℕ) (d : Edges) → AreInOrder rects → k < length rects → HoldsRow rects row (get_or rects k d).north → row ≡ [] → ⊥
-row_some rects row k d h fits points none = true≢false (sym (held rects k fits (corner (get_or rects k d) (full_at rects k d h fits))) ∙ points p refl ∙ ap (λ (es : List Edges). in_spans (spans_of es) p.h) none)
+row_some rects row k d h fits points none =
+    true≢false (sym (held rects k fits (corner (get_or rects k d) (full_at rects k d h fits)))
+    ∙ points p refl ∙ ap (λ (es : List Edges). in_spans (spans_of es) p.h) none)
   where
     p : Point
     p = record { h = (get_or rects k d).west; v = (get_or rects k d).north }

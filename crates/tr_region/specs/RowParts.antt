@@ -26,7 +26,8 @@ pub record IsRowPart (v : ℤ) (rects : List Edges) (start end : ℕ) : Type 0 w
   pub within : AllWithin (λ r. (r.north ≤ℤ v) × (v <ℤ r.south)) rects start end
   pub after : AllWithin (λ r. v <ℤ r.north) rects end (length rects)
 
--- the band has the rows of the rectangle that lie from low on and before high, and in the rows of the rectangle it holds what the region holds
+-- the band has the rows of the rectangle that lie from low on and before high,
+-- and in the rows of the rectangle it holds what the region holds
 pub record IsBandOf (r : Edges) (region : List Edges) (low high : ℕ) (b : Band) : Type 0 where
   pub north : IsNearest r.north low high b.north
   pub south : IsNearest r.south low high b.south

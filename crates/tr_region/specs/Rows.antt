@@ -13,7 +13,8 @@ HoldsRow region row y = (p : Point) → p.v ≡ y → holds region p ≡ in_span
 abbrev pub in_band : ℕ → ℕ → List Edges → Point → Bool
 in_band north south row p = between (pos north) (pos south) p.v && in_spans (spans_of row) p.h
 
--- row n is the one of those from north to south that is nearest to v: a row from north on and before south lies from both on, or before both
+-- row n is the one of those from north to south that is nearest to v:
+-- a row from north on and before south lies from both on, or before both
 pub record IsNearest (v : ℤ) (north south n : ℕ) : Type 0 where
   pub from : north ≤ n
   pub to : n ≤ south

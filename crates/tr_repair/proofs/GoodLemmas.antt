@@ -20,14 +20,18 @@ or_swap false false = refl
 Decides-itself : (b : Bool) → Decides b (b ≡ true)
 Decides-itself b = (λ h. h, λ h. h)
 
-Decides-stays_below : (old new : List (List Edges)) (p : Point) (n : ℕ) → Decides (stays_below n old new p) ((i : ℕ) × (i < n) × ((held_by old p i ≡ true) × (held_by new p i ≡ true)))
+Decides-stays_below : (old new : List (List Edges)) (p : Point) (n : ℕ) →
+    Decides (stays_below n old new p) ((i : ℕ) × (i < n) × ((held_by old p i ≡ true) × (held_by new p i ≡ true)))
 unfolding any_below
 Decides-stays_below old new p n =
     let both : ℕ → Bool = λ i. held_by old p i && held_by new p i in
-    Decides-below_or both _ (λ k. any_below k both) (λ i. Decides-and _ _ (Decides-itself (held_by old p i)) (Decides-itself (held_by new p i))) refl (λ k. or_swap (any_below k both) (both k)) n
+    Decides-below_or both _ (λ k. any_below k both)
+    (λ i. Decides-and _ _ (Decides-itself (held_by old p i)) (Decides-itself (held_by new p i)))
+    refl (λ k. or_swap (any_below k both) (both k)) n
 
 -- what is tested is what is said
-pub stays_exactly : (old new : List (List Edges)) (result good : Point → Bool) → ((p : Point) → result p ≡ stays_below (length new) old new p && good p) → (p : Point) →
+pub stays_exactly : (old new : List (List Edges)) (result good : Point → Bool) →
+    ((p : Point) → result p ≡ stays_below (length new) old new p && good p) → (p : Point) →
     (result p ≡ true) ↔ (StaysInOne old new p × (good p ≡ true))
 stays_exactly old new result good is p =
     let d = Decides-and _ _ (Decides-stays_below old new p (length new)) (Decides-itself (good p)) in

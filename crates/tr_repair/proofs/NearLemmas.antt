@@ -31,7 +31,9 @@ rect_in_reach r d full around step = by_test (int_lt (r.west +ℤ d.h) (r.east +
     first = held r.west r.north (omega (arith, ints)) full.across (omega (arith, ints)) full.down
 
     last : IsAround (record { h = r.east -ℤ pos 1; v = r.south -ℤ pos 1 })
-    last = held (r.east -ℤ pos 1) (r.south -ℤ pos 1) (omega (arith, ints, full.across)) (omega (arith, ints)) (omega (arith, ints, full.down)) (omega (arith, ints))
+    last =
+        held (r.east -ℤ pos 1) (r.south -ℤ pos 1) (omega (arith, ints, full.across)) (omega (arith, ints))
+        (omega (arith, ints, full.down)) (omega (arith, ints))
 
     west : IsNearEdge r.west
     west = record { low = first.west; high = omega (arith, ints, first.east) }
@@ -45,7 +47,8 @@ rect_in_reach r d full around step = by_test (int_lt (r.west +ℤ d.h) (r.east +
     south : IsNearEdge r.south
     south = record { low = omega (arith, ints, first.north, full.down); high = omega (arith, ints, last.south) }
 
-    by_test : (b : Bool) → AreInReach (cond b (record { west = r.west +ℤ d.h; east = r.east +ℤ d.h; north = r.north +ℤ d.v; south = r.south +ℤ d.v }) empty_rect)
+    by_test : (b : Bool) →
+        AreInReach (cond b (record { west = r.west +ℤ d.h; east = r.east +ℤ d.h; north = r.north +ℤ d.v; south = r.south +ℤ d.v }) empty_rect)
     by_test true = record {
       west = edge_in_reach r.west d.h west step.west step.east;
       east = edge_in_reach r.east d.h east step.west step.east;
@@ -55,7 +58,9 @@ rect_in_reach r d full around step = by_test (int_lt (r.west +ℤ d.h) (r.east +
     by_test false = record { west = zero_in_reach; east = zero_in_reach; north = zero_in_reach; south = zero_in_reach }
 
 -- each rectangle of a canonical list holds points
-pub all_in_reach : (rects : List Edges) (d : Point) → AreInOrder rects → ((p : Point) → holds rects p ≡ true → IsAround p) → IsStep d → AllByRecursion (λ r. AreInReach (shifted r d)) rects
+pub all_in_reach : (rects : List Edges) (d : Point) →
+    AreInOrder rects → ((p : Point) → holds rects p ≡ true → IsAround p) → IsStep d →
+    AllByRecursion (λ r. AreInReach (shifted r d)) rects
 all_in_reach [] d order around step = tt
 all_in_reach (r ∷ rects) d order around step = (
   rect_in_reach r d order.0 (λ p h. around p (or_left (has_point r p) (holds rects p) h)) step,

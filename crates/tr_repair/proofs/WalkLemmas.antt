@@ -75,7 +75,8 @@ pub part_none : (test : Point → Bool) (n : ℕ) (p : Point) → in_part n n te
 part_none test n p = and_left (in_rows n n p) (test p) (grind (arith, ints))
 
 -- the points of a band of a region, by rows that reach further north, or further south, where the region holds none
-pub band_from : (region rects : List Edges) (n north south : ℕ) → n ≤ north → ((p : Point) → pos n ≤ℤ p.v → p.v <ℤ pos south → holds region p ≡ in_band north south rects p) →
+pub band_from : (region rects : List Edges) (n north south : ℕ) →
+    n ≤ north → ((p : Point) → pos n ≤ℤ p.v → p.v <ℤ pos south → holds region p ≡ in_band north south rects p) →
     (p : Point) → in_band north south rects p ≡ in_part n south (holds region) p
 band_from region rects n north south from points p = by_test (in_rows n south p) refl
   where
@@ -83,7 +84,8 @@ band_from region rects n north south from points p = by_test (in_rows n south p)
     by_test true t = sym (points p (grind (arith, ints)) (grind (arith, ints)))
     by_test false t = and_left (in_rows north south p) (in_columns rects p) (grind (arith, ints))
 
-pub band_to : (region rects : List Edges) (north south s : ℕ) → south ≤ s → ((p : Point) → pos north ≤ℤ p.v → p.v <ℤ pos s → holds region p ≡ in_band north south rects p) →
+pub band_to : (region rects : List Edges) (north south s : ℕ) →
+    south ≤ s → ((p : Point) → pos north ≤ℤ p.v → p.v <ℤ pos s → holds region p ≡ in_band north south rects p) →
     (p : Point) → in_band north south rects p ≡ in_part north s (holds region) p
 band_to region rects north south s to points p = by_test (in_rows north s p) refl
   where

@@ -22,7 +22,8 @@ const ROW: usize = 1024;
 /// moves south goes from south to north, and along a row it goes likewise.
 pub fn move_pixels(screen: &mut Screen, within: &Region, delta: Point)
     requires { MovesOn screen.old.size delta (holds within.now) }
-    ensures { Repaints (holds within.now) (λ p. pixel_of screen.old (before_shift p delta)) screen.old screen.new }
+    ensures { Repaints (holds within.now) (λ p. pixel_of screen.old (before_shift p delta))
+        screen.old screen.new }
 {
     if delta.v < 0 || delta.v == 0 && delta.h <= 0 {
         move_forth(screen, within, delta);
@@ -35,7 +36,8 @@ pub fn move_pixels(screen: &mut Screen, within: &Region, delta: Point)
 fn move_forth(screen: &mut Screen, within: &Region, delta: Point)
     requires moves { MovesOn screen.old.size delta (holds within.now) }
     requires way { IsForth delta }
-    ensures { Repaints (holds within.now) (λ p. pixel_of screen.old (before_shift p delta)) screen.old screen.new }
+    ensures { Repaints (holds within.now) (λ p. pixel_of screen.old (before_shift p delta))
+        screen.old screen.new }
 {
     let high = screen.size().high;
     let mut spare = [0; ROW];
@@ -51,7 +53,8 @@ fn move_forth(screen: &mut Screen, within: &Region, delta: Point)
 fn move_back(screen: &mut Screen, within: &Region, delta: Point)
     requires moves { MovesOn screen.old.size delta (holds within.now) }
     requires way { IsBack delta }
-    ensures { Repaints (holds within.now) (λ p. pixel_of screen.old (before_shift p delta)) screen.old screen.new }
+    ensures { Repaints (holds within.now) (λ p. pixel_of screen.old (before_shift p delta))
+        screen.old screen.new }
 {
     let mut spare = [0; ROW];
     let mut v = screen.size().high;
@@ -66,11 +69,13 @@ fn move_back(screen: &mut Screen, within: &Region, delta: Point)
 fn move_band_forth(screen: &mut Screen, band: &Band<'_>, delta: Point, spare: &mut [u8])
     requires rows { band.now.south ≤ screen.old.size.high }
     requires order { band.now.north ≤ band.now.south }
-    requires moves { MovesOn screen.old.size delta (in_band band.now.north band.now.south band.now.rects.now) }
+    requires moves { MovesOn screen.old.size delta
+        (in_band band.now.north band.now.south band.now.rects.now) }
     requires apart { AreApart (spans_of band.now.rects.now) }
     requires way { IsForth delta }
     requires room { screen.old.size.wide ≤ length spare.old }
-    ensures { Repaints (in_band band.now.north band.now.south band.now.rects.now) (λ p. pixel_of screen.old (before_shift p delta)) screen.old screen.new }
+    ensures { Repaints (in_band band.now.north band.now.south band.now.rects.now)
+        (λ p. pixel_of screen.old (before_shift p delta)) screen.old screen.new }
 {
     if band.north < band.south && are_whole(screen.size(), band.rects) {
         screen.move_rows(band.north, band.south, delta);
@@ -85,11 +90,13 @@ fn move_band_forth(screen: &mut Screen, band: &Band<'_>, delta: Point, spare: &m
 fn move_band_back(screen: &mut Screen, band: &Band<'_>, delta: Point, spare: &mut [u8])
     requires rows { band.now.south ≤ screen.old.size.high }
     requires order { band.now.north ≤ band.now.south }
-    requires moves { MovesOn screen.old.size delta (in_band band.now.north band.now.south band.now.rects.now) }
+    requires moves { MovesOn screen.old.size delta
+        (in_band band.now.north band.now.south band.now.rects.now) }
     requires apart { AreApart (spans_of band.now.rects.now) }
     requires way { IsBack delta }
     requires room { screen.old.size.wide ≤ length spare.old }
-    ensures { Repaints (in_band band.now.north band.now.south band.now.rects.now) (λ p. pixel_of screen.old (before_shift p delta)) screen.old screen.new }
+    ensures { Repaints (in_band band.now.north band.now.south band.now.rects.now)
+        (λ p. pixel_of screen.old (before_shift p delta)) screen.old screen.new }
 {
     if band.north < band.south && are_whole(screen.size(), band.rects) {
         screen.move_rows(band.north, band.south, delta);
@@ -116,7 +123,8 @@ fn move_row_forth(screen: &mut Screen, row: &[Rect], v: u16, delta: Point, spare
     requires apart { AreApart (spans_of row.now) }
     requires way { IsForth delta }
     requires room { screen.old.size.wide ≤ length spare.old }
-    ensures { Repaints (in_row v row.now) (λ p. pixel_of screen.old (before_shift p delta)) screen.old screen.new }
+    ensures { Repaints (in_row v row.now) (λ p. pixel_of screen.old (before_shift p delta))
+        screen.old screen.new }
 {
     for rect in row {
         move_run(screen, run_in(rect, v), delta, spare);
@@ -129,7 +137,8 @@ fn move_row_back(screen: &mut Screen, row: &[Rect], v: u16, delta: Point, spare:
     requires apart { AreApart (spans_of row.now) }
     requires way { IsBack delta }
     requires room { screen.old.size.wide ≤ length spare.old }
-    ensures { Repaints (in_row v row.now) (λ p. pixel_of screen.old (before_shift p delta)) screen.old screen.new }
+    ensures { Repaints (in_row v row.now) (λ p. pixel_of screen.old (before_shift p delta))
+        screen.old screen.new }
 {
     for i in (0..row.len()).rev() {
         move_run(screen, run_in(&row[i], v), delta, spare);

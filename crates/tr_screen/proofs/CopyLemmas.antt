@@ -12,7 +12,9 @@ copied_none old from to = record {
 }
 
 -- the next part is copied to the front of its source, which the copies so far have not reached
-pub copied_on : (old mid new : List ℕ) (from to n m : ℕ) → to ≤ from → IsCopied old mid from to n → IsCopied mid new (from + n) (to + n) m → IsCopied old new from to (n + m)
+pub copied_on : (old mid new : List ℕ) (from to n m : ℕ) →
+    to ≤ from → IsCopied old mid from to n → IsCopied mid new (from + n) (to + n) m →
+    IsCopied old new from to (n + m)
 copied_on old mid new from to n m down h k = record {
   copied = λ i lt. by_place i lt (cases_lt i n);
   before = λ i lt. k.before i (omega arith) ∙ h.before i lt;
@@ -27,7 +29,9 @@ copied_on old mid new from to n m down h k = record {
         ap (λ j. get_or new j 0) target ∙ k.copied (i - n) (omega arith) ∙ h.behind (from + n + (i - n)) (omega arith) ∙ ap (λ j. get_or old j 0) source
 
 -- the part before is copied to the end of its source, which the copies so far have not reached
-pub copied_back : (old mid new : List ℕ) (from to n m : ℕ) → from ≤ to → IsCopied old mid (from + m) (to + m) n → IsCopied mid new from to m → IsCopied old new from to (m + n)
+pub copied_back : (old mid new : List ℕ) (from to n m : ℕ) →
+    from ≤ to → IsCopied old mid (from + m) (to + m) n → IsCopied mid new from to m →
+    IsCopied old new from to (m + n)
 copied_back old mid new from to n m up h k = record {
   copied = λ i lt. by_place i lt (cases_lt i m);
   before = λ i lt. k.before i lt ∙ h.before i (omega arith);

@@ -52,8 +52,10 @@ first_chunks-written {X} n (suc k) (suc v) xs w below long same =
     let tail : List X = w ++ drop (n + v * n + n) xs in
     let fits : n + v * n ≤ length xs = omega (arith, suc-mul k n, row_fits n k v (omega arith)) in
     let front_long : length (take (n + v * n) xs) ≡ n + v * n = length-take-le (n + v * n) xs fits in
-    let first : take n (take (n + v * n) xs ++ tail) ≡ take n xs = take-append-le n (take (n + v * n) xs) tail (omega arith) ∙ take-take n (n + v * n) xs (omega arith) in
-    let rest : drop n (take (n + v * n) xs ++ tail) ≡ take (v * n) ys ++ tail = drop-append-le n (take (n + v * n) xs) tail (omega arith) ∙ ap (λ l. l ++ tail) (drop-take n (v * n) xs) in
+    let first : take n (take (n + v * n) xs ++ tail) ≡ take n xs =
+    take-append-le n (take (n + v * n) xs) tail (omega arith) ∙ take-take n (n + v * n) xs (omega arith) in
+    let rest : drop n (take (n + v * n) xs ++ tail) ≡ take (v * n) ys ++ tail =
+    drop-append-le n (take (n + v * n) xs) tail (omega arith) ∙ ap (λ l. l ++ tail) (drop-take n (v * n) xs) in
     let after : drop (n + v * n + n) xs ≡ drop (v * n + n) ys = ap (λ j. drop j xs) (omega arith) ∙ sym (drop-drop (v * n + n) n xs) in
     let ys_long : length ys ≡ k * n = omega (arith, length-drop n xs, suc-mul k n) in
     rw (place, first, rest, after) (ap (λ l. take n xs ∷ l) (first_chunks-written n k v ys w (omega arith) ys_long same))
@@ -63,7 +65,15 @@ pub written_at-is : (xs w : List ℕ) (n i : ℕ) → n ≡ length xs → i ≤ 
     (let ys : List ℕ = take i xs ++ (w ++ drop (length w) (drop i xs)) in take n (ys ++ drop (length ys) xs) ≡ written_at xs i w)
 written_at-is xs w n i long within =
     let ys : List ℕ = take i xs ++ (w ++ drop (length w) (drop i xs)) in
-    let covers : n ≤ length ys = omega (arith, length-append (take i xs) (w ++ drop (length w) (drop i xs)), length-append w (drop (length w) (drop i xs)), length-drop (length w) (drop i xs), length-drop i xs, length-take-le i xs (omega arith)) in
+    let covers : n ≤ length ys =
+    omega (
+      arith,
+      length-append (take i xs) (w ++ drop (length w) (drop i xs)),
+      length-append w (drop (length w) (drop i xs)),
+      length-drop (length w) (drop i xs),
+      length-drop i xs,
+      length-take-le i xs (omega arith),
+    ) in
     let same : ys ≡ take i xs ++ (w ++ drop (i + length w) xs) = ap (λ l. take i xs ++ (w ++ l)) (drop-drop (length w) i xs) in
     take-append-le n ys (drop (length ys) xs) covers ∙ ap (λ l. take n l) same ∙ ap (λ m. take m (take i xs ++ (w ++ drop (i + length w) xs))) long
 
@@ -91,32 +101,45 @@ module _ (size : Size) (kind : Kind) (pixels : List ℕ) where
   pub length-row_of-picture_of : (v : ℕ) → v < size.high → length pixels ≡ size.high * size.wide → length (row_of (picture_of size kind pixels) v) ≡ size.wide
   length-row_of-picture_of v below long =
       let fits = row_fits size.wide size.high v below in
-      ap (λ l. length l) (row_of-picture_of v below) ∙ length-take-le size.wide (drop (v * size.wide) pixels) (omega (arith, length-drop (v * size.wide) pixels))
+      ap (λ l. length l) (row_of-picture_of v below)
+      ∙ length-take-le size.wide (drop (v * size.wide) pixels) (omega (arith, length-drop (v * size.wide) pixels))
 
   -- the range of pixels that is row v
-  pub row_of-range : (v a n : ℕ) (row : List ℕ) → v < size.high → a ≡ v → n ≡ size.wide → row ≡ take (a * n + n - a * n) (drop (a * n) pixels) → row ≡ row_of (picture_of size kind pixels) v
+  pub row_of-range : (v a n : ℕ) (row : List ℕ) →
+      v < size.high → a ≡ v → n ≡ size.wide → row ≡ take (a * n + n - a * n) (drop (a * n) pixels) →
+      row ≡ row_of (picture_of size kind pixels) v
   row_of-range v a n row below at wide held =
       let count : v * size.wide + size.wide - v * size.wide ≡ size.wide = omega arith in
       rw (row_of-picture_of v below) (rw (at, wide, count) at held)
 
   -- the place of a point's pixel
-  pub pixel_of-picture_of : (p : Point) → IsTrue (has_point (whole_of size) p) → pixel_of (picture_of size kind pixels) p ≡ slice_index pixels (unsigned_abs p.v * size.wide + unsigned_abs p.h)
+  pub pixel_of-picture_of : (p : Point) → IsTrue (has_point (whole_of size) p) →
+      pixel_of (picture_of size kind pixels) p ≡ slice_index pixels (unsigned_abs p.v * size.wide + unsigned_abs p.h)
   pixel_of-picture_of p on =
       let start : ℕ = unsigned_abs p.v * size.wide in
       ap (λ l. slice_index l (unsigned_abs p.h)) (row_of-picture_of (unsigned_abs p.v) (in_whole size p on).0)
       ∙ get_or-take size.wide (drop start pixels) (unsigned_abs p.h) 0 (in_whole size p on).1 ∙ get_or-drop start pixels (unsigned_abs p.h) 0
 
-  pub overwritten-picture_of : (v : ℕ) (w : List ℕ) → length pixels ≡ size.high * size.wide → overwritten (picture_of size kind pixels) v w ≡ picture_of size kind (written_at pixels (v * size.wide) w)
+  pub overwritten-picture_of : (v : ℕ) (w : List ℕ) → length pixels ≡ size.high * size.wide →
+      overwritten (picture_of size kind pixels) v w ≡ picture_of size kind (written_at pixels (v * size.wide) w)
   unfolding overwritten
   overwritten-picture_of v w long = ap (λ l. picture_of size kind (written_at l (v * size.wide) w)) (concat-first_chunks size.wide size.high pixels long)
 
   -- a row that is written over by one of its length is replaced
-  pub overwritten-with_row : (v : ℕ) (w : List ℕ) → v < size.high → length pixels ≡ size.high * size.wide → length w ≡ size.wide → overwritten (picture_of size kind pixels) v w ≡ with_row (picture_of size kind pixels) v w
+  pub overwritten-with_row : (v : ℕ) (w : List ℕ) → v < size.high → length pixels ≡ size.high * size.wide → length w ≡ size.wide →
+      overwritten (picture_of size kind pixels) v w ≡ with_row (picture_of size kind pixels) v w
   overwritten-with_row v w below long same =
       let front : List ℕ = take (v * size.wide) pixels in
       let ys : List ℕ = front ++ (w ++ drop (v * size.wide + length w) pixels) in
       let fits = row_fits size.wide size.high v below in
-      let whole : length ys ≡ length pixels = omega (arith, length-append front (w ++ drop (v * size.wide + length w) pixels), length-append w (drop (v * size.wide + length w) pixels), length-drop (v * size.wide + length w) pixels, length-take-le (v * size.wide) pixels (omega arith)) in
+      let whole : length ys ≡ length pixels =
+      omega (
+        arith,
+        length-append front (w ++ drop (v * size.wide + length w) pixels),
+        length-append w (drop (v * size.wide + length w) pixels),
+        length-drop (v * size.wide + length w) pixels,
+        length-take-le (v * size.wide) pixels (omega arith),
+      ) in
       let kept : written_at pixels (v * size.wide) w ≡ ys = take_all (length pixels) ys (omega arith) in
       let at : ys ≡ front ++ (w ++ drop (v * size.wide + size.wide) pixels) = ap (λ m. front ++ (w ++ drop (v * size.wide + m) pixels)) same in
       overwritten-picture_of v w long ∙ ap (λ l. picture_of size kind l) (kept ∙ at)

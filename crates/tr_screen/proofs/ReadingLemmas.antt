@@ -75,7 +75,8 @@ module _ (pixel : Point → ℕ) (r : Edges) where
       is ∙ ap (λ l. l ++ part) read
       ∙ append_assoc old (flat_map (λ m. run_by pixel (row_in r m)) (range_with_len 0 n)) part
       ∙ ap (λ l. old ++ (flat_map (λ m. run_by pixel (row_in r m)) (range_with_len 0 n) ++ l)) (next ∙ ap (λ m. run_by pixel (row_in r m)) (omega arith))
-      ∙ ap (λ l. old ++ l) (sym (range_more (λ m. run_by pixel (row_in r m)) 0 n) ∙ ap (λ m. flat_map (λ j. run_by pixel (row_in r j)) (range_with_len 0 m)) (sym (add-one n)))
+      ∙ ap (λ l. old ++ l) (sym (range_more (λ m. run_by pixel (row_in r m)) 0 n)
+      ∙ ap (λ m. flat_map (λ j. run_by pixel (row_in r j)) (range_with_len 0 m)) (sym (add-one n)))
 
 -- ---- the rows of a rectangle on a screen
 
@@ -162,7 +163,8 @@ run_read size kind pixels r h long w a n start wide is = fill_by_all (λ k. pixe
         ∙ run_lent size kind pixels r h long w a n start wide is (point_in r k) held
 
 -- the pixel of a point of a run
-pub get_or-run_by : (pixel : Point → ℕ) (size : Size) (r : Run) → IsRun size r → (p : Point) → in_run r p ≡ true → get_or (run_by pixel r) (column_in r p) 0 ≡ pixel p
+pub get_or-run_by : (pixel : Point → ℕ) (size : Size) (r : Run) → IsRun size r → (p : Point) → in_run r p ≡ true →
+    get_or (run_by pixel r) (column_in r p) 0 ≡ pixel p
 get_or-run_by pixel size r h p t =
     get_or-map-range_with_len (λ k. pixel (point_in r k)) 0 (width_of r) (column_in r p) (column_in r p) 0 (column_is size r p h t).1 (omega arith)
     ∙ ap pixel (point_in-column r p t)

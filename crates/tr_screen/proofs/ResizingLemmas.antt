@@ -16,8 +16,11 @@ in_common other v p = in_rows 0 v p && has_point (whole_of other) p
 
 -- one row more
 pub common_more : (src old mid new : Picture) (v wide : ℕ) → wide ≡ min old.size.wide src.size.wide → v < src.size.high →
-    Repaints (in_common src.size v) (pixel_of src) old mid → Repaints (in_run (row_start v wide)) (pixel_of src) mid new → Repaints (in_common src.size (v + 1)) (pixel_of src) old new
-common_more src old mid new v wide is below h k = repaints_more (in_common src.size v) (in_run (row_start v wide)) (in_common src.size (v + 1)) (pixel_of src) (pixel_of src) old mid new h k (λ p on e. refl) grown
+    Repaints (in_common src.size v) (pixel_of src) old mid → Repaints (in_run (row_start v wide)) (pixel_of src) mid new →
+    Repaints (in_common src.size (v + 1)) (pixel_of src) old new
+common_more src old mid new v wide is below h k =
+    repaints_more (in_common src.size v) (in_run (row_start v wide)) (in_common src.size (v + 1))
+    (pixel_of src) (pixel_of src) old mid new h k (λ p on e. refl) grown
   where
     grown : (p : Point) → IsOn old.size p → in_common src.size (v + 1) p ≡ in_run (row_start v wide) p || in_common src.size v p
     grown p on =

@@ -34,7 +34,9 @@ pub record IsThere (size : Size) (p : Point) : Type 0 where
 
 pub there : (size : Size) (p : Point) → IsOn size p → IsThere size p
 there size p on =
-    let both = and_parts (between (pos 0) (pos size.wide) p.h) (between (pos 0) (pos size.high) p.v) (rw (has_point-rect_of (pos 0) (pos size.wide) (pos 0) (pos size.high) p) at on) in
+    let both =
+    and_parts (between (pos 0) (pos size.wide) p.h) (between (pos 0) (pos size.high) p.v)
+    (rw (has_point-rect_of (pos 0) (pos size.wide) (pos 0) (pos size.high) p) at on) in
     record { west = grind (arith, ints, both.0); east = grind (arith, ints, both.0); north = grind (arith, ints, both.1); south = grind (arith, ints, both.1) }
 
 pub on_there : (size : Size) (p : Point) → IsThere size p → IsOn size p
@@ -105,11 +107,15 @@ run_wide size r h = omega (arith, (natural size r h).across)
 pub run_is : (r : Run) (v w e : ℤ) → v ≡ r.v → w ≡ r.west → e ≡ r.east → (let s : Run = record { v = v; west = w; east = e } in s ≡ r)
 run_is r v w e hv hw he = rw (hv, hw, he) refl
 
-pub cast_difference : (a b : ℤ) → SFits w32 a → SFits w32 b → pos 0 ≤ℤ (a -ℤ b) → (a -ℤ b) ≤ℤ pos 1024 → to_z w32 (of_z w32 (to_z w32 (of_z w32 a) -ℤ to_z w32 (of_z w32 b))) ≡ a -ℤ b
+pub cast_difference : (a b : ℤ) → SFits w32 a → SFits w32 b →
+    pos 0 ≤ℤ (a -ℤ b) → (a -ℤ b) ≤ℤ pos 1024 →
+    to_z w32 (of_z w32 (to_z w32 (of_z w32 a) -ℤ to_z w32 (of_z w32 b))) ≡ a -ℤ b
 cast_difference a b ha hb low high = omega (arith, ints)
 
 -- the place of a point is among those of a run just where the run holds it
-same_row : (n row column v west wide : ℕ) → column < n → west + wide ≤ n → v * n + west ≤ row * n + column → row * n + column < v * n + west + wide → (row ≡ v) × (west ≤ column) × (column < west + wide)
+same_row : (n row column v west wide : ℕ) →
+    column < n → west + wide ≤ n → v * n + west ≤ row * n + column → row * n + column < v * n + west + wide →
+    (row ≡ v) × (west ≤ column) × (column < west + wide)
 same_row n row column v west wide hc hw low high =
     let same : row ≡ v = by_order (cases_order row v) in
     let start : row * n ≡ v * n = ap (λ m. m * n) same in
@@ -121,7 +127,10 @@ same_row n row column v west wide hc hw low high =
     by_order (inr (inr gt)) = absurd (omega (arith, row_fits n row v gt))
 
 -- the place of a run's point is its column further than the run's start
-pub place_in : (size : Size) (r : Run) (p : Point) → IsRun size r → in_run r p ≡ true → (unsigned_abs r.west ≤ unsigned_abs p.h) × (unsigned_abs p.h < unsigned_abs r.west + width_of r) × (place size p + unsigned_abs r.west ≡ start_of size r + unsigned_abs p.h)
+pub place_in : (size : Size) (r : Run) (p : Point) →
+    IsRun size r → in_run r p ≡ true →
+    (unsigned_abs r.west ≤ unsigned_abs p.h) × (unsigned_abs p.h < unsigned_abs r.west + width_of r)
+    × (place size p + unsigned_abs r.west ≡ start_of size r + unsigned_abs p.h)
 place_in size r p h in_it =
     let at = tests_of_run r p in_it in
     let n = natural size r h in
@@ -132,10 +141,14 @@ place_in size r p h in_it =
     (omega (arith, ints, at.1), omega (arith, ints, at.2, n.east), omega arith)
 
 -- a point that the run doesn't hold has its place before the run's or after it
-place_outside : (size : Size) (r : Run) (p : Point) → IsRun size r → IsOn size p → in_run r p ≡ false → (place size p < start_of size r) ⊎ (start_of size r + width_of r ≤ place size p)
+place_outside : (size : Size) (r : Run) (p : Point) → IsRun size r → IsOn size p → in_run r p ≡ false →
+    (place size p < start_of size r) ⊎ (start_of size r + width_of r ≤ place size p)
 place_outside size r p h on out = by_order (cases_lt (place size p) (start_of size r)) (cases_lt (place size p) (start_of size r + width_of r))
   where
-    by_order : (place size p < start_of size r) ⊎ (start_of size r ≤ place size p) → (place size p < start_of size r + width_of r) ⊎ (start_of size r + width_of r ≤ place size p) → (place size p < start_of size r) ⊎ (start_of size r + width_of r ≤ place size p)
+    by_order :
+        (place size p < start_of size r) ⊎ (start_of size r ≤ place size p) →
+        (place size p < start_of size r + width_of r) ⊎ (start_of size r + width_of r ≤ place size p) →
+        (place size p < start_of size r) ⊎ (start_of size r + width_of r ≤ place size p)
     by_order (inl lt) k = inl lt
     by_order (inr ge) (inr k) = inr k
     by_order (inr ge) (inl lt) =
@@ -146,7 +159,9 @@ place_outside size r p h on out = by_order (cases_lt (place size p) (start_of si
         let row = abs_is r.v h.north in
         let west = abs_is r.west h.west in
         let east = abs_is r.east (omega (arith, ints, h.west, h.some)) in
-        let same = same_row size.wide (unsigned_abs p.v) (unsigned_abs p.h) (unsigned_abs r.v) (unsigned_abs r.west) (width_of r) (in_whole size p on).1 n.across ge lt in
+        let same =
+        same_row size.wide (unsigned_abs p.v) (unsigned_abs p.h) (unsigned_abs r.v) (unsigned_abs r.west) (width_of r)
+        (in_whole size p on).1 n.across ge lt in
         absurd (true≢false (sym (test_of_run r p (omega (arith, ints, same.0)) (omega (arith, ints, same.1)) (omega (arith, ints, same.2, n.east))) ∙ out))
 
 -- the points of a test have their places from start on, count of them, and all others elsewhere
@@ -171,7 +186,8 @@ rows_places size north south order = record { inside = within; outside = beyond 
     whole : north * size.wide + (south - north) * size.wide ≡ south * size.wide
     whole = sym (add-mul north (south - north) size.wide) ∙ ap (λ n. n * size.wide) (omega arith)
 
-    within : (p : Point) → IsOn size p → in_rows north south p ≡ true → (north * size.wide ≤ place size p) × (place size p < north * size.wide + (south - north) * size.wide)
+    within : (p : Point) → IsOn size p → in_rows north south p ≡ true →
+        (north * size.wide ≤ place size p) × (place size p < north * size.wide + (south - north) * size.wide)
     within p on t =
         let at = there size p on in
         let v = abs_is p.v at.north in
@@ -180,10 +196,13 @@ rows_places size north south order = record { inside = within; outside = beyond 
         let high : unsigned_abs p.v < south = grind (arith, ints) in
         (omega (arith, mul-le-mul_right size.wide low), omega (arith, row_fits size.wide south (unsigned_abs p.v) high, whole))
 
-    beyond : (p : Point) → IsOn size p → in_rows north south p ≡ false → (place size p < north * size.wide) ⊎ (north * size.wide + (south - north) * size.wide ≤ place size p)
+    beyond : (p : Point) → IsOn size p → in_rows north south p ≡ false →
+        (place size p < north * size.wide) ⊎ (north * size.wide + (south - north) * size.wide ≤ place size p)
     beyond p on t = by_order (cases_lt (unsigned_abs p.v) north) (cases_lt (unsigned_abs p.v) south)
       where
-        by_order : (unsigned_abs p.v < north) ⊎ (north ≤ unsigned_abs p.v) → (unsigned_abs p.v < south) ⊎ (south ≤ unsigned_abs p.v) → (place size p < north * size.wide) ⊎ (north * size.wide + (south - north) * size.wide ≤ place size p)
+        by_order :
+            (unsigned_abs p.v < north) ⊎ (north ≤ unsigned_abs p.v) → (unsigned_abs p.v < south) ⊎ (south ≤ unsigned_abs p.v) →
+            (place size p < north * size.wide) ⊎ (north * size.wide + (south - north) * size.wide ≤ place size p)
         by_order (inl lt) k = let column = (in_whole size p on).1 in inl (omega (arith, row_fits size.wide north (unsigned_abs p.v) lt))
         by_order (inr ge) (inr past) = inr (omega (arith, mul-le-mul_right size.wide past, whole))
         by_order (inr ge) (inl lt) =
@@ -192,9 +211,12 @@ rows_places size north south order = record { inside = within; outside = beyond 
 
 module _ (size : Size) (kind : Kind) (old new : List ℕ) (test : Point → Bool) (start count : ℕ) (places : HasPlaces size test start count) where
   -- pixels side by side were written, and no others
-  pub painted_places : (f : Point → ℕ) → ((k : ℕ) → k < start → get_or new k 0 ≡ get_or old k 0) → ((k : ℕ) → start + count ≤ k → get_or new k 0 ≡ get_or old k 0) →
+  pub painted_places : (f : Point → ℕ) →
+      ((k : ℕ) → k < start → get_or new k 0 ≡ get_or old k 0) →
+      ((k : ℕ) → start + count ≤ k → get_or new k 0 ≡ get_or old k 0) →
       ((p : Point) → IsOn size p → test p ≡ true → get_or new (place size p) 0 ≡ f p) → Repaints test f (picture_of size kind old) (picture_of size kind new)
-  painted_places f before behind gets = record { size = refl; kind = refl; points = λ p on. pixel_of-picture_of size kind new p on ∙ by_test p on (test p) refl }
+  painted_places f before behind gets =
+      record { size = refl; kind = refl; points = λ p on. pixel_of-picture_of size kind new p on ∙ by_test p on (test p) refl }
     where
       elsewhere : (p : Point) → (place size p < start) ⊎ (start + count ≤ place size p) → get_or new (place size p) 0 ≡ get_or old (place size p) 0
       elsewhere p (inl lt) = before (place size p) lt
@@ -217,14 +239,21 @@ module _ (size : Size) (kind : Kind) (old new : List ℕ) (test : Point → Bool
           let k : ℕ = place size p - start in
           let target : place size p ≡ start + k = omega (arith, at.0) in
           let same : from + k ≡ place size (before_shift p d) = omega (arith, at.0, there.1) in
-          ap (λ n. get_or new n 0) target ∙ h.copied k (omega (arith, at.0, at.1)) ∙ ap (λ n. get_or old n 0) same ∙ sym (pixel_of-picture_of size kind old (before_shift p d) there.0)
+          ap (λ n. get_or new n 0) target ∙ h.copied k (omega (arith, at.0, at.1))
+          ∙ ap (λ n. get_or old n 0) same ∙ sym (pixel_of-picture_of size kind old (before_shift p d) there.0)
 
 -- a run was moved
-pub moved_run : (size : Size) (kind : Kind) (old new : List ℕ) (r : Run) (d : Point) → IsRun size r → IsRun size (run_before r d) → IsCopied old new (start_of size (run_before r d)) (start_of size r) (width_of r) →
+pub moved_run : (size : Size) (kind : Kind) (old new : List ℕ) (r : Run) (d : Point) →
+    IsRun size r → IsRun size (run_before r d) →
+    IsCopied old new (start_of size (run_before r d)) (start_of size r) (width_of r) →
     Repaints (in_run r) (λ p. pixel_of (picture_of size kind old) (before_shift p d)) (picture_of size kind old) (picture_of size kind new)
-moved_run size kind old new r d h k copied = moved_places size kind old new (in_run r) (start_of size r) (width_of r) (run_places size r h) d (start_of size (run_before r d)) copied source
+moved_run size kind old new r d h k copied =
+    moved_places size kind old new (in_run r) (start_of size r) (width_of r) (run_places size r h)
+    d (start_of size (run_before r d)) copied source
   where
-    source : (p : Point) → IsOn size p → in_run r p ≡ true → IsOn size (before_shift p d) × (place size (before_shift p d) + start_of size r ≡ start_of size (run_before r d) + place size p)
+    source : (p : Point) → IsOn size p → in_run r p ≡ true →
+        IsOn size (before_shift p d)
+        × (place size (before_shift p d) + start_of size r ≡ start_of size (run_before r d) + place size p)
     source p on t =
         let s = run_before r d in
         let q = before_shift p d in
@@ -241,33 +270,52 @@ moved_run size kind old new r d h k copied = moved_places size kind old new (in_
         (on', omega (arith, ints, to.2, from.2))
 
 -- rows were moved, straight north or south
-pub moved_rows : (size : Size) (kind : Kind) (old new : List ℕ) (north south from : ℕ) (d : Point) → north ≤ south → south ≤ size.high → d.h ≡ pos 0 → pos from ≡ pos north -ℤ d.v → (pos south -ℤ d.v) ≤ℤ pos size.high →
+pub moved_rows : (size : Size) (kind : Kind) (old new : List ℕ) (north south from : ℕ) (d : Point) →
+    north ≤ south → south ≤ size.high → d.h ≡ pos 0 →
+    pos from ≡ pos north -ℤ d.v → (pos south -ℤ d.v) ≤ℤ pos size.high →
     IsCopied old new (from * size.wide) (north * size.wide) ((south - north) * size.wide) →
     Repaints (in_rows north south) (λ p. pixel_of (picture_of size kind old) (before_shift p d)) (picture_of size kind old) (picture_of size kind new)
 moved_rows size kind old new north south from d order fits straight first last copied =
-    moved_places size kind old new (in_rows north south) (north * size.wide) ((south - north) * size.wide) (rows_places size north south order) d (from * size.wide) copied source
+    moved_places size kind old new (in_rows north south) (north * size.wide) ((south - north) * size.wide)
+    (rows_places size north south order) d (from * size.wide) copied source
   where
-    source : (p : Point) → IsOn size p → in_rows north south p ≡ true → IsOn size (before_shift p d) × (place size (before_shift p d) + north * size.wide ≡ from * size.wide + place size p)
+    source : (p : Point) → IsOn size p → in_rows north south p ≡ true →
+        IsOn size (before_shift p d)
+        × (place size (before_shift p d) + north * size.wide ≡ from * size.wide + place size p)
     source p on t =
         let at = there size p on in
         let low : pos north ≤ℤ p.v = grind (arith, ints) in
         let high : p.v <ℤ pos south = grind (arith, ints) in
         let q = before_shift p d in
-        let on' : IsOn size q = on_there size q (record { west = omega (arith, ints, at.west, straight); east = omega (arith, ints, at.east, straight); north = omega (arith, ints); south = omega (arith, ints) }) in
+        let on' : IsOn size q =
+        on_there size q (record {
+          west = omega (arith, ints, at.west, straight);
+          east = omega (arith, ints, at.east, straight);
+          north = omega (arith, ints);
+          south = omega (arith, ints);
+        }) in
         let v = abs_is p.v at.north in
         let v' = abs_is q.v (there size q on').north in
         let h = abs_is p.h at.west in
         let h' = abs_is q.h (there size q on').west in
         let column : unsigned_abs q.h ≡ unsigned_abs p.h = omega (arith, ints, straight) in
         let rows : unsigned_abs q.v + north ≡ from + unsigned_abs p.v = omega (arith, ints) in
-        let starts : unsigned_abs q.v * size.wide + north * size.wide ≡ from * size.wide + unsigned_abs p.v * size.wide = sym (add-mul (unsigned_abs q.v) north size.wide) ∙ ap (λ n. n * size.wide) rows ∙ add-mul from (unsigned_abs p.v) size.wide in
+        let starts : unsigned_abs q.v * size.wide + north * size.wide ≡ from * size.wide + unsigned_abs p.v * size.wide =
+        sym (add-mul (unsigned_abs q.v) north size.wide)
+        ∙ ap (λ n. n * size.wide) rows ∙ add-mul from (unsigned_abs p.v) size.wide in
         (on', omega arith)
 
 -- what is written over a list, index by index
 written_long : (xs w : List ℕ) (i : ℕ) → i + length w ≤ length xs → written_at xs i w ≡ take i xs ++ (w ++ drop (i + length w) xs)
 written_long xs w i fits =
     let ys : List ℕ = take i xs ++ (w ++ drop (i + length w) xs) in
-    take_all (length xs) ys (omega (arith, length-append (take i xs) (w ++ drop (i + length w) xs), length-append w (drop (i + length w) xs), length-drop (i + length w) xs, length-take-le i xs (omega arith)))
+    take_all (length xs) ys (omega (
+      arith,
+      length-append (take i xs) (w ++ drop (i + length w) xs),
+      length-append w (drop (i + length w) xs),
+      length-drop (i + length w) xs,
+      length-take-le i xs (omega arith),
+    ))
 
 written_before : (xs w : List ℕ) (i : ℕ) → i + length w ≤ length xs → (k : ℕ) → k < i → get_or (written_at xs i w) k 0 ≡ get_or xs k 0
 written_before xs w i fits = λ k lt. rw (written_long xs w i fits) (search (rules, places))
@@ -279,7 +327,8 @@ written_within : (xs w : List ℕ) (i k : ℕ) → i + length w ≤ length xs �
 written_within xs w i k fits lt = rw (written_long xs w i fits) (search (rules, places))
 
 -- the place of a run's point, by its column in the run
-pub column_is : (size : Size) (r : Run) (p : Point) → IsRun size r → in_run r p ≡ true → (place size p ≡ start_of size r + column_in r p) × (column_in r p < width_of r)
+pub column_is : (size : Size) (r : Run) (p : Point) → IsRun size r → in_run r p ≡ true →
+    (place size p ≡ start_of size r + column_in r p) × (column_in r p < width_of r)
 column_is size r p h t =
     let at = tests_of_run r p t in
     let to = place_in size r p h t in
@@ -313,16 +362,33 @@ module _ (size : Size) (kind : Kind) (pixels : List ℕ) (r : Run) (h : IsRun si
       ap (λ l. picture_of size kind l) (written_at-is pixels w n (start_of size r) count (omega arith)) ∙ sym (run_overwritten-picture_of w)
 
   -- what that paints
-  pub run_paints : (w : List ℕ) → length w ≡ width_of r → Repaints (in_run r) (λ p. get_or w (column_in r p) 0) (picture_of size kind pixels) (run_overwritten (picture_of size kind pixels) r w)
+  pub run_paints : (w : List ℕ) → length w ≡ width_of r →
+      Repaints (in_run r) (λ p. get_or w (column_in r p) 0)
+      (picture_of size kind pixels) (run_overwritten (picture_of size kind pixels) r w)
   run_paints w same =
       let fits : start_of size r + length w ≤ length pixels = omega (arith, run_fits size r h) in
       rw (run_overwritten-picture_of w)
-      (painted_places size kind pixels (written_at pixels (start_of size r) w) (in_run r) (start_of size r) (width_of r) (run_places size r h) (λ p. get_or w (column_in r p) 0) (written_before pixels w (start_of size r) fits) (λ k ge. written_behind pixels w (start_of size r) fits k (omega arith))
+      (painted_places size kind pixels (written_at pixels (start_of size r) w) (in_run r) (start_of size r) (width_of r) (run_places size r h)
+      (λ p. get_or w (column_in r p) 0)
+      (written_before pixels w (start_of size r) fits)
+      (λ k ge. written_behind pixels w (start_of size r) fits k (omega arith))
       (λ p on t. (let at = column_is size r p h t in rw (at.0) (written_within pixels w (start_of size r) (column_in r p) fits (omega (arith, at.1))))))
 
   -- the pixels that are lent
-  pub run_lent : (w : List ℕ) (a n : ℕ) → a ≡ start_of size r → n ≡ width_of r → w ≡ take (a + n - a) (drop a pixels) → (p : Point) → in_run r p ≡ true → get_or w (column_in r p) 0 ≡ pixel_of (picture_of size kind pixels) p
+  pub run_lent : (w : List ℕ) (a n : ℕ) →
+      a ≡ start_of size r → n ≡ width_of r → w ≡ take (a + n - a) (drop a pixels) →
+      (p : Point) → in_run r p ≡ true →
+      get_or w (column_in r p) 0 ≡ pixel_of (picture_of size kind pixels) p
   run_lent w a n start wide held p t =
       let at = column_is size r p h t in
       let count : start_of size r + width_of r - start_of size r ≡ width_of r = omega arith in
-      rw (held, start, wide, count, get_or-take (width_of r) (drop (start_of size r) pixels) (column_in r p) 0 at.1, get_or-drop (start_of size r) pixels (column_in r p) 0, ← at.0) (sym (pixel_of-picture_of size kind pixels p (on_run size r p h t)))
+      rw (
+        held,
+        start,
+        wide,
+        count,
+        get_or-take (width_of r) (drop (start_of size r) pixels) (column_in r p) 0 at.1,
+        get_or-drop (start_of size r) pixels (column_in r p) 0,
+        ← at.0,
+      )
+      (sym (pixel_of-picture_of size kind pixels p (on_run size r p h t)))

@@ -120,7 +120,8 @@ impl Screen {
 
         // A slice keeps its length, so what is last behind the result is what is painted.
         ensures paints { (w : List ℕ) → length w ≡ width_of run →
-            Repaints (in_run run) (λ p. slice_index w (column_in run p)) self.old (run_overwritten self.old run w) }
+            Repaints (in_run run) (λ p. slice_index w (column_in run p))
+            self.old (run_overwritten self.old run w) }
         ensures value { (p : Point) → in_run run p ≡ true →
             slice_index result.now (column_in run p) ≡ pixel_of self.old p }
         ensures wide { length result.now ≡ width_of run }
@@ -202,7 +203,8 @@ impl Screen {
         requires straight { delta.h ≡ pos 0 }
         requires from_north { pos 0 ≤ℤ (pos north -ℤ delta.v) }
         requires from_south { (pos south -ℤ delta.v) ≤ℤ pos self.old.size.high }
-        ensures { Repaints (in_rows north south) (λ p. pixel_of self.old (before_shift p delta)) self.old self.new }
+        ensures { Repaints (in_rows north south) (λ p. pixel_of self.old (before_shift p delta))
+            self.old self.new }
     {
         let wide = usize::from(self.size.wide);
         let from = row_before(north, delta) * wide;

@@ -55,7 +55,8 @@ pub written_one : (s t : Standing) (a b : ℕ) (p : Picture) (before text : List
     text ≡ before ++ dump_text p → text ≡ before ++ flat_map dump_text (cut_between s t)
 written_one s t a b p before text is was other screen wrote =
     wrote ∙ ap (λ l. before ++ l) (sym (append-nil (dump_text p)))
-    ∙ ap (λ l. before ++ flat_map dump_text l) (ap (λ o. listed o) (sym screen) ∙ sym (ap (λ b. if b then [] else listed t.screen) (ne_eqb s.cuts t.cuts apart)))
+    ∙ ap (λ l. before ++ flat_map dump_text l)
+    (ap (λ o. listed o) (sym screen) ∙ sym (ap (λ b. if b then [] else listed t.screen) (ne_eqb s.cuts t.cuts apart)))
   where
     apart : s.cuts ≢ t.cuts
     apart = λ e. other (is ∙ sym e ∙ sym was)

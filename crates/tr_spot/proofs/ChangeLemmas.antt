@@ -40,7 +40,8 @@ find_without test child (c ∷ cs) h = by_id c child
     (λ other. ap (λ b. find test (cond (not b) (c ∷ without child cs) (without child cs))) other
     ∙ ap (λ o. cond (test c) (Some c) o) (find_without test child cs h))
 
-find_but : (test : NodeId → Bool) (child : Option NodeId) (cs : List NodeId) → IfSome child (λ n. test n ≡ false) → find test (without_child child cs) ≡ find test cs
+find_but : (test : NodeId → Bool) (child : Option NodeId) (cs : List NodeId) → IfSome child (λ n. test n ≡ false) →
+    find test (without_child child cs) ≡ find test cs
 find_but test None cs h = refl
 find_but test (Some n) cs h = find_without test n cs h
 
@@ -66,15 +67,15 @@ pub record IsOutside (child : Option NodeId) (was is : Seen) (p : Point) : Type 
   pub rest : (n : NodeId) → IsNode is.nodes n → has_either was is n p ≡ true → FollowsParent was is n
 
 -- below a node that stands still a child that has the point stands still
-child_still : (child : Option NodeId) (was is : Seen) (p : Point) → IsOutside child was is p → (n c : NodeId) → IsStill was is n → is_among c (node is.nodes n).children ≡ true →
-    has_either was is c p ≡ true → IsStill was is c
+child_still : (child : Option NodeId) (was is : Seen) (p : Point) → IsOutside child was is p → (n c : NodeId) → IsStill was is n →
+    is_among c (node is.nodes n).children ≡ true → has_either was is c p ≡ true → IsStill was is c
 child_still child was is p o n c still among has =
     let up : (node is.nodes c).parent ≡ Some n = o.after.children n c among in
     o.rest c (hangs_is_node is.nodes c n up) has n up still
 
 -- so each child has it in both trees, or in neither
-has_same : (child : Option NodeId) (was is : Seen) (p : Point) → IsOutside child was is p → (n c : NodeId) → IsStill was is n → is_among c (node is.nodes n).children ≡ true →
-    has_point (domain is c) p ≡ has_point (domain was c) p
+has_same : (child : Option NodeId) (was is : Seen) (p : Point) → IsOutside child was is p → (n c : NodeId) → IsStill was is n →
+    is_among c (node is.nodes n).children ≡ true → has_point (domain is c) p ≡ has_point (domain was c) p
 has_same child was is p o n c still among = by_tests (has_point (domain was c) p) (has_point (domain is c) p)
     (λ h. ap (λ (e : Edges). has_point e p) (child_still child was is p o n c still among h))
   where
@@ -107,9 +108,11 @@ found_still : (child : Option NodeId) (was is : Seen) (p : Point) → IsOutside 
     front is p (node is.nodes n).children ≡ Some c → IsStill was is c
 found_still child was is p o n c still e =
     child_still child was is p o n c still (find_among (λ k. has_point (domain is k) p) (node is.nodes n).children c e)
-    (ap (λ b. has_point (domain was c) p || b) (find_passes (λ k. has_point (domain is k) p) (node is.nodes n).children c e) ∙ or_true (has_point (domain was c) p))
+    (ap (λ b. has_point (domain was c) p || b) (find_passes (λ k. has_point (domain is k) p) (node is.nodes n).children c e)
+    ∙ or_true (has_point (domain was c) p))
 
-owner_same : (f : ℕ) (child : Option NodeId) (was is : Seen) (p : Point) → IsOutside child was is p → (n : NodeId) → IsStill was is n → owner_within f is n p ≡ owner_within f was n p
+owner_same : (f : ℕ) (child : Option NodeId) (was is : Seen) (p : Point) → IsOutside child was is p → (n : NodeId) →
+    IsStill was is n → owner_within f is n p ≡ owner_within f was n p
 unfolding owner_within
 owner_same zero child was is p o n still = refl
 owner_same (suc f) child was is p o n still =
@@ -135,13 +138,15 @@ owns_same child was is p o n =
         ∙ sym (ap (λ (r : Option NodeId). is_it n (ends_at was p r)) e)
 
 -- the point belongs to the same node in both trees
-pub same_outside : (child : Option NodeId) (was is : Seen) (p : Point) → IsOutside child was is p → (n : NodeId) → is_spot_of is n (spot is p) ≡ is_spot_of was n (spot was p)
+pub same_outside : (child : Option NodeId) (was is : Seen) (p : Point) → IsOutside child was is p → (n : NodeId) →
+    is_spot_of is n (spot is p) ≡ is_spot_of was n (spot was p)
 same_outside child was is p o n = sym (spot_is is o.after p n) ∙ owns_same child was is p o n ∙ spot_is was o.before p n
 
 -- ---- node after node
 
 -- at first the child alone is seen to
-pub seen_none : (child : Option NodeId) (was is : Seen) (region : List Edges) → ((p : Point) → holds region p ≡ child_has child was is p) → AreSeen child was is 0 region
+pub seen_none : (child : Option NodeId) (was is : Seen) (region : List Edges) →
+    ((p : Point) → holds region p ≡ child_has child was is p) → AreSeen child was is 0 region
 seen_none child was is region all = record {
   apart = λ p h. sym (all p) ∙ h;
   rest = λ m p lt h has. absurd (omega arith);
@@ -149,7 +154,8 @@ seen_none child was is region all = record {
 }
 
 -- one node more follows its parent
-pub seen_following : (child : Option NodeId) (was is : Seen) (n : NodeId) (i : ℕ) (region : List Edges) → AreSeen child was is i region → n.0 ≡ i → FollowsParent was is n → AreSeen child was is (i + 1) region
+pub seen_following : (child : Option NodeId) (was is : Seen) (n : NodeId) (i : ℕ) (region : List Edges) →
+    AreSeen child was is i region → n.0 ≡ i → FollowsParent was is n → AreSeen child was is (i + 1) region
 seen_following child was is n i region seen at follows = record {
   apart = seen.apart;
   rest = λ m p lt h has. elim (cases_eq m.0 i) [
@@ -160,8 +166,10 @@ seen_following child was is n i region seen at follows = record {
 }
 
 -- or its points are taken in
-pub seen_moving : (child : Option NodeId) (was is : Seen) (n : NodeId) (i : ℕ) (region points new : List Edges) → AreSeen child was is i region → n.0 ≡ i → (FollowsParent was is n → ⊥) →
-    ((p : Point) → holds points p ≡ has_either was is n p) → ((p : Point) → holds new p ≡ (holds region p || holds points p)) → AreSeen child was is (i + 1) new
+pub seen_moving : (child : Option NodeId) (was is : Seen) (n : NodeId) (i : ℕ) (region points new : List Edges) →
+    AreSeen child was is i region → n.0 ≡ i → (FollowsParent was is n → ⊥) →
+    ((p : Point) → holds points p ≡ has_either was is n p) → ((p : Point) → holds new p ≡ (holds region p || holds points p)) →
+    AreSeen child was is (i + 1) new
 seen_moving child was is n i region points new seen at moves are both = record {
   apart = λ p h. seen.apart p (outside p h).0;
   rest = λ m p lt h has. elim (cases_eq m.0 i) [
@@ -178,8 +186,8 @@ seen_moving child was is n i region points new seen at moves are both = record {
     by_test p true e h = seen.least p e
     by_test p false e h = inr (n, sym (are p) ∙ h, moves)
 
-pub seen_all : (child : Option NodeId) (was is : Seen) (i : ℕ) (region : List Edges) → IsForest was.nodes → IsForest is.nodes → AreAlikeBut child was is → AreSeen child was is i region →
-    length is.nodes.entries ≤ i → AreSameOutside region was is
+pub seen_all : (child : Option NodeId) (was is : Seen) (i : ℕ) (region : List Edges) → IsForest was.nodes → IsForest is.nodes →
+    AreAlikeBut child was is → AreSeen child was is i region → length is.nodes.entries ≤ i → AreSameOutside region was is
 seen_all child was is i region before after alike seen all = record {
   points = λ n p h. same_outside child was is p
       (record {
@@ -220,7 +228,8 @@ outside_own false true o = refl
 outside_own false false o = refl
 
 -- with what the nodes own of these points each has all that it owns
-pub regions_own_within : (t : Seen) (root : NodeId) (within part : List Edges) (before old new : List (List Edges)) → IsForest t.nodes → t.nodes.root ≡ Some root →
+pub regions_own_within : (t : Seen) (root : NodeId) (within part : List Edges) (before old new : List (List Edges)) →
+    IsForest t.nodes → t.nodes.root ≡ Some root →
     AreRegionsOutside within t before → AreCut within before old → length old ≡ length before →
     ((p : Point) → holds part p ≡ (has_point (whole_of t.size) p && holds within p)) → Gains part (owner t root) old new →
     (n : NodeId) (p : Point) → IsNode t.nodes n → holds (region_of new n) p ≡ owns t p n

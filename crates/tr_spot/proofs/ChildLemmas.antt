@@ -59,7 +59,8 @@ and_false : (b : Bool) → (b && false) ≡ false
 and_false true = refl
 and_false false = refl
 
-pub passed_next : (t : Seen) (p : Point) (i : ℕ) (cs : List NodeId) (child : NodeId) (left rest : Bool) → i < length cs → ((get_or cs i zero_node).0 ≡ child.0 → ⊥) →
+pub passed_next : (t : Seen) (p : Point) (i : ℕ) (cs : List NodeId) (child : NodeId) (left rest : Bool) → i < length cs →
+    ((get_or cs i zero_node).0 ≡ child.0 → ⊥) →
     rest ≡ (left && not (has_point (domain t (get_or cs i zero_node)) p)) →
     (rest && is_it child (front t p (drop (i + 1) cs))) ≡ (left && is_it child (front t p (drop i cs)))
 passed_next t p i cs child left rest lt other is =
@@ -74,7 +75,8 @@ passed_found t p i cs child left lt same inside =
     (λ h. ap (λ (k : NodeId). has_point (domain t k) p) (by_number _ child same) ∙ inside h)
     ∙ ap (λ (o : Option NodeId). left && is_it child o) (sym (front_next t p i cs lt))
 
-pub passed_none : (t : Seen) (p : Point) (i : ℕ) (cs : List NodeId) (child : NodeId) (left : Bool) → length cs ≤ i → false ≡ (left && is_it child (front t p (drop i cs)))
+pub passed_none : (t : Seen) (p : Point) (i : ℕ) (cs : List NodeId) (child : NodeId) (left : Bool) → length cs ≤ i →
+    false ≡ (left && is_it child (front t p (drop i cs)))
 passed_none t p i cs child left le = sym (ap (λ (o : Option NodeId). left && is_it child o) (front_last t p i cs le) ∙ and_false left)
 
 -- ---- what no child has

@@ -53,7 +53,8 @@ rest_step t n c cs all old now new clip left part rest r same is_part is_rest ga
 }
 
 -- one child of a list of children, as the code goes over it
-pub rest_next : (t : Seen) (n : NodeId) (i : ℕ) (cs : List NodeId) (all : Point → NodeId) (old now new : List (List Edges)) (clip left part rest rects : List Edges) →
+pub rest_next : (t : Seen) (n : NodeId) (i : ℕ) (cs : List NodeId) (all : Point → NodeId)
+    (old now new : List (List Edges)) (clip left part rest rects : List Edges) →
     Rest old clip all now left (owner_among t n (drop i cs)) → i < length cs → length now ≡ length old →
     ((p : Point) → holds rects p ≡ has_point (domain t (get_or cs i zero_node)) p) →
     ((p : Point) → holds part p ≡ (holds left p && holds rects p)) →
@@ -88,7 +89,8 @@ pub rest_past : (t : Seen) (n : NodeId) (i : ℕ) (cs : List NodeId) (all : Poin
     ((p : Point) → holds part p ≡ (holds left p && holds rects p)) → ((p : Point) → holds part p ≡ false) →
     Rest old clip all now left (owner_among t n (drop (i + 1) cs))
 rest_past t n i cs all old now clip left part rects r lt same has is_part none =
-    rest_next t n i cs all old now now clip left part left rects r lt same has is_part (λ p. kept_apart (holds left p) (holds rects p) (sym (is_part p) ∙ none p))
+    rest_next t n i cs all old now now clip left part left rects r lt same has is_part
+    (λ p. kept_apart (holds left p) (holds rects p) (sym (is_part p) ∙ none p))
     (gains_none part (owner t (get_or cs i zero_node)) now none)
 
 -- no child is left
@@ -106,7 +108,8 @@ rest_last t forest n i cs old now new clip left is r le same gains =
     }
 
 -- the region of one node, as the code reads it
-pub read_region : (regions : List (List Edges)) (n : NodeId) (i : ℕ) (r : List Edges) → r ≡ get_or regions i r → i ≡ n.0 → n.0 < length regions → r ≡ region_of regions n
+pub read_region : (regions : List (List Edges)) (n : NodeId) (i : ℕ) (r : List Edges) → r ≡ get_or regions i r → i ≡ n.0 →
+    n.0 < length regions → r ≡ region_of regions n
 read_region regions n i r is same lt = get_or_read_under regions n.0 (length regions) r [] (rw (← same) is) lt refl
 
 -- the region of one node gains a part
@@ -140,7 +143,8 @@ gains_set old n i part sum is lt union = record { points = λ m p h. elim (cases
 -- ---- at the end
 
 -- the owner is a node
-followed_is_node : (f : ℕ) (t : Seen) → IsForest t.nodes → (n : NodeId) (p : Point) → IsNode t.nodes n → ((c : NodeId) → IsNode t.nodes c → IsNode t.nodes (owner_within f t c p)) →
+followed_is_node : (f : ℕ) (t : Seen) → IsForest t.nodes → (n : NodeId) (p : Point) → IsNode t.nodes n →
+    ((c : NodeId) → IsNode t.nodes c → IsNode t.nodes (owner_within f t c p)) →
     (o : Option NodeId) → front t p (node t.nodes n).children ≡ o → IsNode t.nodes (followed n (λ c. owner_within f t c p) o)
 followed_is_node f t forest n p h down None e = h
 followed_is_node f t forest n p h down (Some c) e = down c (front_below t forest n c p e).is_node
@@ -163,7 +167,8 @@ regions_own t root old new screen is_root gains empty count all n p h =
     ∙ ap (λ (o : Option NodeId). has_point (whole_of t.size) p && is_it n (ends_at t p o)) (sym is_root)
 
 -- so they are the screen, and no point lies in two of them
-pub cover_once : (t : Seen) → IsForest t.nodes → (root : NodeId) → t.nodes.root ≡ Some root → (regions : List (List Edges)) → length regions ≡ length t.nodes.entries →
+pub cover_once : (t : Seen) → IsForest t.nodes → (root : NodeId) → t.nodes.root ≡ Some root → (regions : List (List Edges)) →
+    length regions ≡ length t.nodes.entries →
     ((n : NodeId) (p : Point) → IsNode t.nodes n → holds (region_of regions n) p ≡ owns t p n) → CoverOnce (whole_of t.size) regions
 cover_once t forest root is_root regions count own = record {
   each = λ p h.

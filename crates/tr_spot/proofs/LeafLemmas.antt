@@ -62,7 +62,8 @@ by_kind : (t : Seen) → IsForest t.nodes → (leaf : LeafId) (p : Point) (n : N
     (kind : NodeKind) → (node t.nodes n).kind ≡ kind → is_in_leaf leaf (spot_on t p n kind) ≡ true → spot t p ≡ spot_on t p n kind → IsPartOf t leaf p
 by_kind t forest leaf p n on has (kinds.Leaf own shapes) e h is =
     let same : own ≡ leaf = leaf_by_number own leaf (equal_numbers own.0 leaf.0 h) in
-    let at : n ≡ node_of t.nodes leaf = by_number n (node_of t.nodes leaf) (leaf_is_node_of t.nodes n leaf forest (ap leaf_of e ∙ ap (λ (l : LeafId). Some l) same)) in
+    let at : n ≡ node_of t.nodes leaf =
+    by_number n (node_of t.nodes leaf) (leaf_is_node_of t.nodes n leaf forest (ap leaf_of e ∙ ap (λ (l : LeafId). Some l) same)) in
     record {
       on = on;
       is = is

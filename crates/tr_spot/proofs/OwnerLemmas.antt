@@ -25,12 +25,15 @@ followed_none n (Some c) u h = absurd (h c refl)
 pub front_below : (t : Seen) → IsForest t.nodes → (n c : NodeId) (p : Point) → front t p (node t.nodes n).children ≡ Some c → IsBelow t.nodes n c
 front_below t forest n c p e = child_below t.nodes forest n c (find_among (λ k. has_point (domain t k) p) (node t.nodes n).children c e)
 
-owner_enough : (f : ℕ) (t : Seen) → IsForest t.nodes → (n : NodeId) (p : Point) → levels ≤ f + depth t.nodes n → owner_within (suc f) t n p ≡ owner_within f t n p
+owner_enough : (f : ℕ) (t : Seen) → IsForest t.nodes → (n : NodeId) (p : Point) → levels ≤ f + depth t.nodes n →
+    owner_within (suc f) t n p ≡ owner_within f t n p
 unfolding owner_within
 owner_enough zero t forest n p h = followed_none n (front t p (node t.nodes n).children) (λ c. owner_within zero t c p) (λ c e.
     let below : IsBelow t.nodes n c = front_below t forest n c p e in
     omega (arith, below.deeper, below.most))
-owner_enough (suc f) t forest n p h = followed_same n (front t p (node t.nodes n).children) (λ c. owner_within (suc f) t c p) (λ c. owner_within f t c p) (λ c e.
+owner_enough (suc f) t forest n p h =
+    followed_same n (front t p (node t.nodes n).children)
+    (λ c. owner_within (suc f) t c p) (λ c. owner_within f t c p) (λ c e.
     let below : IsBelow t.nodes n c = front_below t forest n c p e in
     owner_enough f t forest c p (omega (arith, below.deeper)))
 

@@ -82,7 +82,8 @@ frame_spot (kinds.Leaf leaf shapes) n s h = absurd (false-true (sym h))
 frame_spot kind n s h = refl
 
 -- no point belongs to the frame of a leaf
-no_frame_of : (t : Seen) (p : Point) (o n : NodeId) (ko : NodeKind) → (node t.nodes o).kind ≡ ko → is_leaf (node t.nodes n).kind ≡ true → false ≡ is_on_frame n (spot_on t p o ko)
+no_frame_of : (t : Seen) (p : Point) (o n : NodeId) (ko : NodeKind) → (node t.nodes o).kind ≡ ko →
+    is_leaf (node t.nodes n).kind ≡ true → false ≡ is_on_frame n (spot_on t p o ko)
 no_frame_of t p o n (kinds.Leaf leaf shapes) eo h = refl
 no_frame_of t p o n ko eo h = sym (swapped n o (apart t.nodes n o h (ap is_leaf eo)))
 

@@ -63,7 +63,8 @@ unfolding comes_within depth_within
 comes_enough zero t p n h = absurd (no_depth t.nodes n h)
 comes_enough (suc f) t p n h =
     ap (λ b. cond (is_root t.nodes n) (has_point (whole_of t.size) p) b)
-    (comes_below_same t p n (node t.nodes n).parent (comes_within (suc f) t p) (comes_within f t p) (depth_within f t.nodes) f h (λ q k. comes_enough f t p q k))
+    (comes_below_same t p n (node t.nodes n).parent (comes_within (suc f) t p) (comes_within f t p)
+    (depth_within f t.nodes) f h (λ q k. comes_enough f t p q k))
 
 comes_next : (t : Seen) (p : Point) (n : NodeId) →
     comes_within (suc levels) t p n ≡ cond (is_root t.nodes n) (has_point (whole_of t.size) p) (comes_below t p n (node t.nodes n).parent (comes_to t p))
@@ -79,7 +80,8 @@ pub comes_root : (t : Seen) → IsForest t.nodes → (p : Point) (n : NodeId) �
 comes_root t forest p n root = comes_law t forest p n ∙ rw root refl
 
 -- to another node without a parent it never comes
-pub comes_nowhere : (t : Seen) → IsForest t.nodes → (p : Point) (n : NodeId) → is_root t.nodes n ≡ false → (node t.nodes n).parent ≡ None → comes_to t p n ≡ false
+pub comes_nowhere : (t : Seen) → IsForest t.nodes → (p : Point) (n : NodeId) → is_root t.nodes n ≡ false →
+    (node t.nodes n).parent ≡ None → comes_to t p n ≡ false
 comes_nowhere t forest p n other top = comes_law t forest p n ∙ rw (other, top) refl
 
 -- to a child it comes through its parent
@@ -138,7 +140,8 @@ pub record Ends (t : Seen) (p : Point) (n : NodeId) : Type 0 where
   pub none : front t p (node t.nodes n).children ≡ None
 
 -- where no level is left there is no child to go on to
-ends_deepest : (t : Seen) → IsForest t.nodes → (p : Point) (n : NodeId) → levels ≤ depth t.nodes n → (o : Option NodeId) → front t p (node t.nodes n).children ≡ o → o ≡ None
+ends_deepest : (t : Seen) → IsForest t.nodes → (p : Point) (n : NodeId) → levels ≤ depth t.nodes n → (o : Option NodeId) →
+    front t p (node t.nodes n).children ≡ o → o ≡ None
 ends_deepest t forest p n k None e = refl
 ends_deepest t forest p n k (Some c) e = absurd (let below : IsBelow t.nodes n c = front_below t forest n c p e in omega (arith, below.deeper, below.most))
 
@@ -157,9 +160,12 @@ ends (suc f) t forest p n h k =
     ends_below f t forest p n h (λ c below comes. ends f t forest p c comes (omega (arith, below.deeper))) (front t p (node t.nodes n).children) refl
 
 -- the node at which the walk from the root ends owns the point
-pub owns_end : (t : Seen) (p : Point) (n root : NodeId) → t.nodes.root ≡ Some root → has_point (whole_of t.size) p ≡ true → owner t root p ≡ n → owns t p n ≡ true
+pub owns_end : (t : Seen) (p : Point) (n root : NodeId) → t.nodes.root ≡ Some root → has_point (whole_of t.size) p ≡ true →
+    owner t root p ≡ n → owns t p n ≡ true
 owns_end t p n root is_root screen end =
-    ap (λ b. b && is_it n (ends_at t p t.nodes.root)) screen ∙ ap (λ (o : Option NodeId). is_it n (ends_at t p o)) is_root ∙ equal_test _ _ (ap (λ (m : NodeId). m.0) end)
+    ap (λ b. b && is_it n (ends_at t p t.nodes.root)) screen
+    ∙ ap (λ (o : Option NodeId). is_it n (ends_at t p o)) is_root
+    ∙ equal_test _ _ (ap (λ (m : NodeId). m.0) end)
 
 -- a node owns the points at which the walk comes to it and finds no child to go on to
 pub owns_is : (t : Seen) → IsForest t.nodes → (p : Point) (n : NodeId) → (comes_to t p n && is_nobody (front t p (node t.nodes n).children)) ≡ owns t p n

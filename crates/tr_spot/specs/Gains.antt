@@ -23,6 +23,8 @@ owner_among t n cs p = followed n (λ c. owner t c p) (front t p cs)
 
 -- The regions `now`, with what the children that are left give of the rest, are the regions `old` with
 -- what all children give of the clip.
-pub record Rest (old : List (List Edges)) (clip : List Edges) (all : Point → NodeId) (now : List (List Edges)) (left : List Edges) (who : Point → NodeId) : Type 0 where
+pub record Rest (old : List (List Edges)) (clip : List Edges) (all : Point → NodeId)
+    (now : List (List Edges)) (left : List Edges) (who : Point → NodeId) : Type 0 where
   pub points : (m : NodeId) (p : Point) → m.0 < length old →
-      (holds (region_of now m) p || (holds left p && ((who p).0 == m.0))) ≡ (holds (region_of old m) p || (holds clip p && ((all p).0 == m.0)))
+      (holds (region_of now m) p || (holds left p && ((who p).0 == m.0)))
+      ≡ (holds (region_of old m) p || (holds clip p && ((all p).0 == m.0)))

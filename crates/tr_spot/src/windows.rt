@@ -87,7 +87,8 @@ fn passed_on(
     requires parent { IsNode tree.now.nodes parent }
     requires child { IsNode tree.now.nodes child }
     ensures { IfOk result (λ r. (p : Point) →
-        holds r p ≡ holds part.now p && is_it child (front tree.now p (node tree.now.nodes parent).children)) }
+        holds r p
+        ≡ holds part.now p && is_it child (front tree.now p (node tree.now.nodes parent).children)) }
 {
     let domain = domain_of(alloc, tree, child)?;
     let mut left = part.meet(&domain)?;

@@ -56,7 +56,9 @@ not_both false h k = cc
 
 -- a region of the screen lies in the square
 there : (p : Point) → has_point (whole_of greatest_screen) p ≡ true → IsThere p
-there p on = let held : between (pos 0) (pos 1024) p.h && between (pos 0) (pos 1024) p.v ≡ true = sym (has_point-rect_of (pos 0) (pos 1024) (pos 0) (pos 1024) p) ∙ on in
+there p on =
+    let held : between (pos 0) (pos 1024) p.h && between (pos 0) (pos 1024) p.v ≡ true =
+    sym (has_point-rect_of (pos 0) (pos 1024) (pos 0) (pos 1024) p) ∙ on in
     record { west = grind (arith, ints); east = grind (arith, ints); north = grind (arith, ints); south = grind (arith, ints) }
 
 rect_in_square : (r : Edges) → IsFull r → ((p : Point) → has_point r p ≡ true → IsThere p) → IsInSquare r
@@ -82,7 +84,8 @@ square_count rects =
     (λ v. count_below-le 1024 (λ h. holds rects (record { h = pos h; v = pos v })))
 
 -- no frame point is bad where none on a node's frame is
-pub none_framed : (s : Shown) → IsForest s.tree.nodes → ((m : NodeId) (p : Point) → m.0 < length s.tree.nodes.entries → (holds s.bad p && is_on_frame m (spot s.tree p)) ≡ false) →
+pub none_framed : (s : Shown) → IsForest s.tree.nodes →
+    ((m : NodeId) (p : Point) → m.0 < length s.tree.nodes.entries → (holds s.bad p && is_on_frame m (spot s.tree p)) ≡ false) →
     (p : Point) → is_frame (spot s.tree p) ≡ true → holds s.bad p ≡ false
 none_framed s forest none p h =
     let at = framed s.tree forest p h in

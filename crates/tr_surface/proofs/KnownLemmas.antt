@@ -41,7 +41,10 @@ first_has zero i regions p lt h = absurd (omega arith)
 first_has (suc n) i regions p lt h = by_case (cases_eq i n) (λ below. first_has n i regions p below h)
   where
     by_case : (i ≡ n) ⊎ (i ≡ n → ⊥) → (i < n → in_first n regions p ≡ true) → (in_first n regions p || holds (get_or regions n []) p) ≡ true
-    by_case (inl e) rest = ap (λ m. in_first n regions p || holds (get_or regions m []) p) (sym e) ∙ ap (λ b. in_first n regions p || b) h ∙ or_true (in_first n regions p)
+    by_case (inl e) rest =
+        ap (λ m. in_first n regions p || holds (get_or regions m []) p) (sym e)
+        ∙ ap (λ b. in_first n regions p || b) h
+        ∙ or_true (in_first n regions p)
     by_case (inr ne) rest = ap (λ b. b || holds (get_or regions n []) p) (rest (omega (arith, ne)))
 
 first_off : (n : ℕ) (regions : List (List Edges)) (p : Point) → ((i : ℕ) → i < n → holds (get_or regions i []) p ≡ false) → in_first n regions p ≡ false
@@ -49,7 +52,8 @@ unfolding in_first
 first_off zero regions p none = refl
 first_off (suc n) regions p none = rw (first_off n regions p (λ i h. none i (omega arith)), none n (omega arith)) refl
 
-pub covered : (is : Seen) (after : List (List Edges)) → AreRegions is after → CoverOnce (whole_of is.size) after → (p : Point) → in_first (length is.nodes.entries) after p ≡ is_on is p
+pub covered : (is : Seen) (after : List (List Edges)) → AreRegions is after → CoverOnce (whole_of is.size) after → (p : Point) →
+    in_first (length is.nodes.entries) after p ≡ is_on is p
 covered is after regions cover p = by_screen (is_on is p) refl
   where
     by_region : is_on is p ≡ false → (n : NodeId) (b : Bool) → holds (region_of after n) p ≡ b → holds (region_of after n) p ≡ false
@@ -81,7 +85,9 @@ moved_as zero t child regions p below same = sym (and_false below)
 moved_as (suc n) t child regions p below same =
     rw (moved_as n t child regions p below (λ i h. same i (omega arith)), same n (omega arith)) (by_test below)
   where
-    by_test : (b : Bool) → ((b && in_first n regions p) || (b && holds (get_or regions n []) p)) ≡ (b && (in_first n regions p || holds (get_or regions n []) p))
+    by_test : (b : Bool) →
+        ((b && in_first n regions p) || (b && holds (get_or regions n []) p))
+        ≡ (b && (in_first n regions p || holds (get_or regions n []) p))
     by_test true = refl
     by_test false = refl
 
@@ -94,7 +100,8 @@ and_swap false false = refl
 pub moved_all : (was is : Seen) (before after : List (List Edges)) → IsForest is.nodes → AreSides was is before after → (child : NodeId) (p : Point) →
     in_moved (length is.nodes.entries) is.nodes child after p ≡ (is_on is p && is_below is.nodes child (spot is p))
 moved_all was is before after forest sides child p =
-    moved_as (length is.nodes.entries) is.nodes child after p (is_below is.nodes child (spot is p)) (λ i lt. each (record { 0 = i }) (record { within = lt }) (holds (get_or after i []) p) refl)
+    moved_as (length is.nodes.entries) is.nodes child after p (is_below is.nodes child (spot is p))
+    (λ i lt. each (record { 0 = i }) (record { within = lt }) (holds (get_or after i []) p) refl)
     ∙ ap (λ b. is_below is.nodes child (spot is p) && b) (sides.cover p)
     ∙ and_swap (is_below is.nodes child (spot is p)) (is_on is p)
   where
@@ -120,13 +127,15 @@ pub record IsGood (k : Keeping) (was is : Seen) (moved : Option NodeId) (bad : P
   pub was_good : bad (source_by was is moved p) ≡ false
   pub lasts : survives k (spot was (source_by was is moved p)) (spot is p) ≡ true
 
-pub good_parts : (k : Keeping) (was is : Seen) (moved : Option NodeId) (bad : Point → Bool) (p : Point) → good_by k (change was is moved bad) p ≡ true → IsGood k was is moved bad p
+pub good_parts : (k : Keeping) (was is : Seen) (moved : Option NodeId) (bad : Point → Bool) (p : Point) →
+    good_by k (change was is moved bad) p ≡ true → IsGood k was is moved bad p
 good_parts k was is moved bad p h = by_tests (is_on is p) (is_on was s) (bad s) (survives k (spot was s) (spot is p)) refl refl refl refl h
   where
     s : Point
     s = source_by was is moved p
 
-    by_tests : (a b c d : Bool) → is_on is p ≡ a → is_on was s ≡ b → bad s ≡ c → survives k (spot was s) (spot is p) ≡ d → (a && b && not c && d) ≡ true → IsGood k was is moved bad p
+    by_tests : (a b c d : Bool) → is_on is p ≡ a → is_on was s ≡ b → bad s ≡ c → survives k (spot was s) (spot is p) ≡ d →
+        (a && b && not c && d) ≡ true → IsGood k was is moved bad p
     by_tests true true false true e f g i h = record { on = e; was_on = f; was_good = g; lasts = i }
     by_tests true true false false e f g i h = false-true h
     by_tests true true true d e f g i h = false-true h
@@ -148,7 +157,8 @@ is_off spot = false
 -- spots of other kinds differ
 other_kind : (k : Keeping) (old new : Kind) (s t : Spot) → is_off t ≡ false → same_kind (kind_in old s) (kind_in new t) ≡ false → survives k s t ≡ false
 unfolding kind_in is_off
-other_kind k old new (spots.Leaf a p from x) (spots.Leaf b q to y) on h = rw h (by_tests (a.0 == b.0 && same_point p q) (same_size from to) (is_kept k a from to q))
+other_kind k old new (spots.Leaf a p from x) (spots.Leaf b q to y) on h =
+    rw h (by_tests (a.0 == b.0 && same_point p q) (same_size from to) (is_kept k a from to q))
   where
     by_tests : (one size kept : Bool) → (((one && size) && false) || (((one && false) && not size) && kept)) ≡ false
     by_tests true true kept = refl

@@ -25,7 +25,8 @@ same_bits x y h k = same_from_decides _ _ (Decides-like _ there back (Decides-eq
     back e = ap (λ z. of_z w32 z) e
 
 -- a corner less a move is an old one where the code finds equal bits
-pub same_difference : (n d o : ℤ) → InReach n → SFits w32 (n -ℤ d) → SFits w32 d → SFits w32 o → nat_eq (of_z w32 (to_z w32 (of_z w32 n) -ℤ to_z w32 (of_z w32 d))) (of_z w32 o) ≡ int_eq (n -ℤ d) o
+pub same_difference : (n d o : ℤ) → InReach n → SFits w32 (n -ℤ d) → SFits w32 d → SFits w32 o →
+    nat_eq (of_z w32 (to_z w32 (of_z w32 n) -ℤ to_z w32 (of_z w32 d))) (of_z w32 o) ≡ int_eq (n -ℤ d) o
 same_difference n d o near within step fits =
     let fn : to_z w32 (of_z w32 n) ≡ n = omega (arith, ints) in
     let fd : to_z w32 (of_z w32 d) ≡ d = to_z-of_z w32 d step in
@@ -38,8 +39,15 @@ fits_step n d near low high = search (rules, arith, ints)
 -- the points of a window, or of a screen, are around its corner
 pub around_whole : (size : Size) → size.wide ≤ 4096 → size.high ≤ 4096 → (p : Point) → has_point (whole_of size) p ≡ true → IsAround p
 around_whole size wide high p on =
-    let both = and_parts (between (pos 0) (pos size.wide) p.h) (between (pos 0) (pos size.high) p.v) (sym (has_point-rect_of (pos 0) (pos size.wide) (pos 0) (pos size.high) p) ∙ on) in
-    record { west = grind (arith, ints, both.0); east = grind (arith, ints, both.0, wide); north = grind (arith, ints, both.1); south = grind (arith, ints, both.1, high) }
+    let both =
+    and_parts (between (pos 0) (pos size.wide) p.h) (between (pos 0) (pos size.high) p.v)
+    (sym (has_point-rect_of (pos 0) (pos size.wide) (pos 0) (pos size.high) p) ∙ on) in
+    record {
+      west = grind (arith, ints, both.0);
+      east = grind (arith, ints, both.0, wide);
+      north = grind (arith, ints, both.1);
+      south = grind (arith, ints, both.1, high);
+    }
 
 -- how far a corner comes
 abs_most : (x : ℤ) (n : ℕ) → unsigned_abs x ≤ n → neg_ℤ (pos n) ≤ℤ x

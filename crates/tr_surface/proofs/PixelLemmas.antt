@@ -27,7 +27,8 @@ on_same : (t u : Seen) → u.size ≡ t.size → (p : Point) → is_on t p ≡ t
 on_same t u same p on = ap (λ (z : Size). has_point (whole_of z) p) same ∙ on
 
 -- a good point that follows comes from as far away as the child
-follows_from : (k : Keeping) (was is : Seen) (moved : Option NodeId) (bad : Point → Bool) → IsMove was is moved → (p : Point) → follows_by k (change was is moved bad) p ≡ true →
+follows_from : (k : Keeping) (was is : Seen) (moved : Option NodeId) (bad : Point → Bool) → IsMove was is moved →
+    (p : Point) → follows_by k (change was is moved bad) p ≡ true →
     (is_on is p ≡ true) × (is_on is (before_shift p (way_of_moved was is moved)) ≡ true)
 follows_from k was is None bad move p h = false-true h
 follows_from k was is (Some child) bad move p h = by_below (is_below is.nodes child (spot is p)) refl h
@@ -35,7 +36,8 @@ follows_from k was is (Some child) bad move p h = by_below (is_below is.nodes ch
     good : Bool
     good = good_by k (change was is (Some child) bad) p
 
-    by_below : (b : Bool) → is_below is.nodes child (spot is p) ≡ b → (b && good) ≡ true → (is_on is p ≡ true) × (is_on is (before_shift p (way_of was is child)) ≡ true)
+    by_below : (b : Bool) → is_below is.nodes child (spot is p) ≡ b → (b && good) ≡ true →
+        (is_on is p ≡ true) × (is_on is (before_shift p (way_of was is child)) ≡ true)
     by_below false e g = false-true g
     by_below true e g =
         let fine : IsGood k was is (Some child) bad p = good_parts k was is (Some child) bad p g in
@@ -45,11 +47,14 @@ follows_from k was is (Some child) bad move p h = by_below (is_below is.nodes ch
 pub moves_on : (k : Keeping) (was is : Seen) (moved : Option NodeId) (bad test : Point → Bool) → IsMove was is moved → (size : Size) → size ≡ is.size →
     ((p : Point) → test p ≡ follows_by k (change was is moved bad) p) → MovesOn size (way_of_moved was is moved) test
 moves_on k was is moved bad test move size same follows = λ p h.
-    let both = follows_from k was is moved bad move p (sym (follows p) ∙ h) in
-    (ap (λ (z : Size). has_point (whole_of z) p) same ∙ both.0, ap (λ (z : Size). has_point (whole_of z) (before_shift p (way_of_moved was is moved))) same ∙ both.1)
+    let both = follows_from k was is moved bad move p (sym (follows p) ∙ h) in (
+      ap (λ (z : Size). has_point (whole_of z) p) same ∙ both.0,
+      ap (λ (z : Size). has_point (whole_of z) (before_shift p (way_of_moved was is moved))) same ∙ both.1,
+    )
 
 -- a good point's kind stays
-good_kind : (k : Keeping) (was is : Seen) (moved : Option NodeId) (bad : Point → Bool) → HasRoot is → (p : Point) → good_by k (change was is moved bad) p ≡ true → same_kind was.kind is.kind ≡ true
+good_kind : (k : Keeping) (was is : Seen) (moved : Option NodeId) (bad : Point → Bool) → HasRoot is →
+    (p : Point) → good_by k (change was is moved bad) p ≡ true → same_kind was.kind is.kind ≡ true
 good_kind k was is moved bad root p h = by_kind (same_kind was.kind is.kind) refl
   where
     by_kind : (b : Bool) → same_kind was.kind is.kind ≡ b → b ≡ true
@@ -63,13 +68,14 @@ pub record AreScreens (was is : Seen) (old mid : Picture) : Type 0 where
   pub fitted : IsFitted is old mid
 
 -- a point that has kept its place has its pixel
-kept_pixel : (was is : Seen) (old mid : Picture) → AreScreens was is old mid → same_kind was.kind is.kind ≡ true → (p : Point) → is_on was p ≡ true → is_on is p ≡ true →
-    pixel_of mid p ≡ pixel_of old p
+kept_pixel : (was is : Seen) (old mid : Picture) → AreScreens was is old mid → same_kind was.kind is.kind ≡ true →
+    (p : Point) → is_on was p ≡ true → is_on is p ≡ true → pixel_of mid p ≡ pixel_of old p
 kept_pixel was is old mid screens same p was_on on =
     screens.fitted.points p (ap (λ k. same_kind k is.kind) screens.kind ∙ same) (ap (λ (z : Size). has_point (whole_of z) p) screens.size ∙ was_on) on
 
-pub pixels_come : (k : Keeping) (was is : Seen) (moved : Option NodeId) (bad test : Point → Bool) → IsMove was is moved → (old mid new : Picture) → AreScreens was is old mid →
-    ((p : Point) → test p ≡ follows_by k (change was is moved bad) p) → Repaints test (λ p. pixel_of mid (before_shift p (way_of_moved was is moved))) mid new →
+pub pixels_come : (k : Keeping) (was is : Seen) (moved : Option NodeId) (bad test : Point → Bool) → IsMove was is moved →
+    (old mid new : Picture) → AreScreens was is old mid → ((p : Point) → test p ≡ follows_by k (change was is moved bad) p) →
+    Repaints test (λ p. pixel_of mid (before_shift p (way_of_moved was is moved))) mid new →
     (p : Point) → good_by k (change was is moved bad) p ≡ true → pixel_of new p ≡ pixel_of old (source_by was is moved p)
 pixels_come k was is moved bad test move old mid new screens follows paints p h =
     paints.points p (ap (λ (z : Size). has_point (whole_of z) p) screens.fitted.size ∙ fine.on)
@@ -83,17 +89,20 @@ pixels_come k was is moved bad test move old mid new screens follows paints p h 
     same = good_kind k was is moved bad move.root p h
 
     by_moved : (o : Option NodeId) → IsMove was is o → IsGood k was is o bad p →
-        cond (is_below_moved is o p && true) (pixel_of mid (before_shift p (way_of_moved was is o))) (pixel_of mid p) ≡ pixel_of old (source_by was is o p)
+        cond (is_below_moved is o p && true) (pixel_of mid (before_shift p (way_of_moved was is o))) (pixel_of mid p)
+        ≡ pixel_of old (source_by was is o p)
     by_moved None m g = kept_pixel was is old mid screens same p g.was_on g.on
     by_moved (Some child) m g = by_below (is_below is.nodes child (spot is p)) refl
       where
         by_below : (b : Bool) → is_below is.nodes child (spot is p) ≡ b →
-            cond (is_below is.nodes child (spot is p) && true) (pixel_of mid (before_shift p (way_of was is child))) (pixel_of mid p) ≡ pixel_of old (source_by was is (Some child) p)
+            cond (is_below is.nodes child (spot is p) && true) (pixel_of mid (before_shift p (way_of was is child))) (pixel_of mid p)
+            ≡ pixel_of old (source_by was is (Some child) p)
         by_below true e =
             let source : source_by was is (Some child) p ≡ before_shift p (way_of was is child) = ap (λ b. cond b (before_shift p (way_of was is child)) p) e in
             let was_on : is_on was (before_shift p (way_of was is child)) ≡ true = sym (ap (λ (s : Point). is_on was s) source) ∙ g.was_on in
             ap (λ b. cond (b && true) (pixel_of mid (before_shift p (way_of was is child))) (pixel_of mid p)) e
-            ∙ kept_pixel was is old mid screens same (before_shift p (way_of was is child)) was_on (on_same was is (m.size child refl) (before_shift p (way_of was is child)) was_on)
+            ∙ kept_pixel was is old mid screens same (before_shift p (way_of was is child)) was_on
+            (on_same was is (m.size child refl) (before_shift p (way_of was is child)) was_on)
             ∙ sym (ap (λ (s : Point). pixel_of old s) source)
         by_below false e =
             let source : source_by was is (Some child) p ≡ p = ap (λ b. cond b (before_shift p (way_of was is child)) p) e in

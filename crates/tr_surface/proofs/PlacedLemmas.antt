@@ -56,7 +56,8 @@ same_children : (t : Nodes) (m : NodeId) (change : Entry → Entry) → IsNode t
 same_children t m change is same n = changed_part (λ (e : Entry). e.children) t m n change is same
 
 -- the change leaves the children but for one
-same_others : (child : NodeId) (t : Nodes) (m : NodeId) (change : Entry → Entry) → IsNode t m → without child (change (node t m)).children ≡ without child (node t m).children → (n : NodeId) →
+same_others : (child : NodeId) (t : Nodes) (m : NodeId) (change : Entry → Entry) → IsNode t m →
+    without child (change (node t m)).children ≡ without child (node t m).children → (n : NodeId) →
     without child (children_of (changed m change t) n) ≡ without child (children_of t n)
 same_others child t m change is same n = changed_part (λ (e : Entry). without child e.children) t m n change is same
 
@@ -72,13 +73,16 @@ attached t child parent at hc hp n =
     (λ other. ap (without child) (e.other_down n other))
 
 -- a change of the parent, if there is one
-at_parent_same : (t : Nodes) (child : NodeId) (change : Entry → Entry) → IsForest t → ((e : Entry) → without child (change e).children ≡ without child e.children) →
+at_parent_same : (t : Nodes) (child : NodeId) (change : Entry → Entry) → IsForest t →
+    ((e : Entry) → without child (change e).children ≡ without child e.children) →
     (o : Option NodeId) → (node t child).parent ≡ o → (n : NodeId) →
     without child (children_of (at_parent o (λ parent. changed parent change) t) n) ≡ without child (children_of t n)
 at_parent_same t child change forest same None e n = refl
-at_parent_same t child change forest same (Some parent) e n = same_others child t parent change (parent_is_node t child parent forest e) (same (node t parent)) n
+at_parent_same t child change forest same (Some parent) e n =
+    same_others child t parent change (parent_is_node t child parent forest e) (same (node t parent)) n
 
-still_at_parent : (t : Nodes) (child : NodeId) (change : Entry → Entry) → IsNode t child → (o : Option NodeId) → IsNode (at_parent o (λ parent. changed parent change) t) child
+still_at_parent : (t : Nodes) (child : NodeId) (change : Entry → Entry) → IsNode t child → (o : Option NodeId) →
+    IsNode (at_parent o (λ parent. changed parent change) t) child
 still_at_parent t child change h None = h
 still_at_parent t child change h (Some parent) = still_node t parent child change h
 
@@ -89,9 +93,11 @@ detached t child forest h n =
     same_others child u child loose (still_at_parent t child (bereft child) h (node t child).parent) refl n
     ∙ at_parent_same t child (bereft child) forest (λ e. without_twice child e.children) (node t child).parent refl n
 
-lifted : (t : Nodes) (child : NodeId) → IsForest t → (n : NodeId) → without child (children_of (edited t (edits.Lift child)) n) ≡ without child (children_of t n)
+lifted : (t : Nodes) (child : NodeId) → IsForest t → (n : NodeId) →
+    without child (children_of (edited t (edits.Lift child)) n) ≡ without child (children_of t n)
 lifted t child forest n =
-    at_parent_same t child (lifting child) forest (λ e. without_first child (without child e.children) ∙ without_twice child e.children) (node t child).parent refl n
+    at_parent_same t child (lifting child) forest
+    (λ e. without_first child (without child e.children) ∙ without_twice child e.children) (node t child).parent refl n
 
 -- ---- each edit
 
@@ -111,12 +117,14 @@ same_but t (edits.Shapes m shapes) forest is n = same_children t m (λ e. turned
 same_but t (edits.Resize size) forest is n = refl
 same_but t (edits.Rescreen kind) forest is n = refl
 
-pub alike_edited : (was : Seen) (edit : Edit) → IsForest was.nodes → IsEdit was.nodes edit → IsLike was (edited_tree was edit) → (edited_tree was edit).size ≡ was.size →
+pub alike_edited : (was : Seen) (edit : Edit) → IsForest was.nodes → IsEdit was.nodes edit →
+    IsLike was (edited_tree was edit) → (edited_tree was edit).size ≡ was.size →
     AreAlikeBut (placed_child edit) was (edited_tree was edit)
 alike_edited was edit forest is like size = record { count = like.count; root = like.root; size = size; children = same_but was.nodes edit forest is }
 
 -- outside of what changes the old regions are the new ones
-pub regions_outside : (was is : Seen) (region : List Edges) (regions : List (List Edges)) → length is.nodes.entries ≡ length was.nodes.entries → AreRegions was regions → AreSameOutside region was is →
+pub regions_outside : (was is : Seen) (region : List Edges) (regions : List (List Edges)) →
+    length is.nodes.entries ≡ length was.nodes.entries → AreRegions was regions → AreSameOutside region was is →
     AreRegionsOutside region is regions
 regions_outside was is region regions count owned same = record {
   count = owned.count ∙ sym count;

@@ -63,7 +63,11 @@ pub record Owns (t : Seen) (n : NodeId) (p : Point) : Type 0 where
   pub spot : spot t p ≡ spot_on t p n (node t.nodes n).kind
 
 pub owns_point : (t : Seen) → IsForest t.nodes → (n : NodeId) (p : Point) → is_spot_of t n (spot t p) ≡ true → Owns t n p
-owns_point t forest n p h = record { on = on; spot = ap (λ b. cond b (spot_below t p t.nodes.root) spots.Off) on ∙ by_root t.nodes.root (it_is n _ (and_right (has_point (whole_of t.size) p) _ mine)) }
+owns_point t forest n p h = record {
+  on = on;
+  spot = ap (λ b. cond b (spot_below t p t.nodes.root) spots.Off) on
+      ∙ by_root t.nodes.root (it_is n _ (and_right (has_point (whole_of t.size) p) _ mine));
+}
   where
     mine : owns t p n ≡ true
     mine = spot_is t forest p n ∙ h
@@ -98,11 +102,15 @@ leaves_survive k leaf p by o n from to kind = rw (same_number leaf.0, same_place
     q : Point
     q = before_shift p n
 
-    by_size : (y : Bool) → ((((true && true) && y) && true) || ((((true && true) && true) && not y) && is_kept k leaf from to q)) ≡ has_survivor k (cond y variants.All (variants.Kept leaf from to)) q
+    by_size : (y : Bool) →
+        ((((true && true) && y) && true) || ((((true && true) && true) && not y) && is_kept k leaf from to q))
+        ≡ has_survivor k (cond y variants.All (variants.Kept leaf from to)) q
     by_size true = refl
     by_size false = refl
 
-    by_place : (x : Bool) → ((((true && x) && same_size from to) && true) || ((((true && x) && true) && not (same_size from to)) && is_kept k leaf from to q)) ≡ has_survivor k (leaf_survivors x leaf from to) q
+    by_place : (x : Bool) →
+        ((((true && x) && same_size from to) && true) || ((((true && x) && true) && not (same_size from to)) && is_kept k leaf from to q))
+        ≡ has_survivor k (leaf_survivors x leaf from to) q
     by_place true = by_size (same_size from to)
     by_place false = refl
 
@@ -158,8 +166,9 @@ there k was is forests kind n o is_o was_o by p before after =
         survives k (spot_on was (before_shift p by) n (node was.nodes n).kind) (spot_on is p n (node is.nodes n).kind)
         ≡ has_survivor k (survivors_by was is by n o) (from_corner (domain is n) p)
     by_leaf (Some leaf) e f =
+        let old : Spot = spots.Leaf leaf (from_corner (domain was n) (before_shift p by)) (side was n) was.kind in
         rw (leaf_on was (before_shift p by) n (node was.nodes n).kind leaf f, leaf_on is p n (node is.nodes n).kind leaf e)
-        (ap (λ (z : Kind). survives k (spots.Leaf leaf (from_corner (domain was n) (before_shift p by)) (side was n) was.kind) (spots.Leaf leaf (from_corner (domain is n) p) (side is n) z)) kind
+        (ap (λ (z : Kind). survives k old (spots.Leaf leaf (from_corner (domain is n) p) (side is n) z)) kind
         ∙ leaves_survive k leaf p by (corner was n) (corner is n) (side was n) (side is n) was.kind)
     by_leaf None e f =
         rw (frame_on was (before_shift p by) n (node was.nodes n).kind f, frame_on is p n (node is.nodes n).kind e)
@@ -175,4 +184,5 @@ apart k was is n same s p before after = by_leaf (leaf_of (node was.nodes n).kin
     by_leaf (Some leaf) e f = leaf_apart k leaf (spot was s) (spot is p)
         (sym (leaf_spot (node was.nodes n).kind leaf n (spot was s) f) ∙ before) (sym (leaf_spot (node is.nodes n).kind leaf n (spot is p) e) ∙ after)
     by_leaf None e f = frame_apart k n (spot was s) (spot is p)
-        (sym (frame_spot (node was.nodes n).kind n (spot was s) (no_leaf _ f)) ∙ before) (sym (frame_spot (node is.nodes n).kind n (spot is p) (no_leaf _ e)) ∙ after)
+        (sym (frame_spot (node was.nodes n).kind n (spot was s) (no_leaf _ f)) ∙ before)
+        (sym (frame_spot (node is.nodes n).kind n (spot is p) (no_leaf _ e)) ∙ after)

@@ -62,9 +62,11 @@ owner_alike : (f : ℕ) (was is : Seen) → AreTinted was is → (n : NodeId) (p
 unfolding owner_within
 owner_alike zero was is t n p = refl
 owner_alike (suc f) was is t n p =
-    followed_alike n (find (λ c. has_point (domain is c) p) (node is.nodes n).children) (λ c. owner_within f is c p) (λ c. owner_within f was c p) (λ c. owner_alike f was is t c p)
+    followed_alike n (find (λ c. has_point (domain is c) p) (node is.nodes n).children)
+    (λ c. owner_within f is c p) (λ c. owner_within f was c p) (λ c. owner_alike f was is t c p)
     ∙ ap (λ (o : Option NodeId). followed n (λ c. owner_within f was c p) o)
-    (find_alike (λ c. has_point (domain is c) p) (λ c. has_point (domain was c) p) (λ c. ap (λ (e : Edges). has_point e p) (domain_alike was is t c)) (node is.nodes n).children
+    (find_alike (λ c. has_point (domain is c) p) (λ c. has_point (domain was c) p)
+    (λ c. ap (λ (e : Edges). has_point e p) (domain_alike was is t c)) (node is.nodes n).children
     ∙ ap (λ (cs : List NodeId). find (λ c. has_point (domain was c) p) cs) (t.alike.children n))
 
 ends_alike : (was is : Seen) → AreTinted was is → (p : Point) (o : Option NodeId) → ends_at is p o ≡ ends_at was p o
@@ -98,7 +100,8 @@ same_ints : (p : Point) → same_point p p ≡ true
 same_ints p = grind (arith, nat_tests)
 
 -- a node keeps all if its tint stays
-survivors_all : (was is : Seen) → AreTinted was is → (m : NodeId) → ((node was.nodes m).tint == (node is.nodes m).tint) ≡ true → survivors_from was is unmoved m ≡ variants.All
+survivors_all : (was is : Seen) → AreTinted was is → (m : NodeId) →
+    ((node was.nodes m).tint == (node is.nodes m).tint) ≡ true → survivors_from was is unmoved m ≡ variants.All
 survivors_all was is t m tint = by_leaf (leaf_of (node was.nodes m).kind)
   where
     own_size : (z : Size) → same_size z z ≡ true
@@ -109,14 +112,17 @@ survivors_all was is t m tint = by_leaf (leaf_of (node was.nodes m).kind)
 
     by_leaf : (o : Option LeafId) → survivors_by was is unmoved m o ≡ variants.All
     by_leaf (Some leaf) =
-        ap (λ (e : Edges). leaf_survivors (same_point (before_shift (corner_of e) unmoved) (corner was m)) leaf (side was m) (size_of e)) (domain_alike was is t m)
+        ap (λ (e : Edges). leaf_survivors (same_point (before_shift (corner_of e) unmoved) (corner was m)) leaf (side was m) (size_of e))
+        (domain_alike was is t m)
         ∙ ap (λ b. leaf_survivors b leaf (side was m) (side was m)) (own_place (corner was m))
         ∙ ap (λ b. cond b variants.All (variants.Kept leaf (side was m) (side was m))) (own_size (side was m))
     by_leaf None = ap (λ b. cond b variants.All variants.Nothing) tint
 
 -- and a frame nothing if it doesn't
-survivors_none : (was is : Seen) (n : NodeId) → leaf_of (node was.nodes n).kind ≡ None → ((node was.nodes n).tint == (node is.nodes n).tint) ≡ false → survivors_from was is unmoved n ≡ variants.Nothing
-survivors_none was is n frame tint = ap (λ (o : Option LeafId). survivors_by was is unmoved n o) frame ∙ ap (λ b. cond b variants.All variants.Nothing) tint
+survivors_none : (was is : Seen) (n : NodeId) → leaf_of (node was.nodes n).kind ≡ None →
+    ((node was.nodes n).tint == (node is.nodes n).tint) ≡ false → survivors_from was is unmoved n ≡ variants.Nothing
+survivors_none was is n frame tint =
+    ap (λ (o : Option LeafId). survivors_by was is unmoved n o) frame ∙ ap (λ b. cond b variants.All variants.Nothing) tint
 
 -- ---- the bad points
 
@@ -126,7 +132,8 @@ pub record IsTint (was is : Seen) (n : NodeId) : Type 0 where
   pub frame : leaf_of (node was.nodes n).kind ≡ None
   pub others : (m : NodeId) → (m.0 == n.0) ≡ false → ((node was.nodes m).tint == (node is.nodes m).tint) ≡ true
 
-pub bad_tinted : (k : Keeping) (was is : Seen) (regions : List (List Edges)) (n : NodeId) → AreForests was is → IsTint was is n → AreRegions was regions → HasRoot is → IsNode is.nodes n →
+pub bad_tinted : (k : Keeping) (was is : Seen) (regions : List (List Edges)) (n : NodeId) → AreForests was is →
+    IsTint was is n → AreRegions was regions → HasRoot is → IsNode is.nodes n →
     (bad : Point → Bool) → ((p : Point) → bad p ≡ true → is_on was p ≡ true) → (p : Point) →
     tint_bad ((node was.nodes n).tint == (node is.nodes n).tint) (bad p) (holds (region_of regions n) p) ≡ bad_by k (change was is None bad) p
 bad_tinted k was is regions n forests tint old root inside bad within p = by_screen (is_on is p) refl
@@ -166,7 +173,8 @@ bad_tinted k was is regions n forests tint old root inside bad within p = by_scr
     tint_none false = refl
 
     -- the good points of a node that keeps all
-    all_good : (m : NodeId) → IsNode is.nodes m → holds (region_of regions m) p ≡ true → ((node was.nodes m).tint == (node is.nodes m).tint) ≡ true → good_by k (change was is None bad) p ≡ not (bad p)
+    all_good : (m : NodeId) → IsNode is.nodes m → holds (region_of regions m) p ≡ true →
+        ((node was.nodes m).tint == (node is.nodes m).tint) ≡ true → good_by k (change was is None bad) p ≡ not (bad p)
     all_good m at h keeps =
         node_good k was is regions regions forests sides None bad m at p h
         ∙ still_good k was is None (region_of regions m) bad m unmoved p refl (survivors_all was is tint.tinted m keeps) h
@@ -187,15 +195,17 @@ bad_tinted k was is regions n forests tint old root inside bad within p = by_scr
     or_false true = refl
     or_false false = refl
 
-    here : is_on is p ≡ true → holds (region_of regions n) p ≡ true → (b : Bool) → same ≡ b → tint_bad same (bad p) (holds (region_of regions n) p) ≡ bad_by k (change was is None bad) p
+    here : is_on is p ≡ true → holds (region_of regions n) p ≡ true → (b : Bool) → same ≡ b →
+        tint_bad same (bad p) (holds (region_of regions n) p) ≡ bad_by k (change was is None bad) p
     here on h true e =
         ap (λ b. tint_bad b (bad p) (holds (region_of regions n) p)) e
         ∙ sym (ap (λ b. b && not (good_by k (change was is None bad) p)) on ∙ ap not (all_good n inside h e) ∙ not_twice (bad p))
     here on h false e =
+        let was_good : Bool = holds (region_of regions n) (before_shift p unmoved) && not (bad (before_shift p unmoved)) in
         let none : good_by k (change was is None bad) p ≡ false =
         node_good k was is regions regions forests sides None bad n inside p h
-        ∙ ap (λ (w : Survivors). (holds (region_of regions n) (before_shift p unmoved) && not (bad (before_shift p unmoved))) && has_survivor k w (from_corner (domain is n) p)) (survivors_none was is n tint.frame e)
-        ∙ and_false (holds (region_of regions n) (before_shift p unmoved) && not (bad (before_shift p unmoved))) in
+        ∙ ap (λ (w : Survivors). was_good && has_survivor k w (from_corner (domain is n) p)) (survivors_none was is n tint.frame e)
+        ∙ and_false was_good in
         ap (λ b. tint_bad b (bad p) (holds (region_of regions n) p)) e ∙ ap (λ b. bad p || b) h ∙ or_true (bad p)
         ∙ sym (ap (λ b. b && not (good_by k (change was is None bad) p)) on ∙ ap not none)
 
@@ -223,7 +233,9 @@ bad_tinted k was is regions n forests tint old root inside bad within p = by_scr
         let own = cover.each p on in
         by_node on own.0 (record { within = omega (arith, own.1.0, new.count) }) own.1.1 (own.0.0 == n.0) refl
     by_screen false off =
-        ap (λ b. tint_bad same b (holds (region_of regions n) p)) (none_bad off (bad p) refl) ∙ ap (λ b. tint_bad same false b) (none_held off (holds (region_of regions n) p) refl) ∙ tint_none same
+        ap (λ b. tint_bad same b (holds (region_of regions n) p)) (none_bad off (bad p) refl)
+        ∙ ap (λ b. tint_bad same false b) (none_held off (holds (region_of regions n) p) refl)
+        ∙ tint_none same
         ∙ sym (ap (λ b. b && not (good_by k (change was is None bad) p)) off)
 
 -- ---- an edit of a tint
@@ -239,7 +251,8 @@ frame_is t n tint h = by_test (is_leaf (node t n).kind) h
     by_test true e = cc
     by_test false e = refl
 
-pub tint_edited : (was : Seen) (n : NodeId) (tint : ℕ) → IsNode was.nodes n → refusal was.nodes (edits.Tint n tint) ≡ None → IsTint was (edited_tree was (edits.Tint n tint)) n
+pub tint_edited : (was : Seen) (n : NodeId) (tint : ℕ) → IsNode was.nodes n → refusal was.nodes (edits.Tint n tint) ≡ None →
+    IsTint was (edited_tree was (edits.Tint n tint)) n
 tint_edited was n tint inside allowed = record {
   tinted = record { alike = tinted_alike was.nodes n tint inside; size = refl; kind = refl };
   frame = no_leaf (node was.nodes n).kind (frame_is was.nodes n tint allowed);
@@ -249,8 +262,9 @@ tint_edited was n tint inside allowed = record {
       equal_test _ _ same;
 }
 
-pub tint_step : (k : Keeping) (was : Seen) (regions : List (List Edges)) (n : NodeId) (tint : ℕ) → IsForest was.nodes → AreRegions was regions → HasRoot was → IsNode was.nodes n →
-    refusal was.nodes (edits.Tint n tint) ≡ None → (bad : Point → Bool) → ((p : Point) → bad p ≡ true → is_on was p ≡ true) → (p : Point) →
+pub tint_step : (k : Keeping) (was : Seen) (regions : List (List Edges)) (n : NodeId) (tint : ℕ) → IsForest was.nodes →
+    AreRegions was regions → HasRoot was → IsNode was.nodes n → refusal was.nodes (edits.Tint n tint) ≡ None →
+    (bad : Point → Bool) → ((p : Point) → bad p ≡ true → is_on was p ≡ true) → (p : Point) →
     let is = edited_tree was (edits.Tint n tint) in
     tint_bad ((node was.nodes n).tint == (node is.nodes n).tint) (bad p) (is_spot_of was n (spot was p)) ≡ bad_by k (change was is None bad) p
 tint_step k was regions n tint forest old root inside allowed bad within p =
@@ -264,4 +278,6 @@ tint_step k was regions n tint forest old root inside allowed bad within p =
 pub tint_regions : (was : Seen) (regions : List (List Edges)) (n : NodeId) (tint : ℕ) → IsForest was.nodes → AreRegions was regions → IsNode was.nodes n →
     refusal was.nodes (edits.Tint n tint) ≡ None → AreRegions (edited_tree was (edits.Tint n tint)) regions
 tint_regions was regions n tint forest old inside allowed =
-    regions_alike was (edited_tree was (edits.Tint n tint)) regions (record { before = forest; after = forest_edited was (edits.Tint n tint) forest inside allowed }) (tint_edited was n tint inside allowed).tinted old
+    regions_alike was (edited_tree was (edits.Tint n tint)) regions
+    (record { before = forest; after = forest_edited was (edits.Tint n tint) forest inside allowed })
+    (tint_edited was n tint inside allowed).tinted old

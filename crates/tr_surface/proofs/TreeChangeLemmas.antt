@@ -31,8 +31,10 @@ before_none p = rw (none p.h, none p.v) refl
     none x = omega (arith, ints)
 
 -- a point of a node lies below a child where the node does
-pub below_is : (t : Seen) → IsForest t.nodes → (child n : NodeId) (p : Point) → IsOf t n p ≡ true → is_below t.nodes child (spot t p) ≡ is_under t.nodes child n
-below_is t forest child n p mine = ap (λ (s : Spot). is_below t.nodes child s) (owns_point t forest n p mine).spot ∙ by_leaf (leaf_of (node t.nodes n).kind) refl
+pub below_is : (t : Seen) → IsForest t.nodes → (child n : NodeId) (p : Point) → IsOf t n p ≡ true →
+    is_below t.nodes child (spot t p) ≡ is_under t.nodes child n
+below_is t forest child n p mine =
+    ap (λ (s : Spot). is_below t.nodes child s) (owns_point t forest n p mine).spot ∙ by_leaf (leaf_of (node t.nodes n).kind) refl
   where
     by_leaf : (o : Option LeafId) → leaf_of (node t.nodes n).kind ≡ o → is_below t.nodes child (spot_on t p n (node t.nodes n).kind) ≡ is_under t.nodes child n
     by_leaf (Some leaf) e =
@@ -43,7 +45,8 @@ below_is t forest child n p mine = ap (λ (s : Spot). is_below t.nodes child s) 
 pub source_is : (was is : Seen) → IsForest is.nodes → (moved : Option NodeId) (n : NodeId) (p : Point) → IsOf is n p ≡ true →
     source_by was is moved p ≡ before_shift p (way_from was is moved n)
 source_is was is forest None n p mine = sym (before_none p)
-source_is was is forest (Some child) n p mine = ap (λ b. cond b (before_shift p (way_of was is child)) p) (below_is is forest child n p mine) ∙ by_test (is_under is.nodes child n)
+source_is was is forest (Some child) n p mine =
+    ap (λ b. cond b (before_shift p (way_of was is child)) p) (below_is is forest child n p mine) ∙ by_test (is_under is.nodes child n)
   where
     by_test : (b : Bool) → cond b (before_shift p (way_of was is child)) p ≡ before_shift p (cond b (way_of was is child) unmoved)
     by_test true = refl
@@ -55,8 +58,8 @@ and_false : (b : Bool) → (b && false) ≡ false
 and_false true = refl
 and_false false = refl
 
-pub node_good : (k : Keeping) (was is : Seen) (before after : List (List Edges)) → AreForests was is → AreSides was is before after → (moved : Option NodeId) (bad : Point → Bool)
-    (n : NodeId) → IsNode is.nodes n → (p : Point) → holds (region_of after n) p ≡ true →
+pub node_good : (k : Keeping) (was is : Seen) (before after : List (List Edges)) → AreForests was is → AreSides was is before after →
+    (moved : Option NodeId) (bad : Point → Bool) (n : NodeId) → IsNode is.nodes n → (p : Point) → holds (region_of after n) p ≡ true →
     good_by k (change was is moved bad) p ≡ stays_good k (change was is moved bad) (region_of before n) n (way_from was is moved n) p
 node_good k was is before after forests sides moved bad n inside p h =
     ap (λ (s : Point). is_on is p && is_on was s && not (bad s) && survives k (spot was s) (spot is p)) (source_is was is forests.after moved n p mine)
@@ -77,10 +80,12 @@ node_good k was is before after forests sides moved bad n inside p h =
     in_old = record { within = omega (arith, inside.within, sides.count) }
 
     by_case : (b : Bool) → IsOf was n from ≡ b →
-        (true && is_on was from && not (bad from) && survives k (spot was from) (spot is p)) ≡ (IsOf was n from && not (bad from) && has_survivor k (survivors_from was is by n) (from_corner (domain is n) p))
+        (true && is_on was from && not (bad from) && survives k (spot was from) (spot is p))
+        ≡ (IsOf was n from && not (bad from) && has_survivor k (survivors_from was is by n) (from_corner (domain is n) p))
     by_case true e =
         ap (λ b. true && b && not (bad from) && survives k (spot was from) (spot is p)) (owns_point was forests.before n from e).on
-        ∙ ap (λ b. true && true && not (bad from) && b) (there k was is forests sides.kind n (leaf_of (node was.nodes n).kind) (sides.leaves n) refl by p e mine)
+        ∙ ap (λ b. true && true && not (bad from) && b)
+        (there k was is forests sides.kind n (leaf_of (node was.nodes n).kind) (sides.leaves n) refl by p e mine)
         ∙ sym (ap (λ b. b && not (bad from) && has_survivor k (survivors_from was is by n) (from_corner (domain is n) p)) e)
     by_case false e =
         ap (λ b. true && is_on was from && not (bad from) && b) (apart k was is n (sides.leaves n) from p e mine)
@@ -140,10 +145,12 @@ seen_all true good bad = refl
 seen_all false good bad = refl
 
 -- where a node doesn't move, all of its points survive, and its region is as before, the good points are those that weren't bad
-pub still_good : (k : Keeping) (was is : Seen) (moved : Option NodeId) (region : List Edges) (bad : Point → Bool) (n : NodeId) (by p : Point) → by ≡ unmoved → survivors_from was is by n ≡ variants.All →
+pub still_good : (k : Keeping) (was is : Seen) (moved : Option NodeId) (region : List Edges) (bad : Point → Bool) (n : NodeId) (by p : Point) →
+    by ≡ unmoved → survivors_from was is by n ≡ variants.All →
     holds region p ≡ true → stays_good k (change was is moved bad) region n by p ≡ not (bad p)
 still_good k was is moved region bad n by p none all h =
-    ap (λ (s : Point). holds region s && not (bad s) && has_survivor k (survivors_from was is by n) (from_corner (domain is n) p)) (ap (λ (d : Point). before_shift p d) none ∙ before_none p)
+    ap (λ (s : Point). holds region s && not (bad s) && has_survivor k (survivors_from was is by n) (from_corner (domain is n) p))
+    (ap (λ (d : Point). before_shift p d) none ∙ before_none p)
     ∙ ap (λ b. b && not (bad p) && has_survivor k (survivors_from was is by n) (from_corner (domain is n) p)) h
     ∙ ap (λ (w : Survivors). not (bad p) && has_survivor k w (from_corner (domain is n) p)) all
     ∙ and_true (not (bad p))
@@ -153,33 +160,38 @@ still_good k was is moved region bad n by p none all h =
     and_true false = refl
 
 -- a point that a node had was on the old screen
-pub old_on : (was is : Seen) (before after : List (List Edges)) → AreForests was is → AreSides was is before after → (n : NodeId) → IsNode is.nodes n → (p : Point) →
-    holds (region_of before n) p ≡ true → is_on was p ≡ true
+pub old_on : (was is : Seen) (before after : List (List Edges)) → AreForests was is → AreSides was is before after →
+    (n : NodeId) → IsNode is.nodes n → (p : Point) → holds (region_of before n) p ≡ true → is_on was p ≡ true
 old_on was is before after forests sides n inside p h =
     (owns_point was forests.before n p (sym (sides.was_regions.points n p (record { within = omega (arith, inside.within, sides.count) })) ∙ h)).on
 
-pub new_on : (was is : Seen) (before after : List (List Edges)) → AreForests was is → AreSides was is before after → (n : NodeId) → IsNode is.nodes n → (p : Point) →
-    holds (region_of after n) p ≡ true → is_on is p ≡ true
+pub new_on : (was is : Seen) (before after : List (List Edges)) → AreForests was is → AreSides was is before after →
+    (n : NodeId) → IsNode is.nodes n → (p : Point) → holds (region_of after n) p ≡ true → is_on is p ≡ true
 new_on was is before after forests sides n inside p h = (owns_point is forests.after n p (sym (sides.is_regions.points n p inside) ∙ h)).on
 
 -- one node more is seen to: its points are as before
-pub alike_more : (k : Keeping) (was is : Seen) (before after : List (List Edges)) → AreForests was is → AreSides was is before after → (moved : Option NodeId) (bad : Point → Bool)
-    (n : NodeId) → IsNode is.nodes n → (survivors : Survivors) → survivors ≡ survivors_from was is (way_from was is moved n) n → IsAlike (way_from was is moved n) survivors (region_of before n) (region_of after n) →
+pub alike_more : (k : Keeping) (was is : Seen) (before after : List (List Edges)) → AreForests was is → AreSides was is before after →
+    (moved : Option NodeId) (bad : Point → Bool) (n : NodeId) → IsNode is.nodes n →
+    (survivors : Survivors) → survivors ≡ survivors_from was is (way_from was is moved n) n →
+    IsAlike (way_from was is moved n) survivors (region_of before n) (region_of after n) →
     (p : Point) → bad_below k (change was is moved bad) after n.0 p ≡ bad_below k (change was is moved bad) after (n.0 + 1) p
 alike_more k was is before after forests sides moved bad n inside survivors its alike p =
     seen_alike (is_on is p) (in_first n.0 after p) (holds (region_of after n) p) (good_by k (change was is moved bad) p) (bad p)
     (λ h. node_good k was is before after forests sides moved bad n inside p h
-    ∙ still_good k was is moved (region_of before n) bad n (way_from was is moved n) p alike.still (sym its ∙ alike.all) (ap (λ (r : List Edges). holds r p) (sym alike.same) ∙ h))
+    ∙ still_good k was is moved (region_of before n) bad n (way_from was is moved n) p alike.still (sym its ∙ alike.all)
+    (ap (λ (r : List Edges). holds r p) (sym alike.same) ∙ h))
     ∙ sym (ap (λ b. bad_so_far (is_on is p) b (good_by k (change was is moved bad) p) (bad p)) (first_more n.0 after p))
 
 -- or they are found anew
-pub anew_more : (k : Keeping) (was is : Seen) (before after : List (List Edges)) → AreForests was is → AreSides was is before after → (moved : Option NodeId) (bad : Point → Bool)
-    (n : NodeId) → IsNode is.nodes n → (p : Point) →
+pub anew_more : (k : Keeping) (was is : Seen) (before after : List (List Edges)) → AreForests was is → AreSides was is before after →
+    (moved : Option NodeId) (bad : Point → Bool) (n : NodeId) → IsNode is.nodes n → (p : Point) →
     let held = holds (region_of after n) p in
-    ((bad_below k (change was is moved bad) after n.0 p && not held) || (held && not (held && stays_good k (change was is moved bad) (region_of before n) n (way_from was is moved n) p)))
+    ((bad_below k (change was is moved bad) after n.0 p && not held)
+    || (held && not (held && stays_good k (change was is moved bad) (region_of before n) n (way_from was is moved n) p)))
     ≡ bad_below k (change was is moved bad) after (n.0 + 1) p
 anew_more k was is before after forests sides moved bad n inside p =
-    seen_anew (is_on is p) (in_first n.0 after p) (holds (region_of after n) p) (good_by k (change was is moved bad) p) (bad p) (stays_good k (change was is moved bad) (region_of before n) n (way_from was is moved n) p)
+    seen_anew (is_on is p) (in_first n.0 after p) (holds (region_of after n) p) (good_by k (change was is moved bad) p) (bad p)
+    (stays_good k (change was is moved bad) (region_of before n) n (way_from was is moved n) p)
     (λ h. new_on was is before after forests sides n inside p h) (λ h. node_good k was is before after forests sides moved bad n inside p h)
     ∙ sym (ap (λ b. bad_so_far (is_on is p) b (good_by k (change was is moved bad) p) (bad p)) (first_more n.0 after p))
 

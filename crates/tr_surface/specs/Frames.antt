@@ -22,4 +22,5 @@ pub record AreOnFrames (t : Seen) (regions : List (List Edges)) : Type 0 where
 -- the points of each region are the bad ones on the frame of its node
 pub record AreBadFrames (s : Shown) (regions : List (List Edges)) : Type 0 where
   pub count : length regions ≡ length s.tree.nodes.entries
-  pub points : (n : NodeId) (p : Point) → IsNode s.tree.nodes n → holds (region_of regions n) p ≡ (holds s.bad p && is_on_frame n (spot s.tree p))
+  pub points : (n : NodeId) (p : Point) → IsNode s.tree.nodes n →
+      holds (region_of regions n) p ≡ (holds s.bad p && is_on_frame n (spot s.tree p))

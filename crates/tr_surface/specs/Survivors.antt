@@ -87,7 +87,8 @@ has_survivor k (variants.Kept leaf from to) q = is_kept k leaf from to q
 -- a point of a node was good where it comes from, which was a point of the node too, and survives
 abbrev pub stays_good : Keeping → Change → List Edges → NodeId → Point → Point → Bool
 stays_good k c region n by p =
-    holds region (before_shift p by) && not (c.bad (before_shift p by)) && has_survivor k (survivors_of c by n) (from_corner (domain c.is n) p)
+    holds region (before_shift p by) && not (c.bad (before_shift p by))
+    && has_survivor k (survivors_of c by n) (from_corner (domain c.is n) p)
 
 -- a point is good after a change
 abbrev pub good_by : Keeping → Change → Point → Bool
@@ -166,7 +167,8 @@ placed_child edit = None
 pub record IsFitted (t : Seen) (old new : Picture) : Type 0 where
   pub size : new.size ≡ t.size
   pub kind : new.kind ≡ t.kind
-  pub points : (p : Point) → same_kind old.kind t.kind ≡ true → has_point (whole_of old.size) p ≡ true → is_on t p ≡ true → pixel_of new p ≡ pixel_of old p
+  pub points : (p : Point) → same_kind old.kind t.kind ≡ true →
+      has_point (whole_of old.size) p ≡ true → is_on t p ≡ true → pixel_of new p ≡ pixel_of old p
 
 -- a node moves nowhere, keeps all that it shows, and has the same points
 pub record IsAlike (by : Point) (survivors : Survivors) (before after : List Edges) : Type 0 where

@@ -116,7 +116,8 @@ impl Surface {
     ) -> Result<Known, NoMemory>
         requires like { spec.IsLike self.now.tree is.now }
         requires regions { AreRegions is.now after.now }
-        requires cover { (p : Point) → spec.in_first (length is.now.nodes.entries) after.now p ≡ is_on is.now p }
+        requires cover { (p : Point) →
+            spec.in_first (length is.now.nodes.entries) after.now p ≡ is_on is.now p }
         requires moved { IfSome moved (IsNode self.now.tree.nodes) }
         requires leaves { K.leaves keeper.now ≡ leaf_count self.now.tree.nodes }
         ensures bad { let c = spec.change_to self.now is.now moved in

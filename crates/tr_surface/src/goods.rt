@@ -107,7 +107,8 @@ impl TreeChange<'_> {
         requires node { IsNode self.now.is.now.nodes n }
         requires fits { IsFitting (K.leaves keeper.now) (variants.Kept leaf from to) }
         ensures { IfOk result (λ r. (p : Point) →
-            holds r p ≡ is_kept (K.keeping keeper.now) leaf from to (spec_from (domain self.now.is.now n) p)) }
+            holds r p
+            ≡ is_kept (K.keeping keeper.now) leaf from to (spec_from (domain self.now.is.now n) p)) }
     {
         let rect = keeper.keeps(leaf, from, to);
         let left = untouched(self.alloc, rect, keeper.batch(leaf))?;

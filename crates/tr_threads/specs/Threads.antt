@@ -16,8 +16,8 @@ use Rattle.tr_threads.specs.declared.plays.Threaded.{Threaded}
 unfoldable pub threads_text : Script → StageView Widget WidgetCmd → List ℕ
 threads_text s stage = journal_texts widgets widget_words s.names s.opening stage.journal ++ played_threads
 
--- A script was played by threads: its stage's journal is one of the machine, interleaves the parts of the script, and is the one of which the
--- texts are written.
+-- A script was played by threads: its stage's journal is one of the machine, interleaves the parts of the script, and is the one of which
+-- the texts are written.
 pub record IsPlayedByThreads (s : Script) (stage : StageView Widget WidgetCmd) (text : List ℕ) : Type 0 where
   pub played : HasInterleaved widgets s.opening (parts_of s.parts) stage
   pub text_is : text ≡ threads_text s stage

@@ -69,7 +69,8 @@ done_below t n cs i old now le filling c m h k = elim (filling.done c m h k) [
   | inr later ↦ (let no : is_among c [] ≡ true = sym (ap (is_among c) (drop_all i cs le)) ∙ later in absurd cc)
 ]
 
-pub filling_children : (t : Nodes) (n : NodeId) (cs : List NodeId) (i : ℕ) (old now : List Shapes) → length cs ≤ i → Filling t n (drop i cs) old now → HasChildren t n now
+pub filling_children : (t : Nodes) (n : NodeId) (cs : List NodeId) (i : ℕ) (old now : List Shapes) → length cs ≤ i →
+    Filling t n (drop i cs) old now → HasChildren t n now
 filling_children t n cs i old now le filling = record { right = λ c h. done_below t n cs i old now le filling c c h (under_own t c) }
 
 set_here : (t : Nodes) (n : NodeId) (now : List Shapes) (x : Shapes) → n.0 < length now → x ≡ shape t n → shape_in (set now n.0 x) n ≡ shape t n

@@ -130,4 +130,6 @@ shapes_rooted t u n l is has = subst (λ (w : Nodes). HasShapes w l) (sym is)
 pub places_for_added : (t u : Nodes) (kind : NodeKind) (tint : ℕ) (before l : Layout) → u ≡ record t { entries = t.entries ++ fresh kind tint ∷ [] } →
     ((count : ℕ) → HavePlaces count before → HavePlaces (count + 1) l) → HavePlaces (length t.entries) before → HavePlaces (length u.entries) l
 places_for_added t u kind tint before l is more places =
-    subst (λ (k : ℕ). HavePlaces k l) (sym (ap (λ (w : Nodes). length w.entries) is ∙ length-append t.entries (fresh kind tint ∷ []))) (more (length t.entries) places)
+    subst (λ (k : ℕ). HavePlaces k l)
+    (sym (ap (λ (w : Nodes). length w.entries) is ∙ length-append t.entries (fresh kind tint ∷ [])))
+    (more (length t.entries) places)

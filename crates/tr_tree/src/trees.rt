@@ -94,7 +94,8 @@ impl Tree {
         ensures ok { OnOk result (self.new ≡ edited_tree self.old edit.now) }
         ensures allowed { OnOk result (refusal self.old.nodes edit.now ≡ None) }
         ensures cause { IfErr result (λ e. IsCause (refusal self.old.nodes edit.now) e) }
-        ensures succeeds { wants_memory edit.now ≡ false → refusal self.old.nodes edit.now ≡ None → IsOk result }
+        ensures succeeds { wants_memory edit.now ≡ false →
+            refusal self.old.nodes edit.now ≡ None → IsOk result }
         ensures err { OnErr result (self.new ≡ self.old) }
     {
         self.forest.edit(edit)?;

@@ -1,4 +1,5 @@
--- A Widget obeys the laws of clients, since each widget does. These are proofs, which stand here since an impl cites nothing else of its crate; no contract cites them.
+-- A Widget obeys the laws of clients, since each widget does.
+-- These are proofs, which stand here since an impl cites nothing else of its crate; no contract cites them.
 use Rattle.std.proofs.Common.{◌≡◌, [], true, Option, Some, None, refl}
 use Rattle.std.specs.Prelude.{IfSome}
 use Rattle.std.specs.Option.{option_map}
@@ -48,13 +49,20 @@ handed_on to IsCmd None on known = tt
 handed_on to IsCmd (Some cmd) on known = on cmd known
 
 pub widget_answers : (x : Widget) (event : Event) → IsWidget x → IsEvent event → IfSome (widget_answer x event) (λ cmd. IsWidgetCmd cmd)
-widget_answers (Solid x) event valid known = handed_on ToSolid IsSolidCmd (solid_answer x event) (λ cmd h. h) (solid_answers x event valid known)
-widget_answers (Board x) event valid known = handed_on ToBoard IsBoardCmd (board_answer x event) (λ cmd h. h) (board_answers x event valid known)
-widget_answers (Label x) event valid known = handed_on ToLabel IsLabelCmd (label_answer x event) (λ cmd h. h) (label_answers x event valid known)
-widget_answers (Lines x) event valid known = handed_on ToLines IsLinesCmd (lines_answer x event) (λ cmd h. h) (lines_answers x event valid known)
-widget_answers (Canvas x) event valid known = handed_on ToCanvas IsCanvasCmd (canvas_answer x event) (λ cmd h. h) (canvas_answers x event valid known)
-widget_answers (Meter x) event valid known = handed_on ToMeter IsMeterCmd (meter_answer x event) (λ cmd h. h) (meter_answers x event valid known)
-widget_answers (Editor x) event valid known = handed_on ToEditor IsEditorCmd (editor_answer x event) (λ cmd h. h) (editor_answers x event valid known)
+widget_answers (Solid x) event valid known =
+    handed_on ToSolid IsSolidCmd (solid_answer x event) (λ cmd h. h) (solid_answers x event valid known)
+widget_answers (Board x) event valid known =
+    handed_on ToBoard IsBoardCmd (board_answer x event) (λ cmd h. h) (board_answers x event valid known)
+widget_answers (Label x) event valid known =
+    handed_on ToLabel IsLabelCmd (label_answer x event) (λ cmd h. h) (label_answers x event valid known)
+widget_answers (Lines x) event valid known =
+    handed_on ToLines IsLinesCmd (lines_answer x event) (λ cmd h. h) (lines_answers x event valid known)
+widget_answers (Canvas x) event valid known =
+    handed_on ToCanvas IsCanvasCmd (canvas_answer x event) (λ cmd h. h) (canvas_answers x event valid known)
+widget_answers (Meter x) event valid known =
+    handed_on ToMeter IsMeterCmd (meter_answer x event) (λ cmd h. h) (meter_answers x event valid known)
+widget_answers (Editor x) event valid known =
+    handed_on ToEditor IsEditorCmd (editor_answer x event) (λ cmd h. h) (editor_answers x event valid known)
 
 pub widget_patches : (look : Look) (size : Size) (x : Widget) (cmd : WidgetCmd) → IsWidget x → IsWidgetCmd cmd → IsWindowSize size →
     IsPatch look size (widget_patch look size x cmd) (widget_pic look size x) (widget_pic look size (widget_next x cmd))
@@ -69,13 +77,20 @@ widget_patches look size x cmd valid known small = no_patch look size (widget_pi
 
 pub widget_empty_patches : (look : Look) (size : Size) (x : Widget) (cmd : WidgetCmd) → IsWidget x → IsWidgetCmd cmd → IsWindowSize size →
     is_flat size ≡ true → widget_patch look size x cmd ≡ []
-widget_empty_patches look size (Solid x) (ToSolid cmd) valid known small flat = solid_empty_patches look size x cmd valid known small flat
-widget_empty_patches look size (Board x) (ToBoard cmd) valid known small flat = board_empty_patches look size x cmd valid known small flat
-widget_empty_patches look size (Label x) (ToLabel cmd) valid known small flat = label_empty_patches look size x cmd valid known small flat
-widget_empty_patches look size (Lines x) (ToLines cmd) valid known small flat = lines_empty_patches look size x cmd valid known small flat
-widget_empty_patches look size (Canvas x) (ToCanvas cmd) valid known small flat = canvas_empty_patches look size x cmd valid known small flat
-widget_empty_patches look size (Meter x) (ToMeter cmd) valid known small flat = meter_empty_patches look size x cmd valid known small flat
-widget_empty_patches look size (Editor x) (ToEditor cmd) valid known small flat = editor_empty_patches look size x cmd valid known small flat
+widget_empty_patches look size (Solid x) (ToSolid cmd) valid known small flat =
+    solid_empty_patches look size x cmd valid known small flat
+widget_empty_patches look size (Board x) (ToBoard cmd) valid known small flat =
+    board_empty_patches look size x cmd valid known small flat
+widget_empty_patches look size (Label x) (ToLabel cmd) valid known small flat =
+    label_empty_patches look size x cmd valid known small flat
+widget_empty_patches look size (Lines x) (ToLines cmd) valid known small flat =
+    lines_empty_patches look size x cmd valid known small flat
+widget_empty_patches look size (Canvas x) (ToCanvas cmd) valid known small flat =
+    canvas_empty_patches look size x cmd valid known small flat
+widget_empty_patches look size (Meter x) (ToMeter cmd) valid known small flat =
+    meter_empty_patches look size x cmd valid known small flat
+widget_empty_patches look size (Editor x) (ToEditor cmd) valid known small flat =
+    editor_empty_patches look size x cmd valid known small flat
 widget_empty_patches look size x cmd valid known small flat = refl
 
 pub widget_keeping : (look : Look) (from to : Size) (x : Widget) → IsWidget x → IsWindowSize from → IsWindowSize to →
@@ -88,7 +103,8 @@ widget_keeping look from to (Canvas x) valid small small' = canvas_keeping look 
 widget_keeping look from to (Meter x) valid small small' = meter_keeping look from to x valid small small'
 widget_keeping look from to (Editor x) valid small small' = editor_keeping look from to x valid small small'
 
-pub widget_kinds : (look : Look) (size : Size) (x : Widget) (p : Point) → IsWidget x → IsWindowSize size → IsPixel look.kind (widget_pic look size x p)
+pub widget_kinds : (look : Look) (size : Size) (x : Widget) (p : Point) → IsWidget x → IsWindowSize size →
+    IsPixel look.kind (widget_pic look size x p)
 widget_kinds look size (Solid x) p valid small = solid_kinds look size x p valid small
 widget_kinds look size (Board x) p valid small = board_kinds look size x p valid small
 widget_kinds look size (Label x) p valid small = label_kinds look size x p valid small

@@ -14,8 +14,8 @@ const TALL: Size = Size { wide: 12, high: 24 };
 
 const FLAT: Size = Size { wide: 0, high: 16 };
 
-/// Calls each law at a content and a command, behind the call that tells that they are valid. Whether the command
-/// changes the content and has a patch.
+/// Calls each law at a content and a command, behind the call that tells that they are valid. Whether the
+/// command changes the content and has a patch.
 fn obeys_its_laws<C: Client>(alloc: Global, content: &C, cmd: &C::Cmd) -> Result<bool, NoMemory> {
     let font = Font::empty(alloc)?;
     let env = Env {

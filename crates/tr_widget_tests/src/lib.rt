@@ -1,5 +1,5 @@
-//! Tests of the widgets, by their pictures. Nothing but tests is in here: what they answer to events, and the words
-//! of their commands, are tried by scripts.
+//! Tests of the widgets, by their pictures. Nothing but tests is in here: what they answer to events, and
+//! the words of their commands, are tried by scripts.
 #![tactic(auto)]
 
 #[cfg(test)]

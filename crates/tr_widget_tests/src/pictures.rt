@@ -115,8 +115,8 @@ impl Seen<'_> {
     }
 }
 
-/// The widget after a command, if the command's patch, over a part of the old picture, and what is painted, over
-/// nothing, are the pictures that it has.
+/// The widget after a command, if the command's patch, over a part of the old picture, and what is painted,
+/// over nothing, are the pictures that it has.
 pub fn shown_after(
     alloc: Global,
     widget: &Widget,

@@ -51,7 +51,8 @@ pub fn commands(alloc: Global) -> Result<Vec<WidgetCmd>, NoMemory> {
     Ok(commands)
 }
 
-/// Whether a content is changed by the command of its place alone, and is the same as the content there alone.
+/// Whether a content is changed by the command of its place alone, and is the same as the content there
+/// alone.
 fn hears_its_own<C: Client>(
     alloc: Global,
     place: usize,

@@ -21,12 +21,13 @@ pub record IsKnownWhole (size : Size) (base : Base) : Type 0 where
   pub visible : (q : Point) → base.visible q ≡ has_point (whole_of size) q
   pub known : (q : Point) → has_point (whole_of size) q ≡ true → is_none (base.known q) ≡ false
 
--- Commands lose nothing of a window: of each visible point whose colour is known before them, one is known after them. Where the window is
--- whole they may count on all of its points being known, as they are in a whole window with no bad point: a scroll may bring in any of them.
+-- Commands lose nothing of a window: of each visible point whose colour is known before them, one is known after them. Where
+-- the window is whole they may count on all of its points being known, as they are in a whole window with no bad point: a scroll
+-- may bring in any of them.
 abbrev pub LosesNothingOf : Exposure → Look → List Paint → Type 0
 LosesNothingOf e look batch =
-    (base : Base) → (e.is_whole ≡ true → IsKnownWhole e.size base) → (q : Point) → base.visible q ≡ true → is_none (base.known q) ≡ false →
-    is_none (after look base batch q) ≡ false
+    (base : Base) → (e.is_whole ≡ true → IsKnownWhole e.size base) →
+    (q : Point) → base.visible q ≡ true → is_none (base.known q) ≡ false → is_none (after look base batch q) ≡ false
 
 -- how many paint commands wait for all windows; the count stops at 2^64 - 1
 abbrev pub waiting_in : {C : Type 0} → List (Present C) → ℕ

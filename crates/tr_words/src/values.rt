@@ -60,7 +60,8 @@ fn begins_number(word: &[u8]) -> bool
 
 /// The number of which the word is the decimal text.
 fn decimal_of(word: &str) -> Option<u32>
-    ensures { MatchOption result ((n : ℕ) → n < 2 ^ 32 → word.now ≡ decimal n → ⊥) (λ n. word.now ≡ decimal n) }
+    ensures { MatchOption result ((n : ℕ) → n < 2 ^ 32 → word.now ≡ decimal n → ⊥)
+        (λ n. word.now ≡ decimal n) }
 {
     if begins_number(word.as_bytes()) {
         word.parse().ok()
@@ -112,7 +113,8 @@ pub fn byte(word: &str) -> Result<u8, Code>
 fn unsigned_part(word: &str, high: u16) -> Result<i32, Code>
     requires small { high < 2 ^ 16 }
     requires plain { slice_index word.now 0 == 45 ≡ false }
-    ensures value { (low : ℕ) → Answers (not (is_signed low high word.now)) B2 (λ z. z ≡ int_of word.now) result }
+    ensures value { (low : ℕ) →
+        Answers (not (is_signed low high word.now)) B2 (λ z. z ≡ int_of word.now) result }
     ensures range { IfOk result (λ z. (pos 0 ≤ℤ z) × (z ≤ℤ pos high)) }
 {
     let number = number(word, 0, u32::from(high))?;

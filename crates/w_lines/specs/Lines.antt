@@ -57,7 +57,8 @@ written_below size above line = batch_of (Text (whole_of size) (begin_of above) 
 abbrev pub moved_up : Size → ℕ → List ℕ → List Paint
 moved_up size count line =
     let last = count - 1 in
-    batch_of (Scroll (area_of size 0 last) upwards ∷ Tint (area_of size last count) Bg ∷ Text (whole_of size) (begin_of last) plain line ∷ [])
+    batch_of (Scroll (area_of size 0 last) upwards ∷ Tint (area_of size last count) Bg
+    ∷ Text (whole_of size) (begin_of last) plain line ∷ [])
 
 -- how many lines a window shows at most
 abbrev pub most_shown : Size → ℕ

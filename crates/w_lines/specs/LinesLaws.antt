@@ -1,4 +1,5 @@
--- A Lines obeys the laws of clients. These are proofs, which stand here since an impl cites nothing else of its crate; no contract cites them.
+-- A Lines obeys the laws of clients.
+-- These are proofs, which stand here since an impl cites nothing else of its crate; no contract cites them.
 use Rattle.std.proofs.Common.{◌≡◌, ℕ, ◌+◌, ◌-◌, ◌<◌, ◌≤◌, ◌==◌, min, Bool, true, false, ◌&&◌, cond, List, [], ◌∷◌, ◌++◌, length, drop, Some, None, refl, sym, ap, subst, ◌∙◌, arith, eqb-true}
 use Rattle.std.specs.Prelude.{nat_lt, nat_le, IfSome}
 use Rattle.std.proofs.lemmas.Bool.Decides.{nat_tests}
@@ -39,20 +40,24 @@ written_patch : (look : Look) (size : Size) (lines : List (List ℕ)) (line : Li
 written_patch look size lines line =
     let text : Paint = Text (whole_of size) (begin_of (length lines)) plain line in
     patch_by_run look size (text ∷ []) (colour_in look lines) (colour_in look (lines ++ line ∷ []))
-    (λ q here. makes-left look.kind (deed look text q) (colour_in look lines) q _ _ refl (line-makes look (whole_of size) lines line q here))
+    (λ q here. makes-left look.kind (deed look text q) (colour_in look lines) q _ _ refl
+    (line-makes look (whole_of size) lines line q here))
 
 -- a full window's lines, each one strip higher, and background in the last strip: that is the picture without the first of them
 raised_colour : (look : Look) (size : Size) (first : List ℕ) (lines : List (List ℕ)) (q : Point) → has_point (whole_of size) q ≡ true →
     (let count = length lines in
     cond (nat_le count (strip_of q) && nat_lt (strip_of q) (count + 1)) 0
-    (cond (nat_le 0 (strip_of q) && nat_lt (strip_of q) count) (colour_in look (first ∷ lines) (before_shift q upwards)) (colour_in look (first ∷ lines) q))
+    (cond (nat_le 0 (strip_of q) && nat_lt (strip_of q) count)
+    (colour_in look (first ∷ lines) (before_shift q upwards)) (colour_in look (first ∷ lines) q))
     ≡ colour_in look lines q)
 raised_colour look size first lines q here =
-    by_tests (nat_le (length lines) (strip_of q) && nat_lt (strip_of q) (length lines + 1)) (nat_le 0 (strip_of q) && nat_lt (strip_of q) (length lines)) refl refl
+    by_tests (nat_le (length lines) (strip_of q) && nat_lt (strip_of q) (length lines + 1))
+    (nat_le 0 (strip_of q) && nat_lt (strip_of q) (length lines)) refl refl
   where
     by_tests : (last above : Bool) → nat_le (length lines) (strip_of q) && nat_lt (strip_of q) (length lines + 1) ≡ last →
         nat_le 0 (strip_of q) && nat_lt (strip_of q) (length lines) ≡ above →
-        cond last 0 (cond above (colour_in look (first ∷ lines) (before_shift q upwards)) (colour_in look (first ∷ lines) q)) ≡ colour_in look lines q
+        cond last 0 (cond above (colour_in look (first ∷ lines) (before_shift q upwards)) (colour_in look (first ∷ lines) q))
+        ≡ colour_in look lines q
     by_tests true above is other =
         let past : length lines ≤ strip_of q = grind (arith, nat_tests) in
         sym (colour-beyond look lines q past)
@@ -61,11 +66,13 @@ raised_colour look size first lines q here =
         let past : length lines < strip_of q = grind (arith, nat_tests) in
         colour-beyond look (first ∷ lines) q (omega arith) ∙ sym (colour-beyond look lines q (omega arith))
 
--- where the lines of a full window move upwards each gives its strip to the next, the last strip becomes background, and a line is written there
+-- where the lines of a full window move upwards each gives its strip to the next, the last strip becomes background,
+-- and a line is written there
 moved_patch : (look : Look) (size : Size) (shown : List (List ℕ)) (line : List ℕ) (count : ℕ) → length shown ≡ count → 0 < count →
     IsPatch look size (moved_up size count line) (colour_in look shown) (colour_in look (drop 1 shown ++ line ∷ []))
 moved_patch look size [] line count long some = absurd (omega arith)
-moved_patch look size (first ∷ lines) line count long some = rw (last, all) (patch_by_run look size (scroll ∷ tint ∷ text ∷ []) old (colour_in look (lines ++ line ∷ [])) makes)
+moved_patch look size (first ∷ lines) line count long some =
+    rw (last, all) (patch_by_run look size (scroll ∷ tint ∷ text ∷ []) old (colour_in look (lines ++ line ∷ [])) makes)
   where
     last : count - 1 ≡ length lines
     last = omega arith
@@ -85,11 +92,13 @@ moved_patch look size (first ∷ lines) line count long some = rw (last, all) (p
     old : Point → ℕ
     old = colour_in look (first ∷ lines)
 
-    makes : (q : Point) → has_point (whole_of size) q ≡ true → run look (scroll ∷ tint ∷ text ∷ []) old q ≡ colour_in look (lines ++ line ∷ []) q
+    makes : (q : Point) → has_point (whole_of size) q ≡ true →
+        run look (scroll ∷ tint ∷ text ∷ []) old q ≡ colour_in look (lines ++ line ∷ []) q
     makes q here =
         makes-left look.kind (deed look text q) (λ r. run_one look tint (λ s. run_one look scroll old s) r) q _ _
         (cleared-left look size (length lines) (length lines + 1) (λ s. run_one look scroll old s) q here
-        ∙ ap (λ n. cond (nat_le (length lines) (strip_of q) && nat_lt (strip_of q) (length lines + 1)) 0 n) (scroll-left look size 0 (length lines) upwards old q here)
+        ∙ ap (λ n. cond (nat_le (length lines) (strip_of q) && nat_lt (strip_of q) (length lines + 1)) 0 n)
+        (scroll-left look size 0 (length lines) upwards old q here)
         ∙ raised_colour look size first lines q here)
         (line-makes look (whole_of size) lines line q here)
 
@@ -104,7 +113,8 @@ last_of-none n lines none = drop_all (length lines - n) lines (omega arith)
 shown_more : (n : ℕ) (lines : List (List ℕ)) (line : List ℕ) → length lines < min n most_lines →
     last_of n (last_of most_lines (lines ++ line ∷ [])) ≡ lines ++ line ∷ []
 shown_more n lines line fits =
-    ap (λ (all : List (List ℕ)). last_of n all) (last_of-all most_lines (lines ++ line ∷ []) (omega (arith, length-append lines (line ∷ []))))
+    ap (λ (all : List (List ℕ)). last_of n all)
+    (last_of-all most_lines (lines ++ line ∷ []) (omega (arith, length-append lines (line ∷ []))))
     ∙ last_of-all n (lines ++ line ∷ []) (omega (arith, length-append lines (line ∷ [])))
 
 -- where it has none, it shows it below the others without the first
@@ -166,7 +176,8 @@ line_patches look size x line valid = by_tests (most_shown size == 0) (nat_lt (l
         let few = valid.few in
         let shown = last_of (room size) x in
         let long : length shown ≡ most_shown size = omega (arith, length-drop (length x - room size) x) in
-        subst (λ (new : List (List ℕ)). IsPatch look size (moved_up size (most_shown size) line) (colour_in look shown) (colour_in look new))
+        subst
+        (λ (new : List (List ℕ)). IsPatch look size (moved_up size (most_shown size) line) (colour_in look shown) (colour_in look new))
         (sym (shown_full (room size) x line (omega arith) full few))
         (moved_patch look size shown line (most_shown size) long some)
 
@@ -209,11 +220,13 @@ lines_keeping look from to x valid small small' = by_test (min (length x) (room 
     by_test : (b : Bool) → (min (length x) (room from) == min (length x) (room to)) ≡ b →
         Survives (cond b (meet_of (whole_of from) (whole_of to)) empty_rect) from to (lines_pic look from x) (lines_pic look to x)
     by_test true same =
-        let equal : min (length x) (room from) ≡ min (length x) (room to) = eqb-true (min (length x) (room from)) (min (length x) (room to)) same in
+        let equal : min (length x) (room from) ≡ min (length x) (room to) =
+        eqb-true (min (length x) (room from)) (min (length x) (room to)) same in
         let rest : length x - room from ≡ length x - room to = omega arith in
         survives-meet from to (lines_pic look from x) (lines_pic look to x) (λ q h k. ap (λ (i : ℕ). colour_in look (drop i x) q) rest)
     by_test false apart = survives-nothing from to (lines_pic look from x) (lines_pic look to x)
 
 -- each colour is one of two
-pub lines_kinds : (look : Look) (size : Size) (x : List (List ℕ)) (p : Point) → IsLines x → IsWindowSize size → IsPixel look.kind (lines_pic look size x p)
+pub lines_kinds : (look : Look) (size : Size) (x : List (List ℕ)) (p : Point) → IsLines x → IsWindowSize size →
+    IsPixel look.kind (lines_pic look size x p)
 lines_kinds look size x p valid small = pixel-colour_in look (last_of (room size) x) p

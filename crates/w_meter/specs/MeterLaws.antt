@@ -1,4 +1,5 @@
--- A Meter obeys the laws of clients. These are proofs, which stand here since an impl cites nothing else of its crate; no contract cites them.
+-- A Meter obeys the laws of clients.
+-- These are proofs, which stand here since an impl cites nothing else of its crate; no contract cites them.
 use Rattle.std.proofs.Common.{◌≡◌, ℕ, ◌+◌, ◌*◌, ◌/◌, ◌<◌, ◌≤◌, ◌==◌, ◌&&◌, ℤ, pos, ◌-ℤ◌, ◌≤ℤ◌, ◌<ℤ◌, Bool, true, false, not, cond, List, [], ◌∷◌, ◌++◌, length, take, refl, sym, ap, subst, ◌∙◌, arith, eqb-true}
 use Rattle.std.specs.Prelude.{nat_lt, int_le, slice_index, slice_set, unsigned_abs, IfSome}
 use Rattle.std.specs.Int.{int_max}
@@ -53,7 +54,8 @@ pub record Lies (low high x : ℤ) : Type 0 where
 pub lies-between : (low high x : ℤ) → between low high x ≡ true → Lies low high x
 lies-between low high x h = record { first = grind (arith, ints); last = grind (arith, ints) }
 
-pub lies-whole : (size : Size) (q : Point) → has_point (whole_of size) q ≡ true → Lies (pos 0) (pos size.wide) q.h × Lies (pos 0) (pos size.high) q.v
+pub lies-whole : (size : Size) (q : Point) → has_point (whole_of size) q ≡ true →
+    Lies (pos 0) (pos size.wide) q.h × Lies (pos 0) (pos size.high) q.v
 lies-whole size q here =
     let both = both_hold _ _ (sym (has_point-rect_of (pos 0) (pos size.wide) (pos 0) (pos size.high) q) ∙ here) in
     (lies-between _ _ _ both.0, lies-between _ _ _ both.1)
@@ -86,15 +88,20 @@ second-gives look size false low other mid q old is apart same = is ∙ apart re
 pub set-here : (heights : List ℕ) (bar height : ℕ) → bar < length heights → slice_index (slice_set heights bar height) bar ≡ height
 set-here heights bar height some = get_or-set_same heights bar height 0 some
 
-pub set-elsewhere : (heights : List ℕ) (bar height other : ℕ) → (other ≡ bar → ⊥) → slice_index (slice_set heights bar height) other ≡ slice_index heights other
+pub set-elsewhere : (heights : List ℕ) (bar height other : ℕ) → (other ≡ bar → ⊥) →
+    slice_index (slice_set heights bar height) other ≡ slice_index heights other
 set-elsewhere heights bar height other apart = get_or-set_other heights bar other height 0 apart
 
 -- whether a point lies in a bar, told of its bar
 abbrev in_nth : Size → List ℕ → ℕ → ℤ → Bool
 in_nth size heights bar v = nat_lt bar (length heights) && int_le (pos size.high -ℤ pos (slice_index heights bar)) v
 
-in_bar-nth : (size : Size) (heights : List ℕ) (q : Point) → pos 0 ≤ℤ q.h → in_bar size heights q ≡ in_nth size heights (unsigned_abs q.h / 8) q.v
-in_bar-nth size heights q first = ap (λ b. b && (nat_lt (unsigned_abs q.h / 8) (length heights) && int_le (pos size.high -ℤ pos (slice_index heights (unsigned_abs q.h / 8))) q.v)) (at_least q.h first)
+in_bar-nth : (size : Size) (heights : List ℕ) (q : Point) → pos 0 ≤ℤ q.h →
+    in_bar size heights q ≡ in_nth size heights (unsigned_abs q.h / 8) q.v
+in_bar-nth size heights q first =
+    ap (λ b. b && (nat_lt (unsigned_abs q.h / 8) (length heights)
+    && int_le (pos size.high -ℤ pos (slice_index heights (unsigned_abs q.h / 8))) q.v))
+    (at_least q.h first)
   where
     at_least : (h : ℤ) → pos 0 ≤ℤ h → int_le (pos 0) h ≡ true
     at_least h first = grind (arith, ints)
@@ -102,7 +109,8 @@ in_bar-nth size heights q first = ap (λ b. b && (nat_lt (unsigned_abs q.h / 8) 
 nth-here : (size : Size) (heights : List ℕ) (bar height : ℕ) (v : ℤ) → bar < length heights →
     in_nth size (slice_set heights bar height) bar v ≡ int_le (pos size.high -ℤ pos height) v
 nth-here size heights bar height v some =
-    let long : nat_lt bar (length (slice_set heights bar height)) ≡ true = rw (length-set heights bar height) (grind (arith, nat_tests)) in
+    let long : nat_lt bar (length (slice_set heights bar height)) ≡ true =
+    rw (length-set heights bar height) (grind (arith, nat_tests)) in
     rw (long, set-here heights bar height some) refl
 
 nth-elsewhere : (size : Size) (heights : List ℕ) (bar height other : ℕ) (v : ℤ) → (other ≡ bar → ⊥) →
@@ -111,12 +119,16 @@ nth-elsewhere size heights bar height other v apart = rw (length-set heights bar
 
 set_patches : (look : Look) (size : Size) (heights : List ℕ) (bar height : ℕ) → bar < length heights →
     (let top = top_of size height in
-    IsPatch look size (kept (Tint (rows_of (whole_of size) bar (pos 0) top) Bg) ++ (kept (Tint (rows_of (whole_of size) bar top (pos size.high)) Fg) ++ []))
+    IsPatch look size
+    (kept (Tint (rows_of (whole_of size) bar (pos 0) top) Bg)
+    ++ (kept (Tint (rows_of (whole_of size) bar top (pos size.high)) Fg) ++ []))
     (meter_pic look size heights) (meter_pic look size (slice_set heights bar height)))
 set_patches look size heights bar height some =
     two_patches look size (kept above) (kept below ++ []) old mid new
     (kept_patch look size above old mid (λ q here. first q here))
-    (two_patches look size (kept below) [] mid new new (kept_patch look size below mid new (λ q here. second q here)) (no_patch look size new new (λ q here. refl)))
+    (two_patches look size (kept below) [] mid new new
+    (kept_patch look size below mid new (λ q here. second q here))
+    (no_patch look size new new (λ q here. refl)))
   where
     top : ℤ
     top = top_of size height
@@ -145,7 +157,8 @@ set_patches look size heights bar height some =
     first : (q : Point) → has_point (whole_of size) q ≡ true → Gives look.kind size (deed look above q) old q (mid q)
     first q here =
         let lies = lies-whole size q here in
-        let are : has_point (rows_of (whole_of size) bar (pos 0) (top_of size height)) q ≡ (unsigned_abs q.h / 8 == bar) && not (int_le (pos size.high -ℤ pos height) q.v) =
+        let are : has_point (rows_of (whole_of size) bar (pos 0) (top_of size height)) q
+        ≡ (unsigned_abs q.h / 8 == bar) && not (int_le (pos size.high -ℤ pos height) q.v) =
         rows-have (whole_of size) bar (pos 0) (top_of size height) q here
         ∙ rw (columns-are bar q.h lies.0.first, rows-over (pos size.high -ℤ pos height) (pos size.high) q.v lies.1) refl in
         rw are (first-gives look size (unsigned_abs q.h / 8 == bar) (int_le (pos size.high -ℤ pos height) q.v) old q)
@@ -154,14 +167,18 @@ set_patches look size heights bar height some =
     second q here =
         let lies = lies-whole size q here in
         let k = unsigned_abs q.h / 8 in
-        let are : has_point (rows_of (whole_of size) bar (top_of size height) (pos size.high)) q ≡ (k == bar) && int_le (pos size.high -ℤ pos height) q.v =
+        let are : has_point (rows_of (whole_of size) bar (top_of size height) (pos size.high)) q
+        ≡ (k == bar) && int_le (pos size.high -ℤ pos height) q.v =
         rows-have (whole_of size) bar (top_of size height) (pos size.high) q here
         ∙ rw (columns-are bar q.h lies.0.first, rows-below (pos size.high -ℤ pos height) (pos size.high) q.v lies.1) refl in
         let nth = in_bar-nth size (slice_set heights bar height) q lies.0.first in
         rw (are, nth)
-        (second-gives look size (k == bar) (int_le (pos size.high -ℤ pos height) q.v) (in_nth size (slice_set heights bar height) k q.v) mid q (old q) refl
-        (λ apart. ap colour_of (in_bar-nth size heights q lies.0.first ∙ nth-elsewhere size heights bar height k q.v (eqb-false k bar apart)))
-        (λ same. subst (λ (n : ℕ). in_nth size (slice_set heights bar height) n q.v ≡ int_le (pos size.high -ℤ pos height) q.v) (sym (eqb-true k bar same)) (nth-here size heights bar height q.v some)))
+        (second-gives look size (k == bar) (int_le (pos size.high -ℤ pos height) q.v)
+        (in_nth size (slice_set heights bar height) k q.v) mid q (old q) refl
+        (λ apart. ap colour_of
+        (in_bar-nth size heights q lies.0.first ∙ nth-elsewhere size heights bar height k q.v (eqb-false k bar apart)))
+        (λ same. subst (λ (n : ℕ). in_nth size (slice_set heights bar height) n q.v ≡ int_le (pos size.high -ℤ pos height) q.v)
+        (sym (eqb-true k bar same)) (nth-here size heights bar height q.v some)))
 
 pub meter_contents : (x : List ℕ) (cmd : MeterCmd) → IsMeter x → IsMeterCmd cmd → IsMeter (meter_next x cmd)
 meter_contents x (Bar bar height) valid known = by_test (nat_lt bar (length x))
@@ -182,7 +199,9 @@ pub meter_patches : (look : Look) (size : Size) (x : List ℕ) (cmd : MeterCmd) 
 meter_patches look size x (Bar bar height) valid known small = by_test (nat_lt bar (length x)) refl
   where
     by_test : (b : Bool) → nat_lt bar (length x) ≡ b →
-        IsPatch look size (cond b (batch_of (Tint (rows_of (whole_of size) bar (pos 0) (top_of size height)) Bg ∷ Tint (rows_of (whole_of size) bar (top_of size height) (pos size.high)) Fg ∷ [])) [])
+        IsPatch look size
+        (cond b (batch_of (Tint (rows_of (whole_of size) bar (pos 0) (top_of size height)) Bg
+        ∷ Tint (rows_of (whole_of size) bar (top_of size height) (pos size.high)) Fg ∷ [])) [])
         (meter_pic look size x) (meter_pic look size (cond b (slice_set x bar height) x))
     by_test true some = set_patches look size x bar height (ltb-true bar (length x) some)
     by_test false none = no_patch look size (meter_pic look size x) (meter_pic look size x) (λ q here. refl)
@@ -194,15 +213,23 @@ meter_empty_patches look size x (Bar bar height) valid known small flat = by_tes
     nothing : (part : Edges) → part ≡ empty_rect → (north south : ℤ) (op : Op) → kept (Tint (rows_of part bar north south) op) ≡ []
     nothing part is north south op = rw (is, meet-nothing (rect_of (pos (8 * bar)) (pos (8 * bar + 8)) north south)) refl
 
-    by_test : (b : Bool) → cond b (batch_of (Tint (rows_of (whole_of size) bar (pos 0) (top_of size height)) Bg ∷ Tint (rows_of (whole_of size) bar (top_of size height) (pos size.high)) Fg ∷ [])) [] ≡ []
-    by_test true = rw (nothing (whole_of size) (flat-whole size flat) (pos 0) (top_of size height) Bg, nothing (whole_of size) (flat-whole size flat) (top_of size height) (pos size.high) Fg) refl
+    by_test : (b : Bool) →
+        cond b (batch_of (Tint (rows_of (whole_of size) bar (pos 0) (top_of size height)) Bg
+        ∷ Tint (rows_of (whole_of size) bar (top_of size height) (pos size.high)) Fg ∷ [])) []
+        ≡ []
+    by_test true =
+        rw (
+          nothing (whole_of size) (flat-whole size flat) (pos 0) (top_of size height) Bg,
+          nothing (whole_of size) (flat-whole size flat) (top_of size height) (pos size.high) Fg,
+        ) refl
     by_test false = refl
 
 pub meter_keeping : (look : Look) (from to : Size) (x : List ℕ) → IsMeter x → IsWindowSize from → IsWindowSize to →
     Survives (meter_keeps x from to) from to (meter_pic look from x) (meter_pic look to x)
 meter_keeping look from to x valid small small' = survives-nothing from to (meter_pic look from x) (meter_pic look to x)
 
-pub meter_kinds : (look : Look) (size : Size) (x : List ℕ) (p : Point) → IsMeter x → IsWindowSize size → IsPixel look.kind (meter_pic look size x p)
+pub meter_kinds : (look : Look) (size : Size) (x : List ℕ) (p : Point) → IsMeter x → IsWindowSize size →
+    IsPixel look.kind (meter_pic look size x p)
 meter_kinds look size x p valid small = pixel-colour_of look.kind (in_bar size x p)
 
 -- of the first bars, a point lies in one where it lies in that bar of all
@@ -223,8 +250,8 @@ nth-take size heights n bar v some = by_test (nat_lt bar n) refl
         rw beyond refl
 
 -- one bar more makes the picture of the first bars that of one bar more
-bar-makes : (look : Look) (column low : Bool) (old new : Bool) → (column ≡ true → (old ≡ false) × (new ≡ low)) → (column ≡ false → old ≡ new) →
-    Makes look.kind (cond (column && low) (Value 1) Keep) (colour_of old) (colour_of new)
+bar-makes : (look : Look) (column low : Bool) (old new : Bool) → (column ≡ true → (old ≡ false) × (new ≡ low)) →
+    (column ≡ false → old ≡ new) → Makes look.kind (cond (column && low) (Value 1) Keep) (colour_of old) (colour_of new)
 bar-makes look true true old new is apart = ap colour_of (sym (is refl).1)
 bar-makes look true false old new is apart = ap colour_of ((is refl).0 ∙ sym (is refl).1)
 bar-makes look false low old new is apart = ap colour_of (apart refl)
@@ -232,7 +259,8 @@ bar-makes look false low old new is apart = ap colour_of (apart refl)
 pub bar_pushed : (look : Look) (size : Size) (part : Edges) (batch : List Paint) (heights : List ℕ) (bar : ℕ) →
     ((q : Point) → has_point part q ≡ true → has_point (whole_of size) q ≡ true) → bar < length heights →
     IsPainting look part batch (meter_pic look size (take bar heights)) →
-    IsPainting look part (batch ++ kept (Tint (rows_of part bar (top_of size (slice_index heights bar)) (pos size.high)) Fg)) (meter_pic look size (take (bar + 1) heights))
+    IsPainting look part (batch ++ kept (Tint (rows_of part bar (top_of size (slice_index heights bar)) (pos size.high)) Fg))
+    (meter_pic look size (take (bar + 1) heights))
 bar_pushed look size part batch heights bar inside some painted =
     painting_more look part batch (Tint (rows_of part bar (top_of size (slice_index heights bar)) (pos size.high)) Fg)
     (meter_pic look size (take bar heights)) (meter_pic look size (take (bar + 1) heights)) painted makes
@@ -247,7 +275,10 @@ bar_pushed look size part batch heights bar inside some painted =
         let low = int_le (pos size.high -ℤ pos (slice_index heights bar)) q.v in
         let are : has_point (rows_of part bar (top_of size (slice_index heights bar)) (pos size.high)) q ≡ (k == bar) && low =
         rows-have part bar (top_of size (slice_index heights bar)) (pos size.high) q within
-        ∙ rw (columns-are bar q.h lies.0.first, rows-below (pos size.high -ℤ pos (slice_index heights bar)) (pos size.high) q.v lies.1) refl in
+        ∙ rw (
+          columns-are bar q.h lies.0.first,
+          rows-below (pos size.high -ℤ pos (slice_index heights bar)) (pos size.high) q.v lies.1,
+        ) refl in
         let before = in_bar-nth size (take bar heights) q lies.0.first ∙ nth-take size heights bar k q.v (omega arith) in
         let after = in_bar-nth size (take (bar + 1) heights) q lies.0.first ∙ nth-take size heights (bar + 1) k q.v (omega arith) in
         rw (are, before, after)
@@ -255,20 +286,25 @@ bar_pushed look size part batch heights bar inside some painted =
         (λ same. at_bar k q.v (eqb-true k bar same)) (λ apart. elsewhere k q.v (eqb-false k bar apart)))
       where
         at_bar : (k : ℕ) (v : ℤ) → k ≡ bar →
-            (nat_lt k bar && in_nth size heights k v ≡ false) × (nat_lt k (bar + 1) && in_nth size heights k v ≡ int_le (pos size.high -ℤ pos (slice_index heights bar)) v)
+            (nat_lt k bar && in_nth size heights k v ≡ false)
+            × (nat_lt k (bar + 1) && in_nth size heights k v ≡ int_le (pos size.high -ℤ pos (slice_index heights bar)) v)
         at_bar k v same =
             let not_before : nat_lt bar bar ≡ false = grind (arith, nat_tests) in
             let now : nat_lt bar (bar + 1) ≡ true = grind (arith, nat_tests) in
             let all : nat_lt bar (length heights) ≡ true = grind (arith, nat_tests) in
             rw same (rw not_before refl, rw (now, all) refl)
 
-        elsewhere : (k : ℕ) (v : ℤ) → (k ≡ bar → ⊥) → nat_lt k bar && in_nth size heights k v ≡ nat_lt k (bar + 1) && in_nth size heights k v
+        elsewhere : (k : ℕ) (v : ℤ) → (k ≡ bar → ⊥) →
+            nat_lt k bar && in_nth size heights k v ≡ nat_lt k (bar + 1) && in_nth size heights k v
         elsewhere k v apart =
             let same : nat_lt k bar ≡ nat_lt k (bar + 1) = grind (arith, nat_tests) in
             rw same refl
 
-pub no_bars : (look : Look) (size : Size) (part : Edges) (heights : List ℕ) → IsPainting look part (kept (Tint part Bg)) (meter_pic look size (take 0 heights))
-no_bars look size part heights = painting_first look part (Tint part Bg) (meter_pic look size []) (λ q here. rw here (ap (λ b. Value (colour_of b)) (sym (none q)))) (λ q h. h)
+pub no_bars : (look : Look) (size : Size) (part : Edges) (heights : List ℕ) →
+    IsPainting look part (kept (Tint part Bg)) (meter_pic look size (take 0 heights))
+no_bars look size part heights =
+    painting_first look part (Tint part Bg) (meter_pic look size [])
+    (λ q here. rw here (ap (λ b. Value (colour_of b)) (sym (none q)))) (λ q h. h)
   where
     and_false : (b : Bool) → b && false ≡ false
     and_false true = refl

@@ -1,4 +1,5 @@
--- A Board obeys the laws of clients. These are proofs, which stand here since an impl cites nothing else of its crate; no contract cites them.
+-- A Board obeys the laws of clients.
+-- These are proofs, which stand here since an impl cites nothing else of its crate; no contract cites them.
 use Rattle.std.proofs.Common.{◌≡◌, [], true, refl, ap}
 use Rattle.std.specs.Prelude.{◌-ℤ◌, IfSome}
 use Rattle.tr_base.specs.declared.Point.{Point}
@@ -22,7 +23,8 @@ use Rattle.w_plain.specs.declared.boards.BoardCmd.{BoardCmd}
 use Rattle.w_plain.specs.declared.boards.BoardCmd.TheVariants.{Tile, Shift}
 use Rattle.w_plain.specs.Boards.{IsBoard, IsBoardCmd, board_pic, board_next, board_paints, board_patch, board_answer, board_keeps}
 
-pub board_painting : (look : Look) (size : Size) (part : Edges) (x : Board) → IsPainting look part (board_paints part x) (board_pic look size x)
+pub board_painting : (look : Look) (size : Size) (part : Edges) (x : Board) →
+    IsPainting look part (board_paints part x) (board_pic look size x)
 board_painting look size part x =
     painting_alone look part (Texture part plain x.tile x.shift) (board_pic look size x) (tile-gives look part x.tile x.shift) (λ q h. h)
 
@@ -47,5 +49,6 @@ pub board_keeping : (look : Look) (from to : Size) (x : Board) → IsBoard x →
     Survives (board_keeps x from to) from to (board_pic look from x) (board_pic look to x)
 board_keeping look from to x valid small small' = survives-meet from to (board_pic look from x) (board_pic look to x) (λ q h k. refl)
 
-pub board_kinds : (look : Look) (size : Size) (x : Board) (p : Point) → IsBoard x → IsWindowSize size → IsPixel look.kind (board_pic look size x p)
+pub board_kinds : (look : Look) (size : Size) (x : Board) (p : Point) → IsBoard x → IsWindowSize size →
+    IsPixel look.kind (board_pic look size x p)
 board_kinds look size x p valid small = pixel-colour_of look.kind (tile_bit x.tile (p.h -ℤ x.shift.h) (p.v -ℤ x.shift.v))

@@ -1,4 +1,5 @@
--- A Label obeys the laws of clients. These are proofs, which stand here since an impl cites nothing else of its crate; no contract cites them.
+-- A Label obeys the laws of clients.
+-- These are proofs, which stand here since an impl cites nothing else of its crate; no contract cites them.
 use Rattle.std.proofs.Common.{◌≡◌, ◌<◌, ◌&&◌, Bool, true, false, cond, [], ◌∷◌, ◌++◌, length, Some, None, refl, ap, ◌∙◌, arith}
 use Rattle.std.specs.Prelude.{nat_lt, IfSome}
 use Rattle.std.proofs.lemmas.List.{length-append}
@@ -28,7 +29,8 @@ use Rattle.w_plain.specs.declared.labels.LabelCmd.{LabelCmd}
 use Rattle.w_plain.specs.declared.labels.LabelCmd.TheVariants.{Text}
 use Rattle.w_plain.specs.Labels.{IsLabel, IsLabelCmd, label_pic, label_next, label_paints, label_patch, label_answer, label_keeps}
 
-pub label_painting : (look : Look) (size : Size) (part : Edges) (x : Label) → IsPainting look part (label_paints part x) (label_pic look size x)
+pub label_painting : (look : Look) (size : Size) (part : Edges) (x : Label) →
+    IsPainting look part (label_paints part x) (label_pic look size x)
 label_painting look size part x =
     painting_pushed look part (Tint part Bg ∷ []) (Written part origin plain x.text) (λ q. 0) (label_pic look size x)
     (painting_alone look part (Tint part Bg) (λ q. 0) (λ q here. rw here refl) (λ q h. h))
@@ -61,7 +63,8 @@ label_patches look size x cmd valid known small =
 
 pub label_empty_patches : (look : Look) (size : Size) (x : Label) (cmd : LabelCmd) → IsLabel x → IsLabelCmd cmd → IsWindowSize size →
     is_flat size ≡ true → label_patch look size x cmd ≡ []
-label_empty_patches look size x cmd valid known small flat = ap (λ part. label_paints part (label_next x cmd)) (flat-whole size flat) ∙ nothing (label_next x cmd)
+label_empty_patches look size x cmd valid known small flat =
+    ap (λ part. label_paints part (label_next x cmd)) (flat-whole size flat) ∙ nothing (label_next x cmd)
   where
     nothing : (y : Label) → label_paints empty_rect y ≡ []
     nothing y = rw (meet-nothing (cells_of origin (length y.text))) refl
@@ -70,6 +73,7 @@ pub label_keeping : (look : Look) (from to : Size) (x : Label) → IsLabel x →
     Survives (label_keeps x from to) from to (label_pic look from x) (label_pic look to x)
 label_keeping look from to x valid small small' = survives-meet from to (label_pic look from x) (label_pic look to x) (λ q h k. refl)
 
-pub label_kinds : (look : Look) (size : Size) (x : Label) (p : Point) → IsLabel x → IsWindowSize size → IsPixel look.kind (label_pic look size x p)
+pub label_kinds : (look : Look) (size : Size) (x : Label) (p : Point) → IsLabel x → IsWindowSize size →
+    IsPixel look.kind (label_pic look size x p)
 label_kinds look size x p valid small =
     pixel-text look.kind (has_point (cells_of origin (length x.text)) p) (text_bit look.font origin x.text p)

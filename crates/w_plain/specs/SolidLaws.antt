@@ -1,4 +1,5 @@
--- A Solid obeys the laws of clients. These are proofs, which stand here since an impl cites nothing else of its crate; no contract cites them.
+-- A Solid obeys the laws of clients.
+-- These are proofs, which stand here since an impl cites nothing else of its crate; no contract cites them.
 use Rattle.std.proofs.Common.{◌≡◌, [], true, refl, ap}
 use Rattle.std.specs.Prelude.{IfSome}
 use Rattle.tr_base.specs.declared.Point.{Point}
@@ -22,7 +23,8 @@ use Rattle.w_plain.specs.declared.solids.SolidCmd.{SolidCmd}
 use Rattle.w_plain.specs.declared.solids.SolidCmd.TheVariants.{Tint}
 use Rattle.w_plain.specs.Solids.{IsSolid, IsSolidCmd, solid_pic, solid_next, solid_paints, solid_patch, solid_answer, solid_keeps}
 
-pub solid_painting : (look : Look) (size : Size) (part : Edges) (x : Solid) → IsPainting look part (solid_paints part x) (solid_pic look size x)
+pub solid_painting : (look : Look) (size : Size) (part : Edges) (x : Solid) →
+    IsPainting look part (solid_paints part x) (solid_pic look size x)
 solid_painting look size part x =
     painting_alone look part (Tinted part (Set x.tint)) (solid_pic look size x) (λ q here. rw here refl) (λ q h. h)
 
@@ -47,5 +49,6 @@ pub solid_keeping : (look : Look) (from to : Size) (x : Solid) → IsSolid x →
     Survives (solid_keeps x from to) from to (solid_pic look from x) (solid_pic look to x)
 solid_keeping look from to x valid small small' = survives-meet from to (solid_pic look from x) (solid_pic look to x) (λ q h k. refl)
 
-pub solid_kinds : (look : Look) (size : Size) (x : Solid) (p : Point) → IsSolid x → IsWindowSize size → IsPixel look.kind (solid_pic look size x p)
+pub solid_kinds : (look : Look) (size : Size) (x : Solid) (p : Point) → IsSolid x → IsWindowSize size →
+    IsPixel look.kind (solid_pic look size x p)
 solid_kinds look size x p valid small = pixel-resolved look.kind x.tint valid.tint

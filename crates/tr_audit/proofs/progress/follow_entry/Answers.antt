@@ -26,4 +26,5 @@ returns-in_default g c = λ from order so_far.
     let actor : Actor = c.get.result.now.actor in
     let none : rank_of n actor ≡ None =
     ap (λ m. rank_of m actor) (sym c.leaves.ensures) ∙ sym c.rank_of.ensures ∙ c.in_default.is in
-    followed_none c.args.lists.now (entries_of c.args.journal.now.lines) from c.args.k c.get.result.now c.args.progress.now.items order c.get.ensures none so_far
+    followed_none c.args.lists.now (entries_of c.args.journal.now.lines) from c.args.k c.get.result.now c.args.progress.now.items order
+    c.get.ensures none so_far

@@ -7,10 +7,14 @@ pub loop-init : goal.loop-init
 loop-init g c = not_tried _ _
 
 pub returns-in-Moved-clause-asked : goal.returns-in-Moved-clause-asked
-returns-in-Moved-clause-asked g c = asked (write_attempt c.args.piece.now) _ _ _ _ _ _ (ap settled (sym c.write_attempt.ensures ∙ c.in-Moved.is)) c.loop.invariant c.ask.ensures.told
+returns-in-Moved-clause-asked g c =
+    asked (write_attempt c.args.piece.now) _ _ _ _ _ _ (ap settled (sym c.write_attempt.ensures ∙ c.in-Moved.is))
+    c.loop.invariant c.ask.ensures.told
 
 pub returns-in-Fault-clause-asked : goal.returns-in-Fault-clause-asked
-returns-in-Fault-clause-asked g c = asked (write_attempt c.args.piece.now) _ _ _ _ _ _ (ap settled (sym c.write_attempt.ensures ∙ c.in-Fault.is)) c.loop.invariant c.ask.ensures.told
+returns-in-Fault-clause-asked g c =
+    asked (write_attempt c.args.piece.now) _ _ _ _ _ _ (ap settled (sym c.write_attempt.ensures ∙ c.in-Fault.is))
+    c.loop.invariant c.ask.ensures.told
 
 pub loop-preserved : goal.loop-preserved
 loop-preserved g c = tried_again (write_attempt c.args.piece.now) _ _ _ _ _ (sym c.write_attempt.ensures ∙ c.in-Again.is) c.loop.invariant c.ask.ensures.told

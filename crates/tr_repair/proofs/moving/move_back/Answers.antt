@@ -14,8 +14,13 @@ loop-v-preserved c =
     let high = c.args.screen.now.size.high in
     let v = c.loop-v.v in
     let same = band_to region band.rects.now band.north band.south v c.last_band-band.ensures.to c.last_band-band.ensures.points in
-    let moves = moves_fewer c.args.screen.now.size c.args.delta (holds region) (in_band band.north band.south band.rects.now) c.requires.moves (λ p t. (and_parts (in_rows band.north v p) (holds region p) (sym (same p) ∙ t)).1) in
+    let moves =
+    moves_fewer c.args.screen.now.size c.args.delta (holds region) (in_band band.north band.south band.rects.now)
+    c.requires.moves (λ p t. (and_parts (in_rows band.north v p) (holds region p) (sym (same p) ∙ t)).1) in
     record {
       rows = omega (arith, c.last_band-band.ensures.order, c.last_band-band.ensures.to, c.loop-v.invariant.rows);
-      done = rows_back (holds region) (in_band band.north band.south band.rects.now) band.north v high c.args.delta c.args.screen.now c.loop-v.screen _ moves c.move_band_back.ensures (omega (arith, c.last_band-band.ensures.order, c.last_band-band.ensures.to)) c.loop-v.invariant.rows c.requires.way same c.loop-v.invariant.done;
+      done = rows_back (holds region) (in_band band.north band.south band.rects.now)
+          band.north v high c.args.delta c.args.screen.now c.loop-v.screen _ moves
+          c.move_band_back.ensures (omega (arith, c.last_band-band.ensures.order, c.last_band-band.ensures.to))
+          c.loop-v.invariant.rows c.requires.way same c.loop-v.invariant.done;
     }

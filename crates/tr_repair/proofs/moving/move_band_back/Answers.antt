@@ -8,12 +8,16 @@ use Rattle.tr_repair.proofs.moving.move_band_back.Goals as goal
 pub move_rows-requires-clause-straight : goal.move_rows-requires-clause-straight
 move_rows-requires-clause-straight c =
     let all = rw c.size.ensures.value at (c.are_whole.ensures c.if-are_whole.true) in
-    rows_straight c.args.screen.now.size c.args.delta c.args.band.now.rects.now c.args.band.now.north c.args.band.now.south c.size.ensures.invariant.size.some_wide c.if-band.true all c.requires.moves
+    rows_straight c.args.screen.now.size c.args.delta
+    c.args.band.now.rects.now c.args.band.now.north c.args.band.now.south
+    c.size.ensures.invariant.size.some_wide c.if-band.true all c.requires.moves
 
 pub move_rows-requires-clause-from_north : goal.move_rows-requires-clause-from_north
 move_rows-requires-clause-from_north c =
     let all = rw c.size.ensures.value at (c.are_whole.ensures c.if-are_whole.true) in
-    rows_from_north c.args.screen.now.size c.args.delta c.args.band.now.rects.now c.args.band.now.north c.args.band.now.south c.size.ensures.invariant.size.some_wide c.if-band.true all c.requires.moves
+    rows_from_north c.args.screen.now.size c.args.delta
+    c.args.band.now.rects.now c.args.band.now.north c.args.band.now.south
+    c.size.ensures.invariant.size.some_wide c.if-band.true all c.requires.moves
 
 pub loop-v-preserved : goal.loop-v-preserved
 loop-v-preserved c =
@@ -23,10 +27,14 @@ loop-v-preserved c =
     let v = c.loop-v.v - 1 in
     let next : c.loop-v.v ≡ v + 1 = omega (arith, c.loop-v-test.true) in
     let to : v + 1 ≤ south = omega (arith, c.loop-v.auto.v, c.requires.order, c.loop-v-test.true) in
-    let moves = moves_fewer c.args.screen.now.size c.args.delta (in_band north south rects) (in_row v rects) c.requires.moves (λ p t. band_of_row rects north south v p (omega (arith, c.loop-v-test.true)) (omega arith) t) in
+    let moves =
+    moves_fewer c.args.screen.now.size c.args.delta (in_band north south rects) (in_row v rects) c.requires.moves
+    (λ p t. band_of_row rects north south v p (omega (arith, c.loop-v-test.true)) (omega arith) t) in
     record {
       rows = omega (arith, c.loop-v-test.true);
-      done = rows_back (in_columns rects) (in_row v rects) v (v + 1) south c.args.delta c.args.screen.now c.loop-v.screen _ moves c.move_row_back.ensures (omega arith) to c.requires.way (part_of_row rects v) (rw next at c.loop-v.invariant.done);
+      done = rows_back (in_columns rects) (in_row v rects)
+          v (v + 1) south c.args.delta c.args.screen.now c.loop-v.screen _ moves
+          c.move_row_back.ensures (omega arith) to c.requires.way (part_of_row rects v) (rw next at c.loop-v.invariant.done);
     }
 
 pub returns : goal.returns

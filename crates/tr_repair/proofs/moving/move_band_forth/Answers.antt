@@ -8,12 +8,16 @@ use Rattle.tr_repair.proofs.moving.move_band_forth.Goals as goal
 pub move_rows-requires-clause-straight : goal.move_rows-requires-clause-straight
 move_rows-requires-clause-straight c =
     let all = rw c.size.ensures.value at (c.are_whole.ensures c.if-are_whole.true) in
-    rows_straight c.args.screen.now.size c.args.delta c.args.band.now.rects.now c.args.band.now.north c.args.band.now.south c.size.ensures.invariant.size.some_wide c.if-band.true all c.requires.moves
+    rows_straight c.args.screen.now.size c.args.delta
+    c.args.band.now.rects.now c.args.band.now.north c.args.band.now.south
+    c.size.ensures.invariant.size.some_wide c.if-band.true all c.requires.moves
 
 pub move_rows-requires-clause-from_south : goal.move_rows-requires-clause-from_south
 move_rows-requires-clause-from_south c =
     let all = rw c.size.ensures.value at (c.are_whole.ensures c.if-are_whole.true) in
-    rows_from_south c.args.screen.now.size c.args.delta c.args.band.now.rects.now c.args.band.now.north c.args.band.now.south c.size.ensures.invariant.size.some_wide c.if-band.true all c.requires.moves
+    rows_from_south c.args.screen.now.size c.args.delta
+    c.args.band.now.rects.now c.args.band.now.north c.args.band.now.south
+    c.size.ensures.invariant.size.some_wide c.if-band.true all c.requires.moves
 
 pub loop-v-preserved : goal.loop-v-preserved
 loop-v-preserved c =
@@ -21,5 +25,9 @@ loop-v-preserved c =
     let north = c.args.band.now.north in
     let south = c.args.band.now.south in
     let v = c.loop-v.v in
-    let moves = moves_fewer c.args.screen.now.size c.args.delta (in_band north south rects) (in_row v rects) c.requires.moves (λ p t. band_of_row rects north south v p (omega (arith, c.loop-v.auto.v)) c.loop-v-test.true t) in
-    rows_forth (in_columns rects) (in_row v rects) north v (v + 1) c.args.delta c.args.screen.now c.loop-v.screen _ moves c.move_row_forth.ensures (omega arith) (omega arith) c.requires.way (part_of_row rects v) c.loop-v.invariant
+    let moves =
+    moves_fewer c.args.screen.now.size c.args.delta (in_band north south rects) (in_row v rects) c.requires.moves
+    (λ p t. band_of_row rects north south v p (omega (arith, c.loop-v.auto.v)) c.loop-v-test.true t) in
+    rows_forth (in_columns rects) (in_row v rects)
+    north v (v + 1) c.args.delta c.args.screen.now c.loop-v.screen _ moves
+    c.move_row_forth.ensures (omega arith) (omega arith) c.requires.way (part_of_row rects v) c.loop-v.invariant

@@ -23,4 +23,5 @@ loop-i-preserved c =
     let lt : k < length c.args.row.now = omega (arith, c.loop-i-test.true, c.loop-i.auto.i) in
     let next : c.loop-i.i ≡ k + 1 = omega (arith, c.loop-i-test.true) in
     let moved = rw c.run_in.ensures at c.move_run.ensures in
-    runs_back c.args.v c.args.row.now k c.index-row-i.result c.index-row-i.is lt c.requires.apart c.args.delta c.args.screen.now c.loop-i.screen _ c.requires.moves moved c.requires.way (rw next at c.loop-i.invariant)
+    runs_back c.args.v c.args.row.now k c.index-row-i.result c.index-row-i.is lt c.requires.apart
+    c.args.delta c.args.screen.now c.loop-i.screen _ c.requires.moves moved c.requires.way (rw next at c.loop-i.invariant)

@@ -22,7 +22,9 @@ move_run-requires c =
 pub loop-rect-preserved : goal.loop-rect-preserved
 loop-rect-preserved c =
     let moved = rw c.run_in.ensures at c.move_run.ensures in
-    runs_forth c.args.v c.args.row.now c.loop-rect.rect-index c.rect-item.result c.rect-item.is c.loop-rect-test.true c.requires.apart c.args.delta c.args.screen.now c.loop-rect.screen _ c.requires.moves moved c.requires.way c.loop-rect.invariant
+    runs_forth c.args.v c.args.row.now c.loop-rect.rect-index c.rect-item.result c.rect-item.is
+    c.loop-rect-test.true c.requires.apart c.args.delta c.args.screen.now c.loop-rect.screen _
+    c.requires.moves moved c.requires.way c.loop-rect.invariant
 
 pub returns : goal.returns
 returns c =

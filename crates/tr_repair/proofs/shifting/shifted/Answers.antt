@@ -3,4 +3,6 @@ use Rattle.tr_repair.proofs.NearLemmas.{all_in_reach}
 use Rattle.tr_repair.proofs.shifting.shifted.Goals as goal
 
 pub shift-requires : goal.shift-requires
-shift-requires c = all_in_reach c.args.region.now c.args.delta (AreInOrder-canonical c.args.region.now c.rects-rects.ensures.invariant) c.requires.points c.requires.delta
+shift-requires c =
+    all_in_reach c.args.region.now c.args.delta
+    (AreInOrder-canonical c.args.region.now c.rects-rects.ensures.invariant) c.requires.points c.requires.delta

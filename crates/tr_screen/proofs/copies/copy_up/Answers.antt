@@ -17,7 +17,9 @@ loop-i-preserved c =
     let target : to + (rest + i * d) ≡ to + (rest + (i - 1) * d) + d = omega (arith, start) in
     let part = c.copy_rows_within.ensures in
     let more : (c.args.count / d - (i - 1)) * d ≡ d + (c.args.count / d - i) * d = ap (λ n. n * d) left ∙ suc-mul (c.args.count / d - i) d ∙ omega arith in
-    rw more (copied_back _ _ _ (from + (rest + (i - 1) * d)) (to + (rest + (i - 1) * d)) _ d (omega (arith, c.requires.up)) (rw (source, target) at c.loop-i.invariant) (record { copied = part.copied; before = part.before; behind = part.behind }))
+    rw more (copied_back _ _ _ (from + (rest + (i - 1) * d)) (to + (rest + (i - 1) * d)) _ d (omega (arith, c.requires.up))
+    (rw (source, target) at c.loop-i.invariant)
+    (record { copied = part.copied; before = part.before; behind = part.behind }))
 
 pub returns : goal.returns
 returns c =
@@ -34,4 +36,5 @@ returns c =
     let pieces : count / d - c.loop-i.i ≡ count / d = omega (arith, first) in
     let left : (count / d - c.loop-i.i) * d ≡ count / d * d = ap (λ n. n * d) pieces in
     let whole : count ≡ rest + (count / d - c.loop-i.i) * d = omega (arith, mod-eq-sub-div-mul count d, div-mul-le_self count d, left) in
-    rw whole (copied_back _ _ _ from to ((count / d - c.loop-i.i) * d) rest (omega (arith, c.requires.up)) (rw (source, target) at c.loop-i.invariant) (record { copied = last.copied; before = last.before; behind = last.behind }))
+    rw whole (copied_back _ _ _ from to ((count / d - c.loop-i.i) * d) rest (omega (arith, c.requires.up))
+    (rw (source, target) at c.loop-i.invariant) (record { copied = last.copied; before = last.before; behind = last.behind }))

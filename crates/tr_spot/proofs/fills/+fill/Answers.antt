@@ -7,12 +7,14 @@ use Rattle.tr_spot.proofs.fills.+fill.Goals as goal
 
 pub domain_of-requires : goal.domain_of-requires
 domain_of-requires t c =
-    (listed_below c.args.tree.now.nodes c.requires.forest c.args.n c.children-child-items.result.now c.loop-child.child-index c.children-child-items.ensures (omega arith)).is_node
+    (listed_below c.args.tree.now.nodes c.requires.forest c.args.n c.children-child-items.result.now c.loop-child.child-index
+    c.children-child-items.ensures (omega arith)).is_node
 
 pub fill-requires : goal.fill-requires
 fill-requires t c =
     let below : IsBelow c.args.tree.now.nodes c.args.n (get_or c.children-child-items.result.now c.loop-child.child-index zero_node) =
-    listed_below c.args.tree.now.nodes c.requires.forest c.args.n c.children-child-items.result.now c.loop-child.child-index c.children-child-items.ensures (omega arith) in
+    listed_below c.args.tree.now.nodes c.requires.forest c.args.n c.children-child-items.result.now c.loop-child.child-index
+    c.children-child-items.ensures (omega arith) in
     (omega (arith, below.deeper, below.most, c.decreases), (c.requires.forest, (below.is_node, c.loop-child.invariant.count)))
 
 pub loop-child-preserved : goal.loop-child-preserved
@@ -20,7 +22,8 @@ loop-child-preserved t c = record {
   count = c.in_ok-fill.ensures.count;
   rest = rest_next c.args.tree.now c.args.n c.loop-child.child-index c.children-child-items.result.now
       (owner_among c.args.tree.now c.args.n c.children-child-items.result.now)
-      c.args.regions.now.items c.loop-child.regions.items c.fill.new.regions.items c.args.part c.loop-child.left c.in_ok-below.below c.in_ok-left.left c.in_ok-domain.domain
+      c.args.regions.now.items c.loop-child.regions.items c.fill.new.regions.items
+      c.args.part c.loop-child.left c.in_ok-below.below c.in_ok-left.left c.in_ok-domain.domain
       c.loop-child.invariant.rest (omega arith) (c.loop-child.invariant.count ∙ sym c.requires.regions)
       c.in_ok-domain.ensures c.in_ok-below.ensures.points c.in_ok-left.ensures.points c.in_ok-fill.ensures.gains;
 }
@@ -37,6 +40,7 @@ loop-child-preserved-then-is_empty t c = record {
 
 pub returns-clause-gains : goal.returns-clause-gains
 returns-clause-gains t c = on_ok_weaker c.add.result
-    (λ h. rest_last c.args.tree.now c.requires.forest c.args.n c.loop-child.child-index c.children-child-items.result.now c.args.regions.now.items c.loop-child.regions.items
-    c.add.new.regions.items c.args.part c.loop-child.left c.children-child-items.ensures c.loop-child.invariant.rest (omega arith)
+    (λ h. rest_last c.args.tree.now c.requires.forest c.args.n c.loop-child.child-index c.children-child-items.result.now
+    c.args.regions.now.items c.loop-child.regions.items c.add.new.regions.items c.args.part c.loop-child.left
+    c.children-child-items.ensures c.loop-child.invariant.rest (omega arith)
     (c.loop-child.invariant.count ∙ sym c.requires.regions) h) c.add.ensures.gains

@@ -9,10 +9,12 @@ use Rattle.tr_spot.proofs.fills.regions_within.Goals as goal
 pub returns-clause-points : goal.returns-clause-points
 returns-clause-points c =
     let is_root : c.args.tree.now.nodes.root ≡ Some c.unwrap-root.result = sym c.root.ensures ∙ c.unwrap-root.ensures in
-    λ n p h. regions_own_within c.args.tree.now c.unwrap-root.result c.args.within.now c.in_ok-part.part c.args.before.now c.in_ok-regions.regions.items c.fill.new.regions.items
+    λ n p h. regions_own_within c.args.tree.now c.unwrap-root.result c.args.within.now c.in_ok-part.part
+    c.args.before.now c.in_ok-regions.regions.items c.fill.new.regions.items
     c.count.ensures.invariant is_root c.requires.before (record { points = c.in_ok-regions.ensures.points }) c.in_ok-regions.ensures.count
     (λ q. c.in_ok-part.ensures.points q
-    ∙ ap (λ b. b && holds c.args.within.now q) (c.in_ok-screen.ensures.points q ∙ ap (λ (e : Edges). has_point e q) (c.whole.ensures.edges ∙ ap whole_of c.size.ensures)))
+    ∙ ap (λ b. b && holds c.args.within.now q)
+    (c.in_ok-screen.ensures.points q ∙ ap (λ (e : Edges). has_point e q) (c.whole.ensures.edges ∙ ap whole_of c.size.ensures)))
     c.in_ok-fill.ensures.gains n p h
     ∙ spot_is c.args.tree.now c.count.ensures.invariant p n
 

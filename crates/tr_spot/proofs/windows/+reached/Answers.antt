@@ -27,11 +27,15 @@ passed_on-requires-clause-parent t c = has_child_is_node c.args.tree.now.nodes c
 pub returns-in-None : goal.returns-in-None
 returns-in-None t c = holds_as c.of_rect-in-None.result (has_point c.empty_place.result) (λ p. comes_to c.args.tree.now p c.args.n)
     (λ p. empty-has_point c.empty_place.result c.empty_place.ensures p
-    ∙ sym (comes_nowhere c.args.tree.now c.requires.forest p c.args.n (sym c.is_root.ensures ∙ c.if-is_root.false) (sym c.in-None.ensures))) c.of_rect-in-None.ensures.points
+    ∙ sym (comes_nowhere c.args.tree.now c.requires.forest p c.args.n
+    (sym c.is_root.ensures ∙ c.if-is_root.false) (sym c.in-None.ensures)))
+    c.of_rect-in-None.ensures.points
 
 pub returns-in_ok-above-in-Some : goal.returns-in_ok-above-in-Some
 returns-in_ok-above-in-Some t c = holds_as c.passed_on.result
     (λ p. holds c.in_ok-above-in-Some.above p && is_it c.args.n (front c.args.tree.now p (node c.args.tree.now.nodes c.in-Some.parent).children))
     (λ p. comes_to c.args.tree.now p c.args.n)
     (λ p. ap (λ b. b && is_it c.args.n (front c.args.tree.now p (node c.args.tree.now.nodes c.in-Some.parent).children)) (c.in_ok-above-in-Some.ensures p)
-    ∙ sym (comes_parent c.args.tree.now c.requires.forest p c.args.n c.in-Some.parent (sym c.is_root.ensures ∙ c.if-is_root.false) (sym c.in-Some.ensures))) c.passed_on.ensures
+    ∙ sym (comes_parent c.args.tree.now c.requires.forest p c.args.n c.in-Some.parent
+    (sym c.is_root.ensures ∙ c.if-is_root.false) (sym c.in-Some.ensures)))
+    c.passed_on.ensures

@@ -26,7 +26,8 @@ pub loop-sibling-preserved : goal.loop-sibling-preserved
 loop-sibling-preserved c = record {
   inside = λ p h. c.loop-sibling.invariant.inside p (and_left _ _ (sym (c.in_ok-left-2.ensures.points p) ∙ h));
   rest = λ p.
-      passed_next c.args.tree.now p c.loop-sibling.sibling-index c.children-sibling-items.result.now c.args.child (holds c.loop-sibling.left p) (holds c.in_ok-left-2.left p)
+      passed_next c.args.tree.now p c.loop-sibling.sibling-index c.children-sibling-items.result.now c.args.child
+      (holds c.loop-sibling.left p) (holds c.in_ok-left-2.left p)
       (omega arith) c.if-sibling-child.false (c.in_ok-left-2.ensures.points p ∙ ap (λ b. holds c.loop-sibling.left p && not b) (c.in_ok-in_front.ensures p))
       ∙ c.loop-sibling.invariant.rest p;
 }
@@ -35,10 +36,14 @@ pub returns-then-sibling-child : goal.returns-then-sibling-child
 returns-then-sibling-child c = λ p.
     passed_found c.args.tree.now p c.loop-sibling.sibling-index c.children-sibling-items.result.now c.args.child (holds c.loop-sibling.left p)
     (omega arith) c.if-sibling-child.true (c.loop-sibling.invariant.inside p)
-    ∙ c.loop-sibling.invariant.rest p ∙ ap (λ (ks : List NodeId). holds c.args.part.now p && is_it c.args.child (front c.args.tree.now p ks)) c.children-sibling-items.ensures
+    ∙ c.loop-sibling.invariant.rest p
+    ∙ ap (λ (ks : List NodeId). holds c.args.part.now p && is_it c.args.child (front c.args.tree.now p ks))
+    c.children-sibling-items.ensures
 
 pub returns : goal.returns
 returns c = λ p.
     ap (λ (r : List Edges). holds r p) c.empty.ensures
     ∙ passed_none c.args.tree.now p c.loop-sibling.sibling-index c.children-sibling-items.result.now c.args.child (holds c.loop-sibling.left p) (omega arith)
-    ∙ c.loop-sibling.invariant.rest p ∙ ap (λ (ks : List NodeId). holds c.args.part.now p && is_it c.args.child (front c.args.tree.now p ks)) c.children-sibling-items.ensures
+    ∙ c.loop-sibling.invariant.rest p
+    ∙ ap (λ (ks : List NodeId). holds c.args.part.now p && is_it c.args.child (front c.args.tree.now p ks))
+    c.children-sibling-items.ensures

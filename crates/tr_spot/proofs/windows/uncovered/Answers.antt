@@ -6,9 +6,11 @@ use Rattle.tr_spot.proofs.windows.uncovered.Goals as goal
 
 pub domain_of-requires : goal.domain_of-requires
 domain_of-requires c =
-    (listed_below c.args.tree.now.nodes c.requires.forest c.args.n c.children-child-items.result.now c.loop-child.child-index c.children-child-items.ensures (omega arith)).is_node
+    (listed_below c.args.tree.now.nodes c.requires.forest c.args.n c.children-child-items.result.now c.loop-child.child-index
+    c.children-child-items.ensures (omega arith)).is_node
 
 pub loop-child-preserved : goal.loop-child-preserved
 loop-child-preserved c = λ p.
-    uncovered_next c.args.tree.now p c.loop-child.child-index c.children-child-items.result.now (holds c.loop-child.left p) (holds c.in_ok-left.left p) (omega arith)
+    uncovered_next c.args.tree.now p c.loop-child.child-index c.children-child-items.result.now
+    (holds c.loop-child.left p) (holds c.in_ok-left.left p) (omega arith)
     (c.in_ok-left.ensures.points p ∙ ap (λ b. holds c.loop-child.left p && not b) (c.in_ok-covered.ensures p)) ∙ c.loop-child.invariant p

@@ -15,7 +15,8 @@ fill_below-requires t c =
     let lt : c.loop-c.c-index < length cs = omega arith in
     let among : is_among (get_or cs c.loop-c.c-index d) (node c.args.forest.now c.args.n).children ≡ true =
     sym (ap (is_among (get_or cs c.loop-c.c-index d)) c.children-c-items.ensures) ∙ among_at cs c.loop-c.c-index d lt in
-    let inside : IsNode c.args.forest.now (get_or cs c.loop-c.c-index d) = child_is_node c.args.forest.now c.args.n (get_or cs c.loop-c.c-index d) c.requires.forest among in
+    let inside : IsNode c.args.forest.now (get_or cs c.loop-c.c-index d) =
+    child_is_node c.args.forest.now c.args.n (get_or cs c.loop-c.c-index d) c.requires.forest among in
     let deep : depth c.args.forest.now (get_or cs c.loop-c.c-index d) ≡ depth c.args.forest.now c.args.n + 1 =
     depth_child c.args.forest.now c.args.n (get_or cs c.loop-c.c-index d) c.requires.forest among in
     let most : depth c.args.forest.now (get_or cs c.loop-c.c-index d) ≤ 16 = c.requires.forest.depths (get_or cs c.loop-c.c-index d) in (
@@ -50,10 +51,13 @@ loop-c-preserved t c = record {
 pub shape_above-requires-clause-children : goal.shape_above-requires-clause-children
 shape_above-requires-clause-children t c =
     subst (λ (xs : List Shapes). HasChildren c.args.forest.now c.args.n xs) (sym c.deref.ensures.value)
-    (filling_children c.args.forest.now c.args.n c.children-c-items.result.now c.loop-c.c-index c.args.shapes.now.items c.loop-c.shapes.items (omega arith) c.loop-c.invariant.filling)
+    (filling_children c.args.forest.now c.args.n c.children-c-items.result.now c.loop-c.c-index
+    c.args.shapes.now.items c.loop-c.shapes.items (omega arith) c.loop-c.invariant.filling)
 
 pub returns-clause-fills : goal.returns-clause-fills
 returns-clause-fills t c =
     rw c.from.ensures
-    (filling_last c.args.forest.now c.requires.forest c.args.n c.children-c-items.result.now c.loop-c.c-index c.args.shapes.now.items c.loop-c.shapes.items c.shape_above.result
-    (omega arith) c.loop-c.invariant.filling (omega (arith, c.requires.node.within, c.loop-c.invariant.count, c.requires.count)) c.shape_above.ensures.shapes)
+    (filling_last c.args.forest.now c.requires.forest c.args.n c.children-c-items.result.now c.loop-c.c-index
+    c.args.shapes.now.items c.loop-c.shapes.items c.shape_above.result
+    (omega arith) c.loop-c.invariant.filling
+    (omega (arith, c.requires.node.within, c.loop-c.invariant.count, c.requires.count)) c.shape_above.ensures.shapes)

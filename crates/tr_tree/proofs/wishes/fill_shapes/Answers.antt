@@ -29,5 +29,7 @@ loop-k-preserved c =
     ]
 
 pub returns-clause-shapes : goal.returns-clause-shapes
-returns-clause-shapes c = all_filled c.args.forest.now c.count-count.ensures.invariant c.loop-k.shapes.items (omega (arith, c.loop-k.invariant.count, c.requires.count))
+returns-clause-shapes c =
+    all_filled c.args.forest.now c.count-count.ensures.invariant c.loop-k.shapes.items
+    (omega (arith, c.loop-k.invariant.count, c.requires.count))
     (subst (λ (k : ℕ). AreFilled c.args.forest.now k c.loop-k.shapes.items) (omega (arith, c.count-count.ensures.count)) c.loop-k.invariant.filled)

@@ -23,7 +23,11 @@ shape_of-requires-clause-count c =
 
 pub returns-clause-shapes : goal.returns-clause-shapes
 returns-clause-shapes c =
-    let gathered : take (length c.children-children.result.now) c.deref.result.now ≡ map (shape_in c.args.table.now) (node c.args.forest.now c.args.n).children =
-    ap (take (length c.children-children.result.now)) c.deref.ensures.value ∙ c.gather.ensures.shapes ∙ ap (map (shape_in c.args.table.now)) c.children-children.ensures in
+    let gathered : take (length c.children-children.result.now) c.deref.result.now
+    ≡ map (shape_in c.args.table.now) (node c.args.forest.now c.args.n).children =
+    ap (take (length c.children-children.result.now)) c.deref.ensures.value
+    ∙ c.gather.ensures.shapes
+    ∙ ap (map (shape_in c.args.table.now)) c.children-children.ensures in
     c.shape_of.ensures ∙ ap (λ (k : NodeKind). shape_of k (take (length c.children-children.result.now) c.deref.result.now)) c.kind_of.ensures
-    ∙ shape_above_is c.args.forest.now c.requires.forest c.args.n c.args.table.now (take (length c.children-children.result.now) c.deref.result.now) c.requires.children gathered
+    ∙ shape_above_is c.args.forest.now c.requires.forest c.args.n c.args.table.now
+    (take (length c.children-children.result.now) c.deref.result.now) c.requires.children gathered

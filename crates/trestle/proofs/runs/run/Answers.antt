@@ -85,7 +85,8 @@ returns-in-Ok-after_name-clause-summed_up g c =
     let plays : ℕ → Type 0 = λ number. IsSomeAnd c.trestle_call-outcome.result.stage (λ stage. HasPlayed (drawn number) stage) in
     of_heard (λ words. exit_status c.from.result ≡ 0 → OfNumber (command_of words) writes) c.args.all c.in-Ok.all
     c.deref.result.now c.in-Ok.is (c.deref.ensures.value ∙ c.in-Ok-after_name.ensures)
-    (λ e. first_of_number (command_of (texts_of c.deref.result.now)) writes plays (c.trestle_call-outcome.ensures.summed_up (sym (c.from.ensures ∙ c.into_status.ensures) ∙ e)))
+    (λ e. first_of_number (command_of (texts_of c.deref.result.now)) writes plays
+    (c.trestle_call-outcome.ensures.summed_up (sym (c.from.ensures ∙ c.into_status.ensures) ∙ e)))
 
 pub returns-in-Ok-after_name-clause-complete : goal.returns-in-Ok-after_name-clause-complete
 returns-in-Ok-after_name-clause-complete g c =

@@ -11,7 +11,8 @@ returns-then-not-has t c =
     let self = c.args.self.now in
     let has : holds self.visible.now c.place-p.result ≡ false = search rules in
     let hidden : holds self.visible.now (placed self.origin c.args.q) ≡ false = rw c.place-p.ensures at has in
-    traced_hidden (look_of self.env.kind self.env.font.now) (base_of self.origin self.visible.now self.bad.now self.screen.now) c.args.paints.now c.args.q hidden
+    traced_hidden (look_of self.env.kind self.env.font.now)
+    (base_of self.origin self.visible.now self.bad.now self.screen.now) c.args.paints.now c.args.q hidden
 
 pub area-requires : goal.area-requires
 area-requires t c = (batch_split c.args.paints.now c.in-Some.before.now c.in-Some.paint.now c.in-Some.ensures.cases.0 c.requires.batch).1.near

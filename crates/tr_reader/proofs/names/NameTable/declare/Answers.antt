@@ -16,7 +16,8 @@ invariant_of-self-2 c =
     let few : length c.args.self.now < 256 = c.requires.room in
     let now = λ (q : List ℕ). btree_map_updates_str name c.self.inside.numbers c.insert.new.self _ c.in_ok-insert.ensures.updates q in
     let new : number_of (texts old) name ≡ None = ap (λ (v : List (List ℕ)). number_of v name) c.self.view_is ∙ c.requires.new in
-    let items : texts c.push_reserved.new.self.items ≡ texts old ++ name ∷ [] = rw (c.push_reserved.ensures.items, c.in_ok-reserve.ensures.items, map-append) refl in (
+    let items : texts c.push_reserved.new.self.items ≡ texts old ++ name ∷ [] =
+    rw (c.push_reserved.ensures.items, c.in_ok-reserve.ensures.items, map-append) refl in (
       omega (arith, c.push_reserved.ensures.len, c.in_ok-reserve.ensures.len),
       λ q.
           let pushed = number_of-push (texts old) name q new in

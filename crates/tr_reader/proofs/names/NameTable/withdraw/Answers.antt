@@ -17,7 +17,9 @@ invariant_of-self c =
     let more : length old ≡ length before + 1 = sym (length-map old (λ w. w.now)) ∙ ap length all ∙ length-append before (name ∷ []) in
     let one : vec_len c.self.inside.names - 1 ≡ length before = omega arith in
     let items : texts c.pop.new.self.items ≡ before =
-    rw (c.pop.ensures.rest, one) (sym (take-map (λ w. w.now) (length before) old)) ∙ ap (λ (v : List (List ℕ)). take (length before) v) all ∙ take-append_seam before (name ∷ []) in
+    rw (c.pop.ensures.rest, one) (sym (take-map (λ w. w.now) (length before) old))
+    ∙ ap (λ (v : List (List ℕ)). take (length before) v) all
+    ∙ take-append_seam before (name ∷ []) in
     let now = λ (q : List ℕ). btree_map_updates_str name c.self.inside.numbers c.remove.new.self _ c.remove.ensures.updates q in (
       omega (arith, c.pop.ensures.len),
       λ q. rw (now q, c.self.invariant.1 q, all, items) (number_of-pop before name q c.requires.last.2),

@@ -11,4 +11,6 @@ invariant_of-self-2 c =
     kept_item c.self.inside c.args.self.now c.in-Some.declared _ [] (items.Put c.args.child c.args.parent c.args.at) c.self.view_is c.self.invariant
     (record { before = sym c.take.ensures.value ∙ c.in-Some.is; opening = c.in_ok-added.ensures.ok; names = refl; glyphs = refl; sort = refl; reports = refl })
     c.requires.place c.requires.edit
-    (not_refused c.self.inside c.args.self.now c.in-Some.declared (λ xs. refusal (tree_of xs).nodes (edits.Attach c.args.child c.args.parent c.args.at)) c.self.view_is (sym c.take.ensures.value ∙ c.in-Some.is) c.in_ok-added.ensures.allowed)
+    (not_refused c.self.inside c.args.self.now c.in-Some.declared
+    (λ xs. refusal (tree_of xs).nodes (edits.Attach c.args.child c.args.parent c.args.at))
+    c.self.view_is (sym c.take.ensures.value ∙ c.in-Some.is) c.in_ok-added.ensures.allowed)

@@ -9,4 +9,5 @@ invariant_of-self-2 c =
     kept_item c.self.inside c.args.self.now c.in-Some.declared _ [] (items.Root c.args.node) c.self.view_is c.self.invariant
     (record { before = sym c.take.ensures.value ∙ c.in-Some.is; opening = c.in_ok-added.ensures.ok; names = refl; glyphs = refl; sort = refl; reports = refl })
     c.requires.place c.requires.node
-    (not_refused c.self.inside c.args.self.now c.in-Some.declared (λ xs. root_refusal (tree_of xs).nodes c.args.node) c.self.view_is (sym c.take.ensures.value ∙ c.in-Some.is) c.in_ok-added.ensures.allowed)
+    (not_refused c.self.inside c.args.self.now c.in-Some.declared (λ xs. root_refusal (tree_of xs).nodes c.args.node)
+    c.self.view_is (sym c.take.ensures.value ∙ c.in-Some.is) c.in_ok-added.ensures.allowed)

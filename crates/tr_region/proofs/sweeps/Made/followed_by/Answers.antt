@@ -10,7 +10,8 @@ use Rattle.tr_region.proofs.sweeps.Made.followed_by.Goals as goal
 pub returns-clause-canonical : goal.returns-clause-canonical
 returns-clause-canonical c =
     let bands = c.rest.inside in
-    let list : c.extend_from_slice.new.self.items ≡ c.add.new.self.rects.items ++ take (length bands.rects.now - bands.count) (drop bands.count bands.rects.now) =
+    let list : c.extend_from_slice.new.self.items
+    ≡ c.add.new.self.rects.items ++ take (length bands.rects.now - bands.count) (drop bands.count bands.rects.now) =
     search rules in
     let added = c.in_ok-add.ensures in
     let north = cast-in_reach _ c.rest.invariant.top_reach in
@@ -24,7 +25,8 @@ returns-clause-canonical c =
 pub returns-clause-points : goal.returns-clause-points
 returns-clause-points c = λ p.
     let bands = c.rest.inside in
-    let list : c.extend_from_slice.new.self.items ≡ c.add.new.self.rects.items ++ take (length bands.rects.now - bands.count) (drop bands.count bands.rects.now) =
+    let list : c.extend_from_slice.new.self.items
+    ≡ c.add.new.self.rects.items ++ take (length bands.rects.now - bands.count) (drop bands.count bands.rects.now) =
     search rules in
     let added = c.in_ok-add.ensures in
     let north = cast-in_reach _ c.rest.invariant.top_reach in

@@ -12,4 +12,5 @@ loop-v-preserved c =
     let other_high : c.size-size.result.high ≡ other.high = ap (λ (s : Size). s.high) c.size-size.ensures.value in
     let wide : c.min-wide.result ≡ min own.wide other.wide = omega arith in
     let below : c.loop-v.v < other.high = omega arith in
-    common_more c.args.other.now c.args.self.now c.loop-v.self c.copy_run.new.self c.loop-v.v c.min-wide.result wide below c.loop-v.invariant (rw (c.row_start.ensures) at c.copy_run.ensures)
+    common_more c.args.other.now c.args.self.now c.loop-v.self c.copy_run.new.self c.loop-v.v
+    c.min-wide.result wide below c.loop-v.invariant (rw (c.row_start.ensures) at c.copy_run.ensures)

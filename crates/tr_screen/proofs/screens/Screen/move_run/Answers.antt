@@ -10,6 +10,8 @@ returns c =
     let w : List ℕ = c.copy_pixels.new.pixels in
     let to = rw (← c.self.view_is) at c.requires.to in
     let from = rw (← c.self.view_is) at c.requires.from in
-    let copied = rw (c.deref_mut.ensures.value, c.start_of-to.ensures.value, c.start_of-from.ensures.value, c.source_of.ensures, c.width_of-count.ensures.value) at c.copy_pixels.ensures in
+    let copied =
+    rw (c.deref_mut.ensures.value, c.start_of-to.ensures.value, c.start_of-from.ensures.value, c.source_of.ensures, c.width_of-count.ensures.value)
+    at c.copy_pixels.ensures in
     let same : (with_items s.pixels w).items ≡ w = with_items_is s.pixels w (omega (arith, c.copy_pixels.auto.pixels, c.deref_mut.ensures.len)) in
     rw (← c.self.view_is, same) (moved_run s.size s.kind s.pixels.items w c.args.run c.args.delta to from copied)

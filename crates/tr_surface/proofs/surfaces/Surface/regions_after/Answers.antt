@@ -33,4 +33,5 @@ regions_within-requires-clause-before c =
     let count : length c.args.is.now.nodes.entries ≡ length c.self.inside.tree.nodes.entries =
     ap (λ (u : Seen). length u.nodes.entries) c.requires.is ∙ count_edited t.nodes c.args.edit.now ∙ sym (ap (λ (u : Seen). length u.nodes.entries) at) in
     subst (λ (rs : List (List Edges)). AreRegionsOutside c.in_ok-changed.changed c.args.is.now rs) (sym c.deref.ensures.value)
-    (regions_outside c.self.inside.tree c.args.is.now c.in_ok-changed.changed c.self.inside.regions.items count c.self.invariant.owned c.in_ok-changed.ensures.outside)
+    (regions_outside c.self.inside.tree c.args.is.now c.in_ok-changed.changed c.self.inside.regions.items count
+    c.self.invariant.owned c.in_ok-changed.ensures.outside)

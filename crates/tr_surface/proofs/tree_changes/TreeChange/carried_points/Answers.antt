@@ -8,7 +8,9 @@ use Rattle.tr_surface.proofs.KnownLemmas.{moved_none, moved_all}
 use Rattle.tr_surface.proofs.tree_changes.TreeChange.carried_points.Goals as goal
 
 pub loop-i-init : goal.loop-i-init
-loop-i-init c = λ p. ap (λ (r : List Edges). holds r p) c.empty-points.ensures ∙ sym (moved_none c.args.self.now.is.now.nodes c.in-Some.child c.args.self.now.after.now p)
+loop-i-init c = λ p.
+    ap (λ (r : List Edges). holds r p) c.empty-points.ensures
+    ∙ sym (moved_none c.args.self.now.is.now.nodes c.in-Some.child c.args.self.now.after.now p)
 
 pub returns : goal.returns
 returns c = λ p.

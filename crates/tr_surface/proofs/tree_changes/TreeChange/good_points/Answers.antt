@@ -28,5 +28,6 @@ returns-in_ok-known_points-in-Kept g c = IfOk-weaker c.meet-in-Kept.result _ _ (
     let good = not (holds s.bad.now from) in
     let new = holds (region_of s.after.now c.args.n) p in
     h p ∙ ap (λ b. b && holds c.in_ok-kept-in-Kept.kept p) (c.in_ok-known_points-in-Kept.ensures p)
-    ∙ ap (λ b. (old && good && new) && b) (c.in_ok-kept-in-Kept.ensures p ∙ ap (λ (w : Survivors). has_survivor k w q) (sym c.in-Kept.is ∙ c.requires.survivors))
+    ∙ ap (λ b. (old && good && new) && b)
+    (c.in_ok-kept-in-Kept.ensures p ∙ ap (λ (w : Survivors). has_survivor k w q) (sym c.in-Kept.is ∙ c.requires.survivors))
     ∙ good_part old good new (has_survivor k (survivors_from s.was.now s.is.now c.args.by c.args.n) q)) c.meet-in-Kept.ensures.points

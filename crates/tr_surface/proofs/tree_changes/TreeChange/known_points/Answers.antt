@@ -13,4 +13,5 @@ shifted-requires-clause-points c = λ p h.
     let held : holds (region_of s.before.now c.args.n) p ≡ true =
     sym (ap (λ (r : List Edges). holds r p) c.region_before.ensures) ∙ and_left _ _ (sym (c.in_ok-good.ensures.points p) ∙ h) in
     around_whole s.was.now.size (omega (arith, c.count.ensures.size.wide)) (omega (arith, c.count.ensures.size.high)) p
-    (old_on s.was.now s.is.now s.before.now s.after.now (record { before = c.count.ensures.invariant; after = c.count-2.ensures.invariant }) s.sides c.args.n c.requires.node p held)
+    (old_on s.was.now s.is.now s.before.now s.after.now (record { before = c.count.ensures.invariant; after = c.count-2.ensures.invariant })
+    s.sides c.args.n c.requires.node p held)

@@ -18,7 +18,8 @@ returns-then-is_alike g c = λ p.
     let its : c.survivors-survivors.result ≡ survivors_from s.was.now s.is.now (way_from s.was.now s.is.now s.moved n) n =
     c.survivors-survivors.ensures.value ∙ ap (λ (d : Point). survivors_from s.was.now s.is.now d n) way in
     c.requires.bad p ∙ alike_more (g.K.Keeper.keeping c.args.keeper.now) s.was.now s.is.now s.before.now s.after.now
-    (record { before = c.count.ensures.invariant; after = c.count-2.ensures.invariant }) s.sides s.moved (holds s.bad.now) n c.requires.node c.survivors-survivors.result its alike p
+    (record { before = c.count.ensures.invariant; after = c.count-2.ensures.invariant }) s.sides s.moved (holds s.bad.now) n c.requires.node
+    c.survivors-survivors.result its alike p
 
 pub returns : goal.returns
 returns g c = λ p.
@@ -31,8 +32,14 @@ returns g c = λ p.
     let good : holds c.in_ok-good.good p ≡ (held && stays (way_from s.was.now s.is.now s.moved n)) =
     c.in_ok-good.ensures p ∙ ap (λ (d : Point). held && stays d) c.way-by.ensures.value in
     let lost : holds c.in_ok-lost.lost p ≡ (held && not (held && stays (way_from s.was.now s.is.now s.moved n))) =
-    c.in_ok-lost.ensures.points p ∙ ap (λ (r : List Edges). holds r p && not (holds c.in_ok-good.good p)) c.region_after.ensures ∙ ap (λ b. held && not b) good in
+    c.in_ok-lost.ensures.points p
+    ∙ ap (λ (r : List Edges). holds r p && not (holds c.in_ok-good.good p)) c.region_after.ensures
+    ∙ ap (λ b. held && not b) good in
     let others : holds c.in_ok-others.others p ≡ (done && not held) =
-    c.in_ok-others.ensures.points p ∙ ap (λ (r : List Edges). holds c.args.bad p && not (holds r p)) c.region_after-2.ensures ∙ ap (λ b. b && not held) (c.requires.bad p) in
+    c.in_ok-others.ensures.points p
+    ∙ ap (λ (r : List Edges). holds c.args.bad p && not (holds r p)) c.region_after-2.ensures
+    ∙ ap (λ b. b && not held) (c.requires.bad p) in
     c.in_ok-bad.ensures.points p ∙ ap (λ b. b || holds c.in_ok-lost.lost p) others ∙ ap (λ b. (done && not held) || b) lost
-    ∙ anew_more k s.was.now s.is.now s.before.now s.after.now (record { before = c.count.ensures.invariant; after = c.count-2.ensures.invariant }) s.sides s.moved (holds s.bad.now) n c.requires.node p
+    ∙ anew_more k s.was.now s.is.now s.before.now s.after.now
+    (record { before = c.count.ensures.invariant; after = c.count-2.ensures.invariant })
+    s.sides s.moved (holds s.bad.now) n c.requires.node p
