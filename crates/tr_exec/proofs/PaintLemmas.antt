@@ -34,7 +34,9 @@ run_cut area r v row p = ap (λ b. int_eq p.v (pos v) && b) (between-meet r.west
     and_true true = refl
     and_true false = refl
 
-    by_row : (t : Bool) → int_eq p.v (pos v) ≡ t → t && (between r.west r.east p.h && between area.west area.east p.h) ≡ (t && between r.west r.east p.h) && (between area.west area.east p.h && between area.north area.south p.v)
+    by_row : (t : Bool) → int_eq p.v (pos v) ≡ t →
+        t && (between r.west r.east p.h && between area.west area.east p.h)
+        ≡ (t && between r.west r.east p.h) && (between area.west area.east p.h && between area.north area.south p.v)
     by_row false e = refl
     by_row true e =
         let at : p.v ≡ pos v = (Decides-int_eq p.v (pos v)).0 e in
@@ -44,7 +46,10 @@ run_cut area r v row p = ap (λ b. int_eq p.v (pos v) && b) (between-meet r.west
         rw rows (ap (λ b. between r.west r.east p.h && b) (and_true (between area.west area.east p.h)))
 
 -- more rows
-pub rows_paint : (test more : Point → Bool) (n m s : ℕ) (f : Point → ℕ → ℕ) (old mid new : Picture) → n ≤ m → m ≤ s → Repaints more (λ p. f p (pixel_of mid p)) mid new → ((p : Point) → more p ≡ in_part m s test p) →
+pub rows_paint : (test more : Point → Bool) (n m s : ℕ) (f : Point → ℕ → ℕ) (old mid new : Picture) →
+    n ≤ m → m ≤ s →
+    Repaints more (λ p. f p (pixel_of mid p)) mid new →
+    ((p : Point) → more p ≡ in_part m s test p) →
     Repaints (in_part n m test) (λ p. f p (pixel_of old p)) old mid → Repaints (in_part n s test) (λ p. f p (pixel_of old p)) old new
 rows_paint test more n m s f old mid new from to next same done =
     painted_more (in_part n m test) more (in_part n s test) f old mid new done next fresh (λ p on. rw (same p) (part_more test n m s p from to))
@@ -55,7 +60,9 @@ rows_paint test more n m s f old mid new from to next same done =
         and_left (in_rows n m p) (test p) (grind (arith, ints))
 
 -- one more run of a row
-module _ (v : ℕ) (rects : List Edges) (k : ℕ) (r : Edges) (is : r ≡ get_or rects k r) (lt : k < length rects) (apart : AreApart (spans_of rects)) (area : Edges) (row : HasRow area v) where
+module _ (v : ℕ) (rects : List Edges) (k : ℕ) (r : Edges)
+    (is : r ≡ get_or rects k r) (lt : k < length rects) (apart : AreApart (spans_of rects))
+    (area : Edges) (row : HasRow area v) where
   pub cut_within : (p : Point) → in_run (run_of v (in_columns_of area r)) p ≡ true → in_area (in_row v rects) area p ≡ true
   cut_within p t =
       let both = and_parts (in_run (run_of v r) p) (has_point area p) (sym (run_cut area r v row p) ∙ t) in
@@ -74,17 +81,22 @@ module _ (v : ℕ) (rects : List Edges) (k : ℕ) (r : Edges) (is : r ≡ get_or
       some = less r.west r.east area.west area.east across row.2 meets.0 meets.1
 
   pub runs_paint : (f : Point → ℕ → ℕ) (old mid new : Picture) → Repaints (in_run (run_of v (in_columns_of area r))) (λ p. f p (pixel_of mid p)) mid new →
-      Repaints (in_area (in_row v (take k rects)) area) (λ p. f p (pixel_of old p)) old mid → Repaints (in_area (in_row v (take (k + 1) rects)) area) (λ p. f p (pixel_of old p)) old new
+      Repaints (in_area (in_row v (take k rects)) area) (λ p. f p (pixel_of old p)) old mid →
+      Repaints (in_area (in_row v (take (k + 1) rects)) area) (λ p. f p (pixel_of old p)) old new
   runs_paint f old mid new next done =
-      painted_more (in_area (in_row v (take k rects)) area) (in_run (run_of v (in_columns_of area r))) (in_area (in_row v (take (k + 1) rects)) area) f old mid new done next fresh grown
+      painted_more (in_area (in_row v (take k rects)) area) (in_run (run_of v (in_columns_of area r)))
+      (in_area (in_row v (take (k + 1) rects)) area) f old mid new done next fresh grown
     where
       fresh : (p : Point) → IsOn old.size p → in_run (run_of v (in_columns_of area r)) p ≡ true → in_area (in_row v (take k rects)) area p ≡ false
       fresh p on t =
           let run = (and_parts (in_run (run_of v r) p) (has_point area p) (sym (run_cut area r v row p) ∙ t)).0 in
           let at = tests_of_run (run_of v (get_or rects k r)) p (subst (λ (e : Edges). in_run (run_of v e) p ≡ true) is run) in
-          and_left (in_row v (take k rects) p) (has_point area p) (and_right (int_eq p.v (pos v)) (in_columns (take k rects) p) (none_west rects k r p.h apart lt at.1))
+          and_left (in_row v (take k rects) p) (has_point area p)
+          (and_right (int_eq p.v (pos v)) (in_columns (take k rects) p) (none_west rects k r p.h apart lt at.1))
 
-      grown : (p : Point) → IsOn old.size p → in_area (in_row v (take (k + 1) rects)) area p ≡ in_run (run_of v (in_columns_of area r)) p || in_area (in_row v (take k rects)) area p
+      grown : (p : Point) → IsOn old.size p →
+          in_area (in_row v (take (k + 1) rects)) area p
+          ≡ in_run (run_of v (in_columns_of area r)) p || in_area (in_row v (take k rects)) area p
       grown p on =
           let more = row_more v rects k r lt p ∙ ap (λ (e : Edges). in_run (run_of v e) p || in_row v (take k rects) p) (sym is) in
           rw (run_cut area r v row p, more) (or_and (in_run (run_of v r) p) (in_row v (take k rects) p) (has_point area p))
@@ -92,10 +104,14 @@ module _ (v : ℕ) (rects : List Edges) (k : ℕ) (r : Edges) (is : r ≡ get_or
 -- no rectangle, no point
 pub row_empty : (v : ℕ) (rects : List Edges) (area : Edges) (f : Point → ℕ) (old : Picture) → rects ≡ [] → Repaints (in_area (in_row v rects) area) f old old
 row_empty v rects area f old none =
-    repaints_none (in_area (in_row v rects) area) f old (λ p on. and_left (in_row v rects p) (has_point area p) (and_right (int_eq p.v (pos v)) (in_columns rects p) (ap (λ (es : List Edges). in_columns es p) none)))
+    repaints_none (in_area (in_row v rects) area) f old
+    (λ p on. and_left (in_row v rects p) (has_point area p)
+    (and_right (int_eq p.v (pos v)) (in_columns rects p) (ap (λ (es : List Edges). in_columns es p) none)))
 
 -- rectangles that have the same columns in an area
-module _ (rects row : List Edges) (area : Edges) (same : (x : ℤ) → area.west ≤ℤ x → x <ℤ area.east → in_spans (spans_of row) x ≡ in_spans (spans_of rects) x) (v : ℕ) where
+module _ (rects row : List Edges) (area : Edges)
+    (same : (x : ℤ) → area.west ≤ℤ x → x <ℤ area.east → in_spans (spans_of row) x ≡ in_spans (spans_of rects) x)
+    (v : ℕ) where
   row_same : (p : Point) → in_area (in_row v row) area p ≡ in_area (in_row v rects) area p
   row_same p = by_area (has_point area p) refl
     where
@@ -122,9 +138,13 @@ module _ (rects row : List Edges) (area : Edges) (same : (x : ℤ) → area.west
       on p (and_from (in_band n s rects p) (has_point area p) (band_of_row rects n s v p from to both.0) both.1)
 
 -- a band of a region
-module _ (region rects : List Edges) (area : Edges) (n north south : ℕ) (from : n ≤ north) (points : (p : Point) → pos n ≤ℤ p.v → p.v <ℤ pos south → holds region p ≡ in_band north south rects p) where
+module _ (region rects : List Edges) (area : Edges) (n north south : ℕ)
+    (from : n ≤ north)
+    (points : (p : Point) → pos n ≤ℤ p.v → p.v <ℤ pos south → holds region p ≡ in_band north south rects p) where
   pub band_in_area : (p : Point) → in_area (in_band north south rects) area p ≡ in_part n south (in_area (holds region) area) p
-  band_in_area p = ap (λ b. b && has_point area p) (band_from region rects n north south from points p) ∙ and_assoc (in_rows n south p) (holds region p) (has_point area p)
+  band_in_area p =
+      ap (λ b. b && has_point area p) (band_from region rects n north south from points p)
+      ∙ and_assoc (in_rows n south p) (holds region p) (has_point area p)
 
   pub band_on : (size : Size) → AreOn size (in_area (holds region) area) → AreOn size (in_area (in_band north south rects) area)
   band_on size on p t = on p (and_parts (in_rows n south p) (in_area (holds region) area p) (sym (band_in_area p) ∙ t)).1
@@ -133,7 +153,9 @@ pub on_sized : (old mid : Size) (test : Point → Bool) → mid ≡ old → AreO
 on_sized old mid test same on = subst (λ (s : Size). AreOn s test) (sym same) on
 
 -- the points of a walk over all rows of an area that the screen has
-pub walk_whole : (test : Point → Bool) (area : Edges) (size : Size) (n s : ℕ) → IsNearest area.north 0 size.high n → IsNearest area.south 0 size.high s → (v : ℕ) → s ≤ v → (p : Point) → IsOn size p →
+pub walk_whole : (test : Point → Bool) (area : Edges) (size : Size) (n s : ℕ) →
+    IsNearest area.north 0 size.high n → IsNearest area.south 0 size.high s →
+    (v : ℕ) → s ≤ v → (p : Point) → IsOn size p →
     in_area test area p ≡ in_part n v (in_area test area) p
 walk_whole test area size n s north south v past p on = by_test (in_area test area p) refl
   where
@@ -156,7 +178,9 @@ walk_whole test area size n s north south v past p on = by_test (in_area test ar
     by_test true e = sym (and_from (in_rows n v p) true (rows ((and_parts (test p) (has_point area p) e).1)) refl)
 
 -- the area has points in each of these rows of the screen
-pub rows_had : (area : Edges) (high n s : ℕ) → area.west <ℤ area.east → IsNearest area.north 0 high n → IsNearest area.south 0 high s → (v : ℕ) → n ≤ v → v < s → HasRow area v
+pub rows_had : (area : Edges) (high n s : ℕ) → area.west <ℤ area.east →
+    IsNearest area.north 0 high n → IsNearest area.south 0 high s →
+    (v : ℕ) → n ≤ v → v < s → HasRow area v
 rows_had area high n s across north south v from to = (first, last (int_cases area.south (pos v)), across)
   where
     first : area.north ≤ℤ pos v

@@ -49,12 +49,18 @@ lost-painted kind false x d e known q same = same
 lost-within : (look : Look) (c : Paint) (known : Point → Option ℕ) (q : Point) →
     is_none (done look.kind (deed_within look c q) known q) ≡ lost_by (effect_of c) (λ r. is_none (known r)) q
 lost-within look (Tint clip op) known q =
-    let c = Tint clip op in lost-painted look.kind (is_opaque c) (eff look.kind (op_at look.font c q) 0) (Change (op_at look.font c q)) Keeps known q (none-map _ (known q))
+    let c = Tint clip op in
+    lost-painted look.kind (is_opaque c) (eff look.kind (op_at look.font c q) 0)
+    (Change (op_at look.font c q)) Keeps known q (none-map _ (known q))
 lost-within look (Texture clip ops tile delta) known q =
-    let c = Texture clip ops tile delta in lost-painted look.kind (is_opaque c) (eff look.kind (op_at look.font c q) 0) (Change (op_at look.font c q)) Keeps known q (none-map _ (known q))
+    let c = Texture clip ops tile delta in
+    lost-painted look.kind (is_opaque c) (eff look.kind (op_at look.font c q) 0)
+    (Change (op_at look.font c q)) Keeps known q (none-map _ (known q))
 lost-within look (Pixels clip src delta) known q = refl
 lost-within look (Text clip at ops text) known q =
-    let c = Text clip at ops text in lost-painted look.kind (is_opaque c) (eff look.kind (op_at look.font c q) 0) (Change (op_at look.font c q)) Keeps known q (none-map _ (known q))
+    let c = Text clip at ops text in
+    lost-painted look.kind (is_opaque c) (eff look.kind (op_at look.font c q) 0)
+    (Change (op_at look.font c q)) Keeps known q (none-map _ (known q))
 lost-within look (Scroll clip delta) known q = refl
 lost-within look (Spoil clip) known q = refl
 
@@ -63,7 +69,9 @@ lost-deed : (look : Look) (c : Paint) (known : Point → Option ℕ) (q : Point)
     is_none (done look.kind (deed look c q) known q) ≡ cond (has_point (area c) q) (lost_by (effect_of c) (λ r. is_none (known r)) q) (is_none (known q))
 lost-deed look c known q = by_test (has_point (area c) q)
   where
-    by_test : (b : Bool) → is_none (done look.kind (cond b (deed_within look c q) Keep) known q) ≡ cond b (lost_by (effect_of c) (λ r. is_none (known r)) q) (is_none (known q))
+    by_test : (b : Bool) →
+        is_none (done look.kind (cond b (deed_within look c q) Keep) known q)
+        ≡ cond b (lost_by (effect_of c) (λ r. is_none (known r)) q) (is_none (known q))
     by_test true = lost-within look c known q
     by_test false = refl
 
@@ -76,10 +84,12 @@ module _ (look : Look) (origin : Point) (visible bad : List Edges) (screen : Pic
       is_none (after look (base_of origin visible bad screen) batch q) ≡ unseen visible unknown (placed origin q)
   unseen-is batch unknown tells q =
       let at : holds unknown (placed origin q) ≡ (holds visible (placed origin q) && is_none (after look (base_of origin visible bad screen) batch q)) =
-      tells (placed origin q) ∙ ap (λ r. holds visible (placed origin q) && is_none (after look (base_of origin visible bad screen) batch r)) (before-placed origin q) in
+      tells (placed origin q)
+      ∙ ap (λ r. holds visible (placed origin q) && is_none (after look (base_of origin visible bad screen) batch r)) (before-placed origin q) in
       by_sight (holds visible (placed origin q)) refl at
     where
-      by_sight : (b : Bool) → holds visible (placed origin q) ≡ b → holds unknown (placed origin q) ≡ (b && is_none (after look (base_of origin visible bad screen) batch q)) →
+      by_sight : (b : Bool) → holds visible (placed origin q) ≡ b →
+          holds unknown (placed origin q) ≡ (b && is_none (after look (base_of origin visible bad screen) batch q)) →
           is_none (after look (base_of origin visible bad screen) batch q) ≡ not b || holds unknown (placed origin q)
       by_sight true seen at = sym at
       by_sight false hidden at = ap (λ o. is_none o) (trace-unseen look (base_of origin visible bad screen) _ q hidden)
@@ -105,24 +115,29 @@ module _ (look : Look) (origin : Point) (visible bad : List Edges) (screen : Pic
       here : is_none (after look (base_of origin visible bad screen) batch (before_shift p origin)) ≡ unseen visible unknown p
       here = unseen-is batch unknown tells (before_shift p origin) ∙ ap (λ r. unseen visible unknown r) (placed-before origin p)
 
-      moved : lost_by (effect_of c) (λ r. is_none (after look (base_of origin visible bad screen) batch r)) (before_shift p origin) ≡ lost_by (effect_of c) (unseen visible unknown) p
+      moved :
+          lost_by (effect_of c) (λ r. is_none (after look (base_of origin visible bad screen) batch r)) (before_shift p origin)
+          ≡ lost_by (effect_of c) (unseen visible unknown) p
       moved =
-          lost-same (effect_of c) (λ r. is_none (after look (base_of origin visible bad screen) batch r)) (λ r. unseen visible unknown (placed origin r)) (before_shift p origin) (λ r. unseen-is batch unknown tells r)
+          lost-same (effect_of c) (λ r. is_none (after look (base_of origin visible bad screen) batch r)) (λ r. unseen visible unknown (placed origin r))
+          (before_shift p origin) (λ r. unseen-is batch unknown tells r)
           ∙ lost-placed (effect_of c) (unseen visible unknown) origin (before_shift p origin)
           ∙ ap (λ r. lost_by (effect_of c) (unseen visible unknown) r) (placed-before origin p)
 
       by_sight : (b : Bool) → holds visible p ≡ b →
-          b && cond (holds rect p) (lost_by (effect_of c) (unseen visible unknown) p) (unseen visible unknown p) ≡ b && is_none (after look (base_of origin visible bad screen) (batch ++ c ∷ []) (before_shift p origin))
+          b && cond (holds rect p) (lost_by (effect_of c) (unseen visible unknown) p) (unseen visible unknown p)
+          ≡ b && is_none (after look (base_of origin visible bad screen) (batch ++ c ∷ []) (before_shift p origin))
       by_sight false hidden = refl
       by_sight true seen =
           let sight : holds visible (placed origin (before_shift p origin)) ≡ true = ap (λ r. holds visible r) (placed-before origin p) ∙ seen in
           let last = after-last look (base_of origin visible bad screen) batch c (before_shift p origin) in
-          let told = lost-deed look c (λ r. after look (base_of origin visible bad screen) batch r) (before_shift p origin) in
+          let known : Point → Option ℕ = λ r. after look (base_of origin visible bad screen) batch r in
+          let told = lost-deed look c known (before_shift p origin) in
           ap (λ b. cond b (lost_by (effect_of c) (unseen visible unknown) p) (unseen visible unknown p)) (within p)
           ∙ ap (λ b. cond (has_point (area c) (before_shift p origin)) b (unseen visible unknown p)) (sym moved)
-          ∙ ap (λ b. cond (has_point (area c) (before_shift p origin)) (lost_by (effect_of c) (λ r. is_none (after look (base_of origin visible bad screen) batch r)) (before_shift p origin)) b) (sym here)
+          ∙ ap (λ b. cond (has_point (area c) (before_shift p origin)) (lost_by (effect_of c) (λ r. is_none (known r)) (before_shift p origin)) b) (sym here)
           ∙ sym told
-          ∙ ap (λ b. is_none (cond b (done look.kind (deed look c (before_shift p origin)) (λ r. after look (base_of origin visible bad screen) batch r) (before_shift p origin)) None)) (sym sight)
+          ∙ ap (λ b. is_none (cond b (done look.kind (deed look c (before_shift p origin)) known (before_shift p origin)) None)) (sym sight)
           ∙ ap (λ o. is_none o) (sym last)
 
   -- before any command the visible bad points are unknown
@@ -130,16 +145,20 @@ module _ (look : Look) (origin : Point) (visible bad : List Edges) (screen : Pic
       TellsUnknown look (base_of origin visible bad screen) [] origin visible unknown
   tells_none unknown made p = made p ∙ by_tests (holds visible p) (holds bad p) refl refl
     where
-      at : (r : Point) → is_none (after look (base_of origin visible bad screen) [] r) ≡ is_none (cond (holds visible (placed origin r)) (cond (holds bad (placed origin r)) None (Some (pixel_of screen (placed origin r)))) None)
+      at : (r : Point) →
+          is_none (after look (base_of origin visible bad screen) [] r)
+          ≡ is_none (cond (holds visible (placed origin r)) (cond (holds bad (placed origin r)) None (Some (pixel_of screen (placed origin r)))) None)
       at r = refl
 
-      by_tests : (v b : Bool) → holds visible p ≡ v → holds bad p ≡ b → v && b ≡ v && is_none (after look (base_of origin visible bad screen) [] (before_shift p origin))
+      by_tests : (v b : Bool) → holds visible p ≡ v → holds bad p ≡ b →
+          v && b ≡ v && is_none (after look (base_of origin visible bad screen) [] (before_shift p origin))
       by_tests false b hidden known = refl
       by_tests true b seen known =
-          let sight : holds visible (placed origin (before_shift p origin)) ≡ true = ap (λ r. holds visible r) (placed-before origin p) ∙ seen in
-          let faulty : holds bad (placed origin (before_shift p origin)) ≡ b = ap (λ r. holds bad r) (placed-before origin p) ∙ known in
-          none b ∙ ap (λ t. is_none (cond true (cond t None (Some (pixel_of screen (placed origin (before_shift p origin))))) None)) (sym faulty)
-          ∙ ap (λ t. is_none (cond t (cond (holds bad (placed origin (before_shift p origin))) None (Some (pixel_of screen (placed origin (before_shift p origin))))) None)) (sym sight)
+          let there : Point = placed origin (before_shift p origin) in
+          let sight : holds visible there ≡ true = ap (λ r. holds visible r) (placed-before origin p) ∙ seen in
+          let faulty : holds bad there ≡ b = ap (λ r. holds bad r) (placed-before origin p) ∙ known in
+          none b ∙ ap (λ t. is_none (cond true (cond t None (Some (pixel_of screen there))) None)) (sym faulty)
+          ∙ ap (λ t. is_none (cond t (cond (holds bad there) None (Some (pixel_of screen there))) None)) (sym sight)
         where
           none : (t : Bool) → t ≡ is_none (cond true (cond t None (Some (pixel_of screen (placed origin (before_shift p origin))))) None)
           none true = refl

@@ -55,10 +55,14 @@ painted-done kind false op known q old x told shows e = by_known (known q) refl 
     by_known (Some y) is h = ap (λ n. eff kind op n) (shows y is) ∙ some_is _ x h
 
 -- repainted points, and those that aren't
-repainted : {test : Point → Bool} {f : Point → ℕ} {old new : Picture} → Repaints test f old new → (p : Point) → IsOn old.size p → test p ≡ true → pixel_of new p ≡ f p
+repainted : {test : Point → Bool} {f : Point → ℕ} {old new : Picture} →
+    Repaints test f old new → (p : Point) → IsOn old.size p → test p ≡ true →
+    pixel_of new p ≡ f p
 repainted {test} {f} {old} r p on pass = r.points p on ∙ ap (λ b. cond b (f p) (pixel_of old p)) pass
 
-left_alone : {test : Point → Bool} {f : Point → ℕ} {old new : Picture} → Repaints test f old new → (p : Point) → IsOn old.size p → test p ≡ false → pixel_of new p ≡ pixel_of old p
+left_alone : {test : Point → Bool} {f : Point → ℕ} {old new : Picture} →
+    Repaints test f old new → (p : Point) → IsOn old.size p → test p ≡ false →
+    pixel_of new p ≡ pixel_of old p
 left_alone {test} {f} {old} r p on fails = r.points p on ∙ ap (λ b. cond b (f p) (pixel_of old p)) fails
 
 and_false : (a b : Bool) → b ≡ false → a && b ≡ false
@@ -102,7 +106,9 @@ module _ (look : Look) (origin : Point) (visible bad : List Edges) (first : Pict
   pub shown_none : IsShown look (base_of origin visible bad first) [] origin visible first first
   shown_none = record { size = refl; kind = refl; shown = shown; untouched = λ p seen none. refl; others = λ p there hidden. refl }
     where
-      shown : (p : Point) (x : ℕ) → holds visible p ≡ true → after look (base_of origin visible bad first) [] (before_shift p origin) ≡ Some x → pixel_of first p ≡ x
+      shown : (p : Point) (x : ℕ) → holds visible p ≡ true →
+          after look (base_of origin visible bad first) [] (before_shift p origin) ≡ Some x →
+          pixel_of first p ≡ x
       shown p x seen is = by_tests (holds visible (placed origin (before_shift p origin))) (holds bad (placed origin (before_shift p origin))) is
         where
           by_tests : (v b : Bool) → cond v (cond b None (Some (pixel_of first (placed origin (before_shift p origin))))) None ≡ Some x → pixel_of first p ≡ x
@@ -130,20 +136,24 @@ module _ (look : Look) (origin : Point) (visible bad : List Edges) (first : Pict
       there_too p there = let P : Size → Type 0 = λ s. IsOn s p in subst P (sym so_far.size) there
 
       -- a known point of the window is visible, and the screen has its colour
-      source : (p : Point) (x : ℕ) → after look (base_of origin visible bad first) batch (before_shift p origin) ≡ Some x → (holds visible p ≡ true) × (pixel_of mid p ≡ x)
+      source : (p : Point) (x : ℕ) →
+          after look (base_of origin visible bad first) batch (before_shift p origin) ≡ Some x →
+          (holds visible p ≡ true) × (pixel_of mid p ≡ x)
       source p x is = by_sight (holds visible p) refl
         where
           by_sight : (b : Bool) → holds visible p ≡ b → (holds visible p ≡ true) × (pixel_of mid p ≡ x)
           by_sight true seen = (seen, so_far.shown p x seen is)
           by_sight false hidden =
-              let none = trace-unseen look (base_of origin visible bad first) _ (before_shift p origin) (ap (λ r. holds visible r) (placed-before origin p) ∙ hidden) in
+              let none = trace-unseen look (base_of origin visible bad first) _ (before_shift p origin)
+              (ap (λ r. holds visible r) (placed-before origin p) ∙ hidden) in
               absurd (some_none (sym is ∙ none))
             where
               some_none : Some x ≡ None → ⊥
               some_none h = cc
 
       within : (p : Point) (x : ℕ) → IsOn mid.size p → holds visible p ≡ true → has_point (area c) (before_shift p origin) ≡ true →
-          done look.kind (deed_within look c (before_shift p origin)) (λ r. after look (base_of origin visible bad first) batch r) (before_shift p origin) ≡ Some x → pixel_of new p ≡ x
+          done look.kind (deed_within look c (before_shift p origin)) (λ r. after look (base_of origin visible bad first) batch r)
+          (before_shift p origin) ≡ Some x → pixel_of new p ≡ x
       within p x there seen inside e = by_command c painted inside e
         where
           sight : (d : Paint) → has_point (area d) (before_shift p origin) ≡ true → in_sight d origin visible p ≡ true
@@ -154,38 +164,49 @@ module _ (look : Look) (origin : Point) (visible bad : List Edges) (first : Pict
 
           moved : (delta : Point) → after look (base_of origin visible bad first) batch (before_shift (before_shift p origin) delta) ≡ Some x →
               (holds visible (before_shift p delta) ≡ true) × (pixel_of mid (before_shift p delta) ≡ x)
-          moved delta is = source (before_shift p delta) x (ap (λ r. after look (base_of origin visible bad first) batch r) (sym (source-before origin p delta)) ∙ is)
+          moved delta is =
+              source (before_shift p delta) x
+              (ap (λ r. after look (base_of origin visible bad first) batch r) (sym (source-before origin p delta)) ∙ is)
 
           by_command : (d : Paint) → IsPainted look d origin visible mid new → has_point (area d) (before_shift p origin) ≡ true →
-              done look.kind (deed_within look d (before_shift p origin)) (λ r. after look (base_of origin visible bad first) batch r) (before_shift p origin) ≡ Some x → pixel_of new p ≡ x
+              done look.kind (deed_within look d (before_shift p origin)) (λ r. after look (base_of origin visible bad first) batch r)
+              (before_shift p origin) ≡ Some x → pixel_of new p ≡ x
           by_command (Tint clip op) r h e =
               repainted r p there (sight (Tint clip op) h)
-              ∙ painted-done look.kind (opaque op) op (λ r. after look (base_of origin visible bad first) batch r) (before_shift p origin) (pixel_of mid p) x (λ o. o) told e
+              ∙ painted-done look.kind (opaque op) op (λ r. after look (base_of origin visible bad first) batch r)
+              (before_shift p origin) (pixel_of mid p) x (λ o. o) told e
           by_command (Texture clip ops tile delta) r h e =
               let d = Texture clip ops tile delta in
               repainted r p there (sight d h)
-              ∙ painted-done look.kind (both_opaque ops) (op_at look.font d (before_shift p origin)) (λ r. after look (base_of origin visible bad first) batch r) (before_shift p origin) (pixel_of mid p) x
+              ∙ painted-done look.kind (both_opaque ops) (op_at look.font d (before_shift p origin))
+              (λ r. after look (base_of origin visible bad first) batch r) (before_shift p origin) (pixel_of mid p) x
               (opaque-chosen ops _) told e
           by_command (Pixels clip src delta) r h e = repainted r p there (sight (Pixels clip src delta) h) ∙ some_is _ x e
           by_command (Text clip at ops text) r h e =
               let d = Text clip at ops text in
               repainted r p there (sight d h)
-              ∙ painted-done look.kind (both_opaque ops) (op_at look.font d (before_shift p origin)) (λ r. after look (base_of origin visible bad first) batch r) (before_shift p origin) (pixel_of mid p) x
+              ∙ painted-done look.kind (both_opaque ops) (op_at look.font d (before_shift p origin))
+              (λ r. after look (base_of origin visible bad first) batch r) (before_shift p origin) (pixel_of mid p) x
               (opaque-chosen ops _) told e
           by_command (Scroll clip delta) r h e =
               let from = moved delta e in
               repainted r p there (rw (seen, h, from.0) refl) ∙ from.1
           by_command (Spoil clip) r h e = cc
 
-      shown : (p : Point) (x : ℕ) → holds visible p ≡ true → after look (base_of origin visible bad first) (batch ++ c ∷ []) (before_shift p origin) ≡ Some x → pixel_of new p ≡ x
+      shown : (p : Point) (x : ℕ) → holds visible p ≡ true →
+          after look (base_of origin visible bad first) (batch ++ c ∷ []) (before_shift p origin) ≡ Some x →
+          pixel_of new p ≡ x
       shown p x seen is =
           let sight : holds visible (placed origin (before_shift p origin)) ≡ true = ap (λ r. holds visible r) (placed-before origin p) ∙ seen in
           let last = after-last look (base_of origin visible bad first) batch c (before_shift p origin) in
-          let done_is = ap (λ b. cond b (done look.kind (deed look c (before_shift p origin)) (λ r. after look (base_of origin visible bad first) batch r) (before_shift p origin)) None) sight in
+          let colour : Point → Option ℕ = λ r. after look (base_of origin visible bad first) batch r in
+          let done_is = ap (λ b. cond b (done look.kind (deed look c (before_shift p origin)) colour (before_shift p origin)) None) sight in
           by_area (has_point (area c) (before_shift p origin)) refl (sym done_is ∙ sym last ∙ is)
         where
           by_area : (b : Bool) → has_point (area c) (before_shift p origin) ≡ b →
-              done look.kind (cond b (deed_within look c (before_shift p origin)) Keep) (λ r. after look (base_of origin visible bad first) batch r) (before_shift p origin) ≡ Some x → pixel_of new p ≡ x
+              done look.kind (cond b (deed_within look c (before_shift p origin)) Keep)
+              (λ r. after look (base_of origin visible bad first) batch r) (before_shift p origin) ≡ Some x →
+              pixel_of new p ≡ x
           by_area true inside e = within p x (there_too p (on p seen)) seen inside e
           by_area false outside e =
               untouched look c origin visible mid new p painted (there_too p (on p seen)) (and_false _ _ outside) ∙ so_far.shown p x seen e

@@ -38,7 +38,9 @@ pub record IsThere (p : Point) : Type 0 where
   pub south : p.v <ℤ pos 1024
 
 there : (p : Point) → has_point (whole_of greatest_screen) p ≡ true → IsThere p
-there p on = let held : between (pos 0) (pos 1024) p.h && between (pos 0) (pos 1024) p.v ≡ true = sym (has_point-rect_of (pos 0) (pos 1024) (pos 0) (pos 1024) p) ∙ on in
+there p on =
+    let held : between (pos 0) (pos 1024) p.h && between (pos 0) (pos 1024) p.v ≡ true =
+    sym (has_point-rect_of (pos 0) (pos 1024) (pos 0) (pos 1024) p) ∙ on in
     record { west = grind (arith, ints); east = grind (arith, ints); north = grind (arith, ints); south = grind (arith, ints) }
 
 -- a rectangle that holds points of the screen alone
@@ -46,7 +48,8 @@ rect_in_reach : (r : Edges) (d : Point) → IsFull r → ((p : Point) → has_po
 rect_in_reach r d full on near =
     let first = on (record { h = r.west; v = r.north }) (held r.west r.north (omega (arith, ints)) full.across (omega (arith, ints)) full.down) in
     let last = on (record { h = r.east -ℤ pos 1; v = r.south -ℤ pos 1 })
-    (held (r.east -ℤ pos 1) (r.south -ℤ pos 1) (omega (arith, ints, full.across)) (omega (arith, ints)) (omega (arith, ints, full.down)) (omega (arith, ints))) in
+    (held (r.east -ℤ pos 1) (r.south -ℤ pos 1) (omega (arith, ints, full.across)) (omega (arith, ints))
+    (omega (arith, ints, full.down)) (omega (arith, ints))) in
     rect_of-in_reach _ _ _ _
     (screen_edge r.west d.h first.west (omega (arith, ints, first.east)) near.h)
     (screen_edge r.east d.h (omega (arith, ints, first.west, full.across)) (omega (arith, ints, last.east)) near.h)
@@ -57,7 +60,9 @@ rect_in_reach r d full on near =
     held h v a b c e = grind (arith, ints)
 
 -- a region of the screen, moved by a near distance
-pub region_in_reach : (rects : List Edges) (d : Point) → IsCanonical rects → LiesOn greatest_screen rects → IsNearPoint d → AllByRecursion (λ r. AreInReach (shifted r d)) rects
+pub region_in_reach : (rects : List Edges) (d : Point) →
+    IsCanonical rects → LiesOn greatest_screen rects → IsNearPoint d →
+    AllByRecursion (λ r. AreInReach (shifted r d)) rects
 region_in_reach rects d canonical on near = each rects (AreInOrder-canonical rects canonical) (λ p held. there p (on p held))
   where
     or_left : (a b : Bool) → a ≡ true → a || b ≡ true

@@ -19,13 +19,16 @@ in_sight c origin visible p = holds visible p && has_point (area c) (before_shif
 
 -- a command moves pixels, or leaves all as they are, or applies its operation to each visible point of its area
 abbrev pub IsPainted : Look → Paint → Point → List Edges → Picture → Picture → Type 0
-IsPainted look (Scroll clip delta) origin visible old new = Repaints (moved_of (Scroll clip delta) origin visible) (λ p. pixel_of old (before_shift p delta)) old new
+IsPainted look (Scroll clip delta) origin visible old new =
+    Repaints (moved_of (Scroll clip delta) origin visible) (λ p. pixel_of old (before_shift p delta)) old new
 IsPainted look (Spoil clip) origin visible old new = new ≡ old
 IsPainted look c origin visible old new =
     Repaints (in_sight c origin visible) (λ p. eff look.kind (op_at look.font c (before_shift p origin)) (pixel_of old p)) old new
 
--- after a batch each visible point whose colour is known has it; one that no command touches keeps its pixel, and so do the points that aren't visible
-pub record IsShown (look : Look) (base : Base) (batch : List Paint) (origin : Point) (visible : List Edges) (old new : Picture) : Type 0 where
+-- after a batch each visible point whose colour is known has it;
+-- one that no command touches keeps its pixel, and so do the points that aren't visible
+pub record IsShown (look : Look) (base : Base) (batch : List Paint)
+    (origin : Point) (visible : List Edges) (old new : Picture) : Type 0 where
   pub size : new.size ≡ old.size
   pub kind : new.kind ≡ old.kind
   pub shown : (p : Point) (x : ℕ) → holds visible p ≡ true → after look base batch (before_shift p origin) ≡ Some x → pixel_of new p ≡ x

@@ -1,5 +1,6 @@
 -- Only private contracts cite this file. What a command paints along a run of points.
-use Rattle.std.specs.Prelude.{◌≡◌, ℕ, ◌+◌, ◌*◌, ◌<◌, pos, neg_ℤ, ◌+ℤ◌, ◌≤ℤ◌, ◌<ℤ◌, List, length, slice_index}
+use Rattle.std.specs.Prelude.{◌≡◌, ℕ, ◌+◌, ◌*◌, ◌<◌, pos, neg_ℤ, ◌+ℤ◌, ◌≤ℤ◌, ◌<ℤ◌, ◌/◌, ◌%◌, List, map, length, slice_index}
+use Rattle.std.specs.List.{range_with_len}
 use Rattle.tr_base.specs.declared.Point.{Point}
 use Rattle.tr_base.specs.declared.Size.{Size}
 use Rattle.tr_base.specs.Fonts.{glyph_of}
@@ -33,3 +34,7 @@ pub record IsCorner (at : Point) : Type 0 where
 abbrev pub AreGlyphRows : List (List ℕ) → List ℕ → List ℕ → Type 0
 AreGlyphRows font text bits =
     (v k : ℕ) → v < 8 → k < length text → slice_index bits (80 * v + k) ≡ slice_index (glyph_of font (slice_index text k)) v
+
+-- of 64 bytes, whose two halves are taken by turns, the 32 from place `start` on
+abbrev pub by_turns : List ℕ → ℕ → List ℕ
+by_turns bytes start = map (λ i. slice_index bytes (i / 2 + 32 * (i % 2))) (range_with_len start 32)

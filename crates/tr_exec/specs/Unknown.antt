@@ -49,7 +49,8 @@ moved_by effect area visible p = false
 
 -- the points that a command moves
 abbrev pub moved_of : Paint → Point → List Edges → Point → Bool
-moved_of (Scroll clip delta) origin visible p = (holds visible p && has_point clip (before_shift p origin)) && holds visible (before_shift p delta)
+moved_of (Scroll clip delta) origin visible p =
+    (holds visible p && has_point clip (before_shift p origin)) && holds visible (before_shift p delta)
 moved_of c origin visible p = false
 
 -- a region holds the points that a command moves

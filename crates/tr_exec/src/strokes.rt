@@ -1,11 +1,13 @@
-ghost use Rattle.std.specs.Prelude.{◌≡◌, ◌<◌, ◌≤◌, ◌+◌, ◌/◌, ◌*◌, ◌≤ℤ◌, ◌<ℤ◌, ℕ, pos, ◌+ℤ◌, List, length, slice_index, unsigned_abs};
+ghost use Rattle.std.specs.Prelude.{◌≡◌, ◌<◌, ◌≤◌, ◌+◌, ◌/◌, ◌*◌, ◌≤ℤ◌, ◌<ℤ◌, ℕ, pos, ◌+ℤ◌, List, ◌++◌, length, slice_index, unsigned_abs};
+ghost use Rattle.std.specs.Simd.Lanes.{chunk, put_chunk};
 ghost use Rattle.tr_base.specs.Ops.{eff, resolved as resolved_of};
 ghost use Rattle.tr_base.specs.Tiles.{tile_bit, place_of as place_in_tile};
-ghost use Rattle.tr_base.specs.Fonts.{glyph_bit};
+ghost use Rattle.tr_base.specs.Fonts.{glyph_of, glyph_bit};
 ghost use Rattle.tr_base.specs.Pixmaps.{pixmap_at};
 ghost use Rattle.tr_kernel.specs.Masks.{painted};
-ghost use Rattle.tr_exec.specs.Strokes.{IsWithin, IsInCells, AreGlyphRows, east_of};
+ghost use Rattle.tr_exec.specs.Strokes.{IsWithin, IsInCells, AreGlyphRows, east_of, by_turns};
 
+use std::simd::prelude::*;
 use tr_base::{Font, Kind, LINE, Line, Op, Pixmap, Point, Tile, eff, place_of, resolved};
 use tr_kernel::{Mask, copy_row, exchange_row, fill_row};
 
@@ -119,22 +121,118 @@ fn glyph_rows(font: &Font, text: &[u8]) -> [u8; BITS]
     requires short { length text.now ≤ LINE }
     ensures { AreGlyphRows font.now text.now result }
 {
+    let mut glyphs = [0; BITS];
+    gather(font, text, &mut glyphs);
     let mut bits = [0; BITS];
-    for (i, byte) in text.iter().enumerate() {
-        put_glyph(&mut bits, i, font.glyph_of(*byte));
+    for i in 0..text.len().div_ceil(8) {
+        put_eight(&mut bits, 8 * i, &glyphs[64 * i..64 * i + 64]);
     }
     bits
 }
 
-/// Puts the rows of a glyph into cell `i`.
+/// Puts down the glyphs of these bytes, one behind another.
 #[inline(always)]
-fn put_glyph(bits: &mut [u8; BITS], i: usize, glyph: [u8; 8])
-    requires { i < LINE }
-    ensures put { (v : ℕ) → v < 8 → slice_index bits.new (LINE * v + i) ≡ slice_index glyph v }
-    ensures before { (v k : ℕ) → k < i →
+fn gather(font: &Font, text: &[u8], glyphs: &mut [u8; BITS])
+    requires short { length text.now ≤ LINE }
+    ensures { (k v : ℕ) → k < length text.now → v < 8 →
+        slice_index glyphs.new (8 * k + v)
+        ≡ slice_index (glyph_of font.now (slice_index text.now k)) v }
+{
+    for (i, byte) in text.iter().enumerate() {
+        put_glyph(glyphs, 8 * i, &font.glyph_of(*byte));
+    }
+}
+
+/// Puts a glyph at a place.
+#[inline(always)]
+fn put_glyph(glyphs: &mut [u8; BITS], at: usize, glyph: &[u8; 8])
+    requires room { at + 8 ≤ BITS }
+    ensures { glyphs.new ≡ put_chunk at glyphs.old glyph.now }
+{
+    // A vector that is made of an array is made byte by byte, and this is one store.
+    glyphs[at..at + 8].copy_from_slice(glyph);
+}
+
+/// Puts the rows of eight glyphs into the cells from `at` on.
+#[inline(always)]
+fn put_eight(bits: &mut [u8; BITS], at: usize, glyphs: &[u8])
+    requires room { at + 8 ≤ LINE }
+    requires eight { length glyphs.now ≡ 64 }
+    ensures put { (v k : ℕ) → v < 8 → k < 8 →
+        slice_index bits.new (LINE * v + (at + k)) ≡ slice_index glyphs.now (8 * k + v) }
+    ensures before { (v k : ℕ) → k < at →
         slice_index bits.new (LINE * v + k) ≡ slice_index bits.old (LINE * v + k) }
 {
-    for (v, row) in glyph.iter().enumerate() {
-        bits[LINE * v + i] = *row;
+    let rows = exchanged(glyphs);
+    for v in 0..8 {
+        put_row(bits, LINE * v + at, u8x8::from_slice(&rows[8 * v..]));
     }
+}
+
+/// Puts eight bytes at a place.
+#[inline(always)]
+fn put_row(bits: &mut [u8; BITS], at: usize, row: u8x8)
+    requires room { at + 8 ≤ BITS }
+    requires lanes { length row ≡ 8 }
+    ensures { bits.new ≡ put_chunk at bits.old row }
+{
+    row.copy_to_slice(&mut bits[at..]);
+}
+
+/// The columns of eight rows of eight bytes.
+///
+/// Three times the halves are interleaved: each time the bits of a byte's place turn by one.
+#[inline(always)]
+fn exchanged(rows: &[u8]) -> [u8; 64]
+    requires { length rows.now ≡ 64 }
+    ensures { (v k : ℕ) → v < 8 → k < 8 →
+        slice_index result (8 * v + k) ≡ slice_index rows.now (8 * k + v) }
+{
+    let (a, b) = halves(rows);
+    let (a, b) = turned(a, b);
+    let (a, b) = turned(a, b);
+    let (a, b) = turned(a, b);
+    joined(a, b)
+}
+
+/// The two halves of 64 bytes.
+#[inline(always)]
+fn halves(bytes: &[u8]) -> (u8x32, u8x32)
+    requires { length bytes.now ≡ 64 }
+    ensures { result ≡ (chunk 0 32 bytes.now, chunk 32 32 bytes.now) }
+{
+    (u8x32::from_slice(bytes), u8x32::from_slice(&bytes[32..]))
+}
+
+/// The bytes of two halves by turns, as two halves again.
+#[inline(always)]
+fn turned(a: u8x32, b: u8x32) -> (u8x32, u8x32)
+    requires a { length a ≡ 32 }
+    requires b { length b ≡ 32 }
+    ensures { result ≡ (by_turns (a ++ b) 0, by_turns (a ++ b) 32) }
+{
+    a.interleave(b)
+}
+
+/// Two halves, one behind the other.
+#[inline(always)]
+fn joined(a: u8x32, b: u8x32) -> [u8; 64]
+    requires a { length a ≡ 32 }
+    requires b { length b ≡ 32 }
+    ensures { result ≡ a ++ b }
+{
+    let mut bytes = [0; 64];
+    put_half(&mut bytes, 0, a);
+    put_half(&mut bytes, 32, b);
+    bytes
+}
+
+/// Puts half of 64 bytes at a place.
+#[inline(always)]
+fn put_half(bytes: &mut [u8; 64], at: usize, half: u8x32)
+    requires room { at + 32 ≤ 64 }
+    requires lanes { length half ≡ 32 }
+    ensures { bytes.new ≡ put_chunk at bytes.old half }
+{
+    half.copy_to_slice(&mut bytes[at..]);
 }

@@ -1,19 +1,9 @@
-use Rattle.std.proofs.Common.{get_or, refl, arith, rules}
-use Rattle.tr_exec.proofs.GlyphLemmas.{none_put, one_put}
+use Rattle.std.proofs.Common.{◌≡◌, ◌+◌, ◌-◌, length, refl, arith, rules}
+use Rattle.std.proofs.lemmas.Simd.{put_chunk_is}
 use Rattle.tr_exec.proofs.strokes.put_glyph.Goals as goal
 
-pub loop-v-init : goal.loop-v-init
-loop-v-init c = (search rules, none_put c.args.glyph c.args.bits.now c.args.i)
-
-pub loop-v-preserved : goal.loop-v-preserved
-loop-v-preserved c = (
-  search rules,
-  one_put c.args.glyph c.args.bits.now c.loop-v.bits c.args.i c.loop-v.v (get_or c.args.glyph c.loop-v.v 0) c.loop-v.invariant.1 c.requires
-      (omega (arith, c.requires, c.loop-v-test.true, c.loop-v.invariant.0)) refl,
-)
-
-pub returns-clause-put : goal.returns-clause-put
-returns-clause-put c v lt = c.loop-v.invariant.1.put v (omega (arith, c.loop-v-test.false))
-
-pub returns-clause-before : goal.returns-clause-before
-returns-clause-before c v k lt = c.loop-v.invariant.1.before v k lt
+pub returns : goal.returns
+returns c =
+    let eight : length c.args.glyph.now ≡ 8 = search rules in
+    let part : c.args.at + 8 - c.args.at ≡ 8 = omega arith in
+    rw (c.copy_from_slice.ensures.after, put_chunk_is c.args.at c.args.glyphs.now c.args.glyph.now (omega arith), eight, part) refl

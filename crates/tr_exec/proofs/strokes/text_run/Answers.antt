@@ -16,6 +16,9 @@ returns c = λ k lt.
     let row = unsigned_abs c.args.at.v in
     let within = columns_fit c.args.at.v 1 8 c.requires.north (omega (arith, ints, c.requires.south)) in
     let from = 80 * row + first / 8 in
-    let bits = bit_of_text glyphs.font.now glyphs.text.now glyphs.bits (take (80 * row + 80 - from) (drop from glyphs.bits)) first row (length c.args.pixels.now)
-    glyphs.rows (omega (arith, within)) c.bytes.ensures.invariant.short refl (columns_fit c.args.at.h (length c.args.pixels.now) _ c.requires.west c.requires.east) k lt in
+    let bits =
+    bit_of_text glyphs.font.now glyphs.text.now glyphs.bits
+    (take (80 * row + 80 - from) (drop from glyphs.bits)) first row (length c.args.pixels.now)
+    glyphs.rows (omega (arith, within)) c.bytes.ensures.invariant.short refl
+    (columns_fit c.args.at.h (length c.args.pixels.now) _ c.requires.west c.requires.east) k lt in
     rw (h, v) at (c.cells.ensures.each k lt) ∙ ap (λ b. painted c.args.mask.now b (slice_index c.args.pixels.now k)) bits

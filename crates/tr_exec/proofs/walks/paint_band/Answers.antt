@@ -14,8 +14,12 @@ paint_row-requires-clause-on g c =
     let rects = c.args.band.now.rects.now in
     let row = c.between-row.result.now in
     let old = c.args.screen.now in
-    let columns = rw (cast-in_reach _ c.west.ensures.reach, c.west.ensures.value, cast-in_reach _ c.east.ensures.reach, c.east.ensures.value, c.area-area.ensures) at c.between-row.ensures.columns in
-    let on = row_on rects row area columns c.loop-v.v old.size c.args.band.now.north c.args.band.now.south (omega (arith, c.loop-v.auto.v)) c.loop-v-test.true c.requires.on in
+    let columns =
+    rw (cast-in_reach _ c.west.ensures.reach, c.west.ensures.value, cast-in_reach _ c.east.ensures.reach, c.east.ensures.value, c.area-area.ensures)
+    at c.between-row.ensures.columns in
+    let on =
+    row_on rects row area columns c.loop-v.v old.size c.args.band.now.north c.args.band.now.south
+    (omega (arith, c.loop-v.auto.v)) c.loop-v-test.true c.requires.on in
     on_sized old.size c.loop-v.screen.size (in_area (in_row c.loop-v.v row) area) c.loop-v.invariant.size on
 
 pub loop-v-preserved : goal.loop-v-preserved
@@ -24,8 +28,11 @@ loop-v-preserved g c =
     let rects = c.args.band.now.rects.now in
     let row = c.between-row.result.now in
     let v = c.loop-v.v in
-    let columns = rw (cast-in_reach _ c.west.ensures.reach, c.west.ensures.value, cast-in_reach _ c.east.ensures.reach, c.east.ensures.value, c.area-area.ensures) at c.between-row.ensures.columns in
-    rows_paint (in_area (in_columns rects) area) (in_area (in_row v row) area) c.args.band.now.north v (v + 1) (g.B.Brush.pixel c.args.brush.now) c.args.screen.now c.loop-v.screen _
+    let columns =
+    rw (cast-in_reach _ c.west.ensures.reach, c.west.ensures.value, cast-in_reach _ c.east.ensures.reach, c.east.ensures.value, c.area-area.ensures)
+    at c.between-row.ensures.columns in
+    rows_paint (in_area (in_columns rects) area) (in_area (in_row v row) area)
+    c.args.band.now.north v (v + 1) (g.B.Brush.pixel c.args.brush.now) c.args.screen.now c.loop-v.screen _
     (omega (arith, c.loop-v.auto.v)) (omega arith) c.paint_row.ensures (row_of_band rects row area columns v) c.loop-v.invariant
 
 pub returns : goal.returns

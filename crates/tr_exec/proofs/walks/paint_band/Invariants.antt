@@ -6,4 +6,6 @@ use Rattle.tr_exec.proofs.walks.paint_band.Given as goal
 
 -- the rows before v are painted
 abbrev pub invariant-loop-v : goal.invariant-loop-v
-invariant-loop-v g l = Repaints (in_part l.fn.band.north l.v (in_area (in_columns l.fn.band.rects.now) (g.B.Brush.area l.brush))) (λ p. g.B.Brush.pixel l.brush p (pixel_of l.fn.screen p)) l.fn.screen l.screen
+invariant-loop-v g l =
+    Repaints (in_part l.fn.band.north l.v (in_area (in_columns l.fn.band.rects.now) (g.B.Brush.area l.brush)))
+    (λ p. g.B.Brush.pixel l.brush p (pixel_of l.fn.screen p)) l.fn.screen l.screen

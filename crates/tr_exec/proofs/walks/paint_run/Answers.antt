@@ -8,4 +8,5 @@ returns g c =
     let r = c.args.run in
     let w = c.paint.new.pixels in
     let wide : length w ≡ width_of r = omega (arith, c.paint.auto.pixels, c.run_mut.ensures.wide) in
-    painted_by (g.B.Brush.pixel c.args.brush.now) r c.args.screen.now _ w c.run_mut.result.now c.requires.on c.run_mut.ensures.wide (c.run_mut.ensures.paints w wide) c.paint.ensures c.run_mut.ensures.value
+    painted_by (g.B.Brush.pixel c.args.brush.now) r c.args.screen.now _ w c.run_mut.result.now
+    c.requires.on c.run_mut.ensures.wide (c.run_mut.ensures.paints w wide) c.paint.ensures c.run_mut.ensures.value

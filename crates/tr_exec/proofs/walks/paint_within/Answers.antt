@@ -15,7 +15,9 @@ paint_band-requires-clause-rows g c = λ v from to.
     let across = (rw c.area-area.ensures at full).0 in
     let north = rw (cast-in_reach _ c.north.ensures.reach, c.north.ensures.value, c.area-area.ensures) at c.nearest_row-v.ensures in
     let south = rw (cast-in_reach _ c.south.ensures.reach, c.south.ensures.value, c.area-area.ensures) at c.nearest_row-south.ensures in
-    rows_had area c.size-high.result.high _ _ across north south v (omega (arith, c.loop-v.invariant.rows, c.first_band-band.ensures.from, from)) (omega (arith, c.first_band-band.ensures.to, to))
+    rows_had area c.size-high.result.high _ _ across north south v
+    (omega (arith, c.loop-v.invariant.rows, c.first_band-band.ensures.from, from))
+    (omega (arith, c.first_band-band.ensures.to, to))
 
 pub paint_band-requires-clause-on : goal.paint_band-requires-clause-on
 paint_band-requires-clause-on g c =
@@ -34,8 +36,10 @@ loop-v-preserved g c =
     let same = band_in_area region band.rects.now area c.loop-v.v band.north band.south c.first_band-band.ensures.from c.first_band-band.ensures.points in
     record {
       rows = omega (arith, c.loop-v.invariant.rows, c.first_band-band.ensures.from, c.first_band-band.ensures.order);
-      done = rows_paint (in_area (holds region) area) (in_area (in_band band.north band.south band.rects.now) area) _ c.loop-v.v band.south (g.B.Brush.pixel c.args.brush.now) c.args.screen.now c.loop-v.screen _
-          c.loop-v.invariant.rows (omega (arith, c.first_band-band.ensures.from, c.first_band-band.ensures.order)) c.paint_band.ensures same c.loop-v.invariant.done;
+      done = rows_paint (in_area (holds region) area) (in_area (in_band band.north band.south band.rects.now) area) _
+          c.loop-v.v band.south (g.B.Brush.pixel c.args.brush.now) c.args.screen.now c.loop-v.screen _
+          c.loop-v.invariant.rows (omega (arith, c.first_band-band.ensures.from, c.first_band-band.ensures.order))
+          c.paint_band.ensures same c.loop-v.invariant.done;
     }
 
 pub returns : goal.returns
@@ -43,5 +47,7 @@ returns g c =
     let area = g.B.Brush.area c.args.brush.now in
     let size = c.args.screen.now.size in
     let north = rw (cast-in_reach _ c.north.ensures.reach, c.north.ensures.value, c.area-area.ensures, c.size-high.ensures.value) at c.nearest_row-v.ensures in
-    let south = rw (cast-in_reach _ c.south.ensures.reach, c.south.ensures.value, c.area-area.ensures, c.size-high.ensures.value) at c.nearest_row-south.ensures in
-    repaints_same _ _ _ _ _ c.loop-v.invariant.done (λ p on. walk_whole (holds c.args.visible.now) area size _ _ north south c.loop-v.v c.loop-v-test.false p on)
+    let south =
+    rw (cast-in_reach _ c.south.ensures.reach, c.south.ensures.value, c.area-area.ensures, c.size-high.ensures.value) at c.nearest_row-south.ensures in
+    repaints_same _ _ _ _ _ c.loop-v.invariant.done
+    (λ p on. walk_whole (holds c.args.visible.now) area size _ _ north south c.loop-v.v c.loop-v-test.false p on)

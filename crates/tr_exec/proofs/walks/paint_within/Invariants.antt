@@ -10,7 +10,9 @@ use Rattle.tr_exec.proofs.walks.paint_within.Given as goal
 abbrev pub invariant-loop-v : goal.invariant-loop-v
 invariant-loop-v g l = record {
   rows : l.initial.v ≤ l.v;
-  done : Repaints (in_part l.initial.v l.v (in_area (holds l.visible) (g.B.Brush.area l.brush))) (λ p. g.B.Brush.pixel l.brush p (pixel_of l.fn.screen p)) l.fn.screen l.screen;
+  done :
+      Repaints (in_part l.initial.v l.v (in_area (holds l.visible) (g.B.Brush.area l.brush)))
+      (λ p. g.B.Brush.pixel l.brush p (pixel_of l.fn.screen p)) l.fn.screen l.screen;
 }
 
 abbrev pub decreases-loop-v : goal.decreases-loop-v

@@ -22,4 +22,6 @@ returns c = λ k lt.
     let further : start +ℤ pos k ≡ (run.west +ℤ pos k) -ℤ brush.at.h = omega (arith, ints) in
     let column = sym (abs-later start k within.west) ∙ ap (λ x. unsigned_abs x) further in
     rw c.start_in.ensures at (c.text_run.ensures k lt)
-    ∙ ap (λ (h : ℕ). painted brush.mask.now (glyph_bit brush.glyphs.now.font.now (slice_index brush.glyphs.now.text.now (h / 8)) h (unsigned_abs (run.v -ℤ brush.at.v))) (slice_index c.args.pixels.now k)) column
+    ∙ ap (λ (h : ℕ). painted brush.mask.now
+    (glyph_bit brush.glyphs.now.font.now (slice_index brush.glyphs.now.text.now (h / 8)) h (unsigned_abs (run.v -ℤ brush.at.v)))
+    (slice_index c.args.pixels.now k)) column

@@ -18,7 +18,8 @@ pub invariant_of-brush-in-Pixels : goal.invariant_of-brush-in-Pixels
 invariant_of-brush-in-Pixels c = record {
   corner = c.place-in-Pixels.ensures.corner;
   within = rw c.place-in-Pixels.ensures.value
-      (pixels_within c.area-area.result c.in-Pixels.clip c.in-Pixels.src.size c.args.self.now.origin c.in-Pixels.delta (rw c.in-Pixels.is at c.area-area.ensures));
+      (pixels_within c.area-area.result c.in-Pixels.clip c.in-Pixels.src.size c.args.self.now.origin c.in-Pixels.delta
+      (rw c.in-Pixels.is at c.area-area.ensures));
 }
 
 pub paint_within-requires-in-Pixels : goal.paint_within-requires-in-Pixels
@@ -47,9 +48,11 @@ returns-in-Texture c =
     let old = c.args.screen.now in
     let kind = c.args.env.now.kind in
     let area = rw c.in-Texture.is at c.area-area.ensures in
-    rw c.in-Texture.is (repaints_as _ _ _ _ old c.paint_within-in-Texture.new.screen (rw (c.of.ensures, c.place.ensures.value) at c.paint_within-in-Texture.ensures)
+    rw c.in-Texture.is (repaints_as _ _ _ _ old c.paint_within-in-Texture.new.screen
+    (rw (c.of.ensures, c.place.ensures.value) at c.paint_within-in-Texture.ensures)
     (λ p. ap (λ b. holds visible p && b) (sym (area p)))
-    (λ p. ap (λ (r : Point). eff kind (chosen c.in-Texture.ops (tile_bit c.in-Texture.tile r.h r.v)) (pixel_of old p)) (before-both origin p c.in-Texture.delta)))
+    (λ p. ap (λ (r : Point). eff kind (chosen c.in-Texture.ops (tile_bit c.in-Texture.tile r.h r.v)) (pixel_of old p))
+    (before-both origin p c.in-Texture.delta)))
 
 pub returns-in-Pixels : goal.returns-in-Pixels
 returns-in-Pixels c =
@@ -70,7 +73,9 @@ returns-in-Text c =
     let kind = c.args.env.now.kind in
     let font = c.args.env.now.font.now in
     let area = rw c.in-Text.is at c.area-area.ensures in
-    rw c.in-Text.is (repaints_as _ _ _ _ old c.paint_within-in-Text.new.screen (rw (c.of-in-Text.ensures, c.of-in-Text-2.ensures.font, c.of-in-Text-2.ensures.text, c.place-in-Text.ensures.value) at c.paint_within-in-Text.ensures)
+    rw c.in-Text.is (repaints_as _ _ _ _ old c.paint_within-in-Text.new.screen
+    (rw (c.of-in-Text.ensures, c.of-in-Text-2.ensures.font, c.of-in-Text-2.ensures.text, c.place-in-Text.ensures.value) at c.paint_within-in-Text.ensures)
     (λ p. ap (λ b. holds visible p && b) (sym (area p)))
-    (λ p. ap (λ (r : Point). eff kind (chosen c.in-Text.ops (glyph_bit font (slice_index c.in-Text.text (unsigned_abs r.h / 8)) (unsigned_abs r.h) (unsigned_abs r.v))) (pixel_of old p))
+    (λ p. ap (λ (r : Point). eff kind
+    (chosen c.in-Text.ops (glyph_bit font (slice_index c.in-Text.text (unsigned_abs r.h / 8)) (unsigned_abs r.h) (unsigned_abs r.v))) (pixel_of old p))
     (before-both origin p c.in-Text.at)))

@@ -9,7 +9,9 @@ use Rattle.tr_exec.proofs.PaintingLemmas.{zip_at}
 use Rattle.tr_exec.proofs.sites.Site.paint_all.Goals as goal
 
 pub loop-i-init : goal.loop-i-init
-loop-i-init c = λ bad. shown_none (look_of c.args.env.now.kind c.args.env.now.font.now) c.args.self.now.origin c.args.self.now.visible.now bad c.args.screen.now c.requires.visible
+loop-i-init c = λ bad.
+    shown_none (look_of c.args.env.now.kind c.args.env.now.font.now)
+    c.args.self.now.origin c.args.self.now.visible.now bad c.args.screen.now c.requires.visible
 
 pub paint-requires-clause-visible : goal.paint-requires-clause-visible
 paint-requires-clause-visible c =
@@ -26,8 +28,10 @@ loop-i-preserved c = λ bad.
     let items = c.paints-paints.result.now in
     let i = c.loop-i.i in
     let item = c.index-paints-i.result in
-    let next : take (i + 1) items ≡ take i items ++ item ∷ [] = take_more items i item c.loop-i-test.true ∙ ap (λ (x : Paint). take i items ++ x ∷ []) (sym c.index-paints-i.is) in
-    rw next (shown_more _ _ _ bad c.args.screen.now c.requires.visible (take i items) item c.loop-i.screen c.paint.new.screen (c.loop-i.invariant bad) c.paint.ensures)
+    let next : take (i + 1) items ≡ take i items ++ item ∷ [] =
+    take_more items i item c.loop-i-test.true ∙ ap (λ (x : Paint). take i items ++ x ∷ []) (sym c.index-paints-i.is) in
+    rw next (shown_more _ _ _ bad c.args.screen.now c.requires.visible (take i items) item
+    c.loop-i.screen c.paint.new.screen (c.loop-i.invariant bad) c.paint.ensures)
 
 pub returns : goal.returns
 returns c = λ bad.
