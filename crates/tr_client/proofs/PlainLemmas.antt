@@ -38,10 +38,14 @@ tile-gives look part tile at q here = rw here (ap (λ n. Value n) (plain-colour 
 
 -- a text gives each point of its cells the colour of its bit, and leaves the others
 pub text-makes : (look : Look) (part : Edges) (at : Point) (text : List ℕ) (q : Point) (old : ℕ) → has_point part q ≡ true →
-    Makes look.kind (deed look (Text part at plain text) q) old (cond (has_point (cells_of at (length text)) q) (colour_of (text_bit look.font at text q)) old)
-text-makes look part at text q old here = rw (has_point-meet_of part (cells_of at (length text)) q, here) (by_cell (has_point (cells_of at (length text)) q))
+    Makes look.kind (deed look (Text part at plain text) q) old
+    (cond (has_point (cells_of at (length text)) q) (colour_of (text_bit look.font at text q)) old)
+text-makes look part at text q old here =
+    rw (has_point-meet_of part (cells_of at (length text)) q, here) (by_cell (has_point (cells_of at (length text)) q))
   where
-    by_cell : (b : Bool) → Makes look.kind (cond b (Value (eff look.kind (chosen plain (text_bit look.font at text q)) 0)) Keep) old (cond b (colour_of (text_bit look.font at text q)) old)
+    by_cell : (b : Bool) →
+        Makes look.kind (cond b (Value (eff look.kind (chosen plain (text_bit look.font at text q)) 0)) Keep) old
+        (cond b (colour_of (text_bit look.font at text q)) old)
     by_cell true = plain-colour look.kind (text_bit look.font at text q)
     by_cell false = refl
 

@@ -16,4 +16,5 @@ pub patches_more : {C M : Type 0} (client : Ghosts C M) (look : Look) (size : Si
 patches_more client look size x [] cmd = append-nil (client.patch look size x cmd)
 patches_more client look size x (c ∷ cmds) cmd =
     ap (λ ps. client.patch look size x c ++ ps) (patches_more client look size (client.next x c) cmds cmd)
-    ∙ sym (append_assoc (client.patch look size x c) (patches_of client look size (client.next x c) cmds) (client.patch look size (content_after client (client.next x c) cmds) cmd))
+    ∙ sym (append_assoc (client.patch look size x c) (patches_of client look size (client.next x c) cmds)
+    (client.patch look size (content_after client (client.next x c) cmds) cmd))

@@ -62,7 +62,8 @@ pub trait Client: Sized + Drop + Send + Sync {
         requires { IsWindowSize size }
         ensures valid { valid self.now }
         ensures painting { let look = look_of env.now.kind env.now.font.now in
-            IfOk result (λ batch. IsPainting look (meet_of (whole_of size) clip) batch (pic look size self.now)) };
+            IfOk result (λ batch.
+            IsPainting look (meet_of (whole_of size) clip) batch (pic look size self.now)) };
 
     /// The content after a command, and the command's patch.
     fn change(
@@ -120,7 +121,8 @@ pub trait Client: Sized + Drop + Send + Sync {
         requires valid { valid self.now }
         requires command { Self.Cmd.valid cmd.now }
         ensures { let look = look_of env.now.kind env.now.font.now in
-            IsPatch look size (patch look size self.now cmd.now) (pic look size self.now) (pic look size (next self.now cmd.now)) }
+            IsPatch look size (patch look size self.now cmd.now)
+            (pic look size self.now) (pic look size (next self.now cmd.now)) }
     {}
 
     /// Law of empty patches: the patch of a window without points has no command. Nothing runs.
@@ -154,18 +156,22 @@ pub trait Client: Sized + Drop + Send + Sync {
     ghost contents: { (x : Self) (cmd : Self.Cmd) → valid x → Self.Cmd.valid cmd → valid (next x cmd) };
 
     /// An event asks for a command.
-    ghost answers: { (x : Self) (event : Event) → valid x → IsEvent event → IfSome (answer x event) (λ cmd. Self.Cmd.valid cmd) };
+    ghost answers: { (x : Self) (event : Event) → valid x → IsEvent event →
+        IfSome (answer x event) (λ cmd. Self.Cmd.valid cmd) };
 
     /// A patch leads from the old picture to the new one.
-    ghost patches: { (look : Look) (size : Size) (x : Self) (cmd : Self.Cmd) → valid x → Self.Cmd.valid cmd → IsWindowSize size →
+    ghost patches: { (look : Look) (size : Size) (x : Self) (cmd : Self.Cmd) →
+        valid x → Self.Cmd.valid cmd → IsWindowSize size →
         IsPatch look size (patch look size x cmd) (pic look size x) (pic look size (next x cmd)) };
 
     /// The patch of a window without points has no command.
-    ghost empty_patches: { (look : Look) (size : Size) (x : Self) (cmd : Self.Cmd) → valid x → Self.Cmd.valid cmd → IsWindowSize size →
-        is_flat size ≡ true → patch look size x cmd ≡ [] };
+    ghost empty_patches: { (look : Look) (size : Size) (x : Self) (cmd : Self.Cmd) →
+        valid x → Self.Cmd.valid cmd → IsWindowSize size → is_flat size ≡ true →
+        patch look size x cmd ≡ [] };
 
     /// What is kept lies in both windows, and has the same colours in both.
-    ghost keeping: { (look : Look) (from to : Size) (x : Self) → valid x → IsWindowSize from → IsWindowSize to →
+    ghost keeping: { (look : Look) (from to : Size) (x : Self) →
+        valid x → IsWindowSize from → IsWindowSize to →
         Survives (keeps x from to) from to (pic look from x) (pic look to x) };
 
     /// Each colour is a value that a pixel of the look's kind can have.

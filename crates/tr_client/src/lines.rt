@@ -76,9 +76,11 @@ pub fn cleared(alloc: Global, part: Rect) -> Result<Batch, NoMemory>
 pub fn paint_lines(alloc: Global, part: Rect, lines: &[Line]) -> Result<Batch, NoMemory>
     requires part { IsNearRect part }
     requires lines { 8 * length lines.now ≤ longest }
-    ensures { (look : Look) → IfOk result (λ batch. IsPainting look part batch (spec.colour_in look lines.now)) }
+    ensures { (look : Look) →
+        IfOk result (λ batch. IsPainting look part batch (spec.colour_in look lines.now)) }
 {
     let mut batch = cleared(alloc, part)?;
+    batch.reserve(lines.len())?;
     for (above, line) in lines.iter().enumerate() {
         batch.push(Paint::Text {
             clip: part,

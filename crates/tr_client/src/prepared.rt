@@ -23,9 +23,11 @@ pub struct Prepared<C: Client> {
     pub commands: Vec<C::Cmd>,
     pub batch: Batch,
     pub ghost window: { IsWindowSize size },
-    pub ghost contents: { to ≡ content_after C.Client from commands.items } by { Coded-set C.code to (content_after C.Client from commands.items) },
+    pub ghost contents: { to ≡ content_after C.Client from commands.items } by { Coded-set C.code to
+        (content_after C.Client from commands.items) },
     pub ghost patches: { batch ≡ patches_of C.Client (look_of kind font) size from commands.items },
-    pub ghost patch: { IsPatch (look_of kind font) size batch (C.pic (look_of kind font) size from) (C.pic (look_of kind font) size to) } by { Prim.hlevel props },
+    pub ghost patch: { IsPatch (look_of kind font) size batch
+        (C.pic (look_of kind font) size from) (C.pic (look_of kind font) size to) } by { Prim.hlevel props },
 }
 
 impl<C: Client> Prepared<C> {

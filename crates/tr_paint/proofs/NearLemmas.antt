@@ -28,8 +28,14 @@ pub whole-in_reach : (size : Size) (d : Point) → size.wide < 65536 → size.hi
 whole-in_reach size d wide high near = by_test (int_lt (pos 0) (pos size.wide) && int_lt (pos 0) (pos size.high))
   where
     by_test : (b : Bool) → AreInReach (shifted (cond b (record { west = pos 0; east = pos size.wide; north = pos 0; south = pos size.high }) empty_rect) d)
-    by_test true = rect_of-in_reach _ _ _ _ (near_moved 0 d.h (omega arith) near.h) (near_moved size.wide d.h wide near.h) (near_moved 0 d.v (omega arith) near.v) (near_moved size.high d.v high near.v)
-    by_test false = rect_of-in_reach _ _ _ _ (near_moved 0 d.h (omega arith) near.h) (near_moved 0 d.h (omega arith) near.h) (near_moved 0 d.v (omega arith) near.v) (near_moved 0 d.v (omega arith) near.v)
+    by_test true =
+        rect_of-in_reach _ _ _ _
+        (near_moved 0 d.h (omega arith) near.h) (near_moved size.wide d.h wide near.h)
+        (near_moved 0 d.v (omega arith) near.v) (near_moved size.high d.v high near.v)
+    by_test false =
+        rect_of-in_reach _ _ _ _
+        (near_moved 0 d.h (omega arith) near.h) (near_moved 0 d.h (omega arith) near.h)
+        (near_moved 0 d.v (omega arith) near.v) (near_moved 0 d.v (omega arith) near.v)
 
 low_max : (a b : ℤ) → a ≤ℤ int_max a b
 low_max a b = grind (arith, ints, clamps)
@@ -66,8 +72,10 @@ near-meet a b near = by_tests (int_lt west east) (int_lt north south) refl refl
     between low high x y l h test =
         let first = low_max low x in
         let last = min_high high y in
-        let order = lt_of (int_max low x) (int_min high y) test in
-        (record { low = omega (arith, ints, first, l.low); high = omega (arith, ints, order, last, h.high) }, record { low = omega (arith, ints, order, first, l.low); high = omega (arith, ints, last, h.high) })
+        let order = lt_of (int_max low x) (int_min high y) test in (
+          record { low = omega (arith, ints, first, l.low); high = omega (arith, ints, order, last, h.high) },
+          record { low = omega (arith, ints, order, first, l.low); high = omega (arith, ints, last, h.high) },
+        )
 
     by_tests : (p q : Bool) → int_lt west east ≡ p → int_lt north south ≡ q →
         IsNearRect (cond (p && q) (record { west = west; east = east; north = north; south = south }) empty_rect)

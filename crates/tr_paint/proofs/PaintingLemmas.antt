@@ -101,7 +101,8 @@ painting_along look part batch old new same painted = record {
 }
 
 -- what paints a whole window, whatever was there, is a patch from any picture
-pub painting_is_patch : (look : Look) (size : Size) (batch : List Paint) (old new : Point → ℕ) → IsPainting look (whole_of size) batch new → IsPatch look size batch old new
+pub painting_is_patch : (look : Look) (size : Size) (batch : List Paint) (old new : Point → ℕ) →
+    IsPainting look (whole_of size) batch new → IsPatch look size batch old new
 painting_is_patch look size batch old new painted base within shows q seen = rw (painted.shows base q seen (within q seen)) refl
 
 -- the same for a batch by its list: of one command

@@ -56,7 +56,8 @@ done-gives look size base (Change op) old q new within shows gives = along (trac
     along (Some x) h = ap (λ p. eff look.kind op p) h ∙ gives
 
 -- no command is a patch where the two pictures agree in the window
-pub no_patch : (look : Look) (size : Size) (old new : Point → ℕ) → ((q : Point) → has_point (whole_of size) q ≡ true → old q ≡ new q) → IsPatch look size [] old new
+pub no_patch : (look : Look) (size : Size) (old new : Point → ℕ) →
+    ((q : Point) → has_point (whole_of size) q ≡ true → old q ≡ new q) → IsPatch look size [] old new
 no_patch look size old new same base within shows q seen =
     let known = rw seen at (shown base old q shows) in rw seen (along (base.known q) known)
   where

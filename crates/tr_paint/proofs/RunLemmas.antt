@@ -1,4 +1,5 @@
--- The law of patches by running: commands lead from one picture to another where running them over the whole first picture gives the second. Nothing else is asked of a patch: no base, no pictures in between, and no word on areas that are empty.
+-- The law of patches by running: commands lead from one picture to another where running them over the whole first picture gives the second.
+-- Nothing else is asked of a patch: no base, no pictures in between, and no word on areas that are empty.
 use Rattle.std.proofs.Common.{◌≡◌, ℕ, true, List, [], ◌∷◌, ◌++◌, Option, Some, None, refl, ap, ◌∙◌}
 use Rattle.std.specs.Prelude.{IfSome}
 use Rattle.tr_base.specs.declared.Point.{Point}

@@ -43,7 +43,8 @@ pub after-append : (look : Look) (base : Base) (xs ys : List Paint) (q : Point) 
 after-append look base xs ys q = ap (λ cs. trace look base cs q) (reverse-append xs ys) ∙ trace-append look base (reverse ys) (reverse xs) q
 
 -- the forward reading: the commands after the first, over what the first leaves
-pub after-first : (look : Look) (base : Base) (c : Paint) (cs : List Paint) (q : Point) → after look base (c ∷ cs) q ≡ after look (left_by look base (c ∷ [])) cs q
+pub after-first : (look : Look) (base : Base) (c : Paint) (cs : List Paint) (q : Point) →
+    after look base (c ∷ cs) q ≡ after look (left_by look base (c ∷ [])) cs q
 after-first look base c cs q = after-append look base (c ∷ []) cs q
 
 -- the backward reading: the last command over what those before it leave

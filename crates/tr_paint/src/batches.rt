@@ -74,6 +74,14 @@ impl Batch {
         Ok(())
     }
 
+    /// Makes room for so many commands more.
+    pub fn reserve(&mut self, more: usize) -> Result<(), NoMemory>
+        ensures { self.new ≡ self.old }
+    {
+        self.paints.reserve(more)?;
+        Ok(())
+    }
+
     /// How many commands it has.
     pub fn len(&self) -> usize
         ensures { result ≡ length self.now }

@@ -1,4 +1,5 @@
--- A Canvas obeys the laws of clients. These are proofs, which stand here since an impl cites nothing else of its crate; no contract cites them.
+-- A Canvas obeys the laws of clients.
+-- These are proofs, which stand here since an impl cites nothing else of its crate; no contract cites them.
 use Rattle.std.proofs.Common.{◌≡◌, ℕ, ◌+◌, ◌-◌, ◌<◌, ◌≤◌, ◌&&◌, ℤ, pos, ◌+ℤ◌, ◌==◌, Bool, true, false, cond, List, [], ◌∷◌, ◌++◌, length, map, get_or, Option, Some, None, inl, inr, refl, sym, ap, subst, ◌∙◌, arith, append_assoc}
 use Rattle.std.specs.Prelude.{nat_lt, slice_get, IfSome}
 use Rattle.std.specs.List.{fold}
@@ -59,7 +60,8 @@ figure-makes : (look : Look) (part : Edges) (f : Figure) (q : Point) (old : ℕ)
 figure-makes look part f q old here = rw (has_point-meet_of part f.area q, here) (op-makes look.kind f.op (has_point f.area q) old)
 
 -- figures over what is painted
-figures-over : (look : Look) (part : Edges) (batch : List Paint) (start : Point → ℕ) (figures : List Figure) → IsPainting look part batch start →
+figures-over : (look : Look) (part : Edges) (batch : List Paint) (start : Point → ℕ) (figures : List Figure) →
+    IsPainting look part batch start →
     IsPainting look part (batch ++ batch_of (map (figure_paint part) figures)) (λ q. fold (drawn_over look.kind q) (start q) figures)
 figures-over look part batch start [] painted = subst (λ (cs : List Paint). IsPainting look part cs start) (sym (append-nil batch)) painted
 figures-over look part batch start (f ∷ figures) painted =
@@ -72,7 +74,8 @@ figures-over look part batch start (f ∷ figures) painted =
 pub canvas_painting : (look : Look) (size : Size) (part : Edges) (figures : List Figure) →
     IsPainting look part (canvas_paints part figures) (canvas_pic look size figures)
 canvas_painting look size part figures =
-    figures-over look part (kept (Tint part Bg)) (λ q. 0) figures (painting_first look part (Tint part Bg) (λ q. 0) (λ q here. rw here refl) (λ q h. h))
+    figures-over look part (kept (Tint part Bg)) (λ q. 0) figures
+    (painting_first look part (Tint part Bg) (λ q. 0) (λ q here. rw here refl) (λ q h. h))
 
 -- a figure over all others changes the picture at its points
 pic-more : (look : Look) (size : Size) (figures : List Figure) (f : Figure) (q : Point) →
@@ -80,7 +83,8 @@ pic-more : (look : Look) (size : Size) (figures : List Figure) (f : Figure) (q :
 pic-more look size figures f q = fold-append (drawn_over look.kind q) 0 figures (f ∷ [])
 
 -- what makes a colour, whatever the picture is elsewhere, gives it
-makes-gives : (kind : Kind) (size : Size) (d : Deed) (old : Point → ℕ) (q : Point) (new : ℕ) → Makes kind d (old q) new → Gives kind size d old q new
+makes-gives : (kind : Kind) (size : Size) (d : Deed) (old : Point → ℕ) (q : Point) (new : ℕ) → Makes kind d (old q) new →
+    Gives kind size d old q new
 makes-gives kind size Keep old q new makes = makes
 makes-gives kind size Lose old q new makes = tt
 makes-gives kind size (From r) old q new makes = absurd makes
@@ -98,10 +102,12 @@ with_patches look size figures f = by_room (nat_lt (length figures) most_figures
     new : Point → ℕ
     new = canvas_pic look size (figures ++ f ∷ [])
 
-    gives : (q : Point) → has_point (whole_of size) q ≡ true → Gives look.kind size (deed look (figure_paint (whole_of size) f) q) old q (new q)
+    gives : (q : Point) → has_point (whole_of size) q ≡ true →
+        Gives look.kind size (deed look (figure_paint (whole_of size) f) q) old q (new q)
     gives q here =
         rw (pic-more look size figures f q)
-        (makes-gives look.kind size (deed look (figure_paint (whole_of size) f) q) old q _ (figure-makes look (whole_of size) f q (old q) here))
+        (makes-gives look.kind size (deed look (figure_paint (whole_of size) f) q) old q _
+        (figure-makes look (whole_of size) f q (old q) here))
 
     by_room : (b : Bool) →
         IsPatch look size (cond b (batch_of (figure_paint (whole_of size) f ∷ [])) []) (canvas_pic look size figures)
@@ -121,7 +127,8 @@ under_patches look size left f =
     outside : (q : Point) → has_point (whole_of size) q ≡ true → has_point (meet_of (whole_of size) f.area) q ≡ false →
         canvas_pic look size (left ++ f ∷ []) q ≡ canvas_pic look size left q
     outside q here apart =
-        let away : has_point f.area q ≡ false = ap (λ b. b && has_point f.area q) (sym here) ∙ sym (has_point-meet_of (whole_of size) f.area q) ∙ apart in
+        let away : has_point f.area q ≡ false =
+        ap (λ b. b && has_point f.area q) (sym here) ∙ sym (has_point-meet_of (whole_of size) f.area q) ∙ apart in
         pic-more look size left f q ∙ rw away refl
 
 -- where there is a last figure, the list is the others and that one
@@ -135,10 +142,12 @@ split-last figures f some is =
 
 -- the last figure goes, or there is none
 last_patches : (look : Look) (size : Size) (figures : List Figure) (f : Figure) → figures ≡ without_last figures ++ f ∷ [] →
-    IsPatch look size (gone_patch size (without_last figures) (Some f)) (canvas_pic look size figures) (canvas_pic look size (without_last figures))
+    IsPatch look size (gone_patch size (without_last figures) (Some f))
+    (canvas_pic look size figures) (canvas_pic look size (without_last figures))
 last_patches look size figures f split =
     let left = without_last figures in
-    let P : List Figure → Type 0 = λ all. IsPatch look size (gone_patch size left (Some f)) (canvas_pic look size all) (canvas_pic look size left) in
+    let P : List Figure → Type 0 =
+    λ all. IsPatch look size (gone_patch size left (Some f)) (canvas_pic look size all) (canvas_pic look size left) in
     subst P (sym split) (under_patches look size left f)
 
 none_patches : (look : Look) (size : Size) (figures : List Figure) → length figures ≤ length figures - 1 →
@@ -151,7 +160,8 @@ undo_patches : (look : Look) (size : Size) (figures : List Figure) →
     IsPatch look size (undo_patch size figures) (canvas_pic look size figures) (canvas_pic look size (without_last figures))
 undo_patches look size figures =
     let left = without_last figures in
-    let P : Option Figure → Type 0 = λ gone. IsPatch look size (gone_patch size left gone) (canvas_pic look size figures) (canvas_pic look size left) in
+    let P : Option Figure → Type 0 =
+    λ gone. IsPatch look size (gone_patch size left gone) (canvas_pic look size figures) (canvas_pic look size left) in
     elim (slice_get_cases figures (length figures - 1)).1 [
       | inl some ↦ subst P (sym some.2) (last_patches look size figures some.0 (split-last figures some.0 some.1 some.3))
       | inr none ↦ subst P (sym none.1) (none_patches look size figures none.0)
@@ -209,7 +219,8 @@ key_answers code = by_test (code == backspace)
     by_test true = tt
     by_test false = tt
 
-pub canvas_answers : (x : List Figure) (event : Event) → IsCanvas x → IsEvent event → IfSome (canvas_answer x event) (λ cmd. IsCanvasCmd cmd)
+pub canvas_answers : (x : List Figure) (event : Event) → IsCanvas x → IsEvent event →
+    IfSome (canvas_answer x event) (λ cmd. IsCanvasCmd cmd)
 canvas_answers x (Mouse time click button at) valid known = click_answers click at
 canvas_answers x (Key time code) valid known = key_answers code
 canvas_answers x event valid known = tt
@@ -228,8 +239,8 @@ flat-figures : (figures : List Figure) → batch_of (map (figure_paint empty_rec
 flat-figures [] = refl
 flat-figures (f ∷ figures) = rw (flat-kept f) (flat-figures figures)
 
-pub canvas_empty_patches : (look : Look) (size : Size) (x : List Figure) (cmd : CanvasCmd) → IsCanvas x → IsCanvasCmd cmd → IsWindowSize size →
-    is_flat size ≡ true → canvas_patch look size x cmd ≡ []
+pub canvas_empty_patches : (look : Look) (size : Size) (x : List Figure) (cmd : CanvasCmd) → IsCanvas x → IsCanvasCmd cmd →
+    IsWindowSize size → is_flat size ≡ true → canvas_patch look size x cmd ≡ []
 canvas_empty_patches look size x cmd valid known small flat = by_cmd cmd
   where
     drawn : (part : Edges) → part ≡ empty_rect → (f : Figure) (b : Bool) → cond b (batch_of (figure_paint part f ∷ [])) [] ≡ []
@@ -270,5 +281,6 @@ figures-kind kind q old (f ∷ figures) each known =
     by_point true = op-kind kind f.op old (All-head IsFigure f figures each).op known
     by_point false = known
 
-pub canvas_kinds : (look : Look) (size : Size) (x : List Figure) (p : Point) → IsCanvas x → IsWindowSize size → IsPixel look.kind (canvas_pic look size x p)
+pub canvas_kinds : (look : Look) (size : Size) (x : List Figure) (p : Point) → IsCanvas x → IsWindowSize size →
+    IsPixel look.kind (canvas_pic look size x p)
 canvas_kinds look size x p valid small = figures-kind look.kind p 0 x valid.each (pixel-bit look.kind 0 (omega arith))

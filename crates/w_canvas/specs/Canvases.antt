@@ -60,7 +60,8 @@ IsCanvasCmd Undo = Unit {0}
 -- the edges of a rectangle in a script: west, east, north, south
 abbrev pub edge_words : Edges → List ℕ
 edge_words e =
-    signed_decimal e.west ++ codes " " ++ signed_decimal e.east ++ codes " " ++ signed_decimal e.north ++ codes " " ++ signed_decimal e.south
+    signed_decimal e.west ++ codes " " ++ signed_decimal e.east
+    ++ codes " " ++ signed_decimal e.north ++ codes " " ++ signed_decimal e.south
 
 -- the words of an exchange in a script: that of 0 and 1 has a word of its own
 abbrev pub exchange_words : Edges → ℕ → ℕ → List ℕ

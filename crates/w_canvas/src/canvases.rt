@@ -82,6 +82,7 @@ fn paints(alloc: Global, part: &Rect, figures: &[Figure]) -> Result<Batch, NoMem
         clip: *part,
         op: Op::Bg,
     })?;
+    batch.reserve(figures.len())?;
     for figure in figures {
         batch.push(figure.paint(part))?;
     }
@@ -174,7 +175,8 @@ impl Canvas {
     /// The patch of a command.
     fn patch(&self, alloc: Global, size: Size, cmd: &CanvasCmd) -> Result<Batch, NoMemory>
         requires { IsWindowSize size }
-        ensures { (look : Look) → IfOk result (λ batch. batch ≡ spec.canvas_patch look size self.now cmd.now) }
+        ensures { (look : Look) →
+            IfOk result (λ batch. batch ≡ spec.canvas_patch look size self.now cmd.now) }
     {
         match *cmd {
             CanvasCmd::Rect { area, tint } => self.with_patch(alloc, size, &filled(area, tint)),

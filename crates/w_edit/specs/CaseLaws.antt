@@ -1,4 +1,5 @@
--- An editor's patches lead from one picture to the next, case by case. These are proofs, which stand here since an impl cites nothing else of its crate; no contract cites them.
+-- An editor's patches lead from one picture to the next, case by case.
+-- These are proofs, which stand here since an impl cites nothing else of its crate; no contract cites them.
 use Rattle.std.proofs.Common.{◌≡◌, ℕ, ◌+◌, ◌-◌, ◌/◌, ◌<◌, ◌≤◌, ◌==◌, ℤ, pos, neg_ℤ, ◌-ℤ◌, ◌≤ℤ◌, Bool, true, false, ◌&&◌, cond, List, [], ◌∷◌, ◌++◌, length, drop, map, ◌⊎◌, inl, inr, refl, sym, ap, ◌∙◌, arith, eqb-true}
 use Prim.Native.Nat.{zero, suc}
 use Rattle.std.specs.Prelude.{nat_lt, nat_le, unsigned_abs}
@@ -41,14 +42,16 @@ abbrev pub line_on : Size → Contents → ℕ → List ℕ
 line_on size x k = line_in (room size) (top size x) x.lines k
 
 -- the colours without the caret by the line of each strip
-bare-line : (look : Look) (size : Size) (x : Contents) (q : Point) → bare look size x q ≡ line_colour look (strip_of q) (line_on size x (strip_of q)) q
+bare-line : (look : Look) (size : Size) (x : Contents) (q : Point) →
+    bare look size x q ≡ line_colour look (strip_of q) (line_on size x (strip_of q)) q
 bare-line look size x q = colour-line look (room size) (top size x) x.lines q
 
 -- two contents have the same line in a strip
 abbrev SameOn : Size → Contents → Contents → ℕ → Type 0
 SameOn size x y k = line_on size x k ≡ line_on size y k
 
-bare-same : (look : Look) (size : Size) (x y : Contents) (q : Point) → SameOn size x y (strip_of q) → bare look size x q ≡ bare look size y q
+bare-same : (look : Look) (size : Size) (x y : Contents) (q : Point) → SameOn size x y (strip_of q) →
+    bare look size x q ≡ bare look size y q
 bare-same look size x y q same =
     bare-line look size x q ∙ ap (λ (line : List ℕ). line_colour look (strip_of q) line q) same ∙ sym (bare-line look size y q)
 
@@ -144,7 +147,8 @@ brought_up look size x y q inside same =
     ∙ colour-below look (line_on size y (strip_of q)) q inside
     ∙ sym (bare-line look size y q)
 
--- how the strips of two contents correspond: below `from` they have the same lines, and from there on those of the first stand one higher, or one lower
+-- how the strips of two contents correspond: below `from` they have the same lines, and from there on those of the
+-- first stand one higher, or one lower
 pub record IsLowered (size : Size) (x y : Contents) : Type 0 where
   pub next : caret_strip size y ≡ caret_strip size x + 1
   pub over : (k : ℕ) → k < caret_strip size x → SameOn size x y k
@@ -247,20 +251,24 @@ makes-joined look size x y q here some high =
         let shown' : caret_strip size x < room size = caret-shown size x some in
         let one : strip_of q ≡ caret_strip size y → ⊥ = eqb-false (strip_of q) (caret_strip size y) apart in
         let other : strip_of q ≡ room size - 1 → ⊥ = eqb-false (strip_of q) (room size - 1) apart' in
-        let place : strip_of q ≡ caret_strip size x → ⊥ = λ is. above_or_past (nat_lt (strip_of q) (caret_strip size y)) refl is one other shown' in
+        let place : strip_of q ≡ caret_strip size x → ⊥ =
+        λ is. above_or_past (nat_lt (strip_of q) (caret_strip size y)) refl is one other shown' in
         aside look size x q inside place
         ∙ bare-same look size x y q (by_place (nat_lt (strip_of q) (caret_strip size y)) refl one other)
       where
-        above_or_past : (b : Bool) → nat_lt (strip_of q) (caret_strip size y) ≡ b → strip_of q ≡ caret_strip size x → (strip_of q ≡ caret_strip size y → ⊥) →
-            (strip_of q ≡ room size - 1 → ⊥) → caret_strip size x < room size → ⊥
-        above_or_past true above is one other shown' = let next = high.next in let less = ltb-true (strip_of q) (caret_strip size y) above in omega arith
+        above_or_past : (b : Bool) → nat_lt (strip_of q) (caret_strip size y) ≡ b → strip_of q ≡ caret_strip size x →
+            (strip_of q ≡ caret_strip size y → ⊥) → (strip_of q ≡ room size - 1 → ⊥) → caret_strip size x < room size → ⊥
+        above_or_past true above is one other shown' =
+            let next = high.next in
+            let less = ltb-true (strip_of q) (caret_strip size y) above in
+            omega arith
         above_or_past false below is one other shown' =
             let next = high.next in
             let past : room size ≤ strip_of q = grind (arith, nat_tests) in
             omega arith
 
-        by_place : (b : Bool) → nat_lt (strip_of q) (caret_strip size y) ≡ b → (strip_of q ≡ caret_strip size y → ⊥) → (strip_of q ≡ room size - 1 → ⊥) →
-            SameOn size x y (strip_of q)
+        by_place : (b : Bool) → nat_lt (strip_of q) (caret_strip size y) ≡ b → (strip_of q ≡ caret_strip size y → ⊥) →
+            (strip_of q ≡ room size - 1 → ⊥) → SameOn size x y (strip_of q)
         by_place true above one other = high.over (strip_of q) (ltb-true (strip_of q) (caret_strip size y) above)
         by_place false below one other =
             let past : room size ≤ strip_of q = grind (arith, nat_tests) in
@@ -278,7 +286,8 @@ one_put : (look : Look) (size : Size) (x y : Contents) (scroll : Paint) (i : ℕ
 one_put look size x y scroll i q here = put-run look size y i _ q here
 
 -- the point below one that lies in the strips is one of the window, and so is the point above
-below-window : (size : Size) (q : Point) → IsIn size q → strip_of q + 1 < room size → has_point (whole_of size) (before_shift q upwards) ≡ true
+below-window : (size : Size) (q : Point) → IsIn size q → strip_of q + 1 < room size →
+    has_point (whole_of size) (before_shift q upwards) ≡ true
 below-window size q here shows =
     let both = both_hold _ _ (sym (has_point-rect_of (pos 0) (pos size.wide) (pos 0) (pos size.high) q) ∙ here) in
     has_point-rect_of (pos 0) (pos size.wide) (pos 0) (pos size.high) (before_shift q upwards)
@@ -287,7 +296,8 @@ below-window size q here shows =
     across : (w : ℕ) (h : ℤ) → between (pos 0) (pos w) h ≡ true → between (pos 0) (pos w) (h -ℤ pos 0) ≡ true
     across w h is = grind (arith, ints)
 
-    down : (n : ℕ) (v : ℤ) → between (pos 0) (pos n) v ≡ true → unsigned_abs v / 8 + 1 < n / 8 → between (pos 0) (pos n) (v -ℤ neg_ℤ (pos 8)) ≡ true
+    down : (n : ℕ) (v : ℤ) → between (pos 0) (pos n) v ≡ true → unsigned_abs v / 8 + 1 < n / 8 →
+        between (pos 0) (pos n) (v -ℤ neg_ℤ (pos 8)) ≡ true
     down n v is shows = grind (arith, ints)
 
 above-window : (size : Size) (q : Point) → IsIn size q → 0 < strip_of q → has_point (whole_of size) (before_shift q downwards) ≡ true
@@ -340,7 +350,8 @@ makes-lowered look size x y q here some lines next =
     let off : Point → ℕ = λ r. run_one look (mark size x) (marked look size x) r in
     one_put look size x y (lowered size 1 (room size)) 0 q here
     ∙ over_put-bare look size y 0 q (run_one look (lowered size 1 (room size)) off q) some
-    (λ apart. scroll-left look size 1 (room size) downwards off q here ∙ by_test (nat_le 1 (strip_of q) && nat_lt (strip_of q) (room size)) refl apart)
+    (λ apart. scroll-left look size 1 (room size) downwards off q here
+    ∙ by_test (nat_le 1 (strip_of q) && nat_lt (strip_of q) (room size)) refl apart)
   where
     by_test : (b : Bool) → nat_le 1 (strip_of q) && nat_lt (strip_of q) (room size) ≡ b → (strip_of q == 0) ≡ false →
         cond b (run_one look (mark size x) (marked look size x) (before_shift q downwards))
@@ -409,8 +420,11 @@ writes-reach look size y first (suc count) old q here was from to =
     by_test : (b : Bool) → (strip_of q == first) ≡ b →
         ((g : Point → ℕ) → g q ≡ 0 → first + 1 ≤ strip_of q →
         run look (map (written size y) (range_with_len (first + 1) count)) g q ≡ line_there look size y q) →
-        run look (map (written size y) (range_with_len (first + 1) count)) (λ r. run_one look (written size y first) old r) q ≡ line_there look size y q
-    by_test true is later = writes-kept look size y (range_with_len (first + 1) count) _ q here (writes-step look size y first old q here (inl was) is)
+        run look (map (written size y) (range_with_len (first + 1) count)) (λ r. run_one look (written size y first) old r) q
+        ≡ line_there look size y q
+    by_test true is later =
+        writes-kept look size y (range_with_len (first + 1) count) _ q here
+        (writes-step look size y first old q here (inl was) is)
     by_test false apart later =
         let beside : strip_of q ≡ first → ⊥ = eqb-false (strip_of q) first apart in
         later _ (writes-other look size y first old q here apart ∙ was) (by_order (nat_le (first + 1) (strip_of q)) refl beside)
@@ -434,7 +448,8 @@ makes-repainted look size x y q here = by_test (nat_lt (strip_of q) (length (sho
     background = rw here refl
 
     by_test : (b : Bool) → nat_lt (strip_of q) (length (shown size y)) ≡ b →
-        run look (map (written size y) (range_with_len 0 (length (shown size y)))) (λ r. run_one look (Tint (whole_of size) Bg) (marked look size x) r) q
+        run look (map (written size y) (range_with_len 0 (length (shown size y))))
+        (λ r. run_one look (Tint (whole_of size) Bg) (marked look size x) r) q
         ≡ bare look size y q
     by_test true within =
         let less : strip_of q < length (shown size y) = ltb-true (strip_of q) (length (shown size y)) within in

@@ -1,4 +1,5 @@
--- Contents cut at the caret, and what commands leave valid. These are proofs, which stand here since an impl cites nothing else of its crate; no contract cites them.
+-- Contents cut at the caret, and what commands leave valid.
+-- These are proofs, which stand here since an impl cites nothing else of its crate; no contract cites them.
 use Rattle.std.proofs.Common.{◌≡◌, ℕ, ◌+◌, ◌-◌, ◌<◌, ◌≤◌, ◌==◌, Bool, true, false, cond, List, [], ◌∷◌, ◌++◌, length, take, drop, Some, None, refl, sym, ap, subst, ◌∙◌, arith, append_assoc}
 use Rattle.std.specs.Prelude.{All, nat_lt, nat_le, IfSome}
 use Rattle.std.proofs.lemmas.Bool.{eqb-false}
@@ -18,7 +19,12 @@ use Rattle.w_edit.specs.Contents.{Contents, IsContents, line_at, line_of, before
 
 -- a text cut at the caret: the lines above, the bytes before and behind the caret, and the lines below
 abbrev pub zipped : List (List ℕ) → List ℕ → List ℕ → List (List ℕ) → List ℕ → Contents
-zipped over front back under clip = record { lines = over ++ (front ++ back) ∷ under; row = length over; column = length front; clip = clip }
+zipped over front back under clip = record {
+  lines = over ++ (front ++ back) ∷ under;
+  row = length over;
+  column = length front;
+  clip = clip;
+}
 
 -- each content is one cut at its caret
 pub is_zipped : (x : Contents) → IsContents x → x ≡ zipped (above x) (before x) (behind x) (below x) x.clip
@@ -122,7 +128,8 @@ inserted_is x text is line fit =
     old = line_is x x.row is is.row
 
     room : length (line_of x) + length text ≤ 80
-    room = leb-true (length (line_of x) + length text) 80 (both_hold (nat_lt 0 (length text)) (nat_le (length (line_of x) + length text) most_bytes) fit).1
+    room = leb-true (length (line_of x) + length text) 80
+        (both_hold (nat_lt 0 (length text)) (nat_le (length (line_of x) + length text) most_bytes) fit).1
 
     halves : length (before x) + length (behind x) ≡ length (line_of x)
     halves = let c = is.column in omega (arith, before-length x is, length-drop x.column (line_of x))
@@ -151,7 +158,8 @@ erased_is x is some =
     whole =
         let s = old.short in
         let c = is.column in
-        line_in_a_row (take (x.column - 1) (line_of x)) (behind x) (part_taken (x.column - 1) (line_of x) old) (part_dropped x.column (line_of x) old)
+        line_in_a_row (take (x.column - 1) (line_of x)) (behind x)
+        (part_taken (x.column - 1) (line_of x) old) (part_dropped x.column (line_of x) old)
         (omega (arith, length-take (x.column - 1) (line_of x), length-drop x.column (line_of x)))
 
 pub joined_is : (x : Contents) → IsContents x → can_join x ≡ true → IsContents (joined x)
@@ -159,7 +167,8 @@ joined_is x is can =
     subst (λ (y : Contents). IsContents y) (sym (joined-zipped x is))
     (zipped-is (take (x.row - 1) x.lines) (line_at x (x.row - 1)) (line_of x) (below x) x.clip few
     (All-take IsLine (x.row - 1) x.lines is.each)
-    (line_in_a_row (line_at x (x.row - 1)) (line_of x) (line_is x (x.row - 1) is (let r = is.row in omega arith)) (line_is x x.row is is.row) room)
+    (line_in_a_row (line_at x (x.row - 1)) (line_of x)
+    (line_is x (x.row - 1) is (let r = is.row in omega arith)) (line_is x x.row is is.row) room)
     (All-drop IsLine (x.row + 1) x.lines is.each) is.clip)
   where
     few : length (take (x.row - 1) x.lines) + length (below x) < most_lines
@@ -239,7 +248,8 @@ editor_answers x (Key time code) is known = by_test (is_printable code) (code ==
 editor_answers x event is known = tt
 
 -- what has the parts of a content is one
-pub same_contents : (y z : Contents) → y.lines ≡ z.lines → y.row ≡ z.row → y.column ≡ z.column → y.clip ≡ z.clip → IsContents z → IsContents y
+pub same_contents : (y z : Contents) → y.lines ≡ z.lines → y.row ≡ z.row → y.column ≡ z.column → y.clip ≡ z.clip →
+    IsContents z → IsContents y
 same_contents y z lines row column clip is = subst (λ (u : Contents). IsContents u) same is
   where
     same : z ≡ y

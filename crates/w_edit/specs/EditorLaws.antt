@@ -1,4 +1,5 @@
--- An Editor obeys the laws of clients. These are proofs, which stand here since an impl cites nothing else of its crate; no contract cites them.
+-- An Editor obeys the laws of clients.
+-- These are proofs, which stand here since an impl cites nothing else of its crate; no contract cites them.
 use Rattle.std.proofs.Common.{◌≡◌, ℕ, ◌+◌, ◌-◌, ◌<◌, ◌≤◌, ◌==◌, min, Bool, true, false, ◌&&◌, ◌||◌, not, cond, List, [], ◌∷◌, ◌++◌, length, take, drop, get_or, map, refl, sym, ap, subst, ◌∙◌, arith, eqb-true}
 use Rattle.std.specs.Prelude.{nat_lt, nat_le, ◌↔◌}
 use Rattle.std.specs.List.{range_with_len}
@@ -48,7 +49,8 @@ top-row size x = by_test (room size == 0) refl
     by_test false some = let apart = eqb-false (room size) 0 some in omega arith
 
 -- lines that others took the place of: what stands before them stays, and what stands behind them
-kept_before : (lines rest : List (List ℕ)) (from j : ℕ) → from ≤ length lines → j < from → get_or (take from lines ++ rest) j [] ≡ get_or lines j []
+kept_before : (lines rest : List (List ℕ)) (from j : ℕ) → from ≤ length lines → j < from →
+    get_or (take from lines ++ rest) j [] ≡ get_or lines j []
 kept_before lines rest from j fits before =
     get_or_append_left (take from lines) rest [] j (omega (arith, length-take from lines)) ∙ get_or-take from lines j [] before
 
@@ -63,7 +65,8 @@ kept_beside : (lines : List (List ℕ)) (line : List ℕ) (row j : ℕ) → row 
     get_or (take row lines ++ line ∷ drop (row + 1) lines) j [] ≡ get_or lines j []
 kept_beside lines line row j fits apart = by_test (nat_lt j row) refl apart
   where
-    by_test : (b : Bool) → nat_lt j row ≡ b → (j ≡ row → ⊥) → get_or (take row lines ++ line ∷ drop (row + 1) lines) j [] ≡ get_or lines j []
+    by_test : (b : Bool) → nat_lt j row ≡ b → (j ≡ row → ⊥) →
+        get_or (take row lines ++ line ∷ drop (row + 1) lines) j [] ≡ get_or lines j []
     by_test true lt apart = kept_before lines (line ∷ drop (row + 1) lines) row j (omega arith) (ltb-true j row lt)
     by_test false ge apart =
         let le : row ≤ j = grind (arith, nat_tests) in
@@ -98,7 +101,8 @@ is_lowered size x is same = record {
       let other : nat_lt k (room size) ≡ true = grind (arith, nat_tests) in
       let at : x.row + 1 + (top size (broken x) + k - x.row - 2) ≡ top size x + (k - 1) = omega arith in
       rw (one, other)
-      (sym (kept_behind x.lines (before x ∷ behind x ∷ []) x.row (x.row + 1) (top size (broken x) + k) (let r = is.row in omega arith) (omega arith)
+      (sym (kept_behind x.lines (before x ∷ behind x ∷ []) x.row (x.row + 1) (top size (broken x) + k)
+      (let r = is.row in omega arith) (omega arith)
       ∙ ap (λ n. get_or x.lines n []) at));
 }
 
@@ -110,7 +114,8 @@ is_raised size x is some same = record {
       let at : top size (joined x) + k ≡ top size x + k = omega arith in
       ap (λ l. cond (nat_lt k (room size)) l [])
       (sym (ap (λ n. get_or (joined x).lines n []) at
-      ∙ kept_before x.lines ((line_at x (x.row - 1) ++ line_of x) ∷ below x) (x.row - 1) (top size x + k) (let r = is.row in omega arith) (omega arith)));
+      ∙ kept_before x.lines ((line_at x (x.row - 1) ++ line_of x) ∷ below x) (x.row - 1) (top size x + k)
+      (let r = is.row in omega arith) (omega arith)));
   under = λ k more shows.
       let first = top-row size (joined x) in
       let one : nat_lt (k + 1) (room size) ≡ true = grind (arith, nat_tests) in
@@ -141,7 +146,8 @@ leads-joined look size x is some row = by_test (top size (joined x) == top size 
     by_test : (b : Bool) → (top size (joined x) == top size x) ≡ b →
         (let i = caret_strip size (joined x) in
         let last = room size - 1 in
-        Leads look size x (joined x) (cond b (raised size (i + 1) last ∷ put size (joined x) last ++ put size (joined x) i) (repainted size (joined x))))
+        Leads look size x (joined x)
+        (cond b (raised size (i + 1) last ∷ put size (joined x) last ++ put size (joined x) i) (repainted size (joined x))))
     by_test true same =
         let first : top size (joined x) ≡ top size x = eqb-true (top size (joined x)) (top size x) same in
         with_mark look size x (joined x)
@@ -150,7 +156,8 @@ leads-joined look size x is some row = by_test (top size (joined x) == top size 
         (λ q here. makes-joined look size x (joined x) q here some (is_raised size x is row first))
     by_test false other = leads-repainted look size x (joined x)
 
-leads-broken : (look : Look) (size : Size) (x : Contents) → IsContents x → 0 < room size → Leads look size x (broken x) (line_broken size x (broken x))
+leads-broken : (look : Look) (size : Size) (x : Contents) → IsContents x → 0 < room size →
+    Leads look size x (broken x) (line_broken size x (broken x))
 leads-broken look size x is some = by_test (top size (broken x) == top size x) refl
   where
     by_test : (b : Bool) → (top size (broken x) == top size x) ≡ b →
@@ -174,7 +181,8 @@ leads-moved look size x y some lines =
         Leads look size x y (cond s (mark size x ∷ []) (cond d (mark size x ∷ raised size 0 last ∷ put size y last)
         (cond u (mark size x ∷ lowered size 1 (room size) ∷ put size y 0) (repainted size y)))))
     by_tests true d u same down up =
-        with_mark look size x y (mark size x ∷ []) (λ q here. makes-unmarked look size x y q here lines (sym (eqb-true (top size y) (top size x) same)))
+        with_mark look size x y (mark size x ∷ [])
+        (λ q here. makes-unmarked look size x y q here lines (sym (eqb-true (top size y) (top size x) same)))
     by_tests false true u same down up =
         with_mark look size x y (mark size x ∷ raised size 0 (room size - 1) ∷ put size y (room size - 1))
         (λ q here. makes-raised look size x y q here some lines (eqb-true (top size y) (top size x + 1) down))
@@ -183,8 +191,8 @@ leads-moved look size x y some lines =
         (λ q here. makes-lowered look size x y q here some lines (eqb-true (top size x) (top size y + 1) up))
     by_tests false false false same down up = leads-repainted look size x y
 
-leads : (look : Look) (size : Size) (x : Contents) (cmd : EditorCmd) → IsContents x → 0 < room size → acts x cmd ≡ true → is_copy cmd ≡ false →
-    Leads look size x (effect x cmd) (painted size x (effect x cmd) cmd)
+leads : (look : Look) (size : Size) (x : Contents) (cmd : EditorCmd) → IsContents x → 0 < room size → acts x cmd ≡ true →
+    is_copy cmd ≡ false → Leads look size x (effect x cmd) (painted size x (effect x cmd) cmd)
 leads look size x (Insert text) is some does other =
     leads-rewritten look size x (inserted x text) some refl (λ k apart. line_changed size x (before x ++ text ++ behind x) k is apart)
 leads look size x Erase is some does other = by_column (x.column == 0) refl does
@@ -195,7 +203,8 @@ leads look size x Erase is some does other = by_column (x.column == 0) refl does
         leads-joined look size x is some
         (ltb-true 0 x.row (both_hold (nat_lt 0 x.row) (nat_le (length (line_at x (x.row - 1)) + length (line_of x)) 80) can).0)
     by_column false later can =
-        leads-rewritten look size x (erased x) some refl (λ k apart. line_changed size x (take (x.column - 1) (line_of x) ++ behind x) k is apart)
+        leads-rewritten look size x (erased x) some refl
+        (λ k apart. line_changed size x (take (x.column - 1) (line_of x) ++ behind x) k is apart)
 leads look size x Split is some does other = leads-broken look size x is some
 leads look size x (Goto row column) is some does other = leads-moved look size x (moved x row column) some refl
 leads look size x (Copy from to) is some does other = cc
@@ -207,7 +216,8 @@ pub editor_patches : (look : Look) (size : Size) (x : Contents) (cmd : EditorCmd
     IsPatch look size (editor_patch look size x cmd) (editor_pic look size x) (editor_pic look size (editor_next x cmd))
 editor_patches look size x cmd is known small = by_tests (room size == 0) (is_copy cmd) (acts x cmd) refl refl refl
   where
-    same-copy : (cmd : EditorCmd) (a : Bool) (q : Point) → is_copy cmd ≡ true → marked look size x q ≡ marked look size (cond a (effect x cmd) x) q
+    same-copy : (cmd : EditorCmd) (a : Bool) (q : Point) → is_copy cmd ≡ true →
+        marked look size x q ≡ marked look size (cond a (effect x cmd) x) q
     same-copy (Insert text) a q copy = cc
     same-copy Erase a q copy = cc
     same-copy Split a q copy = cc
@@ -248,7 +258,8 @@ no-mark size y flat = rw (flat, meet-nothing (caret size y)) refl
 
 no-lines : (size : Size) (y : Contents) (is : List ℕ) → size.wide ≡ 0 → AreNone (map (written size y) is)
 no-lines size y [] flat = refl
-no-lines size y (i ∷ is) flat = both_none (written size y i ∷ []) (map (written size y) is) (no-written size y i flat) (no-lines size y is flat)
+no-lines size y (i ∷ is) flat =
+    both_none (written size y i ∷ []) (map (written size y) is) (no-written size y i flat) (no-lines size y is flat)
 
 no-repainted : (size : Size) (y : Contents) → size.wide ≡ 0 → whole_of size ≡ empty_rect → AreNone (repainted size y)
 no-repainted size y flat none =
@@ -262,7 +273,8 @@ no-painted size x y Erase flat none = by_tests (x.column == 0) (top size y == to
     by_tests : (b s : Bool) → (let i = caret_strip size y in let last = room size - 1 in
         AreNone (cond b (cond s (raised size (i + 1) last ∷ put size y last ++ put size y i) (repainted size y)) (rewritten size y)))
     by_tests true true =
-        both_none (raised size (caret_strip size y + 1) (room size - 1) ∷ []) (put size y (room size - 1) ++ put size y (caret_strip size y))
+        both_none (raised size (caret_strip size y + 1) (room size - 1) ∷ [])
+        (put size y (room size - 1) ++ put size y (caret_strip size y))
         (no-scroll size (caret_strip size y + 1) (room size - 1) upwards flat)
         (both_none (put size y (room size - 1)) (put size y (caret_strip size y))
         (no-put size y (room size - 1) flat) (no-put size y (caret_strip size y) flat))
@@ -273,12 +285,14 @@ no-painted size x y Split flat none = by_test (top size y == top size x)
     by_test : (s : Bool) → (let i = caret_strip size y in
         AreNone (cond s (lowered size (i + 1) (room size) ∷ put size y (i - 1) ++ put size y i) (repainted size y)))
     by_test true =
-        both_none (lowered size (caret_strip size y + 1) (room size) ∷ []) (put size y (caret_strip size y - 1) ++ put size y (caret_strip size y))
+        both_none (lowered size (caret_strip size y + 1) (room size) ∷ [])
+        (put size y (caret_strip size y - 1) ++ put size y (caret_strip size y))
         (no-scroll size (caret_strip size y + 1) (room size) downwards flat)
         (both_none (put size y (caret_strip size y - 1)) (put size y (caret_strip size y))
         (no-put size y (caret_strip size y - 1) flat) (no-put size y (caret_strip size y) flat))
     by_test false = no-repainted size y flat none
-no-painted size x y (Goto row column) flat none = by_tests (top size y == top size x) (top size y == top size x + 1) (top size x == top size y + 1)
+no-painted size x y (Goto row column) flat none =
+    by_tests (top size y == top size x) (top size y == top size x + 1) (top size x == top size y + 1)
   where
     by_tests : (s d u : Bool) →
         (let last = room size - 1 in
@@ -297,8 +311,8 @@ no-painted size x y (Copy from to) flat none = refl
 no-painted size x y Paste flat none = no-put size y (caret_strip size y) flat
 
 -- the patch of a window without points has no command
-pub editor_empty_patches : (look : Look) (size : Size) (x : Contents) (cmd : EditorCmd) → IsContents x → IsEditorCmd cmd → IsWindowSize size →
-    is_flat size ≡ true → editor_patch look size x cmd ≡ []
+pub editor_empty_patches : (look : Look) (size : Size) (x : Contents) (cmd : EditorCmd) → IsContents x → IsEditorCmd cmd →
+    IsWindowSize size → is_flat size ≡ true → editor_patch look size x cmd ≡ []
 editor_empty_patches look size x cmd is known small flat = by_tests (room size == 0) (is_copy cmd) (acts x cmd) refl
   where
     by_tests : (z c a : Bool) → (room size == 0) ≡ z →
@@ -335,8 +349,8 @@ editor_keeping look from to x is small small' =
     none_shown : (size : Size) → room size ≡ 0 → length (shown size x) ≡ 0
     none_shown size none = omega (arith, length-take (room size) (drop (top size x) x.lines))
 
-    same_colour : top from x ≡ top to x → length (shown from x) ≡ length (shown to x) → (q : Point) → (a b : Bool) → (room from == 0) ≡ a → (room to == 0) ≡ b →
-        cond a 0 (marked look from x q) ≡ cond b 0 (marked look to x q)
+    same_colour : top from x ≡ top to x → length (shown from x) ≡ length (shown to x) → (q : Point) → (a b : Bool) →
+        (room from == 0) ≡ a → (room to == 0) ≡ b → cond a 0 (marked look from x q) ≡ cond b 0 (marked look to x q)
     same_colour first count q true true one other = refl
     same_colour first count q true false one other =
         let none = none_shown from (eqb-true (room from) 0 one) in
@@ -351,7 +365,8 @@ editor_keeping look from to x is small small' =
     same_colour first count q false false one other =
         let lines : shown from x ≡ shown to x =
         ap (λ n. take (room from) (drop n x.lines)) first
-        ∙ take-same (drop (top to x) x.lines) (room from) (room to) (ap (λ n. length (take (room from) (drop n x.lines))) (sym first) ∙ count) in
+        ∙ take-same (drop (top to x) x.lines) (room from) (room to)
+        (ap (λ n. length (take (room from) (drop n x.lines))) (sym first) ∙ count) in
         ap (λ n. turned (cell x.column (x.row - n)) q (colour_in look (shown from x) q)) first
         ∙ ap (λ (ls : List (List ℕ)). turned (caret to x) q (colour_in look ls q)) lines
 
@@ -365,7 +380,8 @@ editor_keeping look from to x is small small' =
     by_tests false n first count = survives-nothing from to (editor_pic look from x) (editor_pic look to x)
 
 -- each colour is one of two, in the caret's cell too
-pub editor_kinds : (look : Look) (size : Size) (x : Contents) (p : Point) → IsContents x → IsWindowSize size → IsPixel look.kind (editor_pic look size x p)
+pub editor_kinds : (look : Look) (size : Size) (x : Contents) (p : Point) → IsContents x → IsWindowSize size →
+    IsPixel look.kind (editor_pic look size x p)
 editor_kinds look size x p is small = by_tests (room size == 0) (has_point (caret size x) p)
   where
     zero : IsPixel look.kind 0
@@ -383,7 +399,8 @@ editor_kinds look size x p is small = by_tests (room size == 0) (has_point (care
     by_tests false false = lines
 
 -- once the lines of a part are painted, the caret is marked there
-pub caret_pushed : (look : Look) (part : Edges) (batch : List Paint) (e : Edges) (picture : Point → ℕ) → IsPainting look part batch picture →
+pub caret_pushed : (look : Look) (part : Edges) (batch : List Paint) (e : Edges) (picture : Point → ℕ) →
+    IsPainting look part batch picture →
     IsPainting look part (batch ++ kept (Tint (meet_of part e) (Exchange 0 1))) (λ q. turned e q (picture q))
 caret_pushed look part batch e picture painted =
     painting_more look part batch (Tint (meet_of part e) (Exchange 0 1)) picture (λ q. turned e q (picture q)) painted
@@ -422,14 +439,16 @@ changes x (Insert text) does other same = put_changes text does same
     put_changes : (text : List ℕ) → fits x text ≡ true → inserted x text ≡ x → ⊥
     put_changes text does same =
         let column : x.column + length text ≡ x.column = ap (λ (y : Contents). y.column) same in
-        let some : 0 < length text = ltb-true 0 (length text) (both_hold (nat_lt 0 (length text)) (nat_le (length (line_of x) + length text) 80) does).0 in
+        let some : 0 < length text =
+        ltb-true 0 (length text) (both_hold (nat_lt 0 (length text)) (nat_le (length (line_of x) + length text) 80) does).0 in
         omega arith
 changes x Erase does other same = by_column (x.column == 0) refl does same
   where
     by_column : (b : Bool) → (x.column == 0) ≡ b → cond b (can_join x) true ≡ true → cond b (joined x) (erased x) ≡ x → ⊥
     by_column true first can same =
         let row : x.row - 1 ≡ x.row = ap (λ (y : Contents). y.row) same in
-        let some : 0 < x.row = ltb-true 0 x.row (both_hold (nat_lt 0 x.row) (nat_le (length (line_at x (x.row - 1)) + length (line_of x)) 80) can).0 in
+        let some : 0 < x.row =
+        ltb-true 0 x.row (both_hold (nat_lt 0 x.row) (nat_le (length (line_at x (x.row - 1)) + length (line_of x)) 80) can).0 in
         omega arith
     by_column false later can same =
         let column : x.column - 1 ≡ x.column = ap (λ (y : Contents). y.column) same in
@@ -437,14 +456,16 @@ changes x Erase does other same = by_column (x.column == 0) refl does same
         omega arith
 changes x Split does other same = let row : x.row + 1 ≡ x.row = ap (λ (y : Contents). y.row) same in omega arith
 changes x (Goto row column) does other same =
-    let stays : not (x.row == x.row && x.column == x.column) ≡ true = sym (ap (λ (y : Contents). not (y.row == x.row && y.column == x.column)) same) ∙ does in
+    let stays : not (x.row == x.row && x.column == x.column) ≡ true =
+    sym (ap (λ (y : Contents). not (y.row == x.row && y.column == x.column)) same) ∙ does in
     let one : (x.row == x.row) ≡ true = grind (arith, nat_tests) in
     let two : (x.column == x.column) ≡ true = grind (arith, nat_tests) in
     let never : false ≡ true = rw (one, two) at stays in cc
 changes x (Copy from to) does other same = cc
 changes x Paste does other same =
     let column : x.column + length x.clip ≡ x.column = ap (λ (y : Contents). y.column) same in
-    let some : 0 < length x.clip = ltb-true 0 (length x.clip) (both_hold (nat_lt 0 (length x.clip)) (nat_le (length (line_of x) + length x.clip) 80) does).0 in
+    let some : 0 < length x.clip =
+    ltb-true 0 (length x.clip) (both_hold (nat_lt 0 (length x.clip)) (nat_le (length (line_of x) + length x.clip) 80) does).0 in
     omega arith
 
 -- a command that doesn't copy leaves all as it is just where it hasn't its effect

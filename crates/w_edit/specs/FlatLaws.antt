@@ -1,4 +1,5 @@
--- What commands do in the bytes is what they are to do. These are proofs, which stand here since an impl cites nothing else of its crate; no contract cites them.
+-- What commands do in the bytes is what they are to do.
+-- These are proofs, which stand here since an impl cites nothing else of its crate; no contract cites them.
 use Rattle.std.proofs.Common.{◌≡◌, ℕ, ◌+◌, ◌-◌, ◌<◌, ◌==◌, Bool, true, false, cond, List, [], ◌∷◌, ◌++◌, length, take, drop, get_or, refl, sym, ap, ◌∙◌, arith, append_assoc, eqb-true}
 use Rattle.std.specs.Prelude.{All, nat_lt, nat_le, flat_map}
 use Rattle.std.specs.List.{join_with_byte, AllByRecursion}
@@ -48,7 +49,8 @@ place-zipped over front back under clip =
     ∙ sym (length-append (ended over) front)
 
 -- what is put in, and what is taken out, where the bytes fall into those before and those behind the place
-put_at : (front back text bytes : List ℕ) (at : ℕ) → bytes ≡ front ++ back → at ≡ length front → put_in bytes at text ≡ (front ++ text) ++ back
+put_at : (front back text bytes : List ℕ) (at : ℕ) → bytes ≡ front ++ back → at ≡ length front →
+    put_in bytes at text ≡ (front ++ text) ++ back
 put_at front back text bytes at is here =
     rw (is, here, take_at front back (length front) refl, drop_at front back (length front) refl) (simp append_assoc)
 
@@ -90,7 +92,12 @@ place-inserted x text is =
     let cut = place-cut x is in
     let new : place (inserted x text) ≡ length (ended (above x) ++ (before x ++ text)) =
     ap (λ (y : Contents). place y) (inserted-zipped x text is) ∙ place-zipped (above x) (before x ++ text) (behind x) (below x) x.clip in
-    omega (arith, length-append (ended (above x)) (before x), length-append (ended (above x)) (before x ++ text), length-append (before x) text)
+    omega (
+      arith,
+      length-append (ended (above x)) (before x),
+      length-append (ended (above x)) (before x ++ text),
+      length-append (before x) text,
+    )
 
 -- where one byte goes, what stands before it stays before the caret
 record Loses (x y : Contents) (kept : List ℕ) (c : ℕ) : Type 0 where
@@ -116,8 +123,12 @@ erased-loses : (x : Contents) → IsContents x → 0 < x.column →
     Loses x (erased x) (ended (above x) ++ take (x.column - 1) (line_of x)) (get_or (line_of x) (x.column - 1) 0)
 erased-loses x is some = record {
   front = ap (λ (f : List ℕ). ended (above x) ++ f) last ∙ sym (append_assoc (ended (above x)) _ _);
-  bytes = ap (λ (y : Contents). flat y) (erased-zipped x is) ∙ flat-zipped (above x) (take (x.column - 1) (line_of x)) (behind x) (below x) x.clip;
-  at = ap (λ (y : Contents). place y) (erased-zipped x is) ∙ place-zipped (above x) (take (x.column - 1) (line_of x)) (behind x) (below x) x.clip;
+  bytes =
+      ap (λ (y : Contents). flat y) (erased-zipped x is)
+      ∙ flat-zipped (above x) (take (x.column - 1) (line_of x)) (behind x) (below x) x.clip;
+  at =
+      ap (λ (y : Contents). place y) (erased-zipped x is)
+      ∙ place-zipped (above x) (take (x.column - 1) (line_of x)) (behind x) (below x) x.clip;
 }
   where
     last : before x ≡ take (x.column - 1) (line_of x) ++ get_or (line_of x) (x.column - 1) 0 ∷ []
@@ -139,7 +150,9 @@ joined-loses x is first some = record {
       ap (λ (y : Contents). flat y) (joined-zipped x is)
       ∙ flat-zipped (take (x.row - 1) x.lines) (line_at x (x.row - 1)) (line_of x) (below x) x.clip
       ∙ ap (λ n. (ended (take (x.row - 1) x.lines) ++ line_at x (x.row - 1)) ++ (drop n (line_of x) ++ started (below x))) (sym first);
-  at = ap (λ (y : Contents). place y) (joined-zipped x is) ∙ place-zipped (take (x.row - 1) x.lines) (line_at x (x.row - 1)) (line_of x) (below x) x.clip;
+  at =
+      ap (λ (y : Contents). place y) (joined-zipped x is)
+      ∙ place-zipped (take (x.row - 1) x.lines) (line_at x (x.row - 1)) (line_of x) (below x) x.clip;
 }
   where
     last : above x ≡ take (x.row - 1) x.lines ++ line_at x (x.row - 1) ∷ []
@@ -208,7 +221,8 @@ flat_says_all x is = record {
         let line = line_at x (length x.lines - 1) in
         ap (λ (lines : List (List ℕ)). lines_of (join_with_byte feed lines)) parts
         ∙ ap (λ bytes. lines_of bytes) (flat-over over line [] ∙ ap (λ b. ended over ++ b) (append-nil line))
-        ∙ lines-back over line (All-take IsLine (length x.lines - 1) x.lines is.each) (All-get_or IsLine x.lines (length x.lines - 1) [] (omega arith) is.each)
+        ∙ lines-back over line (All-take IsLine (length x.lines - 1) x.lines is.each)
+        (All-get_or IsLine x.lines (length x.lines - 1) [] (omega arith) is.each)
         ∙ sym parts
 
     front : lines_of (take (place x) (flat x)) ≡ above x ++ before x ∷ []
@@ -238,7 +252,9 @@ flat-effect x Erase is does = by_column (x.column == 0) refl does
         flat_text (cond b (joined x) (erased x)) ≡ flat_effect (flat_text x) Erase
     by_column true first can =
         let start : x.column ≡ 0 = eqb-true x.column 0 first in
-        let some : 0 < x.row = ltb-true 0 x.row (both_hold (nat_lt 0 x.row) (nat_le (length (line_at x (x.row - 1)) + length (line_of x)) most_bytes) can).0 in
+        let some : 0 < x.row =
+        ltb-true 0 x.row
+        (both_hold (nat_lt 0 x.row) (nat_le (length (line_at x (x.row - 1)) + length (line_of x)) most_bytes) can).0 in
         let loses = joined-loses x is start some in
         same_text _ _ (flat-lost x (joined x) _ _ is loses) (place-lost x (joined x) _ _ is loses) refl
     by_column false later can =
@@ -255,7 +271,8 @@ flat-effect x Paste is does = same_text _ _ (flat-inserted x x.clip is) (place-i
 -- each command does in the bytes what it is to do
 pub flat_steps : (x : Contents) (cmd : EditorCmd) → IsContents x → flat_text (editor_next x cmd) ≡ flat_next (flat_text x) cmd
 flat_steps x cmd is =
-    by_test (acts x cmd) refl ∙ ap (λ (y : Contents). cond (acts y cmd) (flat_effect (flat_text x) cmd) (flat_text x)) (sym (flat_says_all x is).back)
+    by_test (acts x cmd) refl
+    ∙ ap (λ (y : Contents). cond (acts y cmd) (flat_effect (flat_text x) cmd) (flat_text x)) (sym (flat_says_all x is).back)
   where
     by_test : (b : Bool) → acts x cmd ≡ b → flat_text (cond b (effect x cmd) x) ≡ cond b (flat_effect (flat_text x) cmd) (flat_text x)
     by_test true does = flat-effect x cmd is does

@@ -1,4 +1,5 @@
--- An editor's patches lead from one picture to the next. These are proofs, which stand here since an impl cites nothing else of its crate; no contract cites them.
+-- An editor's patches lead from one picture to the next.
+-- These are proofs, which stand here since an impl cites nothing else of its crate; no contract cites them.
 use Rattle.std.proofs.Common.{◌≡◌, ℕ, ◌+◌, ◌*◌, ◌/◌, ◌≤◌, ◌==◌, ℤ, pos, ◌≤ℤ◌, Bool, true, false, ◌&&◌, cond, List, [], length, take, drop, get_or, refl, sym, ap, ◌∙◌, arith, eqb-true}
 use Rattle.std.specs.Prelude.{nat_lt, unsigned_abs}
 use Rattle.std.proofs.lemmas.Int.{ints}
@@ -69,10 +70,12 @@ written-left look size y i old q here = by_test (strip_of q == i) (strip-has siz
 pub put-run : (look : Look) (size : Size) (y : Contents) (i : ℕ) (old : Point → ℕ) (q : Point) → IsIn size q →
     run look (put size y i) old q ≡ cond (strip_of q == i) (line_colour look i (line_for size y i) q) (old q)
 put-run look size y i old q here =
-    written-left look size y i (λ r. run_one look (Tint (strip size i) Bg) old r) q here ∙ by_test (strip_of q == i) (strip-has size i q here)
+    written-left look size y i (λ r. run_one look (Tint (strip size i) Bg) old r) q here
+    ∙ by_test (strip_of q == i) (strip-has size i q here)
   where
     by_test : (b : Bool) → has_point (strip size i) q ≡ b →
-        cond b (over_line look i (line_for size y i) q (run_one look (Tint (strip size i) Bg) old q)) (run_one look (Tint (strip size i) Bg) old q)
+        cond b (over_line look i (line_for size y i) q (run_one look (Tint (strip size i) Bg) old q))
+        (run_one look (Tint (strip size i) Bg) old q)
         ≡ cond b (line_colour look i (line_for size y i) q) (old q)
     by_test true within = rw within refl
     by_test false outside = rw outside refl
@@ -81,7 +84,8 @@ put-run look size y i old q here =
 pub turned-twice : (e : Edges) (q : Point) (n : ℕ) → turned e q (turned e q n) ≡ n
 turned-twice e q n = by_test (has_point e q) (n == 0) (n == 1) refl refl
   where
-    by_test : (b z o : Bool) → (n == 0) ≡ z → (n == 1) ≡ o → cond b (exchanged 0 1 (cond b (exchanged 0 1 n) n)) (cond b (exchanged 0 1 n) n) ≡ n
+    by_test : (b z o : Bool) → (n == 0) ≡ z → (n == 1) ≡ o →
+        cond b (exchanged 0 1 (cond b (exchanged 0 1 n) n)) (cond b (exchanged 0 1 n) n) ≡ n
     by_test false z o zero one = refl
     by_test true true o zero one = rw zero (sym (eqb-true n 0 zero))
     by_test true false true zero one = rw (zero, one) (sym (eqb-true n 1 one))
@@ -92,7 +96,8 @@ pub turned-other : (column i : ℕ) (q : Point) (n : ℕ) → pos 0 ≤ℤ q.v �
 turned-other column i q n inside apart =
     ap (λ b. cond b (exchanged 0 1 n) n) outside
   where
-    down : (i : ℕ) (v : ℤ) (b : Bool) → pos 0 ≤ℤ v → (unsigned_abs v / 8 == i) ≡ false → b && between (pos (8 * i)) (pos (8 * i + 8)) v ≡ false
+    down : (i : ℕ) (v : ℤ) (b : Bool) → pos 0 ≤ℤ v → (unsigned_abs v / 8 == i) ≡ false →
+        b && between (pos (8 * i)) (pos (8 * i + 8)) v ≡ false
     down i v true inside apart = grind (arith, ints, nat_tests)
     down i v false inside apart = refl
 
@@ -104,7 +109,8 @@ turned-other column i q n inside apart =
 -- the mark is such an exchange
 pub mark-left : (look : Look) (size : Size) (y : Contents) (old : Point → ℕ) (q : Point) → IsIn size q →
     run_one look (mark size y) old q ≡ turned (caret size y) q (old q)
-mark-left look size y old q here = rw (has_point-meet_of (whole_of size) (caret size y) q, here) (by_test (has_point (caret size y) q) look.kind)
+mark-left look size y old q here =
+    rw (has_point-meet_of (whole_of size) (caret size y) q, here) (by_test (has_point (caret size y) q) look.kind)
   where
     by_test : (b : Bool) (kind : Kind) → left kind (cond b (Change (Exchange 0 1)) Keep) old q ≡ cond b (exchanged 0 1 (old q)) (old q)
     by_test true Mono = refl

@@ -32,7 +32,8 @@ impl Model for Editor {
 
     ghost view = { λ e. record { lines = e.lines.items; row = e.row; column = e.column; clip = e.clip } };
 
-    ghost invariant = { λ e. IsContents (record { lines = e.lines.items; row = e.row; column = e.column; clip = e.clip }) };
+    ghost invariant = { λ e.
+        IsContents (record { lines = e.lines.items; row = e.row; column = e.column; clip = e.clip }) };
 }
 
 impl Editor {

@@ -95,7 +95,8 @@ impl Editor {
     ) -> Result<Vec<Line>, NoMemory>
         requires from { from ≤ length self.now.lines }
         requires to { to ≤ length self.now.lines }
-        ensures { IfOk result (λ all. all.items ≡ take from self.now.lines ++ (new.now ++ drop to self.now.lines)) }
+        ensures { IfOk result (λ all.
+            all.items ≡ take from self.now.lines ++ (new.now ++ drop to self.now.lines)) }
     {
         let mut lines = Vec::with_capacity(alloc, self.lines.len() + new.len())?;
         lines.extend_from_slice(&self.lines[..from])?;

@@ -105,6 +105,8 @@ impl Editor {
     {
         let mut batch = cleared(alloc, window(size))?;
         let shown = self.shown(size);
+        // (one more for the caret's mark)
+        batch.reserve(shown.len().saturating_add(1))?;
         for (above, line) in shown.iter().enumerate() {
             batch.push(Paint::Text {
                 clip: strip(size, above),
@@ -221,7 +223,8 @@ impl Editor {
         requires size { IsWindowSize size }
         requires acts { contents.acts self.now cmd.now ≡ true }
         requires next { next.now ≡ contents.effect self.now cmd.now }
-        ensures { (look : Look) → IfOk result (λ batch. batch ≡ spec.editor_patch look size self.now cmd.now) }
+        ensures { (look : Look) →
+            IfOk result (λ batch. batch ≡ spec.editor_patch look size self.now cmd.now) }
     {
         if room(size) == 0 || is_copy(cmd) {
             return Ok(Batch::new(alloc));

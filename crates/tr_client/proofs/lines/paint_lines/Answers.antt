@@ -5,7 +5,7 @@ use Rattle.tr_client.proofs.LineLemmas.{cleared_painting, line_pushed}
 use Rattle.tr_client.proofs.lines.paint_lines.Goals as goal
 
 pub loop-above-init : goal.loop-above-init
-loop-above-init c = λ look. rw c.in_ok-batch.ensures (cleared_painting look c.args.part)
+loop-above-init c = λ look. rw (c.reserve.ensures, c.in_ok-batch.ensures) (cleared_painting look c.args.part)
 
 pub loop-above-preserved : goal.loop-above-preserved
 loop-above-preserved c = λ look.

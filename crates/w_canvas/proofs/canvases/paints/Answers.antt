@@ -4,7 +4,7 @@ use Rattle.w_canvas.proofs.FigureLemmas.{paints-more, paints-none}
 use Rattle.w_canvas.proofs.canvases.paints.Goals as goal
 
 pub loop-figure-init : goal.loop-figure-init
-loop-figure-init c = rw (c.in_ok-push.ensures.ok, c.new-batch.ensures) (paints-none c.args.part.now)
+loop-figure-init c = rw (c.reserve.ensures, c.in_ok-push.ensures.ok, c.new-batch.ensures) (paints-none c.args.part.now)
 
 pub loop-figure-preserved : goal.loop-figure-preserved
 loop-figure-preserved c =

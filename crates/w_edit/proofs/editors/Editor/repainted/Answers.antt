@@ -41,6 +41,8 @@ loop-above-preserved c =
     let size = c.args.size in
     let self = c.args.self.now in
     let above = c.loop-above.above in
-    let line = line_shown size self c.shown-shown.result.now above c.index-shown-above.result c.shown-shown.ensures c.loop-above-test.true c.index-shown-above.is in
+    let line =
+    line_shown size self c.shown-shown.result.now above c.index-shown-above.result
+    c.shown-shown.ensures c.loop-above-test.true c.index-shown-above.is in
     c.in_ok-push.ensures.ok
     ∙ rw (c.strip.ensures.edges, c.begin_of.ensures.value, line, c.loop-above.invariant) (one_more size self (Tint (whole_of size) Bg) above)
