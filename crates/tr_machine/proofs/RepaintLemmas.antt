@@ -1,6 +1,5 @@
--- A repaint: after a painting of all that is bad or that the waiting commands would touch, or after the waiting commands where nothing is bad
--- and they lose nothing, no visible point of the leaf is bad.
-use Rattle.std.proofs.Common.{◌≡◌, ◌⊎◌, ℕ, Bool, true, false, cond, not, ◌&&◌, List, Option, Some, None, inl, inr, refl, sym, ap, subst, ◌∙◌}
+-- A repaint: after a painting of all that is bad or that the waiting commands would touch no visible point of the leaf is bad.
+use Rattle.std.proofs.Common.{◌≡◌, ℕ, Bool, true, false, cond, not, ◌&&◌, List, Option, Some, None, refl, sym, ap, subst, ◌∙◌}
 use Rattle.std.specs.Prelude.{is_none, IfSome}
 use Rattle.std.specs.Option.{option_map}
 use Rattle.std.proofs.lemmas.Bool.{and_from}
@@ -14,8 +13,7 @@ use Rattle.tr_region.specs.Points.{holds}
 use Rattle.tr_paint.specs.declared.Paint.{Paint}
 use Rattle.tr_paint.specs.Batches.{touches}
 use Rattle.tr_paint.specs.Paintings.{IsPainting}
-use Rattle.tr_paint.specs.declared.Paint.{Paint}
-use Rattle.tr_paint.specs.Traces.{Look, Base, after}
+use Rattle.tr_paint.specs.Traces.{after}
 use Rattle.tr_exec.specs.Executions.{placed}
 use Rattle.tr_client.specs.declared.clients.Client.{Ghosts}
 use Rattle.tr_spot.specs.Leaves.{leaf_corner, leaf_size, in_leaf}
@@ -29,12 +27,7 @@ use Rattle.tr_machine.specs.Pictures.{colour_in, shown_of}
 use Rattle.tr_machine.specs.Promises.{Fits}
 use Rattle.tr_machine.proofs.BaseLemmas.{base-lies, in_leaf-placed}
 use Rattle.tr_machine.proofs.ShownLemmas.{IsShowing, after-untouched, base_good, base_sees, untouched_colour}
-use Rattle.tr_machine.proofs.FlushLemmas.{brought_shows, by_state, forest_of, some_of}
-
--- commands lose nothing: of each visible point whose colour is known before them, one is known after them
-abbrev pub LosesNothing : Look → List Paint → Type 0
-LosesNothing look batch =
-    (known : Base) (q : Point) → known.visible q ≡ true → is_none (known.known q) ≡ false → is_none (after look known batch q) ≡ false
+use Rattle.tr_machine.proofs.FlushLemmas.{brought_shows, by_state, forest_of}
 
 -- a test that would give what is false fails
 fails : (b c : Bool) → (b ≡ true → c ≡ true) → c ≡ false → b ≡ false
@@ -65,12 +58,6 @@ module _ {C M : Type 0} (client : Ghosts C M) where
     pub bad : (p : Point) → is_visible m leaf p ≡ true → holds s.bad p ≡ true → has_point clip (in_leaf m.tree leaf p) ≡ true
     pub waiting : (q : Point) → touches (batch_of client m leaf) q ≡ true → has_point clip q ≡ true
 
-  -- the commands are those that wait; no visible point is bad, and they lose none
-  pub record IsByWaiting (m : State C M) (s : Shown) (leaf : LeafId) (batch : List Paint) : Type 0 where
-    pub same : batch ≡ batch_of client m leaf
-    pub good : (p : Point) → is_visible m leaf p ≡ true → holds s.bad p ≡ false
-    pub keeps : LosesNothing (look m) batch
-
   module _ (m : State C M) (s n : Shown) (leaf : LeafId) (r : IsRepaint m s n leaf) where
     -- the size of the window
     abbrev size : Size
@@ -90,7 +77,8 @@ module _ {C M : Type 0} (client : Ghosts C M) where
 
     module _ (y : IsByPainting m s leaf r.window r.batch) where
       -- a point of the clip is painted
-      inside_clip : (q : Point) → (base client m leaf).visible q ≡ true → has_point y.clip q ≡ true → after (look m) (base client m leaf) r.batch q ≡ Some (picture q)
+      inside_clip : (q : Point) → (base client m leaf).visible q ≡ true → has_point y.clip q ≡ true →
+          after (look m) (base client m leaf) r.batch q ≡ Some (picture q)
       inside_clip q seen held =
           y.paints.shows (base client m leaf) q seen
           (has_point-meet_of (whole_of size) y.clip q ∙ and_from _ _ (base-lies client m leaf (forest_of client m s r.was r.showing) q seen) held)
@@ -146,21 +134,6 @@ module _ {C M : Type 0} (client : Ghosts C M) where
           by_clip true held = inside_clip q seen held
           by_clip false out = outside_clip q seen out
 
-    -- by the commands that wait
-    all_changed : IsByWaiting m s leaf r.batch → AreAllPainted
-    all_changed y q seen =
-        let p : Point = placed (leaf_corner m.tree leaf) q in
-        let good : m.bad p ≡ false = sym (r.showing.bad p) ∙ y.good p seen in
-        let known : is_none ((base client m leaf).known q) ≡ false =
-        ap is_none (base_good client m leaf q good ∙ ap (λ (o : Option (Window C M)). option_map (λ w. client.pic (look m) size w.shown q) o) r.at) in
-        let found : (x : ℕ) × (after (look m) (base client m leaf) r.batch q ≡ Some x) =
-        some_of (after (look m) (base client m leaf) r.batch q) (y.keeps (base client m leaf) q seen known) in
-        let waiting : after (look m) (base client m leaf) (batch_of client m leaf) q ≡ Some found.0 =
-        ap (λ (cs : List Paint). after (look m) (base client m leaf) cs q) (sym y.same) ∙ found.1 in
-        let P : Option ℕ → Type 0 = λ o. IfSome o (λ x. x ≡ colour_in client m size q (content_of client m leaf)) in
-        let right : found.0 ≡ colour_in client m size q (content_of client m leaf) = subst P waiting (r.fits.each leaf q seen) in
-        found.1 ∙ ap (λ x. Some x) (right ∙ content_here q)
-
     -- after a repaint the surface shows the machine's next state
     painted_shows : AreAllPainted → IsShowing client (repainted client leaf m) n
     painted_shows all_painted =
@@ -192,6 +165,5 @@ module _ {C M : Type 0} (client : Ghosts C M) where
         and_true true = refl
         and_true false = refl
 
-    pub repaint_shows : IsByPainting m s leaf r.window r.batch ⊎ IsByWaiting m s leaf r.batch → IsShowing client (repainted client leaf m) n
-    repaint_shows (inl y) = painted_shows (all_painted y)
-    repaint_shows (inr y) = painted_shows (all_changed y)
+    pub repaint_shows : IsByPainting m s leaf r.window r.batch → IsShowing client (repainted client leaf m) n
+    repaint_shows y = painted_shows (all_painted y)

@@ -21,7 +21,8 @@ use Rattle.tr_machine.specs.Replays.{after_steps, lines_by, under}
 use Rattle.tr_machine.specs.Settling.{frame_steps}
 
 -- the region has the leaf's bad visible points, and each of the pixels is the one that its point is to have
-pub record IsPaintedOf {C M : Type 0} (client : Ghosts C M) (m : State C M) (leaf : LeafId) (part : List Edges) (pixels : List ℕ) : Type 0 where
+pub record IsPaintedOf {C M : Type 0} (client : Ghosts C M) (m : State C M) (leaf : LeafId) (part : List Edges) (pixels : List ℕ) :
+    Type 0 where
   pub points : (p : Point) → holds part p ≡ (m.bad p && is_visible m leaf p)
   pub many : length pixels ≡ total_area part
   pub colours : (p : Point) → holds part p ≡ true → slice_index pixels (place_in part p) ≡ want client m p

@@ -4,7 +4,7 @@ use Rattle.std.specs.Prelude.{IfSome, slice_get}
 use Rattle.tr_base.specs.declared.Point.{Point}
 use Rattle.tr_base.specs.declared.Size.{Size}
 use Rattle.tr_base.specs.declared.LeafId.{LeafId}
-use Rattle.tr_base.specs.Rects.{Edges, has_point, meet_of, whole_of}
+use Rattle.tr_base.specs.Rects.{has_point, meet_of, whole_of}
 use Rattle.tr_region.specs.Points.{holds}
 use Rattle.tr_paint.specs.declared.Paint.{Paint}
 use Rattle.tr_paint.specs.Batches.{touches}
@@ -152,14 +152,14 @@ module _ {C M : Type 0} (client : Ghosts C M) where
             batch = x.batch;
             executed = x.executed;
           })
-          (inl (record {
+          (record {
             clip = y.clip;
             paints =
                 subst (λ (size : Size). IsPainting (look m) (meet_of (whole_of size) y.clip) x.batch (client.pic (look m) size own.content))
                 stands.size y.paints;
             bad = λ p seen is_bad. y.has_bad (in_leaf m.tree leaf p) (stands.has_bad p seen is_bad);
             waiting = λ q touched. y.has_touched q (ap (λ (cs : List Paint). touches cs q) waits ∙ touched);
-          }))
+          })
 
       -- where nothing is bad, no visible point is
       good : ((q : Point) → has_point e.bad q ≡ false) → (p : Point) → is_visible m leaf p ≡ true → holds b.parts.surface.bad p ≡ false

@@ -1,5 +1,5 @@
 -- For the crate's own functions: how a leaf's window stands on a screen, and a painting that may be executed in place of what waits for it.
-use Rattle.std.specs.Prelude.{◌≡◌, ℕ, true, List, slice_get, Some}
+use Rattle.std.specs.Prelude.{◌≡◌, ℕ, true, List}
 use Rattle.tr_base.specs.declared.Point.{Point}
 use Rattle.tr_base.specs.declared.LeafId.{LeafId}
 use Rattle.tr_base.specs.Rects.{has_point, whole_of}
@@ -22,8 +22,8 @@ pub record IsExposure (s : Shown) (leaf : LeafId) (e : Exposure) : Type 0 where
       is_in_leaf leaf (spot s.tree (placed (leaf_corner s.tree leaf) q)) ≡ true
 
 -- a batch flushes a leaf's window by a painting, as the window stands
-pub record IsFlushing {C M : Type 0} (client : Ghosts C M) (s : Shown) (font : List (List ℕ)) (w : Present C) (leaf : LeafId) (batch : List Paint) :
-    Type 0 where
+pub record IsFlushing {C M : Type 0} (client : Ghosts C M) (s : Shown) (font : List (List ℕ))
+    (w : Present C) (leaf : LeafId) (batch : List Paint) : Type 0 where
   pub exposure : Exposure
   pub stands : IsExposure s leaf exposure
   pub flushes : FlushesByPainting client (look_of s.tree.kind font) exposure w batch

@@ -29,7 +29,8 @@ invariant_of-self-2 g c =
       err = c.disown-told.ensures.err;
     } in
     rw (c.write_told.ensures.lines, c.in_ok-reserve.ensures.lines)
-    (device_told g.C.Client b (Disown c.args.leaf c.args.selection) (disowning c.args.leaf c.args.selection) c.tree.result.now c.disown-told.new.self c.disown-told.result m
+    (device_told g.C.Client b (Disown c.args.leaf c.args.selection) (disowning c.args.leaf c.args.selection)
+    c.tree.result.now c.disown-told.new.self c.disown-told.result m
     (is_disowning g.C.Client c.args.leaf c.args.selection) told)
 
 pub returns-clause-made : goal.returns-clause-made
@@ -57,6 +58,7 @@ returns-clause-made g c =
       err = c.disown-told.ensures.err;
     } in
     makes_line g.C.Client (line_told b.actor b.held (Disown c.args.leaf c.args.selection) c.disown-told.result) c.self.view_is
-    (device_line g.C.Client b (Disown c.args.leaf c.args.selection) (disowning c.args.leaf c.args.selection) c.tree.result.now c.disown-told.new.self c.disown-told.result m
+    (device_line g.C.Client b (Disown c.args.leaf c.args.selection) (disowning c.args.leaf c.args.selection)
+    c.tree.result.now c.disown-told.new.self c.disown-told.result m
     (is_disowning g.C.Client c.args.leaf c.args.selection) told)
     refl (rw c.in_ok-reserve.ensures.lines at c.write_told.ensures.lines) c.write_told.ensures.reply

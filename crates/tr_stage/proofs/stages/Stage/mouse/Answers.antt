@@ -29,7 +29,8 @@ invariant_of-self g c =
       err = c.mouse-told.ensures.err;
     } in
     rw (c.write_told.ensures.lines)
-    (device_told g.C.Client b (Mouse c.args.time c.args.button c.args.down) (mouse c.args.time c.args.button c.args.down) c.tree.result.now c.mouse-told.new.self c.mouse-told.result m
+    (device_told g.C.Client b (Mouse c.args.time c.args.button c.args.down) (mouse c.args.time c.args.button c.args.down)
+    c.tree.result.now c.mouse-told.new.self c.mouse-told.result m
     (is_mouse g.C.Client c.args.time c.args.button c.args.down) told)
 
 pub returns-clause-made : goal.returns-clause-made
@@ -57,6 +58,7 @@ returns-clause-made g c =
       err = c.mouse-told.ensures.err;
     } in
     makes_line g.C.Client (line_told b.actor b.held (Mouse c.args.time c.args.button c.args.down) c.mouse-told.result) c.self.view_is
-    (device_line g.C.Client b (Mouse c.args.time c.args.button c.args.down) (mouse c.args.time c.args.button c.args.down) c.tree.result.now c.mouse-told.new.self c.mouse-told.result m
+    (device_line g.C.Client b (Mouse c.args.time c.args.button c.args.down) (mouse c.args.time c.args.button c.args.down)
+    c.tree.result.now c.mouse-told.new.self c.mouse-told.result m
     (is_mouse g.C.Client c.args.time c.args.button c.args.down) told)
     refl c.write_told.ensures.lines c.write_told.ensures.reply

@@ -44,7 +44,13 @@ invariant_of-self-2 g c =
     (subst (λ x. IsPatch (look_of p.kind p.font) p.size p.batch
     (g.C.Client.pic (look_of p.kind p.font) p.size p.from) (g.C.Client.pic (look_of p.kind p.font) p.size x)) (sym copied) p.patch) in
     let added = rw c.unwrap.ensures at c.extend.ensures.ok in
-    rw (added, c.reserve_silent.ensures.lines, c.in_ok-entries.ensures, c.deref.ensures.value, ← handed_lines g.C.Client n leaf p.commands.items c.args.levels.now)
+    rw (
+      added,
+      c.reserve_silent.ensures.lines,
+      c.in_ok-entries.ensures,
+      c.deref.ensures.value,
+      ← handed_lines g.C.Client n leaf p.commands.items c.args.levels.now,
+    )
     (takes_over g.C.Client p.commands.items c.args.levels.now c.self.invariant (record { within = within }) ready
     c.requires.levels c.in_ok-take_over.ensures.ok)
 
