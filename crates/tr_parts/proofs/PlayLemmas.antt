@@ -1,6 +1,8 @@
 -- Parts that are played one after another.
-use Rattle.std.proofs.Common.{◌≡◌, ℕ, ◌+◌, ◌<◌, Bool, true, false, List, [], ◌∷◌, ◌++◌, length, refl, sym, ap, subst, ◌∙◌, take, get_or, arith}
-use Rattle.std.proofs.lemmas.List.{append-nil, take_more}
+use Rattle.std.proofs.Common.{◌≡◌, ℕ, ◌+◌, ◌<◌, Bool, true, false, List, [], ◌∷◌, ◌++◌, length, refl, sym, ap, subst, ◌∙◌, take, drop, get_or, arith}
+use Rattle.std.specs.List.{flat_map}
+use Rattle.std.proofs.lemmas.List.{append-nil, flat_map_more, take_more, take-append-drop}
+use Rattle.std.proofs.lemmas.List.Concat.{flat_map-append}
 use Rattle.tr_base.proofs.RectLemmas.{false-true}
 use Rattle.tr_client.specs.declared.clients.Client.{Ghosts}
 use Rattle.tr_forest.specs.Nodes.{Nodes}
@@ -23,11 +25,11 @@ use Rattle.tr_stage.specs.Stages.{IsOf, StageView, state}
 use Rattle.tr_stage.specs.Standings.{Stands}
 use Rattle.tr_run.specs.declared.modes.Mode.{Mode}
 use Rattle.tr_run.specs.declared.modes.Mode.TheVariants.{Serial}
-use Rattle.tr_run.specs.Runs.{reporting, run_lines}
+use Rattle.tr_run.specs.Runs.{Cue, reporting, run_lines}
 use Rattle.tr_run.specs.Texts.{sum_from, texts_from, told_text}
-use Rattle.tr_run.specs.Views.{Adds, Does, IsNamed, RunView}
+use Rattle.tr_run.specs.Views.{Adds, Does, DoesSome, IsNamed, RunView}
 use Rattle.tr_run.proofs.LineLemmas.{legal_later, named_later}
-use Rattle.tr_run.proofs.RunLemmas.{Adds-append, Adds-none, state_adds}
+use Rattle.tr_run.proofs.RunLemmas.{Adds-append, Adds-none, Does-append, DoesSome-after, DoesSome-more, state_adds}
 use Rattle.tr_parts.specs.Plays.{HasInterleaved, journal_texts}
 use Rattle.tr_parts.specs.Runs.{HasBegun, HasBegunPart, HasPlayedNext, HasPlayedPart, HasPlayedParts, HasPlayedSome, HasReported}
 use Rattle.tr_parts.specs.Turns.{HasRun}
@@ -89,6 +91,34 @@ module _ {C M : Type 0} (client : Ghosts C M) (words : M → List ℕ) where
       subst (λ (qs : List Query). HasReported client words a new qs)
       (ap (λ (q : Query). take k queries ++ q ∷ []) at.1 ∙ sym (take_more queries k query at.0))
       (reported_more a now new (take k queries) (query ∷ []) first second)
+
+  -- the cues of the reports so far, and of one more
+  cues_next : (queries : List Query) (k : ℕ) (query : Query) → (k < length queries) × (query ≡ get_or queries k query) →
+      flat_map (reporting {M = M}) (take k queries) ++ reporting query ≡ flat_map (reporting {M = M}) (take (k + 1) queries)
+  cues_next queries k query at =
+      flat_map_more (reporting {M = M}) [] (take k queries) query
+      ∙ ap (λ (q : Query). flat_map (reporting {M = M}) (take k queries ++ q ∷ [])) at.1
+      ∙ ap (λ (qs : List Query). flat_map (reporting {M = M}) qs) (sym (take_more queries k query at.0))
+
+  -- they were done
+  pub did_next : (a now new : RunView C M) (queries : List Query) (k : ℕ) (query : Query) →
+      (k < length queries) × (query ≡ get_or queries k query) → Does client words a now (flat_map reporting (take k queries)) →
+      Does client words now new (reporting query) → Does client words a new (flat_map reporting (take (k + 1) queries))
+  did_next a now new queries k query at first second =
+      subst (λ (cues : List (Cue M)). Does client words a new cues) (cues_next queries k query at)
+      (Does-append client words a now new (flat_map reporting (take k queries)) (reporting query) first second)
+
+  -- for one more memory was wanting
+  pub did_some : (a now new : RunView C M) (queries : List Query) (k : ℕ) (query : Query) →
+      (k < length queries) × (query ≡ get_or queries k query) → Does client words a now (flat_map reporting (take k queries)) →
+      DoesSome client words now new (reporting query) → DoesSome client words a new (flat_map reporting queries)
+  did_some a now new queries k query at first second =
+      subst (λ (cues : List (Cue M)). DoesSome client words a new cues)
+      (ap (λ (cues : List (Cue M)). cues ++ flat_map reporting (drop (k + 1) queries)) (cues_next queries k query at)
+      ∙ sym (flat_map-append (reporting {M = M}) (take (k + 1) queries) (drop (k + 1) queries))
+      ∙ ap (λ (qs : List Query). flat_map (reporting {M = M}) qs) (take-append-drop (k + 1) queries))
+      (DoesSome-more client words a new (flat_map reporting (take k queries) ++ reporting query) (flat_map reporting (drop (k + 1) queries))
+      (DoesSome-after client words a now new (flat_map reporting (take k queries)) (reporting query) first second))
 
   pub has_reported : (a b : RunView C M) (query : Query) → Stands client a.stage → Does client words a b (reporting query) →
       HasReported client words a b (query ∷ [])

@@ -44,6 +44,17 @@ abbrev is_dump : {M : Type 0} → Step M → Bool
 is_dump (steps.Report queries.Dump) = true
 is_dump step = false
 
+-- no step was made since
+pub run_same : {C M : Type 0} (s now new : StageView C M) (made : List (Actor × Step M)) → HasRun s now made → new.opening ≡ now.opening →
+    new.journal ≡ now.journal → HasRun s new made
+run_same s now new made so_far opening journal = record {
+  lines = so_far.lines;
+  opening = opening ∙ so_far.opening;
+  journal = journal ∙ so_far.journal;
+  made = so_far.made;
+  player = so_far.player;
+}
+
 module _ {C M : Type 0} (client : Ghosts C M) where
   -- from one stage to the next a step was made, by a leaf's actor or the desk
   pub record HasMade (now new : StageView C M) (made : Actor × Step M) : Type 0 where

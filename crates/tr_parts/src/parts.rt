@@ -1,4 +1,5 @@
-ghost use Rattle.std.specs.Prelude.{◌≡◌, ◌++◌, ◌∷◌, [], if◌then◌else◌, All, IfOk, OnOk};
+ghost use Rattle.std.specs.Prelude.{◌≡◌, ◌++◌, ◌∷◌, [], if◌then◌else◌, All, IfOk, OnOk, OnErr};
+ghost use Rattle.std.specs.List.{flat_map};
 ghost use Rattle.tr_journal.specs.declared.Actor.TheVariants.{Player};
 ghost use Rattle.tr_journal.specs.declared.Step.TheVariants.{Sync};
 ghost use Rattle.tr_journal.specs.Openings.{tree_of};
@@ -6,8 +7,8 @@ ghost use Rattle.tr_journal.specs.Steps.{IsQuery};
 ghost use Rattle.tr_machine.specs.Replays.{IsLegal};
 ghost use Rattle.tr_stage.specs.Stages.{IsOf, state};
 ghost use Rattle.tr_stage.specs.Standings.{Stands};
-ghost use Rattle.tr_run.specs.Runs.{makes};
-ghost use Rattle.tr_run.specs.Views.{Does};
+ghost use Rattle.tr_run.specs.Runs.{makes, reporting};
+ghost use Rattle.tr_run.specs.Views.{Does, DoesSome};
 ghost use Rattle.tr_parts.specs.Plays.{played_threads};
 ghost use Rattle.tr_parts.specs.Runs.{HasBegunPart, HasReported};
 
@@ -17,15 +18,17 @@ use tr_journal::{Actor, NameOf, Query, Step};
 use tr_run::{Finished, Run};
 use tr_stage::Stage;
 
-/// The player begins a part, a later one with a sync, and makes its reports. After an `Err` the run is of no
-/// use.
+/// The player begins a part, a later one with a sync, and makes its reports. For want of memory the first of
+/// these were made.
 pub fn begin_part<C: Client, N: NameOf>(
     run: &mut Run<C, N>,
     is_later: bool,
     reports: &[Query],
 ) -> Result<(), NoMemory>
     requires { All (IsQuery (tree_of run.old.stage.opening).nodes) reports.now }
-    ensures { OnOk result (HasBegunPart C.Client C.Cmd.words run.old run.new is_later reports.now) }
+    ensures ok { OnOk result (HasBegunPart C.Client C.Cmd.words run.old run.new is_later reports.now) }
+    ensures err { OnErr result (DoesSome C.Client C.Cmd.words run.old run.new
+        ((if is_later then makes Player Sync ∷ [] else []) ++ flat_map reporting reports.now)) }
 {
     begin(run, is_later)?;
     report_all(run, reports)
@@ -33,7 +36,9 @@ pub fn begin_part<C: Client, N: NameOf>(
 
 /// The player makes a sync before a later part.
 fn begin<C: Client, N: NameOf>(run: &mut Run<C, N>, is_later: bool) -> Result<(), NoMemory>
-    ensures { OnOk result (Does C.Client C.Cmd.words run.old run.new
+    ensures ok { OnOk result (Does C.Client C.Cmd.words run.old run.new
+        (if is_later then makes Player Sync ∷ [] else [])) }
+    ensures err { OnErr result (DoesSome C.Client C.Cmd.words run.old run.new
         (if is_later then makes Player Sync ∷ [] else [])) }
 {
     if is_later {
@@ -46,7 +51,9 @@ fn begin<C: Client, N: NameOf>(run: &mut Run<C, N>, is_later: bool) -> Result<()
 /// Makes reports, one after another.
 fn report_all<C: Client, N: NameOf>(run: &mut Run<C, N>, reports: &[Query]) -> Result<(), NoMemory>
     requires queries { All (IsQuery (tree_of run.old.stage.opening).nodes) reports.now }
-    ensures { OnOk result (HasReported C.Client C.Cmd.words run.old run.new reports.now) }
+    ensures ok { OnOk result (HasReported C.Client C.Cmd.words run.old run.new reports.now) }
+    ensures err { OnErr result (DoesSome C.Client C.Cmd.words run.old run.new
+        (flat_map reporting reports.now)) }
 {
     for query in reports {
         report(run, *query)?;
@@ -57,7 +64,9 @@ fn report_all<C: Client, N: NameOf>(run: &mut Run<C, N>, reports: &[Query]) -> R
 /// Makes a report. The screen is settled before it is dumped.
 fn report<C: Client, N: NameOf>(run: &mut Run<C, N>, query: Query) -> Result<(), NoMemory>
     requires { IsQuery (tree_of run.old.stage.opening).nodes query }
-    ensures { OnOk result (HasReported C.Client C.Cmd.words run.old run.new (query ∷ [])) }
+    ensures ok { OnOk result (HasReported C.Client C.Cmd.words run.old run.new (query ∷ [])) }
+    ensures did { OnOk result (Does C.Client C.Cmd.words run.old run.new (reporting query)) }
+    ensures err { OnErr result (DoesSome C.Client C.Cmd.words run.old run.new (reporting query)) }
 {
     stands(run.stage());
     run.report(query)

@@ -1,6 +1,6 @@
 -- What becomes of a run, one after another: its lines, what is written with them, and its sum.
-use Rattle.std.proofs.Common.{◌≡◌, ℕ, ◌+◌, ◌<◌, Bool, true, false, cond, not, ◌&&◌, List, [], ◌∷◌, ◌++◌, length, take, get_or, refl, sym, ap, subst, ◌∙◌, append_assoc}
-use Rattle.std.proofs.lemmas.List.{append-nil, length_push}
+use Rattle.std.proofs.Common.{◌≡◌, ℕ, ◌+◌, ◌<◌, Bool, true, false, cond, not, ◌&&◌, List, [], ◌∷◌, ◌++◌, length, take, drop, get_or, refl, sym, ap, subst, ◌∙◌, append_assoc, ◌⊎◌, inl, inr}
+use Rattle.std.proofs.lemmas.List.{append-nil, length_push, take-append-drop}
 use Rattle.tr_base.proofs.RectLemmas.{false-true}
 use Rattle.tr_client.specs.declared.clients.Client.{Ghosts}
 use Rattle.tr_levels.specs.declared.Level.{Level}
@@ -18,14 +18,14 @@ use Rattle.tr_journal.specs.Steps.{stated}
 use Rattle.tr_machine.specs.States.{State}
 use Rattle.tr_machine.specs.Replays.{line_of, next, replay, replay_from, after_steps, lines_of}
 use Rattle.tr_machine.specs.Settling.{settling_lines}
-use Rattle.tr_machine.proofs.JournalLemmas.{lines_of-take, replay-append, replay-more, replay_from-append, replay_from-lines_of}
+use Rattle.tr_machine.proofs.JournalLemmas.{lines_of-append, lines_of-take, replay-append, replay-more, replay_from-append, replay_from-lines_of}
 use Rattle.tr_journal.specs.Names.{Names}
 use Rattle.tr_stage.specs.Stages.{StageView, is_note, state}
 use Rattle.tr_run.specs.declared.modes.Mode.{Mode}
 use Rattle.tr_run.specs.declared.modes.Mode.TheVariants.{Serial, Check, Gen}
 use Rattle.tr_run.specs.Runs.{Cue, makes, settles, cue_lines, reporting, run_lines}
 use Rattle.tr_run.specs.Texts.{is_check, lag_line, told_text, sum_after, sum_from, texts_from, written}
-use Rattle.tr_run.specs.Views.{Adds, Does, RunView}
+use Rattle.tr_run.specs.Views.{Adds, AddsSome, AddsUntold, Does, DoesSome, IsUnchanged, RunView, StopsAt, TellsUnmade}
 
 module _ {C M : Type 0} (client : Ghosts C M) where
   -- ---- lines in a row
@@ -193,7 +193,8 @@ module _ {C M : Type 0} (client : Ghosts C M) where
       ap (λ (t : List ℕ). t ++ cond (is_note step) [] (lag_line client (length lines + 1) (next client m step))) (told_text-none words names lines m step h)
       ∙ unless_note (is_note step) lags
     where
-      unless_note : (b : Bool) → not b ≡ true → cond b [] (lag_line client (length lines + 1) (next client m step)) ≡ lag_line client (length lines + 1) (next client m step)
+      unless_note : (b : Bool) → not b ≡ true →
+          cond b [] (lag_line client (length lines + 1) (next client m step)) ≡ lag_line client (length lines + 1) (next client m step)
       unless_note true lags = absurd (false-true lags)
       unless_note false lags = refl
   written-lag words names Gen lines m step h lags = absurd (false-true lags)
@@ -235,22 +236,120 @@ module _ {C M : Type 0} (client : Ghosts C M) where
       line : JournalLine M
       line = line_of client (state client a.stage) actor (stated step) step
 
+  -- memory was wanting for a step other than a report
+  abbrev pub IsUnmadeStep : RunView C M → RunView C M → JournalLine M → Type 0
+  IsUnmadeStep a b line = IsUnchanged a b ⊎ AddsUntold a b line
+
+  -- then it wasn't written how far the screen lags behind
+  pub untold : {a v : RunView C M} {actor : Actor} {step : Step M} (text : List ℕ) → HasAdded a v actor step →
+      (is_check a.mode && not (is_note step)) ≡ true → text ≡ v.text →
+      IsUnmadeStep a (record v { text = text }) (line_of client (state client a.stage) actor (stated step) step)
+  untold {a} {v} {actor} {step} text added lags same = inr (record {
+    check = first_true (is_check a.mode) lags;
+    opening = added.opening;
+    names = added.names;
+    mode = added.mode;
+    journal = added.journal;
+    text = same ∙ added.text;
+    sum = added.sum;
+  })
+    where
+      first_true : (b : Bool) → (b && not (is_note step)) ≡ true → b ≡ true
+      first_true true both = refl
+      first_true false both = both
+
+  -- ---- where memory was wanting
+
+  -- it was wanting for the first line that was due
+  pub some-first : {words : M → List ℕ} (a b : RunView C M) (line : JournalLine M) (later : List (JournalLine M)) →
+      StopsAt client words a b line → AddsSome client words a b (line ∷ later)
+  some-first {words} a b line later stops = record {
+    before = [];
+    line = line;
+    behind = later;
+    are = refl;
+    now = a;
+    adds = Adds-none words a;
+    stops = stops;
+  }
+
+  same : (a : RunView C M) → IsUnchanged a a
+  same a = record { opening = refl; journal = refl; screen = refl; names = refl; mode = refl; text = refl; sum = refl }
+
+  stops_step : {words : M → List ℕ} {a b : RunView C M} {line : JournalLine M} → IsUnmadeStep a b line → StopsAt client words a b line
+  stops_step (inl unchanged) = inl unchanged
+  stops_step (inr added) = inr (inl added)
+
+  -- of a step other than a report
+  pub makes_some : (words : M → List ℕ) (a b : RunView C M) (actor : Actor) (step : Step M) →
+      IsUnmadeStep a b (line_of client (state client a.stage) actor (stated step) step) → DoesSome client words a b (makes actor step ∷ [])
+  makes_some words a b actor step unmade = some-first a b (line_of client (state client a.stage) actor (stated step) step) [] (stops_step unmade)
+
+  -- nothing was done, whatever line stands behind those that were due
+  pub some-none : {words : M → List ℕ} (a : RunView C M) (due : List (JournalLine M)) (line : JournalLine M) →
+      AddsSome client words a a (due ++ line ∷ [])
+  some-none a [] line = some-first a a line [] (inl (same a))
+  some-none a (x ∷ due) line = some-first a a x (due ++ line ∷ []) (inl (same a))
+
+  -- more lines were due
+  pub some-more : {words : M → List ℕ} (a b : RunView C M) (xs ys : List (JournalLine M)) → AddsSome client words a b xs →
+      AddsSome client words a b (xs ++ ys)
+  some-more a b xs ys some = record {
+    before = some.before;
+    line = some.line;
+    behind = some.behind ++ ys;
+    are = ap (λ (ls : List (JournalLine M)). ls ++ ys) some.are ∙ append_assoc some.before (some.line ∷ some.behind) ys;
+    now = some.now;
+    adds = some.adds;
+    stops = some.stops;
+  }
+
+  -- some lines were added before
+  pub some-after : (words : M → List ℕ) (a b c : RunView C M) (xs ys : List (JournalLine M)) → Adds client words a b xs →
+      AddsSome client words b c ys → AddsSome client words a c (xs ++ ys)
+  some-after words a b c xs ys first second = record {
+    before = xs ++ second.before;
+    line = second.line;
+    behind = second.behind;
+    are = ap (λ (ls : List (JournalLine M)). xs ++ ls) second.are ∙ sym (append_assoc xs second.before (second.line ∷ second.behind));
+    now = second.now;
+    adds = Adds-append words a b second.now xs second.before first second.adds;
+    stops = second.stops;
+  }
+
+  -- more cues were to be done
+  pub DoesSome-more : (words : M → List ℕ) (a b : RunView C M) (xs ys : List (Cue M)) → DoesSome client words a b xs →
+      DoesSome client words a b (xs ++ ys)
+  DoesSome-more words a b xs ys some =
+      let was : State C M = state client a.stage in
+      let first : List (JournalLine M) = run_lines client was xs in
+      subst (λ (ls : List (JournalLine M)). AddsSome client words a b ls) (sym (run_lines-append was xs ys))
+      (some-more a b first (run_lines client (replay_from client was first) ys) some)
+
+  -- some cues were done before
+  pub DoesSome-after : (words : M → List ℕ) (a b c : RunView C M) (xs ys : List (Cue M)) → Does client words a b xs →
+      DoesSome client words b c ys → DoesSome client words a c (xs ++ ys)
+  DoesSome-after words a b c xs ys first second =
+      let was : State C M = state client a.stage in
+      subst (λ (ls : List (JournalLine M)). AddsSome client words a c ls)
+      (ap (λ (m : State C M). run_lines client was xs ++ run_lines client m ys) (state_adds a b (run_lines client was xs) first)
+      ∙ sym (run_lines-append was xs ys))
+      (some-after words a b c (run_lines client was xs) (run_lines client (state client b.stage) ys) first second)
+
   -- ---- steps in a row
 
-  -- the painter's steps so far, and one more
-  pub paints_more : (words : M → List ℕ) (a now new : RunView C M) (steps : List (Step M)) (k : ℕ) (step : Step M) →
+  -- the lines of the painter's steps so far, and that of one more
+  with_step : (words : M → List ℕ) (a now : RunView C M) (steps : List (Step M)) (k : ℕ) (step : Step M) →
       Adds client words a now (lines_of client Painter (Mu ∷ []) (state client a.stage) (take k steps)) → stated step ≡ Mu ∷ [] →
       (k < length steps) × (step ≡ get_or steps k step) →
-      Adds client words now new (line_of client (state client now.stage) Painter (stated step) step ∷ []) →
-      Adds client words a new (lines_of client Painter (Mu ∷ []) (state client a.stage) (take (k + 1) steps))
-  paints_more words a now new steps k step so_far level at made =
-      subst (λ (ls : List (JournalLine M)). Adds client words a new ls)
-      (ap (λ (s : State C M). first ++ line_of client s Painter (stated step) step ∷ [])
+      lines_of client Painter (Mu ∷ []) (state client a.stage) (take k steps) ++ line_of client (state client now.stage) Painter (stated step) step ∷ []
+      ≡ lines_of client Painter (Mu ∷ []) (state client a.stage) (take (k + 1) steps)
+  with_step words a now steps k step so_far level at =
+      ap (λ (s : State C M). first ++ line_of client s Painter (stated step) step ∷ [])
       (state_adds a now first so_far ∙ replay_from-lines_of client Painter (Mu ∷ []) was (take k steps))
       ∙ ap (λ (held : List Level). first ++ line_of client after Painter held step ∷ []) level
       ∙ ap (λ (x : Step M). first ++ line_of client after Painter (Mu ∷ []) x ∷ []) at.1
-      ∙ sym (lines_of-take client Painter (Mu ∷ []) was steps k step at.0))
-      (Adds-append words a now new first (line_of client (state client now.stage) Painter (stated step) step ∷ []) so_far made)
+      ∙ sym (lines_of-take client Painter (Mu ∷ []) was steps k step at.0)
     where
       was : State C M
       was = state client a.stage
@@ -260,6 +359,37 @@ module _ {C M : Type 0} (client : Ghosts C M) where
 
       after : State C M
       after = after_steps client was (take k steps)
+
+  -- the painter's steps so far, and one more
+  pub paints_more : (words : M → List ℕ) (a now new : RunView C M) (steps : List (Step M)) (k : ℕ) (step : Step M) →
+      Adds client words a now (lines_of client Painter (Mu ∷ []) (state client a.stage) (take k steps)) → stated step ≡ Mu ∷ [] →
+      (k < length steps) × (step ≡ get_or steps k step) →
+      Adds client words now new (line_of client (state client now.stage) Painter (stated step) step ∷ []) →
+      Adds client words a new (lines_of client Painter (Mu ∷ []) (state client a.stage) (take (k + 1) steps))
+  paints_more words a now new steps k step so_far level at made =
+      subst (λ (ls : List (JournalLine M)). Adds client words a new ls) (with_step words a now steps k step so_far level at)
+      (Adds-append words a now new (lines_of client Painter (Mu ∷ []) (state client a.stage) (take k steps))
+      (line_of client (state client now.stage) Painter (stated step) step ∷ []) so_far made)
+
+  -- the painter's steps so far, and memory was wanting for one more
+  pub paints_some : (words : M → List ℕ) (a now new : RunView C M) (steps : List (Step M)) (k : ℕ) (step : Step M) →
+      Adds client words a now (lines_of client Painter (Mu ∷ []) (state client a.stage) (take k steps)) → stated step ≡ Mu ∷ [] →
+      (k < length steps) × (step ≡ get_or steps k step) →
+      IsUnmadeStep now new (line_of client (state client now.stage) Painter (stated step) step) →
+      AddsSome client words a new (lines_of client Painter (Mu ∷ []) (state client a.stage) steps)
+  paints_some words a now new steps k step so_far level at unmade =
+      subst (λ (ls : List (JournalLine M)). AddsSome client words a new ls)
+      (sym (lines_of-append client Painter (Mu ∷ []) was (take (k + 1) steps) (drop (k + 1) steps))
+      ∙ ap (λ (xs : List (Step M)). lines_of client Painter (Mu ∷ []) was xs) (take-append-drop (k + 1) steps))
+      (some-more a new (lines_of client Painter (Mu ∷ []) was (take (k + 1) steps))
+      (lines_of client Painter (Mu ∷ []) (after_steps client was (take (k + 1) steps)) (drop (k + 1) steps))
+      (subst (λ (ls : List (JournalLine M)). AddsSome client words a new ls) (with_step words a now steps k step so_far level at)
+      (some-after words a now new (lines_of client Painter (Mu ∷ []) was (take k steps))
+      (line_of client (state client now.stage) Painter (stated step) step ∷ []) so_far
+      (some-first now new (line_of client (state client now.stage) Painter (stated step) step) [] (stops_step unmade)))))
+    where
+      was : State C M
+      was = state client a.stage
 
   -- ---- reports
 
@@ -281,3 +411,34 @@ module _ {C M : Type 0} (client : Ghosts C M) where
   dumps words a b c settled made = Does-append words a b c (settles ∷ []) (makes Player (steps.Report queries.Dump) ∷ [])
       (subst (λ (ls : List (JournalLine M)). Adds client words a b ls) (sym (append-nil (settling_lines client (state client a.stage)))) settled)
       made
+
+  -- memory was wanting for a report: it wasn't made
+  abbrev pub IsUnmade : (words : M → List ℕ) → RunView C M → RunView C M → Query → Type 0
+  IsUnmade words a b query =
+      IsUnchanged a b ⊎ TellsUnmade client words a b (line_of client (state client a.stage) Player (Mu ∷ []) (steps.Report query))
+
+  stops_at : (words : M → List ℕ) (a b : RunView C M) (query : Query) → IsUnmade words a b query →
+      StopsAt client words a b (line_of client (state client a.stage) Player (Mu ∷ []) (steps.Report query))
+  stops_at words a b query (inl unchanged) = inl unchanged
+  stops_at words a b query (inr told) = inr (inr told)
+
+  -- a report other than a dump
+  pub reports_some : (words : M → List ℕ) (a b : RunView C M) (query : Query) → (query ≡ queries.Dump → ⊥) → IsUnmade words a b query →
+      DoesSome client words a b (reporting query)
+  reports_some words a b query other unmade = subst (λ (cues : List (Cue M)). DoesSome client words a b cues) (sym (reporting-other query other))
+      (some-first a b (line_of client (state client a.stage) Player (Mu ∷ []) (steps.Report query)) [] (stops_at words a b query unmade))
+
+  -- the stage was settled, and then no dump was made
+  pub dumps_some : (words : M → List ℕ) (a b c : RunView C M) → Adds client words a b (settling_lines client (state client a.stage)) →
+      IsUnmade words b c queries.Dump → DoesSome client words a c (reporting queries.Dump)
+  dumps_some words a b c settled unmade = DoesSome-after words a b c (settles ∷ []) (makes Player (steps.Report queries.Dump) ∷ [])
+      (subst (λ (ls : List (JournalLine M)). Adds client words a b ls) (sym (append-nil (settling_lines client (state client a.stage)))) settled)
+      (some-first b c (line_of client (state client b.stage) Player (Mu ∷ []) (steps.Report queries.Dump)) [] (stops_at words b c queries.Dump unmade))
+
+  -- the stage wasn't settled
+  pub settles_some : (words : M → List ℕ) (a b : RunView C M) →
+      ((line : JournalLine M) → AddsSome client words a b (settling_lines client (state client a.stage) ++ line ∷ [])) →
+      DoesSome client words a b (reporting queries.Dump)
+  settles_some words a b some =
+      let was : State C M = state client a.stage in
+      some (line_of client (replay_from client was (settling_lines client was)) Player (Mu ∷ []) (steps.Report queries.Dump))

@@ -1,4 +1,4 @@
-ghost use Rattle.std.specs.Prelude.{◌≡◌, ◌++◌, All, OnOk, length};
+ghost use Rattle.std.specs.Prelude.{◌≡◌, ◌++◌, All, OnOk, OnErr, length};
 ghost use Rattle.tr_journal.specs.declared.Query.TheVariants.{Dump};
 ghost use Rattle.tr_journal.specs.Openings.{tree_of};
 ghost use Rattle.tr_journal.specs.Steps.{IsQuery};
@@ -29,8 +29,9 @@ pub(crate) fn append_report<C: Client, N: NameOf>(
     requires named { IsNamed C.Client (names_of N.NameOf names.now) stage.now }
     requires values { IsQuery (tree_of stage.now.opening).nodes query.now }
     requires settled { query.now ≡ Dump → stage.now.screen ≡ render C.Client (state C.Client stage.now) }
-    ensures { OnOk result (out.new.items ≡ out.old.items ++ report_text C.Client C.Cmd.words
+    ensures ok { OnOk result (out.new.items ≡ out.old.items ++ report_text C.Client C.Cmd.words
         (names_of N.NameOf names.now) stage.now.journal (state C.Client stage.now) query.now) }
+    ensures err { OnErr result (out.new.items ≡ out.old.items) }
 {
     match query {
         Query::Dump => dump(stage.screen(), out),
@@ -43,8 +44,9 @@ pub(crate) fn append_report<C: Client, N: NameOf>(
 
 /// Appends how far the screen lags behind.
 fn append_peek<C: Client>(stage: &Stage<C>, out: &mut Vec<u8>) -> Result<(), NoMemory>
-    ensures { OnOk result (out.new.items
+    ensures ok { OnOk result (out.new.items
         ≡ out.old.items ++ peek_text (lag C.Client (state C.Client stage.now))) }
+    ensures err { OnErr result (out.new.items ≡ out.old.items) }
 {
     peek_line(&stage.peek()?, out)
 }
@@ -56,8 +58,9 @@ fn append_journal<C: Client, N: NameOf>(
     out: &mut Vec<u8>,
 ) -> Result<(), NoMemory>
     requires { All (IsNamedLine (names_of N.NameOf names.now)) stage.now.journal }
-    ensures { OnOk result (out.new.items ≡ out.old.items ++
+    ensures ok { OnOk result (out.new.items ≡ out.old.items ++
         journal_text C.Cmd.words (names_of N.NameOf names.now) stage.now.journal) }
+    ensures err { OnErr result (out.new.items ≡ out.old.items) }
 {
     journal(stage.journal(), names, out)
 }
@@ -70,8 +73,9 @@ fn append_place<C: Client, N: NameOf>(
     out: &mut Vec<u8>,
 ) -> Result<(), NoMemory>
     requires { AreNamed (names_of N.NameOf names.now) (tree_of stage.now.opening).nodes }
-    ensures { OnOk result (out.new.items ≡ out.old.items ++
+    ensures ok { OnOk result (out.new.items ≡ out.old.items ++
         place_text (names_of N.NameOf names.now) at (spot (state C.Client stage.now).tree at)) }
+    ensures err { OnErr result (out.new.items ≡ out.old.items) }
 {
     let spot = spot_at(stage.tree(), at);
     place_line(at, &spot, names, out)
@@ -83,8 +87,9 @@ pub(crate) fn append_lag<C: Client>(
     stage: &Stage<C>,
     out: &mut Vec<u8>,
 ) -> Result<(), NoMemory>
-    ensures { OnOk result (out.new.items ≡ out.old.items ++
+    ensures ok { OnOk result (out.new.items ≡ out.old.items ++
         lag_line C.Client (length stage.now.journal) (state C.Client stage.now)) }
+    ensures err { OnErr result (out.new.items ≡ out.old.items) }
 {
     // Called for what it tells the prover: that what is stale waits to be painted.
     stage.stands();

@@ -1,8 +1,9 @@
-ghost use Rattle.std.specs.Prelude.{◌≡◌, ◌++◌, [], ◌∷◌, true, false, not, ◌&&◌, All, IsSome, IfOk, OnOk};
+ghost use Rattle.std.specs.Prelude.{◌≡◌, ◌++◌, [], ◌∷◌, true, false, not, ◌&&◌, ◌⊎◌, All, IsSome, IfOk, OnOk, OnErr};
 ghost use Rattle.tr_levels.specs.declared.Level.TheVariants.{Mu};
 ghost use Rattle.tr_journal.specs.declared.Actor.TheVariants.{Painter, Player};
 ghost use Rattle.tr_journal.specs.declared.Query.TheVariants.{Dump};
 ghost use Rattle.tr_journal.specs.declared.Step.TheVariants.{Report};
+ghost use Rattle.tr_journal.specs.Journals.{JournalLine};
 ghost use Rattle.tr_journal.specs.Openings.{tree_of};
 ghost use Rattle.tr_journal.specs.Reports.{is_report};
 ghost use Rattle.tr_journal.specs.Steps.{IsQuery, IsStep, may, stated};
@@ -13,7 +14,17 @@ ghost use Rattle.tr_machine.specs.Settling.{settling_lines};
 ghost use Rattle.tr_stage.specs.Stages.{IsPainters, is_note, state};
 ghost use Rattle.tr_run.specs.Runs.{makes, reporting};
 ghost use Rattle.tr_run.specs.Texts.{is_check, sum_after, written};
-ghost use Rattle.tr_run.specs.Views.{AreNamed, IsNamed, Adds, Does};
+ghost use Rattle.tr_run.specs.Views.{
+  AreNamed,
+  IsNamed,
+  Adds,
+  AddsSome,
+  AddsUntold,
+  Does,
+  DoesSome,
+  IsUnchanged,
+  TellsUnmade,
+};
 
 use crate::modes::Mode;
 use crate::reports::{append_lag, append_report};
@@ -95,13 +106,15 @@ impl<'a, C: Client, N: NameOf> Run<'a, C, N> {
         }
     }
 
-    /// An actor makes a step other than a report, holding exactly the step's levels. After an `Err` the run
-    /// is of no use: the step may stand in the journal, and its line not in the text.
+    /// An actor makes a step other than a report, holding exactly the step's levels. For want of memory
+    /// nothing changes; but in a check the step may be made, and not written how far the screen lags behind.
     pub fn make(&mut self, actor: Actor, step: Step<C::Cmd>) -> Result<(), NoMemory>
         requires may { may actor step ≡ true }
         requires values { IsStep (tree_of self.old.stage.opening).nodes step }
         requires other { is_report step ≡ false }
-        ensures { OnOk result (Does C.Client C.Cmd.words self.old self.new (makes actor step ∷ [])) }
+        ensures ok { OnOk result (Does C.Client C.Cmd.words self.old self.new (makes actor step ∷ [])) }
+        ensures err { OnErr result (IsUnchanged self.old self.new ⊎ AddsUntold self.old self.new
+            (line_of C.Client (state C.Client self.old.stage) actor (stated step) step)) }
     {
         let lags = is_lagging(self.mode, &step);
         self.add(actor, step)?;
@@ -111,11 +124,12 @@ impl<'a, C: Client, N: NameOf> Run<'a, C, N> {
         Ok(())
     }
 
-    /// The player makes a report. The screen is settled before it is dumped. After an `Err` the run is of no
-    /// use, as after one of `make`.
+    /// The player makes a report. The screen is settled before it is dumped. For want of memory the report
+    /// isn't made, though it may be written; the painter may have made the first of the steps that settle.
     pub fn report(&mut self, query: Query) -> Result<(), NoMemory>
         requires { IsQuery (tree_of self.old.stage.opening).nodes query }
-        ensures { OnOk result (Does C.Client C.Cmd.words self.old self.new (reporting query)) }
+        ensures ok { OnOk result (Does C.Client C.Cmd.words self.old self.new (reporting query)) }
+        ensures err { OnErr result (DoesSome C.Client C.Cmd.words self.old self.new (reporting query)) }
     {
         match query {
             Query::Dump => self.dump(),
@@ -179,6 +193,8 @@ impl<'a, C: Client, N: NameOf> Run<'a, C, N> {
         ensures opening { self.new.stage.opening ≡ self.old.stage.opening }
         ensures journal { OnOk result (self.new.stage.journal ≡ self.old.stage.journal ++
             line_of C.Client (state C.Client self.old.stage) actor (stated step) step ∷ []) }
+        ensures err_journal { OnErr result (self.new.stage.journal ≡ self.old.stage.journal) }
+        ensures err_screen { OnErr result (self.new.stage.screen ≡ self.old.stage.screen) }
         ensures names { self.new.names ≡ self.old.names }
         ensures mode { self.new.mode ≡ self.old.mode }
         ensures text { self.new.text ≡ self.old.text }
@@ -194,7 +210,8 @@ impl<'a, C: Client, N: NameOf> Run<'a, C, N> {
 
     /// The player has the screen dumped, once it is settled.
     fn dump(&mut self) -> Result<(), NoMemory>
-        ensures { OnOk result (Does C.Client C.Cmd.words self.old self.new (reporting Dump)) }
+        ensures ok { OnOk result (Does C.Client C.Cmd.words self.old self.new (reporting Dump)) }
+        ensures err { OnErr result (DoesSome C.Client C.Cmd.words self.old self.new (reporting Dump)) }
     {
         self.settle()?;
         self.answer(Query::Dump)?;
@@ -206,19 +223,25 @@ impl<'a, C: Client, N: NameOf> Run<'a, C, N> {
         requires values { IsQuery (tree_of self.old.stage.opening).nodes query }
         requires settled { query ≡ Dump →
             self.old.stage.screen ≡ render C.Client (state C.Client self.old.stage) }
-        ensures { OnOk result (Adds C.Client C.Cmd.words self.old self.new
+        ensures ok { OnOk result (Adds C.Client C.Cmd.words self.old self.new
             (line_of C.Client (state C.Client self.old.stage) Player (Mu ∷ []) (Report query) ∷ [])) }
+        ensures err { OnErr result (IsUnchanged self.old self.new ⊎ TellsUnmade C.Client C.Cmd.words
+            self.old self.new
+            (line_of C.Client (state C.Client self.old.stage) Player (Mu ∷ []) (Report query))) }
     {
         self.tell(&query)?;
         self.add(Actor::Player, Step::Report { query })?;
         Ok(())
     }
 
-    /// The painter brings the screen up to date.
+    /// The painter brings the screen up to date. An `Err` says what it does for whatever line is due then.
     fn settle(&mut self) -> Result<(), NoMemory>
         ensures lines { OnOk result (Adds C.Client C.Cmd.words self.old self.new
             (settling_lines C.Client (state C.Client self.old.stage))) }
-        ensures screen { OnOk result (self.new.stage.screen ≡ render C.Client (state C.Client self.new.stage)) }
+        ensures screen { OnOk result (self.new.stage.screen
+            ≡ render C.Client (state C.Client self.new.stage)) }
+        ensures err { OnErr result ((line : JournalLine C.Cmd) → AddsSome C.Client C.Cmd.words
+            self.old self.new (settling_lines C.Client (state C.Client self.old.stage) ++ line ∷ [])) }
     {
         // Called, before and after, for what it tells the prover.
         self.stage.stands();
@@ -231,7 +254,9 @@ impl<'a, C: Client, N: NameOf> Run<'a, C, N> {
     /// The painter makes steps, one after another, under the tree's lock.
     fn paint_all(&mut self, steps: Vec<Step<C::Cmd>>) -> Result<(), NoMemory>
         requires { All (IsPainters (tree_of self.old.stage.opening).nodes) steps.items }
-        ensures { OnOk result (Adds C.Client C.Cmd.words self.old self.new
+        ensures ok { OnOk result (Adds C.Client C.Cmd.words self.old self.new
+            (lines_of C.Client Painter (Mu ∷ []) (state C.Client self.old.stage) steps.items)) }
+        ensures err { OnErr result (AddsSome C.Client C.Cmd.words self.old self.new
             (lines_of C.Client Painter (Mu ∷ []) (state C.Client self.old.stage) steps.items)) }
     {
         for step in steps {
@@ -251,8 +276,10 @@ impl<'a, C: Client, N: NameOf> Run<'a, C, N> {
         ensures text { OnOk result (self.new.text ≡ self.old.text ++ written C.Client C.Cmd.words
             self.old.names self.old.mode self.old.stage.journal (state C.Client self.old.stage)
             (Report query.now)) }
-        ensures sum { OnOk result (self.new.sum ≡
-            sum_after C.Client self.old.mode (state C.Client self.old.stage) self.old.sum (Report query.now)) }
+        ensures sum { OnOk result (self.new.sum ≡ sum_after C.Client
+            self.old.mode (state C.Client self.old.stage) self.old.sum (Report query.now)) }
+        ensures err_text { OnErr result (self.new.text ≡ self.old.text) }
+        ensures err_sum { OnErr result (self.new.sum ≡ self.old.sum) }
     {
         match (self.mode, query) {
             (Mode::Gen, Query::Dump) => {

@@ -50,7 +50,8 @@ abbrev pub any_or : List Bool → Bool → Bool
 any_or [] last = last
 any_or (b ∷ bs) last = b || any_or bs last
 
--- a value with this property where the line may stand there and none of its first values is misspelled, and else the fault, whatever comes behind them
+-- a value with this property where the line may stand there and none of its first values is misspelled, and else the fault, whatever
+-- comes behind them
 abbrev pub Begins : {X : Type 0} → Bool → List Bool → (X → Type 0) → Result X Code → Type 0
 Begins misplaced misspelled P (Ok x) = (misplaced ≡ false) × AreFalse misspelled × P x
 Begins misplaced misspelled P (Err e) =
@@ -126,6 +127,9 @@ is_no_edge w = not (is_signed 8192 8192 w)
 -- a value with this property where all words are edges, and else B2, whatever values come behind them
 abbrev pub ReadsEdges : {X : Type 0} → EdgeWords → (X → Type 0) → Result X Code → Type 0
 ReadsEdges ws P (Ok x) =
-    (is_no_edge ws.west.now ≡ false) × (is_no_edge ws.east.now ≡ false) × (is_no_edge ws.north.now ≡ false) × (is_no_edge ws.south.now ≡ false) × P x
+    (is_no_edge ws.west.now ≡ false) × (is_no_edge ws.east.now ≡ false)
+    × (is_no_edge ws.north.now ≡ false) × (is_no_edge ws.south.now ≡ false) × P x
 ReadsEdges ws P (Err e) =
-    ((rest : Bool) → is_no_edge ws.west.now || (is_no_edge ws.east.now || (is_no_edge ws.north.now || (is_no_edge ws.south.now || rest))) ≡ true) × (e ≡ B2)
+    ((rest : Bool) →
+    is_no_edge ws.west.now || (is_no_edge ws.east.now || (is_no_edge ws.north.now || (is_no_edge ws.south.now || rest))) ≡ true)
+    × (e ≡ B2)

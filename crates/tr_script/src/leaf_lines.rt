@@ -82,7 +82,8 @@ fn read_widget(
     words: &LeafLine,
     line: &str,
 ) -> Result<Meaning, LineRefused>
-    requires line { words_of line.now ≡ leaf_line words.now.head words.now.widget.now (texts words.now.values.now) }
+    requires line { words_of line.now
+        ≡ leaf_line words.now.head words.now.widget.now (texts words.now.values.now) }
     requires printable { AllPass is_printable line.now }
     ensures { Reads reader.now leaf_forms
         (leaf_line words.now.head words.now.widget.now (texts words.now.values.now)) result }

@@ -1,5 +1,5 @@
 //! The reading of a line.
-ghost use Rattle.std.specs.Prelude.{◌≡◌, ◌∷◌, None, IfErr, OnOk};
+ghost use Rattle.std.specs.Prelude.{◌≡◌, ◌<◌, ◌⊎◌, ◌∷◌, None, IfErr, OnOk, OnErr};
 ghost use Rattle.std.specs.List.{AllPass};
 ghost use Rattle.tr_base.specs.Lines.{is_printable};
 ghost use Rattle.tr_grammar.specs.Words.{words_of, word_at};
@@ -108,6 +108,8 @@ fn take_meaning<'a>(
     ensures none { OnOk result (first_of (line_faults reader.old number meaning) ≡ None) }
     ensures next { OnOk result (reader.new ≡ after reader.old name.now meaning) }
     ensures fault { IfErr result (λ e. IsFault (first_of (line_faults reader.old number meaning)) e) }
+    ensures err { OnErr result ((reader.new ≡ reader.old)
+        ⊎ ((MOST_LINES < number) × (reader.new ≡ after reader.old name.now meaning))) }
 {
     if reader.is_foreign(&meaning) {
         return Err(LineRefused::Fault(Code::B10));
@@ -122,7 +124,8 @@ fn take_meaning<'a>(
     Ok(())
 }
 
-/// Reads the line of this number. After an `Err` the reader is of no use.
+/// Reads the line of this number. After an `Err` the reader is as before; but behind the 100,000th line it
+/// may know the line that was refused.
 #[tactic(auto, unfolding(tr_grammar::specs::Faults::fault_of, tr_grammar::specs::Scripts::next))]
 pub fn take<'a>(
     alloc: Global,
@@ -133,6 +136,8 @@ pub fn take<'a>(
     ensures none { OnOk result (fault_of reader.old number bytes.now ≡ None) }
     ensures next { OnOk result (reader.new ≡ next reader.old bytes.now) }
     ensures fault { IfErr result (λ e. IsFault (fault_of reader.old number bytes.now) e) }
+    ensures err { OnErr result ((reader.new ≡ reader.old)
+        ⊎ ((MOST_LINES < number) × (reader.new ≡ next reader.old bytes.now))) }
 {
     let Some(line) = plain_text(bytes) else {
         return Err(LineRefused::Fault(Code::B9));

@@ -48,7 +48,8 @@ frame_on : (t : Seen) (p : Point) (n m : NodeId) (tint : ℕ) (kind : Kind) (k :
 frame_on t p n m tint kind (kinds.Leaf leaf shapes) e = absurd (cc)
 frame_on t p n m tint kind k e = record { of_node = n; is_tint = cc; is_kind = cc }
 
-frame_below : (t : Seen) (p : Point) (m : NodeId) (tint : ℕ) (kind : Kind) (root : Option NodeId) → spot_below t p root ≡ spots.Frame m tint kind → IsTinted t tint kind
+frame_below : (t : Seen) (p : Point) (m : NodeId) (tint : ℕ) (kind : Kind) (root : Option NodeId) →
+    spot_below t p root ≡ spots.Frame m tint kind → IsTinted t tint kind
 frame_below t p m tint kind None e = absurd (cc)
 frame_below t p m tint kind (Some root) e = frame_on t p (owner t root p) m tint kind (node t.nodes (owner t root p)).kind e
 
@@ -86,7 +87,8 @@ module _ {C M : Type 0} (client : Ghosts C M) where
       | inr beyond ↦ rw (get_or_past m.tree.nodes.entries n.0 (fresh kinds.H 0) beyond) (omega arith)
     ]
 
-    content_value : (leaf : LeafId) (q : Point) (o : Option C) → content_of client m leaf ≡ o → IsPixel m.tree.kind (colour_in client m (leaf_size m.tree leaf) q o)
+    content_value : (leaf : LeafId) (q : Point) (o : Option C) → content_of client m leaf ≡ o →
+        IsPixel m.tree.kind (colour_in client m (leaf_size m.tree leaf) q o)
     content_value leaf q None e = pixel-bit m.tree.kind 0 (omega arith)
     content_value leaf q (Some x) e =
         let leaves = is.leaves leaf (subst (λ (n : ℕ). leaf.0 < n) is.windows (there leaf x e)) in

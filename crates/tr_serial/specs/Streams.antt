@@ -41,6 +41,7 @@ abbrev pub Appends : StreamView → StreamView → List Picture → Type 0
 Appends old new more = (screens : List Picture) → IsStreamOf old screens → IsStreamOf new (screens ++ more)
 
 -- meanwhile these cues were done in a run, and the screens that they dump were appended
-pub record Mirrors {C M : Type 0} (client : Ghosts C M) (words : M → List ℕ) (old new : RunView C M) (cues : List (Cue M)) (was is : StreamView) : Type 0 where
+pub record Mirrors {C M : Type 0} (client : Ghosts C M) (words : M → List ℕ) (old new : RunView C M)
+    (cues : List (Cue M)) (was is : StreamView) : Type 0 where
   pub did : Does client words old new cues
   pub appended : Appends was is (screens_from client (state client old.stage) (run_lines client (state client old.stage) cues))

@@ -1,4 +1,4 @@
-ghost use Rattle.std.specs.Prelude.{◌≡◌, ◌<◌, [], IfOk, OnOk};
+ghost use Rattle.std.specs.Prelude.{◌≡◌, ◌<◌, [], IfOk, OnOk, OnErr};
 ghost use Rattle.tr_mirror.specs.Streams.{HasItsPixels};
 ghost use Rattle.tr_serial.specs.Streams.{IsAppended, IsStreamOf};
 
@@ -40,14 +40,16 @@ impl ScreenStream {
         }
     }
 
-    /// Appends the group of one screen more. After an `Err` the bytes are no stream.
+    /// Appends the group of one screen more. For want of memory nothing changes.
     pub fn append(&mut self, now: &Screen) -> Result<(), NoMemory>
         requires few { self.old.groups < 64 }
         requires pixels { HasItsPixels now.now }
-        ensures { OnOk result (IsAppended self.old self.new now.now) }
+        ensures ok { OnOk result (IsAppended self.old self.new now.now) }
+        ensures err { OnErr result (self.new ≡ self.old) }
     {
+        let copy = copy_of(now)?;
         update(self.last.as_ref(), now, self.groups + 1, &mut self.bytes)?;
-        self.last = Some(copy_of(now)?);
+        self.last = Some(copy);
         self.groups += 1;
         Ok(())
     }

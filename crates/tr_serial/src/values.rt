@@ -12,8 +12,8 @@ use tr_base::{LeafId, NodeId};
 use tr_client::Client;
 use tr_stage::Stage;
 
-/// Tells the prover that each pixel that a stage is to show is a value of its kind: by the law of kinds, since
-/// all contents are valid, and since all tints are bytes. All calls here are for what they tell alone.
+/// Tells the prover that each pixel that a stage is to show is a value of its kind: by the law of kinds,
+/// since all contents are valid, and since all tints are bytes. All calls here are for what they tell alone.
 pub fn has_values<C: Client>(stage: &Stage<C>)
     ensures { HasItsPixels (render C.Client (state C.Client stage.now)) }
 {

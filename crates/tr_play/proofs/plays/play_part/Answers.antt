@@ -27,7 +27,7 @@ begin_part-requires-after_bounds g c κs within =
 pub make_side_by_side-requires-after_bounds : goal.make_side_by_side-requires-after_bounds
 make_side_by_side-requires-after_bounds g c κs within =
     let same : c.deref-2.result.now ≡ c.args.part.now.steps = search rules in
-    let begun = c.in-Ok.ensures in
+    let begun = c.in-Ok.ensures.ok in
     let opening = ap (λ (s : StageView _ _). s.opening) c.pause-stage.ensures.stage ∙ begun.reported.adds.opening ∙ begun.sync.opening in
     subst (λ (items : List (Item _)). All (IsMade (tree_of items).nodes) c.deref-2.result.now) (sym opening)
     (subst (λ (steps : List (Actor × Step _)). All (IsMade (tree_of c.args.run.stage.opening).nodes) steps) (sym same)
@@ -54,7 +54,7 @@ returns-in-Ok-make_side_by_side-clause-ok g c =
     let a = c.args.run in
     let b = c.begin_part.new.run in
     let n = c.in-Ok-make_side_by_side.stage in
-    let begun = c.in-Ok.ensures in
+    let begun = c.in-Ok.ensures.ok in
     let ran =
     subst (λ (s : StageView _ _). HasRun s n c.args.part.now.steps) c.pause-stage.ensures.stage
     (subst (λ (made : List (Actor × Step _)). HasRun c.pause-stage.result.0 n made) steps c.in-Ok-make_side_by_side.ensures.ok) in

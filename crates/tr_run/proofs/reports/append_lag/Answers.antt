@@ -5,8 +5,8 @@ use Rattle.tr_stage.specs.Stages.{state}
 use Rattle.tr_run.proofs.ReportLemmas.{lag_text_of, lag_line-stage}
 use Rattle.tr_run.proofs.reports.append_lag.Goals as goal
 
-pub returns : goal.returns
-returns g c =
+pub returns-clause-ok : goal.returns-clause-ok
+returns-clause-ok g c =
     let s = c.args.stage.now in
     let old = c.args.out.now.items in
     let number : c.len-number.result ≡ length s.journal = c.len-number.ensures.count ∙ ap (λ ls. length ls) c.journal.ensures.value in

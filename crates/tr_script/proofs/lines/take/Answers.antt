@@ -29,6 +29,17 @@ fault_is c =
     fault_of_words reader c.args.number c.args.bytes.now (loud c)
     ∙ fault_behind reader c.args.number (form_of reader.version words) words c.in_ok-meaning.meaning read.0 read.1
 
+next_is : (c : goal.After-drop-words-2) →
+    next c.args.reader.now c.args.bytes.now ≡ after c.args.reader.now c.second.result.now c.in_ok-meaning.meaning
+next_is c =
+    let reader = c.args.reader.now in
+    let words = words_of c.args.bytes.now in
+    let read = rw (cut c) at c.in_ok-meaning.ensures in
+    let again : texts c.deref-2.result.now ≡ words = ap texts c.deref-2.ensures.value ∙ c.in_ok-words.ensures ∙ ap words_of c.in-Some.ensures.value.1 in
+    let named : c.second.result.now ≡ word_at words 1 = c.second.ensures ∙ ap (λ (ws : List (List ℕ)). word_at ws 1) again in
+    next_of_words reader c.args.bytes.now (loud c) ∙ after_said reader (form_of reader.version words) words c.in_ok-meaning.meaning read.1
+    ∙ ap (λ (w : List ℕ). after reader w c.in_ok-meaning.meaning) (sym named)
+
 pub returns-clause-none : goal.returns-clause-none
 returns-clause-none c = rw (fault_is c) c.take_meaning.ensures.none
 
@@ -36,16 +47,10 @@ pub returns-clause-fault : goal.returns-clause-fault
 returns-clause-fault c = rw (fault_is c) c.take_meaning.ensures.fault
 
 pub returns-clause-next : goal.returns-clause-next
-returns-clause-next c =
-    let reader = c.args.reader.now in
-    let words = words_of c.args.bytes.now in
-    let read = rw (cut c) at c.in_ok-meaning.ensures in
-    let again : texts c.deref-2.result.now ≡ words = ap texts c.deref-2.ensures.value ∙ c.in_ok-words.ensures ∙ ap words_of c.in-Some.ensures.value.1 in
-    let named : c.second.result.now ≡ word_at words 1 = c.second.ensures ∙ ap (λ (ws : List (List ℕ)). word_at ws 1) again in
-    let is : next reader c.args.bytes.now ≡ after reader c.second.result.now c.in_ok-meaning.meaning =
-    next_of_words reader c.args.bytes.now (loud c) ∙ after_said reader (form_of reader.version words) words c.in_ok-meaning.meaning read.1
-    ∙ ap (λ (w : List ℕ). after reader w c.in_ok-meaning.meaning) (sym named) in
-    rw is c.take_meaning.ensures.next
+returns-clause-next c = rw (next_is c) c.take_meaning.ensures.next
+
+pub returns-clause-err : goal.returns-clause-err
+returns-clause-err c = rw (next_is c) c.take_meaning.ensures.err
 
 pub returns-in_err-meaning-clause-fault : goal.returns-in_err-meaning-clause-fault
 returns-in_err-meaning-clause-fault c =

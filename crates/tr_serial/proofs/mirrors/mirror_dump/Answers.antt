@@ -16,7 +16,7 @@ append-requires-clause-pixels g c =
     let stands = subst (λ (s : StageView _ _). Stands client s) c.stage-2.ensures c.stands-2.ensures.invariant in
     let values = subst (λ (s : StageView _ _). HasItsPixels (render client (state client s))) c.stage-3.ensures c.has_values.ensures in
     let screen = c.screen.ensures.value ∙ ap (λ (s : StageView _ _). s.screen) c.stage-4.ensures in
-    let is = dumped_screen client g.C.Cmd.Command.words c.args.run.now c.report.new.self c.in_ok-report.ensures stood stands in
+    let is = dumped_screen client g.C.Cmd.Command.words c.args.run.now c.report.new.self c.in_ok-report.ensures.ok stood stands in
     subst (λ (p : Picture). HasItsPixels p) (sym (screen ∙ is)) values
 
 pub returns-clause-mirrors : goal.returns-clause-mirrors
@@ -26,8 +26,8 @@ returns-clause-mirrors g c =
     let stands = subst (λ (s : StageView _ _). Stands client s) c.stage-2.ensures c.stands-2.ensures.invariant in
     let screen = c.screen.ensures.value ∙ ap (λ (s : StageView _ _). s.screen) c.stage-4.ensures in
     on_ok_weaker c.append.result
-    (λ appended. mirrors_dump client g.C.Cmd.Command.words c.args.run.now c.report.new.self c.in_ok-report.ensures c.args.stream.now c.append.new.self
-    stood stands (subst (λ (p : Picture). IsAppended c.args.stream.now c.append.new.self p) screen appended)) c.append.ensures
+    (λ appended. mirrors_dump client g.C.Cmd.Command.words c.args.run.now c.report.new.self c.in_ok-report.ensures.ok c.args.stream.now c.append.new.self
+    stood stands (subst (λ (p : Picture). IsAppended c.args.stream.now c.append.new.self p) screen appended)) c.append.ensures.ok
 
 pub returns-clause-count : goal.returns-clause-count
-returns-clause-count g c = on_ok_weaker c.append.result (λ appended. omega (arith, appended.groups)) c.append.ensures
+returns-clause-count g c = on_ok_weaker c.append.result (λ appended. omega (arith, appended.groups)) c.append.ensures.ok

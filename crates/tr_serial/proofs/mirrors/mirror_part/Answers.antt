@@ -39,7 +39,8 @@ make_all-requires-clause-may g c = λ κs lives.
     let t = (tree_of c.args.run.now.stage.opening).nodes in
     let part = subst (λ (p : Part). AreReady t p.steps) (sym c.part.view_is) (ready t c.args.part c.requires.playable) in
     let begun = subst (λ (opened : List (Item _)). AreReady (tree_of opened).nodes c.part.inside.steps.items) (sym c.in_ok-begin.ensures.opening) part in
-    let now = subst (λ (opened : List (Item _)). AreReady (tree_of opened).nodes c.part.inside.steps.items) (sym c.in_ok-mirror_all.ensures.mirrors.did.opening) begun in
+    let now = subst (λ (opened : List (Item _)). AreReady (tree_of opened).nodes c.part.inside.steps.items)
+    (sym c.in_ok-mirror_all.ensures.mirrors.did.opening) begun in
     now.may
 
 pub make_all-requires-clause-values : goal.make_all-requires-clause-values
@@ -47,7 +48,8 @@ make_all-requires-clause-values g c = λ κs lives.
     let t = (tree_of c.args.run.now.stage.opening).nodes in
     let part = subst (λ (p : Part). AreReady t p.steps) (sym c.part.view_is) (ready t c.args.part c.requires.playable) in
     let begun = subst (λ (opened : List (Item _)). AreReady (tree_of opened).nodes c.part.inside.steps.items) (sym c.in_ok-begin.ensures.opening) part in
-    let now = subst (λ (opened : List (Item _)). AreReady (tree_of opened).nodes c.part.inside.steps.items) (sym c.in_ok-mirror_all.ensures.mirrors.did.opening) begun in
+    let now = subst (λ (opened : List (Item _)). AreReady (tree_of opened).nodes c.part.inside.steps.items)
+    (sym c.in_ok-mirror_all.ensures.mirrors.did.opening) begun in
     now.values
 
 pub make_all-requires-clause-other : goal.make_all-requires-clause-other
@@ -55,7 +57,8 @@ make_all-requires-clause-other g c = λ κs lives.
     let t = (tree_of c.args.run.now.stage.opening).nodes in
     let part = subst (λ (p : Part). AreReady t p.steps) (sym c.part.view_is) (ready t c.args.part c.requires.playable) in
     let begun = subst (λ (opened : List (Item _)). AreReady (tree_of opened).nodes c.part.inside.steps.items) (sym c.in_ok-begin.ensures.opening) part in
-    let now = subst (λ (opened : List (Item _)). AreReady (tree_of opened).nodes c.part.inside.steps.items) (sym c.in_ok-mirror_all.ensures.mirrors.did.opening) begun in
+    let now = subst (λ (opened : List (Item _)). AreReady (tree_of opened).nodes c.part.inside.steps.items)
+    (sym c.in_ok-mirror_all.ensures.mirrors.did.opening) begun in
     now.other
 
 pub returns-clause-mirrors : goal.returns-clause-mirrors
@@ -72,7 +75,8 @@ returns-clause-mirrors g c =
     let now = c.make_all.new.run in
     let s = c.args.stream.now in
     let t = c.mirror_all.new.stream in
-    let part = subst (λ (p : Part). AreReady (tree_of was.stage.opening).nodes p.steps) (sym c.part.view_is) (ready (tree_of was.stage.opening).nodes c.args.part c.requires.playable) in
+    let part = subst (λ (p : Part). AreReady (tree_of was.stage.opening).nodes p.steps) (sym c.part.view_is)
+    (ready (tree_of was.stage.opening).nodes c.args.part c.requires.playable) in
     on_ok_weaker c.make_all.result
     (λ made. subst (λ (p : Part). Mirrors client widget_words was now (cues_of c.args.is_later p) s t) is
     (mirrors_more client widget_words was begun now first (reports ++ steps) (first ++ (reports ++ steps)) s s t

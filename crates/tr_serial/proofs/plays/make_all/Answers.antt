@@ -56,7 +56,7 @@ loop-actor-preserved g c =
           (map (λ (made : Actor × Step _). makes made.0 made.1) (take k c.args.steps.items))
           (makes c.in-Some.actor c.in-Some.step ∷ [])
           (map (λ (made : Actor × Step _). makes made.0 made.1) (take (k + 1) c.args.steps.items))
-          c.loop-actor.invariant.did c.in_ok-make.ensures
+          c.loop-actor.invariant.did c.in_ok-make.ensures.ok
           (map_next (λ (made : Actor × Step _). makes made.0 made.1) c.args.steps.items k (c.in-Some.actor, c.in-Some.step)
           (record { within = turn.0; is = turn.1 })));
     }

@@ -11,5 +11,5 @@ loop-query-preserved g c =
     let within = c.loop-query-test.true in
     goes_on g.C.Client g.C.Cmd.Command.words c.args.run.now c.loop-query.run c.report.new.self
     (flat_map reporting (take k c.args.reports.now)) (reporting _) (flat_map reporting (take (k + 1) c.args.reports.now))
-    c.loop-query.invariant c.in_ok-report.ensures
+    c.loop-query.invariant c.in_ok-report.ensures.ok
     (flat_map_next reporting c.args.reports.now k _ (record { within = within; is = get_or_default c.args.reports.now k _ _ within }))
