@@ -1,17 +1,20 @@
 -- Steps of many actors, put into lists of each actor's one by one.
-use Rattle.std.proofs.Common.{◌≡◌, ℕ, ◌+◌, ◌<◌, Bool, true, false, ◌==◌, cond, List, [], ◌∷◌, ◌++◌, length, take, get_or, refl, sym, ap, subst, ◌∙◌}
-use Rattle.std.specs.Prelude.{set}
+use Rattle.std.proofs.Common.{◌≡◌, ℕ, ◌+◌, ◌<◌, Bool, true, false, ◌==◌, cond, List, [], ◌∷◌, ◌++◌, length, take, get_or, map, refl, sym, ap, subst, ◌∙◌}
+use Rattle.std.specs.Prelude.{replicate, set}
 use Rattle.std.proofs.lemmas.Bool.{eqb-true, eq-eqb}
 use Rattle.std.proofs.lemmas.Grind.{get_or-set_at}
-use Rattle.std.proofs.lemmas.List.{append-nil, get_or-replicate, get_or-set_other, length-replicate, length-set, take_more}
+use Rattle.std.proofs.lemmas.List.{append-nil, get_or-map, get_or-replicate, get_or-set_other, get_or_default, length-map, length-replicate, length-set, map-set, map_push, take_more}
+use Rattle.std.proofs.lemmas.List.Elements.{All-get_or, All-nil, All-push, All-replicate, All-set}
 use Rattle.tr_base.proofs.RectLemmas.{false-true}
 use Rattle.tr_journal.specs.declared.steps.Actor.{Actor}
 use Rattle.tr_journal.specs.declared.steps.Actor.TheVariants.{Leaf, Desk, Painter, Player}
 use Rattle.tr_journal.specs.declared.steps.Step.{Step}
+use Rattle.tr_journal.specs.declared.steps.Step.TheVariants.{Sync}
 use Rattle.tr_journal.specs.Actors.{is_by}
-use Rattle.tr_journal.specs.Lists.{ListsView, HasList, list_of, no_steps, with_step}
+use Rattle.tr_journal.specs.Lists.{ListsView, HasList, list_of, with_step}
 use Rattle.tr_journal.proofs.ActorLemmas.{steps_of-append}
 use Rattle.tr_play.specs.Lists.{AreListed}
+use Rattle.tr_play.specs.Turns.{AreWithin, PlacesView, are_below, lists_at, no_places, places_of, step_at, steps_at, with_place}
 
 -- one step more, or none
 abbrev step_if : {M : Type 0} → Bool → Step M → List (Step M)
@@ -50,18 +53,8 @@ count-with_step lists Desk step = refl
 count-with_step lists Painter step = refl
 count-with_step lists Player step = refl
 
--- no step yet
-pub listed_none : {M : Type 0} (leaves : ℕ) → AreListed {M = M} leaves [] (no_steps leaves)
-listed_none {M} leaves = record { count = length-replicate leaves []; steps = none }
-  where
-    none : (actor : Actor) → HasList leaves actor → list_of {M = M} (no_steps leaves) actor ≡ []
-    none (Leaf leaf) is = get_or-replicate leaves leaf.0 [] [] is
-    none Desk is = refl
-    none Painter is = refl
-    none Player is = refl
-
 -- one step more
-pub listed_more : {M : Type 0} (leaves : ℕ) (before : List (Actor × Step M)) (lists : ListsView M) (made : Actor × Step M) →
+listed_more : {M : Type 0} (leaves : ℕ) (before : List (Actor × Step M)) (lists : ListsView M) (made : Actor × Step M) →
     AreListed leaves before lists → HasList leaves made.0 → AreListed leaves (before ++ made ∷ []) (with_step lists made.0 made.1)
 listed_more {M} leaves before lists made are has = record {
   count = count-with_step lists made.0 made.1 ∙ are.count;
@@ -73,10 +66,110 @@ listed_more {M} leaves before lists made are has = record {
 }
 
 -- the steps so far, and one more
-pub listed_next : {M : Type 0} (leaves : ℕ) (all : List (Actor × Step M)) (k : ℕ) (lists : ListsView M) (made : Actor × Step M) →
-    (k < length all) × (made ≡ get_or all k made) → AreListed leaves (take k all) lists → HasList leaves made.0 →
-    AreListed leaves (take (k + 1) all) (with_step lists made.0 made.1)
-listed_next {M} leaves all k lists made at so_far has =
-    subst (λ (xs : List (Actor × Step M)). AreListed leaves xs (with_step lists made.0 made.1))
-    (ap (λ (x : Actor × Step M). take k all ++ x ∷ []) at.1 ∙ sym (take_more all k made at.0))
-    (listed_more leaves (take k all) lists made so_far has)
+listed_next : {M : Type 0} (leaves : ℕ) (all : List (Actor × Step M)) (k : ℕ) (lists : ListsView M) (d : Actor × Step M) → k < length all →
+    AreListed leaves (take k all) lists → HasList leaves (get_or all k d).0 →
+    AreListed leaves (take (k + 1) all) (with_step lists (get_or all k d).0 (get_or all k d).1)
+listed_next {M} leaves all k lists d low so_far has =
+    subst (λ (xs : List (Actor × Step M)). AreListed leaves xs (with_step lists (get_or all k d).0 (get_or all k d).1)) (sym (take_more all k d low))
+    (listed_more leaves (take k all) lists (get_or all k d) so_far has)
+
+-- ---- lists by the places of their steps
+
+-- the steps at the places, once there is one more behind the others of an actor
+lists_at-with_place : {M : Type 0} (made : List (Actor × Step M)) (places : PlacesView) (who : Actor) (place : ℕ) → HasList (length places.leaves) who →
+    lists_at made (with_place places who place) ≡ with_step (lists_at made places) who (step_at made place)
+lists_at-with_place {M} made places (Leaf leaf) place has = ap (λ (rows : List (List (Step M))). record (lists_at made places) { leaves = rows }) rows
+  where
+    before : List ℕ
+    before = get_or places.leaves leaf.0 []
+
+    row : steps_at made (before ++ place ∷ []) ≡ get_or (map (steps_at made) places.leaves) leaf.0 [] ++ step_at made place ∷ []
+    row = map_push (step_at made) before place
+        ∙ ap (λ (xs : List (Step M)). xs ++ step_at made place ∷ []) (sym (get_or-map (steps_at made) places.leaves leaf.0 [] [] has))
+
+    rows : map (steps_at made) (set places.leaves leaf.0 (before ++ place ∷ []))
+        ≡ set (map (steps_at made) places.leaves) leaf.0 (get_or (map (steps_at made) places.leaves) leaf.0 [] ++ step_at made place ∷ [])
+    rows = map-set (steps_at made) places.leaves leaf.0 (before ++ place ∷ [])
+        ∙ ap (λ (xs : List (Step M)). set (map (steps_at made) places.leaves) leaf.0 xs) row
+lists_at-with_place {M} made places Desk place has =
+    ap (λ (xs : List (Step M)). record (lists_at made places) { desk = xs }) (map_push (step_at made) places.desk place)
+lists_at-with_place made places Painter place has = absurd has
+lists_at-with_place {M} made places Player place has =
+    ap (λ (xs : List (Step M)). record (lists_at made places) { player = xs }) (map_push (step_at made) places.player place)
+
+-- the places of an actor's steps are places in the part
+below_of : (steps : ℕ) (places : PlacesView) (actor : Actor) → HasList (length places.leaves) actor → AreWithin steps places →
+    are_below steps (places_of places actor)
+below_of steps places (Leaf leaf) has is = All-get_or (are_below steps) places.leaves leaf.0 [] has is.leaves
+below_of steps places Desk has is = is.desk
+below_of steps places Painter has is = absurd has
+below_of steps places Player has is = is.player
+
+-- they still are with one place more
+within_more : (steps : ℕ) (places : PlacesView) (who : Actor) (place : ℕ) → HasList (length places.leaves) who → place < steps →
+    AreWithin steps places → AreWithin steps (with_place places who place)
+within_more steps places (Leaf leaf) place has low is = record {
+  leaves = All-set (are_below steps) places.leaves leaf.0 (get_or places.leaves leaf.0 [] ++ place ∷ [])
+      (All-push (λ (p : ℕ). p < steps) (get_or places.leaves leaf.0 []) place (below_of steps places (Leaf leaf) has is) low) is.leaves;
+  desk = is.desk;
+  player = is.player;
+}
+within_more steps places Desk place has low is = record {
+  leaves = is.leaves;
+  desk = All-push (λ (p : ℕ). p < steps) places.desk place is.desk low;
+  player = is.player;
+}
+within_more steps places Painter place has low is = absurd has
+within_more steps places Player place has low is = record {
+  leaves = is.leaves;
+  desk = is.desk;
+  player = All-push (λ (p : ℕ). p < steps) places.player place is.player low;
+}
+
+-- the places are those of the first so many steps of a part
+pub record ArePlaced {M : Type 0} (leaves : ℕ) (made : List (Actor × Step M)) (count : ℕ) (places : PlacesView) : Type 0 where
+  pub listed : AreListed leaves (take count made) (lists_at made places)
+  pub within : AreWithin (length made) places
+
+-- there is a row of places for each of so many leaves
+rows : {M : Type 0} (leaves : ℕ) (before made : List (Actor × Step M)) (places : PlacesView) → AreListed leaves before (lists_at made places) →
+    length places.leaves ≡ leaves
+rows leaves before made places are = sym (length-map places.leaves (steps_at made)) ∙ are.count
+
+-- no step yet
+pub placed_none : {M : Type 0} (leaves : ℕ) (made : List (Actor × Step M)) → ArePlaced leaves made 0 (no_places leaves)
+placed_none {M} leaves made = record {
+  listed = record { count = length-map (replicate leaves []) (steps_at made) ∙ length-replicate leaves []; steps = none };
+  within = record {
+    leaves = All-replicate (are_below (length made)) leaves [] (All-nil (λ (p : ℕ). p < length made));
+    desk = All-nil (λ (p : ℕ). p < length made);
+    player = All-nil (λ (p : ℕ). p < length made);
+  };
+}
+  where
+    none : (actor : Actor) → HasList leaves actor → list_of (lists_at made (no_places leaves)) actor ≡ []
+    none (Leaf leaf) is =
+        get_or-map (steps_at made) (replicate leaves []) leaf.0 [] [] (subst (λ (n : ℕ). leaf.0 < n) (sym (length-replicate leaves [])) is)
+        ∙ ap (steps_at made) (get_or-replicate leaves leaf.0 [] [] is)
+    none Desk is = refl
+    none Painter is = refl
+    none Player is = refl
+
+-- one step more
+pub placed_next : {M : Type 0} (leaves : ℕ) (made : List (Actor × Step M)) (k : ℕ) (places : PlacesView) (d : Actor × Step M) → k < length made →
+    HasList leaves (get_or made k d).0 → ArePlaced leaves made k places → ArePlaced leaves made (k + 1) (with_place places (get_or made k d).0 k)
+placed_next {M} leaves made k places d low has are = record {
+  listed = subst (λ (lists : ListsView M). AreListed leaves (take (k + 1) made) lists) (sym here)
+      (listed_next leaves made k (lists_at made places) d low are.listed has);
+  within = within_more (length made) places one.0 k own low are.within;
+}
+  where
+    one : Actor × Step M
+    one = get_or made k d
+
+    own : HasList (length places.leaves) one.0
+    own = subst (λ (n : ℕ). HasList n one.0) (sym (rows leaves (take k made) made places are.listed)) has
+
+    here : lists_at made (with_place places one.0 k) ≡ with_step (lists_at made places) one.0 one.1
+    here = lists_at-with_place made places one.0 k own
+        ∙ ap (λ (x : Actor × Step M). with_step (lists_at made places) one.0 x.1) (get_or_default made k (Player, Sync) d low)

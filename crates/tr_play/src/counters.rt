@@ -3,8 +3,8 @@ use std::sync::atomic::{AtomicU64, Ordering};
 use std::thread::Parker;
 use std::time::Duration;
 
-/// How often somebody who waits for steps looks in vain, one time after another, before he gives up: where no
-/// thread can be made, those who are to make them come after him.
+/// How often somebody who waits for steps may find that nobody got on, one time after another, before he
+/// gives up: where no thread can be made, those who are to make them come after him.
 const MOST_LOOKS: u32 = 20;
 
 /// How many milliseconds he sleeps until he looks again, if nobody wakes him.
@@ -18,6 +18,8 @@ const NEVER: u64 = u64::MAX;
 #[derive(Drop)]
 pub(crate) struct Counter {
     made: AtomicU64,
+    /// How often a worker told how far it has come.
+    notes: AtomicU64,
     /// For how many steps somebody waits.
     awaited: AtomicU64,
     sleeper: Parker,
@@ -27,13 +29,19 @@ impl Counter {
     pub(crate) fn new() -> Counter {
         Counter {
             made: AtomicU64::new(0),
+            notes: AtomicU64::new(0),
             awaited: AtomicU64::new(NEVER),
             sleeper: Parker::new(),
         }
     }
 
-    /// So many steps more were made, or nobody is to wait for them.
+    /// A worker got on, and so many steps more were made that somebody may wait for; or nobody is to wait for
+    /// them.
     pub(crate) fn add(&self, steps: u64) {
+        self.notes.fetch_add(1, Ordering::SeqCst);
+        if steps == 0 {
+            return;
+        }
         let before = self.made.fetch_add(steps, Ordering::SeqCst);
         if before.saturating_add(steps) >= self.awaited.load(Ordering::SeqCst) {
             self.sleeper.unpark();
@@ -45,8 +53,8 @@ impl Counter {
         self.made.load(Ordering::SeqCst) >= steps
     }
 
-    /// Sleeps until so many steps were made, but no longer than some are made meanwhile. Answers whether they
-    /// were made.
+    /// Sleeps until so many steps were made, but no longer than somebody gets on meanwhile. Answers whether
+    /// they were made.
     pub(crate) fn wait_for<R: Wait>(&self, rt: &R, steps: u64) -> bool {
         self.awaited.store(steps, Ordering::SeqCst);
         let made = self.sleep_until(rt, steps);
@@ -55,18 +63,18 @@ impl Counter {
     }
 
     fn sleep_until<R: Wait>(&self, rt: &R, steps: u64) -> bool {
-        let mut seen = self.made.load(Ordering::SeqCst);
+        let mut seen = self.notes.load(Ordering::SeqCst);
         let mut looks: u32 = 0;
         // (no run comes to the end of this range)
         for _look in 0..u64::MAX {
-            if seen >= steps {
+            if self.has(steps) {
                 return true;
             }
             if looks >= MOST_LOOKS {
                 return false;
             }
             self.sleeper.park_timeout(rt, Duration::from_millis(NAP));
-            let now = self.made.load(Ordering::SeqCst);
+            let now = self.notes.load(Ordering::SeqCst);
             looks = if now == seen {
                 looks.saturating_add(1)
             } else {

@@ -7,6 +7,7 @@ mod counters;
 mod gates;
 mod lists;
 mod painters;
+mod places;
 mod plays;
 mod sessions;
 mod steps;

@@ -1,26 +1,116 @@
-ghost use Rattle.std.specs.Prelude.{◌≡◌, All, IfOk, OnOk, OnErr, length};
-ghost use Rattle.tr_journal.specs.declared.Actor.{Actor as Actors};
-ghost use Rattle.tr_journal.specs.Actors.{steps_of};
+ghost use Rattle.std.specs.Prelude.{◌≡◌, ◌<◌, Some, IfOk, length, slice_get};
 ghost use Rattle.tr_journal.specs.Lists.{HasList, list_of};
 ghost use Rattle.tr_play.specs.Lists.{AreListed, HaveLists};
+ghost use Rattle.tr_play.specs.Turns.{are_below, steps_at};
 
+use crate::places::Places;
 use std::alloc::Global;
+use std::marker::Model;
 use tr_base::{Command, NoMemory};
-use tr_journal::{Actor, Lists, Step};
+use tr_journal::{Actor, Step};
 
-/// The steps of each actor among these, in their order.
-pub(crate) fn lists_of<M: Command>(
+/// The most steps that a part may have, so that each place has room in 32 bits. A script has far fewer.
+const MOST_STEPS: usize = u32::MAX as usize;
+
+/// The steps of a part, and where among them each actor's stand. A contract sees the lists of the actors'
+/// steps.
+#[derive(Drop)]
+pub(crate) struct Turns<'a, M: Command> {
+    steps: &'a [(Actor, Step<M>)],
+    places: Places,
+}
+
+impl<'a, M: Command> Model for Turns<'a, M> {
+    ghost use Rattle.std.specs.Prelude.{length};
+    ghost use Rattle.tr_journal.specs.Lists.{ListsView};
+    ghost use Rattle.tr_play.specs.Turns.{AreWithin, lists_at};
+
+    ghost Value = { ListsView M };
+
+    ghost view = { λ t. lists_at t.steps.now t.places };
+
+    ghost invariant = { λ t. AreWithin (length t.steps.now) t.places };
+}
+
+impl<'a, M: Command> Turns<'a, M> {
+    /// The steps of an actor.
+    pub(crate) fn of(&self, actor: Actor) -> List<'_, M>
+        requires { HasList (length self.now.leaves) actor }
+        ensures { result ≡ list_of self.now actor }
+    {
+        List {
+            steps: self.steps,
+            places: self.places.of(actor),
+        }
+    }
+}
+
+/// The steps of one actor among those of a part, in their order.
+#[derive(Drop)]
+pub(crate) struct List<'a, M: Command> {
+    steps: &'a [(Actor, Step<M>)],
+    places: &'a [u32],
+}
+
+impl<'a, M: Command> Model for List<'a, M> {
+    ghost use Rattle.std.specs.Prelude.{List, length};
+    ghost use Rattle.tr_journal.specs.declared.steps.Step.{Step};
+    ghost use Rattle.tr_play.specs.Turns.{are_below, steps_at};
+
+    ghost Value = { List (Step M) };
+
+    ghost view = { λ l. steps_at l.steps.now l.places.now };
+
+    ghost invariant = { λ l. are_below (length l.steps.now) l.places.now };
+}
+
+impl<'a, M: Command> List<'a, M> {
+    /// How many they are.
+    pub(crate) fn len(&self) -> usize
+        ensures { result ≡ length self.now }
+    {
+        self.places.len()
+    }
+
+    /// The k-th of them, counted from 0.
+    pub(crate) fn step(&self, k: usize) -> &'a Step<M>
+        requires { k < length self.now }
+        ensures { slice_get self.now k ≡ Some result.now }
+    {
+        step_among(self.steps, self.places, k)
+    }
+}
+
+/// The step at the k-th of these places among many. It is apart since the prover knows of a parameter, and
+/// not of a field, that a slice has room in memory.
+fn step_among<'a, M: Command>(
+    steps: &'a [(Actor, Step<M>)],
+    places: &[u32],
+    k: usize,
+) -> &'a Step<M>
+    requires within { are_below (length steps.now) places.now }
+    requires some { k < length places.now }
+    ensures { slice_get (steps_at steps.now places.now) k ≡ Some result.now }
+{
+    &steps[places[k] as usize].1
+}
+
+/// The steps of each actor among these, in their order. More than `MOST_STEPS` are refused as if memory
+/// were wanting.
+pub(crate) fn lists_of<'a, M: Command>(
     alloc: Global,
-    steps: &[(Actor, Step<M>)],
+    steps: &'a [(Actor, Step<M>)],
     leaves: u8,
-) -> Result<Lists<M>, NoMemory>
+) -> Result<Turns<'a, M>, NoMemory>
     requires { HaveLists leaves steps.now }
     ensures { IfOk result (λ lists. AreListed leaves steps.now lists) }
 {
-    let mut lists = Lists::new(alloc, leaves)?;
-    for made in steps {
-        let step = made.1.copy(alloc)?;
-        lists.add(made.0, step)?;
+    if steps.len() > MOST_STEPS {
+        return Err(NoMemory);
     }
-    Ok(lists)
+    let mut places = Places::new(alloc, leaves)?;
+    for place in 0..steps.len() {
+        places.add(steps[place].0, place as u32)?;
+    }
+    Ok(Turns { steps, places })
 }

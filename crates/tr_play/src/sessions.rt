@@ -11,23 +11,24 @@ ghost use Rattle.tr_play.specs.Workers.{AreReady, HasTaken, IsWorker};
 use crate::contexts::Context;
 use crate::counters::Counter;
 use crate::gates::Gate;
+use crate::lists::Turns;
 use crate::threads::Workers;
 use std::sync::Wait;
 use std::sync::ledger::Blank;
 use std::thread;
 use std::thread::Threads;
 use tr_client::Client;
-use tr_journal::{Actor, Lists};
+use tr_journal::Actor;
 use tr_server::{CloseRefused, Pass, Server, Session};
 use tr_stage::Stage;
 
-/// A session on a stage: each actor makes the steps of its list in a thread of its own, so many in all, and the
-/// painter repaints the screen meanwhile.
+/// A session on a stage: each actor makes the steps of its list in a thread of its own, so many in all, and
+/// the painter repaints the screen meanwhile.
 pub(crate) fn session<C: Client, L: Session, R: Threads + Wait + Sync, G: Gate + Sync>(
     workers: &Workers<'_, R, G>,
     blank: Blank,
     stage: Stage<C>,
-    lists: &Lists<C::Cmd>,
+    lists: &Turns<'_, C::Cmd>,
     steps: usize,
 ) -> Result<Stage<C>, CloseRefused<C>>
     requires name { blank.name ≡ L.name }
@@ -65,7 +66,7 @@ pub(crate) fn session<C: Client, L: Session, R: Threads + Wait + Sync, G: Gate +
 fn all_at_work<C: Client, L: Session, R: Threads + Wait + Sync, G: Gate + Sync>(
     context: &Context<'_, C, L, R, G>,
     workers: &mut Vec<Pass<C, L>>,
-    lists: &Lists<C::Cmd>,
+    lists: &Turns<'_, C::Cmd>,
     steps: usize,
 )
     requires some { 0 < vec_len workers.old }
@@ -82,7 +83,7 @@ fn all_at_work<C: Client, L: Session, R: Threads + Wait + Sync, G: Gate + Sync>(
 fn all_work<C: Client, L: Session, R: Threads + Wait + Sync, G: Gate + Sync>(
     context: &Context<'_, C, L, R, G>,
     workers: &mut [Pass<C, L>],
-    lists: &Lists<C::Cmd>,
+    lists: &Turns<'_, C::Cmd>,
     steps: usize,
 )
     requires some { 0 < length workers.old }
@@ -104,12 +105,12 @@ fn all_work<C: Client, L: Session, R: Threads + Wait + Sync, G: Gate + Sync>(
     );
 }
 
-/// A worker does what is its own: the painter repaints the screen, and each other actor makes the steps of its
-/// list.
+/// A worker does what is its own: the painter repaints the screen, and each other actor makes the steps of
+/// its list.
 fn take_part<C: Client, L: Session, R: Threads + Wait + Sync, G: Gate + Sync>(
     context: &Context<'_, C, L, R, G>,
     pass: &mut Pass<C, L>,
-    lists: &Lists<C::Cmd>,
+    lists: &Turns<'_, C::Cmd>,
     steps: usize,
 )
     requires worker { IsWorker (length lists.now.leaves) pass.old.actor }
@@ -118,12 +119,12 @@ fn take_part<C: Client, L: Session, R: Threads + Wait + Sync, G: Gate + Sync>(
 {
     match pass.actor() {
         Actor::Painter => context.paint(pass, steps),
-        actor => context.work(pass, lists.of(actor)),
+        actor => context.work(pass, &lists.of(actor)),
     }
 }
 
 /// Whether each actor but the painter made its list whole.
-fn are_whole<C: Client, L: Session>(workers: &Vec<Pass<C, L>>, lists: &Lists<C::Cmd>) -> bool
+fn are_whole<C: Client, L: Session>(workers: &Vec<Pass<C, L>>, lists: &Turns<'_, C::Cmd>) -> bool
     requires { All (λ pass. IsWorker (length lists.now.leaves) pass.actor) workers.now.items }
     ensures { IsTrue result → AreWhole workers.now.items lists.now }
 {
@@ -136,7 +137,7 @@ fn are_whole<C: Client, L: Session>(workers: &Vec<Pass<C, L>>, lists: &Lists<C::
 }
 
 /// Whether an actor made its list whole. The painter has none.
-fn is_whole<C: Client, L: Session>(pass: &Pass<C, L>, lists: &Lists<C::Cmd>) -> bool
+fn is_whole<C: Client, L: Session>(pass: &Pass<C, L>, lists: &Turns<'_, C::Cmd>) -> bool
     requires { IsWorker (length lists.now.leaves) pass.now.actor }
     ensures { IsTrue result → is_maker pass.now.actor ≡ true →
         length pass.now.mine ≡ length (list_of lists.now pass.now.actor) }

@@ -8,6 +8,7 @@ ghost use Rattle.tr_play.specs.Workers.{HasWorked};
 
 use crate::contexts::Context;
 use crate::gates::Gate;
+use crate::lists::List;
 use std::sync::Wait;
 use tr_base::NoMemory;
 use tr_client::Client;
@@ -18,35 +19,41 @@ use tr_server::{Pass, Session, Window};
 /// How many commands may be posted with a pass before one is made under the tree's lock.
 const MOST_POSTED: u8 = 64;
 
-/// After how many commands of its own a worker tells whoever waits for steps.
-const COMMANDS_A_NOTE: u64 = 8;
+/// After how many steps of its own a worker tells how far it has come.
+const STEPS_A_NOTE: u32 = 8;
 
 impl<C: Client, L: Session, R: Wait, G: Gate> Context<'_, C, L, R, G> {
     /// Makes the steps of a list, one after another, until memory runs out. Before each the gate is asked,
-    /// with no lock held. The painter is told of commands as they are made, since they wait for him, and of the
-    /// other steps in the end: what an edit of the tree makes bad the next one may cover.
-    pub(crate) fn work(&self, pass: &mut Pass<C, L>, list: &[Step<C::Cmd>])
+    /// with no lock held. The painter is told of commands as they are made, since they wait for him, and of
+    /// the other steps in the end: what an edit of the tree makes bad the next one may cover. Until then he
+    /// is only told that the steps get on.
+    pub(crate) fn work(&self, pass: &mut Pass<C, L>, list: &List<'_, C::Cmd>)
         requires { All (λ step.
             IsMade (tree_of self.now.server.now.opening).nodes (pass.old.actor, step)) list.now }
         ensures { HasWorked pass.old pass.new list.now }
     {
+        let count = list.len() as u64;
+        // Where memory for all of them is wanting, it is taken as they come.
+        let _ = pass.reserve(list.len());
         let mut made: u32 = 0;
         let mut commands: u64 = 0;
         let mut told: u64 = 0;
-        for step in list {
+        for k in 0..list.len() {
+            let step = list.step(k);
             made = made.saturating_add(1);
             self.gate.turn(self.rt, pass.actor(), made);
             if self.make(pass, step).is_err() {
-                self.made.add((list.len() as u64).saturating_sub(told));
+                self.made.add(count.saturating_sub(told));
                 return;
             }
             commands = commands.saturating_add(u64::from(is_command(step)));
-            if commands >= told.saturating_add(COMMANDS_A_NOTE) {
-                self.made.add(COMMANDS_A_NOTE);
-                told = told.saturating_add(COMMANDS_A_NOTE);
+            if made % STEPS_A_NOTE == 0 {
+                self.made.add(commands);
+                told = told.saturating_add(commands);
+                commands = 0;
             }
         }
-        self.made.add((list.len() as u64).saturating_sub(told));
+        self.made.add(count.saturating_sub(told));
     }
 
     /// Makes a step.

@@ -67,7 +67,8 @@ taken_into all passes left steps old new n before counted more is takes put last
     ap (λ (l : ListsView _). l.leaves) put
     ∙ (ap (λ (k : ℕ). set old.leaves k steps) here ∙ ap (λ (s : List (Step _)). set old.leaves (length left) s) takes.steps_are) in
     rw (lists, takes.counted)
-    (more_gathered all left takes.pass old.leaves before counted (subst (λ (ps : List (PassView _)). HasGathered all ps old.leaves before counted) takes.passes is))
+    (more_gathered all left takes.pass old.leaves before counted
+    (subst (λ (ps : List (PassView _)). HasGathered all ps old.leaves before counted) takes.passes is))
 
 -- all are
 pub all_gathered : {M : Type 0} (all left : List (PassView M)) (leaves : List (List (Step M))) (before counted : ℕ) →

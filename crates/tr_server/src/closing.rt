@@ -168,8 +168,10 @@ fn gather<C: Client, L: Session>(
 )
     requires count { vec_len workers ≡ length lists.old.leaves + 2 }
     requires blank { lists.old.leaves ≡ replicate (length lists.old.leaves) [] }
-    ensures leaves { lists.new.leaves ≡ map (λ pass. pass.mine) (take (length lists.old.leaves) workers.items) }
-    ensures desk { (d : _) → lists.new.desk ≡ (slice_index_or workers.items (length lists.old.leaves) d).mine }
+    ensures leaves { lists.new.leaves
+        ≡ map (λ pass. pass.mine) (take (length lists.old.leaves) workers.items) }
+    ensures desk { (d : _) →
+        lists.new.desk ≡ (slice_index_or workers.items (length lists.old.leaves) d).mine }
     ensures player { lists.new.player ≡ lists.old.player }
     ensures made { all.new.amount ≡ all.old.amount + sum_by (λ pass. pass.made) workers.items }
 {

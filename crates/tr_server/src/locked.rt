@@ -246,8 +246,8 @@ fn fit<C: Client>(
     Ok(())
 }
 
-/// The same where the content may have changed, so that what its client posts next is prepared over what is there
-/// now. Where memory is wanted for that, it is prepared anew once it is handed over.
+/// The same where the content may have changed, so that what its client posts next is prepared over what
+/// is there now. Where memory is wanted for that, it is prepared anew once it is handed over.
 fn fit_if<C: Client>(
     is_changed: bool,
     alloc: Global,

@@ -72,6 +72,14 @@ impl<C: Client, L: Session> Pass<C, L> {
         &self.mine
     }
 
+    /// Makes room for so many steps more.
+    pub fn reserve(&mut self, steps: usize) -> Result<(), NoMemory>
+        ensures { self.new ≡ self.old }
+    {
+        self.mine.reserve(steps)?;
+        Ok(())
+    }
+
     /// How many commands were posted with it since its last step under the tree's lock.
     pub fn posted(&self) -> u8
         ensures { result ≡ self.now.posted }

@@ -79,8 +79,8 @@ impl<C: Client, L: Session> Mu<'_, C, L> {
         ensures err { OnErr result (self.new.journal ≡ self.old.journal) }
     {
         let locked = &mut *self.guard;
-        // Called, here and below, for what they tell the prover: that the window's leaf is one of the stage's,
-        // and that each command that waits has a level.
+        // Called, here and below, for what they tell the prover: that the window's leaf is one of the
+        // stage's, and that each command that waits has a level.
         let _ = locked.stage();
         let leaf = window.leaf();
         let mut guard = window.basket.lock(rt);

@@ -1,18 +1,17 @@
-use Rattle.std.proofs.Common.{◌+◌, take, sym, subst}
-use Rattle.tr_journal.specs.declared.Actor.{Actor}
-use Rattle.tr_journal.specs.declared.Step.{Step}
-use Rattle.tr_journal.specs.Lists.{HasList, ListsView, with_step}
-use Rattle.tr_play.specs.Lists.{AreListed}
-use Rattle.tr_play.proofs.ListLemmas.{listed_next}
+use Rattle.std.proofs.Common.{◌+◌, sym, subst}
+use Rattle.tr_play.specs.Turns.{PlacesView}
+use Rattle.tr_play.proofs.ListLemmas.{ArePlaced, placed_next, placed_none}
 use Rattle.tr_play.proofs.lists.lists_of.Goals as goal
 
-pub loop-made-preserved : goal.loop-made-preserved
-loop-made-preserved g c =
-    let k = c.loop-made.made-index in
-    let within = c.loop-made-test.true in
-    let made = c.made-item.result in
-    let has = subst (λ (m : Actor × Step _). HasList c.args.leaves m.0) (sym c.made-item.is) (c.requires k made within) in
-    let next = listed_next c.args.leaves c.args.steps.now k c.loop-made.lists made (within, c.made-item.is) c.loop-made.invariant has in
-    subst (λ (lists : ListsView _). AreListed c.args.leaves (take (k + 1) c.args.steps.now) lists) (sym c.in_ok-add.ensures.ok)
-    (subst (λ (step : Step _). AreListed c.args.leaves (take (k + 1) c.args.steps.now) (with_step c.loop-made.lists made.0 step))
-    (sym c.in_ok-step.ensures) next)
+pub loop-place-init : goal.loop-place-init
+loop-place-init g c =
+    subst (λ (places : PlacesView). ArePlaced c.args.leaves c.args.steps.now 0 places) (sym c.in_ok-places.ensures)
+    (placed_none c.args.leaves c.args.steps.now)
+
+pub loop-place-preserved : goal.loop-place-preserved
+loop-place-preserved g c =
+    let k = c.loop-place.place in
+    let one = c.index-steps-place.result in
+    let low = c.loop-place-test.true in
+    subst (λ (places : PlacesView). ArePlaced c.args.leaves c.args.steps.now (k + 1) places) (sym c.in_ok-add.ensures.ok)
+    (placed_next c.args.leaves c.args.steps.now k c.loop-place.places one low (c.requires k one low) c.loop-place.invariant)

@@ -1,7 +1,6 @@
-use Rattle.std.proofs.Common.{take}
-use Rattle.tr_play.specs.Lists.{AreListed}
+use Rattle.tr_play.proofs.ListLemmas.{ArePlaced}
 use Rattle.tr_play.proofs.lists.lists_of.Given as goal
 
--- the steps so far are in their actors' lists
-abbrev pub invariant-loop-made : goal.invariant-loop-made
-invariant-loop-made g l = AreListed l.leaves (take l.made-index l.steps) l.lists
+-- the steps so far have their places
+abbrev pub invariant-loop-place : goal.invariant-loop-place
+invariant-loop-place g l = ArePlaced l.leaves l.steps l.place l.places

@@ -1,0 +1,58 @@
+-- Private contracts alone cite this file.
+-- The steps of a part by the places at which they stand in it, counted from 0.
+use Rattle.std.specs.Prelude.{ℕ, ◌<◌, All, List, [], ◌∷◌, ◌++◌, get_or, map, replicate, set}
+use Rattle.tr_journal.specs.declared.steps.Actor.{Actor}
+use Rattle.tr_journal.specs.declared.steps.Actor.TheVariants.{Leaf, Desk, Painter, Player}
+use Rattle.tr_journal.specs.declared.steps.Step.{Step}
+use Rattle.tr_journal.specs.declared.steps.Step.TheVariants.{Sync}
+use Rattle.tr_journal.specs.Lists.{ListsView}
+
+-- the step that stands at a place: a sync where none does
+abbrev pub step_at : {M : Type 0} → List (Actor × Step M) → ℕ → Step M
+step_at made place = (get_or made place (Player, Sync)).1
+
+-- the steps that stand at these places
+abbrev pub steps_at : {M : Type 0} → List (Actor × Step M) → List ℕ → List (Step M)
+steps_at made places = map (step_at made) places
+
+-- what a contract sees of the places of all actors' steps: the leaves' by their numbers, the desk's, and the player's
+pub record PlacesView : Type 0 where
+  pub leaves : List (List ℕ)
+  pub desk : List ℕ
+  pub player : List ℕ
+
+-- no actor made a step
+abbrev pub no_places : ℕ → PlacesView
+no_places leaves = record { leaves = replicate leaves []; desk = []; player = [] }
+
+-- the places of an actor's steps
+abbrev pub places_of : PlacesView → Actor → List ℕ
+places_of places (Leaf leaf) = get_or places.leaves leaf.0 []
+places_of places Desk = places.desk
+places_of places Painter = []
+places_of places Player = places.player
+
+-- the places with one more behind the others of an actor
+abbrev pub with_place : PlacesView → Actor → ℕ → PlacesView
+with_place places (Leaf leaf) place =
+    record places { leaves = set places.leaves leaf.0 (get_or places.leaves leaf.0 [] ++ place ∷ []) }
+with_place places Desk place = record places { desk = places.desk ++ place ∷ [] }
+with_place places Painter place = places
+with_place places Player place = record places { player = places.player ++ place ∷ [] }
+
+-- all are places in a part of so many steps
+abbrev pub are_below : ℕ → List ℕ → Type 0
+are_below steps places = All (λ place. place < steps) places
+
+pub record AreWithin (steps : ℕ) (places : PlacesView) : Type 0 where
+  pub leaves : All (are_below steps) places.leaves
+  pub desk : are_below steps places.desk
+  pub player : are_below steps places.player
+
+-- the steps that stand at the places, in lists of each actor's
+abbrev pub lists_at : {M : Type 0} → List (Actor × Step M) → PlacesView → ListsView M
+lists_at made places = record {
+  leaves = map (steps_at made) places.leaves;
+  desk = steps_at made places.desk;
+  player = steps_at made places.player;
+}
