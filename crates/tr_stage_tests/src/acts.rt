@@ -66,8 +66,8 @@ pub struct By {
     pub level: Held,
 }
 
-/// Who makes the step in a script that is played by one thread: a leaf makes all that names it. No more is held
-/// than the step needs.
+/// Who makes the step in a script that is played by one thread: a leaf makes all that names it. No more is
+/// held than the step needs.
 pub fn maker_of(act: &Act) -> By {
     By {
         actor: actor_of(act),

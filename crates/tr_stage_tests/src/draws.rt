@@ -1,5 +1,5 @@
 //! Numbers that look random, and the openings and steps that are made of them.
-ghost use Rattle.std.specs.Prelude.{◌<◌, IsTrue};
+ghost use Rattle.std.specs.Prelude.{◌*◌, ◌<◌, IsTrue};
 ghost use Rattle.tr_base.specs.Rects.{InReach};
 ghost use Rattle.w_canvas.specs.Areas.{IsFigureEdge};
 ghost use Rattle.w_plain.specs.Shifts.{IsShift};
@@ -28,11 +28,12 @@ const LEAVES: u8 = 6;
 
 const NODES: u8 = 15;
 
-/// What is drawn, and the leaf that was drawn last.
+/// What is drawn, the leaf that was drawn last, and whether screens and windows are large.
 #[derive(Drop)]
 pub struct Draw {
     numbers: Numbers,
     leaf: u8,
+    is_large: bool,
 }
 
 /// What steps of the input devices are drawn by: the present time, the window that has the mouse, and the
@@ -101,10 +102,21 @@ fn shift_by(rt: &impl Abort, by: Point) -> Shift {
 }
 
 impl Draw {
-    pub fn new(state: u32) -> Draw {
+    /// One that draws small screens and windows.
+    pub fn small(state: u32) -> Draw {
         Draw {
             numbers: Numbers::new(state),
             leaf: 0,
+            is_large: false,
+        }
+    }
+
+    /// One that draws larger ones, of which a command paints a small part.
+    pub fn large(state: u32) -> Draw {
+        Draw {
+            numbers: Numbers::new(state),
+            leaf: 0,
+            is_large: true,
         }
     }
 
@@ -150,10 +162,19 @@ impl Draw {
         }
     }
 
-    /// A size of a small screen.
+    /// A length below this one. Large ones are three times as long.
+    fn length(&mut self, n: u8) -> u16
+        requires { 0 < n }
+        ensures { result < 3 * n }
+    {
+        let length = u16::from(self.below(n));
+        if self.is_large { 3 * length } else { length }
+    }
+
+    /// A size of a screen.
     pub fn size(&mut self) -> Size {
-        let wide = u16::from(self.below(9)) + 4;
-        let high = u16::from(self.below(7)) + 4;
+        let wide = self.length(9) + 4;
+        let high = self.length(7) + 4;
         Size { wide, high }
     }
 
@@ -172,8 +193,8 @@ impl Draw {
     }
 
     fn shape(&mut self) -> Shape {
-        let lo = u16::from(self.below(4)) + 1;
-        let pref = lo + u16::from(self.below(5));
+        let lo = self.length(4) + 1;
+        let pref = lo + self.length(5);
         let hi = pref + 2;
         Shape { lo, pref, hi }
     }
@@ -191,10 +212,10 @@ impl Draw {
         line(rt, texts[usize::from(self.below(3))])
     }
 
-    /// The nodes that are no leaves, a Z first.
+    /// The nodes that are no leaves, the root first.
     fn inner(&mut self, n: u8) -> NodeKind {
         match n {
-            0 => NodeKind::Z,
+            0 => self.root(),
             1 => NodeKind::H,
             2 => NodeKind::V,
             3 => NodeKind::Border {
@@ -205,6 +226,16 @@ impl Draw {
             6 => NodeKind::Page { per: 2, page: 0 },
             7 => NodeKind::Rigid { size: self.size() },
             _ => self.pack(),
+        }
+    }
+
+    /// A Z, where most lie over one another. On a large screen they lie side by side as often, so that some
+    /// windows are whole.
+    fn root(&mut self) -> NodeKind {
+        if self.is_large && self.is_once_in(2) {
+            NodeKind::H
+        } else {
+            NodeKind::Z
         }
     }
 
@@ -304,7 +335,7 @@ impl Draw {
         Ok(())
     }
 
-    /// Most lie over one another.
+    /// Mostly the root.
     fn parent(&mut self) -> u16 {
         if self.is_once_in(3) {
             u16::from(self.below(INNER))
@@ -435,6 +466,12 @@ impl Draw {
             32..=35 => self.input(devices),
             _ => self.leaf_act(rt, devices, leaf),
         })
+    }
+
+    /// Some leaf is told something.
+    pub fn told(&mut self, rt: &impl Abort) -> Result<Act, NoMemory> {
+        let leaf = self.leaf();
+        self.telling(rt, leaf)
     }
 
     /// A leaf is told something; seldom a command of another widget, which does nothing.

@@ -30,3 +30,5 @@ mod slow;
 mod traces;
 #[cfg(test)]
 mod trials;
+#[cfg(test)]
+mod ways;

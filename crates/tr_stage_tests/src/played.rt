@@ -53,8 +53,8 @@ pub trait Played: Sized + Drop {
     /// Paints a leaf's bad points apart from the screen, and puts them there.
     fn repaint_apart(&mut self, rt: &impl Abort, leaf: LeafId) -> Result<(), NoMemory>;
 
-    /// The first difference between the stage and what is handed in: its own opening, no journal, and this one
-    /// step of a leaf.
+    /// The first difference between the stage and what is handed in: its own opening, no journal, and this
+    /// one step of a leaf.
     fn difference(
         &self,
         rt: &(impl Abort + AllocGlobal),

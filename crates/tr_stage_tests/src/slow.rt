@@ -1,5 +1,5 @@
-//! A plain and slow model of a stage without its input devices, which looks at each point of the screen. It is
-//! of the contents of every client, whose pictures its proofs needn't know.
+//! A plain and slow model of a stage without its input devices, which looks at each point of the screen. It
+//! is of the contents of every client, whose pictures its proofs needn't know.
 ghost use Rattle.std.specs.Prelude.{IsTrue};
 ghost use Rattle.tr_client.specs.Laws.{IsWindowSize};
 

@@ -90,7 +90,7 @@ impl Recomputed for Slow<Widget> {
 }
 
 /// Both make a step.
-fn make_both<P: Played, M: Recomputed>(
+pub fn make_both<P: Played, M: Recomputed>(
     rt: &impl Abort,
     stage: &mut P,
     slow: &mut M,
@@ -176,7 +176,7 @@ fn is_as_recomputed<P: Played, M: Recomputed>(
 }
 
 /// It is settled by as many steps as it must, and then the screen is as if painted from nothing.
-fn settles<P: Played, M: Recomputed>(
+pub fn settles<P: Played, M: Recomputed>(
     rt: &(impl Abort + AllocGlobal),
     stage: &mut P,
     slow: &mut M,
@@ -190,7 +190,7 @@ fn settles<P: Played, M: Recomputed>(
 }
 
 /// What steps are drawn by.
-fn devices_of<P: Played>(stage: &P) -> Devices {
+pub fn devices_of<P: Played>(stage: &P) -> Devices {
     Devices {
         time: stage.time(),
         focus: stage.focus(),
@@ -237,7 +237,7 @@ fn runs<P: Played, M: Recomputed>(
     runs: u32,
     steps: u32,
 ) -> Result<(), EditRefused> {
-    let mut draw = Draw::new(7);
+    let mut draw = Draw::small(7);
     for _run in 0..runs {
         run::<P, M>(rt, &mut draw, steps)?;
     }
