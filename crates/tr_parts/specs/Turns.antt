@@ -25,7 +25,7 @@ pub record HasRun {C M : Type 0} (s n : StageView C M) (steps : List (Actor × S
   pub made : (actor : Actor) → is_maker actor ≡ true → steps_in actor lines ≡ steps_of actor steps
   pub player : steps_in Player lines ≡ []
 
--- memory was wanting for one of the steps: those before it were made, and no other
+-- memory was wanting for one of the steps: those before it were made, and no later one
 pub record HasRunSome {C M : Type 0} (s n : StageView C M) (steps : List (Actor × Step M)) : Type 0 where
   pub count : ℕ
   pub fewer : count < length steps

@@ -19,7 +19,8 @@ use tr_run::{Finished, Run};
 use tr_stage::Stage;
 
 /// The player begins a part, a later one with a sync, and makes its reports. For want of memory the first of
-/// these were made.
+/// these were made: of the next one the text may be written, and where it is a dump, the painter may have
+/// made the first of the steps that settle.
 pub fn begin_part<C: Client, N: NameOf>(
     run: &mut Run<C, N>,
     is_later: bool,

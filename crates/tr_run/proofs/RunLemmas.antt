@@ -246,6 +246,7 @@ module _ {C M : Type 0} (client : Ghosts C M) where
       IsUnmadeStep a (record v { text = text }) (line_of client (state client a.stage) actor (stated step) step)
   untold {a} {v} {actor} {step} text added lags same = inr (record {
     check = first_true (is_check a.mode) lags;
+    step = second_false (is_check a.mode) (is_note step) lags;
     opening = added.opening;
     names = added.names;
     mode = added.mode;
@@ -257,6 +258,11 @@ module _ {C M : Type 0} (client : Ghosts C M) where
       first_true : (b : Bool) → (b && not (is_note step)) ≡ true → b ≡ true
       first_true true both = refl
       first_true false both = both
+
+      second_false : (b x : Bool) → (b && not x) ≡ true → x ≡ false
+      second_false true true both = sym both
+      second_false true false both = refl
+      second_false false x both = absurd (false-true both)
 
   -- ---- where memory was wanting
 

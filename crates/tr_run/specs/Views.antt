@@ -1,5 +1,5 @@
 -- What a contract sees of a run.
-use Rattle.std.specs.Prelude.{◌≡◌, ◌⊎◌, ℕ, true, List, [], ◌∷◌, ◌++◌, length, All}
+use Rattle.std.specs.Prelude.{◌≡◌, ◌⊎◌, ℕ, true, false, List, [], ◌∷◌, ◌++◌, length, All}
 use Rattle.tr_client.specs.declared.clients.Client.{Ghosts}
 use Rattle.tr_forest.specs.Nodes.{Nodes, leaf_count}
 use Rattle.tr_desk.specs.Desks.{IsKnown}
@@ -9,7 +9,7 @@ use Rattle.tr_journal.specs.Openings.{tree_of}
 use Rattle.tr_journal.specs.Names.{Names}
 use Rattle.tr_journal.specs.Reports.{is_report}
 use Rattle.tr_dump.specs.Names.{IsNamedLine}
-use Rattle.tr_stage.specs.Stages.{StageView, state}
+use Rattle.tr_stage.specs.Stages.{StageView, is_note, state}
 use Rattle.tr_run.specs.declared.modes.Mode.{Mode}
 use Rattle.tr_run.specs.Runs.{Cue, run_lines}
 use Rattle.tr_run.specs.Texts.{is_check, sum_after, sum_from, texts_from, written}
@@ -45,9 +45,10 @@ pub record IsUnchanged {C M : Type 0} (old new : RunView C M) : Type 0 where
   pub text : new.text ≡ old.text
   pub sum : new.sum ≡ old.sum
 
--- in a check, the journal has this line more, and it isn't written how far the screen lags behind
+-- in a check, the journal has this line more, of a step that is no report and no sync, and it isn't written how far the screen lags behind
 pub record AddsUntold {C M : Type 0} (old new : RunView C M) (line : JournalLine M) : Type 0 where
   pub check : is_check old.mode ≡ true
+  pub step : is_note line.entry.step ≡ false
   pub opening : new.stage.opening ≡ old.stage.opening
   pub names : new.names ≡ old.names
   pub mode : new.mode ≡ old.mode

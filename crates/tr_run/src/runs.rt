@@ -107,7 +107,8 @@ impl<'a, C: Client, N: NameOf> Run<'a, C, N> {
     }
 
     /// An actor makes a step other than a report, holding exactly the step's levels. For want of memory
-    /// nothing changes; but in a check the step may be made, and not written how far the screen lags behind.
+    /// nothing changes; but in a check the step may be made, without the text of how far the screen lags
+    /// behind.
     pub fn make(&mut self, actor: Actor, step: Step<C::Cmd>) -> Result<(), NoMemory>
         requires may { may actor step ≡ true }
         requires values { IsStep (tree_of self.old.stage.opening).nodes step }
@@ -234,7 +235,8 @@ impl<'a, C: Client, N: NameOf> Run<'a, C, N> {
         Ok(())
     }
 
-    /// The painter brings the screen up to date. An `Err` says what it does for whatever line is due then.
+    /// The painter brings the screen up to date. An `Err` comes before one of the lines that this makes, or
+    /// before whatever line is due behind them.
     fn settle(&mut self) -> Result<(), NoMemory>
         ensures lines { OnOk result (Adds C.Client C.Cmd.words self.old self.new
             (settling_lines C.Client (state C.Client self.old.stage))) }
