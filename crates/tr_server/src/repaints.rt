@@ -28,6 +28,9 @@ use tr_journal::Step;
 use tr_levels::{Held, Level};
 use tr_stage::Painted;
 
+/// So many bad points are painted sooner than threads are started that share them.
+const FEW_POINTS: u32 = 1 << 18;
+
 impl<C: Client, L: Session> Locked<C, L> {
     /// The shares that may be painted.
     pub(crate) fn shares(&self) -> Result<Vec<Share<'_, C>>, NoMemory>
@@ -155,13 +158,17 @@ impl<C: Client, L: Session> Locked<C, L> {
         self.put_all(pass, all)
     }
 
-    /// Paints the bad points of all leaves side by side, apart from the screen.
+    /// Paints the bad points of all leaves apart from the screen: side by side, or in turn, where they are
+    /// so few that a thread would take longer to start.
     fn paint_bad_leaves<R: Threads + Sync>(&self, rt: &R) -> Result<Vec<Painted>, NoMemory>
         requires { let m = state C.Client self.now in
             (leaf : LeafId) → batch_of C.Client m leaf ≡ [] }
         ensures { let m = state C.Client self.now in
             IfOk result (λ all. ArePainted C.Client m (all_bad_leaves m) all.items) }
     {
+        if self.stage.bad_count() <= FEW_POINTS {
+            return self.stage.paint_each_bad();
+        }
         let shares = self.shares()?;
         paint_each(rt, self.alloc, shares)
     }

@@ -17,13 +17,17 @@ use crate::windows::Window;
 use std::alloc::Global;
 use std::marker::Model;
 use std::sync::ledger::{Blank, Share};
-use std::sync::{Mutex, Wait};
+use std::sync::{Mutex, MutexGuard, Wait};
+use std::thread::yield_now;
 use tr_base::{LeafId, NoMemory};
 use tr_book::Book;
 use tr_client::Client;
 use tr_journal::{Actor, Journal, Opening};
 use tr_levels::Ladder;
 use tr_stage::Stage;
+
+/// How often somebody looks whether the tree's lock is free before he sleeps until it is.
+const MOST_LOOKS: u32 = 1000;
 
 /// A stage behind the tree's lock, and for each leaf a window, behind whose lock its client's commands
 /// wait. Contracts see what it began with.
@@ -100,11 +104,23 @@ impl<C: Client, L: Session> Server<C, L> {
             IsStep (tree_of result.opening).nodes step }
     {
         ladder.end();
-        let guard = self.locked.lock(rt);
+        let guard = self.taken(rt);
         // Called for what they tell the prover: how many nodes and leaves the server and the stage have.
         let _ = self.opening();
         let _ = guard.stage();
         Mu { guard }
+    }
+
+    /// Takes the lock. Who finds it taken looks again for a while, and lets others run, before he sleeps:
+    /// most steps are made sooner than somebody is woken.
+    fn taken<R: Wait>(&self, rt: &R) -> MutexGuard<'_, Locked<C, L>> {
+        for _look in 0..MOST_LOOKS {
+            if let Some(guard) = self.locked.try_lock() {
+                return guard;
+            }
+            yield_now();
+        }
+        self.locked.lock(rt)
     }
 
     /// The window of a leaf.

@@ -33,10 +33,19 @@ impl<C: Client> Stage<C> {
         self.stands();
         let stale = self.stale_count()?;
         Ok(Peek3 {
-            bad: self.surface.bad_count(),
+            bad: self.bad_count(),
             waiting: self.windows.waiting(),
             stale,
         })
+    }
+
+    /// How many points are bad.
+    pub fn bad_count(&self) -> u32
+        ensures { result ≡ spec.bad_count (state C.Client self.now) }
+    {
+        // Called for what it tells the prover: that the screen has a size, and agrees with the state.
+        self.stands();
+        self.surface.bad_count()
     }
 
     /// How many points are good, and don't have the colour that they are to have. Only points of leaves

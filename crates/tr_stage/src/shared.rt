@@ -98,7 +98,7 @@ impl<C: Client> Stage<C> {
     }
 
     /// Paints the bad points of each leaf that has some, apart from the screen.
-    fn paint_each_bad(&self) -> Result<Vec<Painted>, NoMemory>
+    pub fn paint_each_bad(&self) -> Result<Vec<Painted>, NoMemory>
         ensures { let m = state C.Client self.now in
             IfOk result (λ all. ArePainted C.Client m (all_bad_leaves m) all.items) }
     {

@@ -1,11 +1,6 @@
 use Rattle.std.proofs.Common.{◌∙◌}
-use Rattle.tr_stage.proofs.StaleLemmas.{bad_counted, waiting_counted}
+use Rattle.tr_stage.proofs.StaleLemmas.{waiting_counted}
 use Rattle.tr_stage.proofs.stages.Stage.peek.Goals as goal
-
-pub returns-clause-bad : goal.returns-clause-bad
-returns-clause-bad g c =
-    c.bad_count.ensures
-    ∙ bad_counted g.C.Client c.args.self.now c.self.invariant (record { spare = c.self.inside.journal.spare; is = c.self.view_is }) c.stands.ensures.invariant
 
 pub returns-clause-waiting : goal.returns-clause-waiting
 returns-clause-waiting g c =
