@@ -12,10 +12,10 @@ use tr_levels::Ladder;
 use tr_server::{Mu, Pass, Session};
 
 impl<C: Client, L: Session, R: Threads + Wait + Sync, G: Gate> Context<'_, C, L, R, G> {
-    /// The painter brings the screen up to date, once and once more for each 16 steps of the part, until
-    /// memory runs out: when clients have made 16 commands, 32, 64 and so on, so that the others mostly find
-    /// the tree's lock free. Once all steps were made, one time does for all that are left: the others would
-    /// find nothing. Once he has waited in vain he waits no more.
+    /// The painter brings the screen up to date when clients have made 16 commands, 32, 64 and so on, so that
+    /// the others mostly find the tree's lock free, and at last when all steps were made: once, and at most
+    /// once more for each 16 steps of the part, until memory runs out. Once he has waited in vain he waits no
+    /// more.
     pub(crate) fn paint(&self, pass: &mut Pass<C, L>, steps: usize)
         requires { pass.old.actor ≡ Painter }
         ensures { pass.new.actor ≡ pass.old.actor }
