@@ -101,9 +101,9 @@ impl<C: Client, L: Session> Mu<'_, C, L> {
     }
 
     /// Brings the screen up to date by way of shares: each leaf is flushed for which something waits; then
-    /// the bad points of all leaves are painted side by side, apart from the screen, and put onto it leaf
-    /// by leaf, each at its share alone; then the frames are painted, if a point of one is bad. For want of
-    /// memory the steps made so far stand.
+    /// the bad points of all leaves are painted apart from the screen, side by side where they are many, and
+    /// put onto it leaf by leaf, each at its share alone; then the frames are painted, if a point of one is
+    /// bad. For want of memory the steps made so far stand.
     pub fn repaint_shared<R: Threads + Sync>(
         &mut self,
         rt: &R,
