@@ -33,7 +33,8 @@ pub struct Workers<'a, R, G> {
 pub(crate) const STEPS_A_REPAINT: usize = 16;
 
 /// Makes the steps of a part on a stage, each actor's in a thread of its own. Meanwhile the painter brings
-/// the screen up to date, once and at most once more for each 16 steps. Where there is no step and he would find nothing to do, nobody is started.
+/// the screen up to date, once and at most once more for each 16 steps. Where there is no step and he would
+/// find nothing to do, nobody is started.
 pub(crate) fn make_side_by_side<C: Client, R: Threads + Wait + Sync, G: Gate + Sync>(
     workers: &Workers<'_, R, G>,
     stage: Stage<C>,
