@@ -121,6 +121,7 @@ impl<C: Client, L: Session> Server<C, L> {
             windows: _,
             opening,
             kept,
+            is_taken: _,
         } = self;
         let Passes { workers, player } = passes;
         let (steps, mut all) = player.spend();

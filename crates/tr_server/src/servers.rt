@@ -16,6 +16,7 @@ use crate::tree_locks::Mu;
 use crate::windows::Window;
 use std::alloc::Global;
 use std::marker::Model;
+use std::sync::atomic::{AtomicBool, Ordering};
 use std::sync::ledger::{Blank, Share};
 use std::sync::{Mutex, MutexGuard, Wait};
 use std::thread::yield_now;
@@ -38,6 +39,8 @@ pub struct Server<C: Client, L: Session> {
     pub(crate) windows: Vec<Window<C, L>>,
     pub(crate) opening: Opening<C>,
     pub(crate) kept: Journal<C::Cmd>,
+    /// Whether somebody has the tree's lock: a hint for those who wait for it.
+    pub(crate) is_taken: AtomicBool,
 }
 
 impl<C: Client, L: Session> Model for Server<C, L> {
@@ -92,6 +95,7 @@ impl<C: Client, L: Session> Server<C, L> {
             windows,
             opening,
             kept,
+            is_taken: AtomicBool::new(false),
         };
         Ok((server, Passes { workers, player }))
     }
@@ -108,19 +112,33 @@ impl<C: Client, L: Session> Server<C, L> {
         // Called for what they tell the prover: how many nodes and leaves the server and the stage have.
         let _ = self.opening();
         let _ = guard.stage();
-        Mu { guard }
+        self.is_taken.store(true, Ordering::SeqCst);
+        Mu {
+            guard,
+            is_taken: &self.is_taken,
+        }
     }
 
     /// Takes the lock. Who finds it taken looks again for a while, and lets others run, before he sleeps:
-    /// most steps are made sooner than somebody is woken.
+    /// most steps are made sooner than somebody is woken. He only reads meanwhile: whoever tries to take the
+    /// lock takes its memory, and what lies beside it, from the processor of the one who has it.
     fn taken<R: Wait>(&self, rt: &R) -> MutexGuard<'_, Locked<C, L>> {
         for _look in 0..MOST_LOOKS {
-            if let Some(guard) = self.locked.try_lock() {
+            if let Some(guard) = self.taken_if_free() {
                 return guard;
             }
             yield_now();
         }
         self.locked.lock(rt)
+    }
+
+    /// Takes the lock, if it is free.
+    fn taken_if_free(&self) -> Option<MutexGuard<'_, Locked<C, L>>> {
+        if self.is_taken.load(Ordering::SeqCst) {
+            None
+        } else {
+            self.locked.try_lock()
+        }
     }
 
     /// The window of a leaf.

@@ -13,6 +13,7 @@ use crate::passes::Pass;
 use crate::sessions::Session;
 use crate::windows::Window;
 use std::marker::Model;
+use std::sync::atomic::{AtomicBool, Ordering};
 use std::sync::{MutexGuard, Wait};
 use tr_base::NoMemory;
 use tr_client::Client;
@@ -23,6 +24,7 @@ use tr_stage::Stage;
 /// The tree's lock, taken. It must be given up by `leave`. Contracts see it as the stage.
 pub struct Mu<'a, C: Client, L: Session> {
     pub(crate) guard: MutexGuard<'a, Locked<C, L>>,
+    pub(crate) is_taken: &'a AtomicBool,
 }
 
 impl<'a, C: Client, L: Session> Model for Mu<'a, C, L> {
@@ -126,7 +128,8 @@ impl<C: Client, L: Session> Mu<'_, C, L> {
     pub fn leave(self) -> Ladder
         ensures { result ≡ [] }
     {
-        let Mu { guard } = self;
+        let Mu { guard, is_taken } = self;
+        is_taken.store(false, Ordering::SeqCst);
         drop(guard);
         Ladder::ground()
     }
