@@ -166,8 +166,8 @@ def parted(count: int) -> List[str]:
 
 
 def shared(count: int) -> List[str]:
-    """Threads paint: 32 windows side by side are told another colour. The painter comes after 16 lines, after 32, 64
-    and so on, and when all are made as often as is left of once for each 16."""
+    """Threads paint: 32 windows side by side are told another colour. The painter comes after 16 lines, then some
+    sixty times a second, and when all are made."""
     leaves = [f"leaf l{number} 0 32 {SIDE} 0 1024 {SIDE} solid {number}" for number in range(32)]
     opening = [*HEAD, "node r h 3", *leaves, *(f"put l{number} r" for number in range(32)), "root r", "begin"]
     return [*opening, *(f"@l{number % 32} tint {number // 32 % 256}" for number in range(count)), *END]

@@ -1,9 +1,9 @@
 -- Steps of many actors, put into lists of each actor's one by one.
-use Rattle.std.proofs.Common.{◌≡◌, ℕ, ◌+◌, ◌<◌, Bool, true, false, ◌==◌, cond, List, [], ◌∷◌, ◌++◌, length, take, get_or, map, refl, sym, ap, subst, ◌∙◌}
-use Rattle.std.specs.Prelude.{replicate, set}
+use Rattle.std.proofs.Common.{◌≡◌, ℕ, ◌+◌, ◌<◌, Bool, true, false, ◌==◌, cond, List, [], ◌∷◌, ◌++◌, length, take, drop, get_or, map, refl, sym, ap, subst, ◌∙◌}
+use Rattle.std.specs.Prelude.{min, replicate, set}
 use Rattle.std.proofs.lemmas.Bool.{eqb-true, eq-eqb}
 use Rattle.std.proofs.lemmas.Grind.{get_or-set_at}
-use Rattle.std.proofs.lemmas.List.{append-nil, get_or-map, get_or-replicate, get_or-set_other, get_or_default, length-map, length-replicate, length-set, map-set, map_push, take_more}
+use Rattle.std.proofs.lemmas.List.{append-nil, drop-map, get_or-map, get_or-replicate, get_or-set_other, get_or_default, length-map, length-replicate, length-set, map-set, map_push, take-map, take_min, take_more}
 use Rattle.std.proofs.lemmas.List.Elements.{All-get_or, All-nil, All-push, All-replicate, All-set}
 use Rattle.tr_base.proofs.RectLemmas.{false-true}
 use Rattle.tr_journal.specs.declared.steps.Actor.{Actor}
@@ -173,3 +173,13 @@ placed_next {M} leaves made k places d low has are = record {
     here : lists_at made (with_place places one.0 k) ≡ with_step (lists_at made places) one.0 one.1
     here = lists_at-with_place made places one.0 k own
         ∙ ap (λ (x : Actor × Step M). with_step (lists_at made places) one.0 x.1) (get_or_default made k (Player, Sync) d low)
+
+-- the steps at some of the places, from one of them on
+pub part_is : {M : Type 0} (made : List (Actor × Step M)) (places rest : List ℕ) (k count n : ℕ) → rest ≡ drop k places →
+    n ≡ min count (length rest) → steps_at made (take n rest) ≡ take count (drop k (steps_at made places))
+part_is made places rest k count n rest_is is =
+    ap (λ (i : ℕ). steps_at made (take i rest)) is
+    ∙ ap (λ (ps : List ℕ). steps_at made ps) (take_min count rest)
+    ∙ ap (λ (ps : List ℕ). steps_at made (take count ps)) rest_is
+    ∙ sym (take-map (step_at made) count (drop k places))
+    ∙ ap (λ xs. take count xs) (sym (drop-map (step_at made) k places))

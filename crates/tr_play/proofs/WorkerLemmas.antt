@@ -1,9 +1,10 @@
 -- What the workers of a session are given, and what they make of it.
-use Rattle.std.proofs.Common.{◌≡◌, ℕ, ◌+◌, ◌<◌, ◌≤◌, Bool, true, false, nat_lt, cond, List, [], ◌∷◌, ◌==◌, length, take, get_or, refl, sym, ap, subst, ◌∙◌, arith}
-use Rattle.std.specs.Prelude.{All}
+use Rattle.std.proofs.Common.{◌≡◌, ℕ, ◌+◌, ◌<◌, ◌≤◌, Bool, true, false, nat_lt, cond, List, [], ◌∷◌, ◌++◌, ◌==◌, length, take, drop, get_or, refl, sym, ap, subst, ◌∙◌, arith}
+use Rattle.std.specs.Prelude.{All, Some, slice_get}
 use Rattle.std.proofs.lemmas.Bool.{ltb-false, ltb-true}
 use Rattle.std.proofs.lemmas.Bool.Decides.{nat_tests}
-use Rattle.std.proofs.lemmas.List.{append-nil, get_or_default, get_or_past, get_or-take, length-take-le}
+use Rattle.std.proofs.lemmas.List.{append-nil, append_assoc, drop-take, get_or_default, get_or_past, get_or-take, length-take, length-take-le, take-append-drop, take-take, take_all, take_more}
+use Rattle.std.proofs.lemmas.Option.{get_or_from_slice_get}
 use Rattle.std.proofs.lemmas.List.Elements.{All-cons, All-head, All-nil, All-tail, All-weaker}
 use Rattle.tr_base.specs.declared.LeafId.{LeafId}
 use Rattle.tr_base.proofs.RectLemmas.{false-true}
@@ -21,7 +22,7 @@ use Rattle.tr_stage.specs.Stages.{StageView}
 use Rattle.tr_server.specs.Passes.{PassView}
 use Rattle.tr_play.specs.Lists.{AreListed, HaveLists}
 use Rattle.tr_play.specs.Sessions.{AreWhole}
-use Rattle.tr_play.specs.Workers.{AreReady, HasTaken, IsWorker}
+use Rattle.tr_play.specs.Workers.{AreReady, HasTaken, HasWorked, IsWorker}
 
 -- ---- steps
 
@@ -53,6 +54,50 @@ steps_ready {M} t actor (x ∷ xs) all = by_test (steps_ready t actor xs (All-ta
         All-cons P x.1 (steps_of actor xs)
         (subst (λ (a : Actor). IsMade t (a, x.1)) (sym (same_actor actor x.0 is)) (All-head (IsMade t) x xs all)) rest
     by_test rest false is = rest
+
+-- the next step of a list is made behind those before it
+pub next_made : {X : Type 0} (before now list : List X) (k : ℕ) (x : X) → k < length list → slice_get list k ≡ Some x →
+    now ≡ before ++ take k list → now ++ x ∷ [] ≡ before ++ take (k + 1) list
+next_made {X} before now list k x low at now_is =
+    let next : take (k + 1) list ≡ take k list ++ x ∷ [] =
+    take_more list k x low ∙ ap (λ (y : X). take k list ++ y ∷ []) (get_or_from_slice_get list k x x at) in
+    ap (λ (xs : List X). xs ++ x ∷ []) now_is
+    ∙ append_assoc before (take k list) (x ∷ [])
+    ∙ ap (λ (xs : List X). before ++ xs) (sym next)
+
+-- elements of a list, and those that follow them in it, are elements of it
+pub take_on : {X : Type 0} (k n : ℕ) (xs : List X) → take k xs ++ take n (drop k xs) ≡ take (k + n) xs
+take_on k n xs =
+    ap (λ ys. ys ++ take n (drop k xs)) (sym (take-take k (k + n) xs (omega arith)))
+    ∙ ap (λ ys. take k (take (k + n) xs) ++ ys) (sym (drop-take k n xs))
+    ∙ take-append-drop k (take (k + n) xs)
+
+-- the first elements of the first ones of a list are first elements of it
+first_of_first : {X : Type 0} (s c : ℕ) (xs : List X) → (n : ℕ) × (take s (take c xs) ≡ take n xs)
+first_of_first {X} s c xs = by_test (nat_lt c s) refl
+  where
+    by_test : (b : Bool) → nat_lt c s ≡ b → (n : ℕ) × (take s (take c xs) ≡ take n xs)
+    by_test true is = (c, take_all s (take c xs) (omega (arith, ltb-true c s is, length-take c xs)))
+    by_test false is = (s, take-take s c xs (omega (arith, ltb-false c s is)))
+
+-- a part of a list is made behind what stands before it in the list
+pub made_on : {X : Type 0} (before now list part : List X) (k n : ℕ) → part ≡ take n (drop k list) → now ≡ before ++ take k list →
+    now ++ part ≡ before ++ take (k + n) list
+made_on before now list part k n part_is now_is =
+    rw (part_is, now_is) (append_assoc before (take k list) (take n (drop k list)) ∙ ap (λ ys. before ++ ys) (take_on k n list))
+
+-- so is a beginning of that part
+pub worked_on : {M : Type 0} (before now after : PassView M) (list part : List (Step M)) (k n : ℕ) → part ≡ take n (drop k list) →
+    now.actor ≡ before.actor → now.mine ≡ before.mine ++ take k list → HasWorked now after part → HasWorked before after list
+worked_on before now after list part k n part_is actor_is mine_is w =
+    let first = first_of_first w.steps n (drop k list) in
+    record {
+      steps = k + first.0;
+      actor = w.actor ∙ actor_is;
+      mine =
+          w.mine
+          ∙ made_on before.mine now.mine list (take w.steps part) k first.0 (ap (λ xs. take w.steps xs) part_is ∙ first.1) mine_is;
+    }
 
 -- an actor that makes steps of a script has a list, or is a leaf's that isn't there
 pub data Listed (t : Nodes) (actor : Actor) : Type 0 where

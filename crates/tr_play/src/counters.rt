@@ -5,10 +5,13 @@ use std::time::Duration;
 
 /// How often somebody who waits for steps may find that nobody got on, one time after another, before he
 /// gives up: where no thread can be made, those who are to make them come after him.
-const MOST_LOOKS: u32 = 20;
+const MOST_LOOKS: u32 = 50;
 
 /// How many milliseconds he sleeps until he looks again, if nobody wakes him.
 const NAP: u64 = 2;
+
+/// How many milliseconds somebody rests who comes again and again: some sixty times a second.
+const REST: u64 = 16;
 
 /// So many steps are never made: nobody waits.
 const NEVER: u64 = u64::MAX;
@@ -48,9 +51,14 @@ impl Counter {
         }
     }
 
+    /// How many steps were made that somebody may wait for.
+    pub(crate) fn count(&self) -> u64 {
+        self.made.load(Ordering::SeqCst)
+    }
+
     /// Whether so many steps were made.
     pub(crate) fn has(&self, steps: u64) -> bool {
-        self.made.load(Ordering::SeqCst) >= steps
+        self.count() >= steps
     }
 
     /// Sleeps until so many steps were made, but no longer than somebody gets on meanwhile. Answers whether
@@ -60,6 +68,15 @@ impl Counter {
         let made = self.sleep_until(rt, steps);
         self.awaited.store(NEVER, Ordering::SeqCst);
         made
+    }
+
+    /// Rests for a while, or until so many steps were made.
+    pub(crate) fn rest<R: Wait>(&self, rt: &R, steps: u64) {
+        self.awaited.store(steps, Ordering::SeqCst);
+        if !self.has(steps) {
+            self.sleeper.park_timeout(rt, Duration::from_millis(REST));
+        }
+        self.awaited.store(NEVER, Ordering::SeqCst);
     }
 
     fn sleep_until<R: Wait>(&self, rt: &R, steps: u64) -> bool {

@@ -6,6 +6,12 @@ use tr_journal::Actor;
 pub trait Gate {
     /// Is called before an actor's k-th step of a part, counted from 1.
     fn turn<R: Wait>(&self, rt: &R, actor: Actor, k: u32);
+
+    /// Whether it lets nobody wait. Then it need not be asked, and a worker may make some steps, one after
+    /// another, before it gives up the tree's lock.
+    fn is_open(&self) -> bool {
+        false
+    }
 }
 
 /// A gate that lets nobody wait.
@@ -14,4 +20,8 @@ pub struct OpenGate;
 
 impl Gate for OpenGate {
     fn turn<R: Wait>(&self, _rt: &R, _actor: Actor, _k: u32) {}
+
+    fn is_open(&self) -> bool {
+        true
+    }
 }

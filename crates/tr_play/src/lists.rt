@@ -1,4 +1,4 @@
-ghost use Rattle.std.specs.Prelude.{◌≡◌, ◌<◌, Some, IfOk, length, slice_get};
+ghost use Rattle.std.specs.Prelude.{◌≡◌, ◌<◌, Some, IfOk, drop, length, slice_get, take};
 ghost use Rattle.tr_journal.specs.Lists.{HasList, list_of};
 ghost use Rattle.tr_play.specs.Lists.{AreListed, HaveLists};
 ghost use Rattle.tr_play.specs.Turns.{are_below, steps_at};
@@ -72,6 +72,27 @@ impl<'a, M: Command> List<'a, M> {
         self.places.len()
     }
 
+    /// At most `count` of them, from the k-th on, counted from 0.
+    pub(crate) fn part(&self, k: usize, count: usize) -> List<'a, M>
+        requires { k < length self.now }
+        ensures { result ≡ take count (drop k self.now) }
+    {
+        let rest = &self.places[k..];
+        List {
+            steps: self.steps,
+            places: &rest[..count.min(rest.len())],
+        }
+    }
+
+    /// How many of them are commands.
+    pub(crate) fn commands(&self) -> u64 {
+        let mut commands: u64 = 0;
+        for k in 0..self.len() {
+            commands = commands.saturating_add(u64::from(is_command(self.step(k))));
+        }
+        commands
+    }
+
     /// The k-th of them, counted from 0.
     pub(crate) fn step(&self, k: usize) -> &'a Step<M>
         requires { k < length self.now }
@@ -79,6 +100,11 @@ impl<'a, M: Command> List<'a, M> {
     {
         step_among(self.steps, self.places, k)
     }
+}
+
+/// Whether a step is a command of a client.
+fn is_command<M>(step: &Step<M>) -> bool {
+    matches!(step, Step::Act { .. })
 }
 
 /// The step at the k-th of these places among many. It is apart since the prover knows of a parameter, and

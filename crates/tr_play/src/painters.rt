@@ -12,24 +12,24 @@ use tr_levels::Ladder;
 use tr_server::{Mu, Pass, Session};
 
 impl<C: Client, L: Session, R: Threads + Wait + Sync, G: Gate> Context<'_, C, L, R, G> {
-    /// The painter brings the screen up to date when clients have made 16 commands, 32, 64 and so on, so that
-    /// the others mostly find the tree's lock free, and at last when all steps were made: once, and at most
-    /// once more for each 16 steps of the part, until memory runs out. Once he has waited in vain he waits no
-    /// more.
+    /// The painter brings the screen up to date when clients have made their first 16 commands, after that
+    /// whenever they have made one, but at most some sixty times a second, and at last when all steps were
+    /// made; in all once, and at most once more for each 16 steps of the part, until memory runs out. Once
+    /// he has waited in vain he comes for the last time.
     pub(crate) fn paint(&self, pass: &mut Pass<C, L>, steps: usize)
         requires { pass.old.actor ≡ Painter }
         ensures { pass.new.actor ≡ pass.old.actor }
     {
         let all = steps as u64;
-        let mut next = STEPS_A_REPAINT as u64;
-        let mut is_patient = true;
+        let mut next = all.min(STEPS_A_REPAINT as u64);
         for _repaint in 0..1 + steps / STEPS_A_REPAINT {
-            is_patient = is_patient && self.made.wait_for(self.rt, next.min(all));
-            next = next.saturating_mul(2);
-            let is_last = self.made.has(all);
+            let is_patient = self.made.wait_for(self.rt, next);
+            let is_last = !is_patient || self.made.has(all);
             if self.paint_once(pass).is_err() || is_last {
                 return;
             }
+            self.made.rest(self.rt, all);
+            next = all.min(self.made.count().saturating_add(1));
         }
     }
 

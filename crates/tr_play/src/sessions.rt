@@ -79,7 +79,8 @@ fn all_at_work<C: Client, L: Session, R: Threads + Wait + Sync, G: Gate + Sync>(
     all_work(context, workers.as_mut_slice(), lists, steps);
 }
 
-/// All workers do what is theirs, each in a thread of its own.
+/// All workers do what is theirs, each in a thread of its own; but where there is one step alone, for which all
+/// others wait, one thread does it all.
 fn all_work<C: Client, L: Session, R: Threads + Wait + Sync, G: Gate + Sync>(
     context: &Context<'_, C, L, R, G>,
     workers: &mut [Pass<C, L>],
@@ -92,7 +93,7 @@ fn all_work<C: Client, L: Session, R: Threads + Wait + Sync, G: Gate + Sync>(
     ensures { (i : ℕ) (d : _) → i < length workers.old →
         HasTaken lists.now (slice_index_or workers.old i d) (slice_index_or workers.new i d) }
 {
-    let threads = workers.len();
+    let threads = if steps > 1 { workers.len() } else { 1 };
     thread::for_each_mut(
         context.rt,
         workers,

@@ -1,8 +1,9 @@
-ghost use Rattle.std.specs.Prelude.{◌≡◌, ◌∷◌, ◌++◌, [], false, All, OnOk, OnErr};
+ghost use Rattle.std.specs.Prelude.{◌≡◌, ◌∷◌, ◌++◌, [], All, OnOk, OnErr};
 ghost use Rattle.tr_journal.specs.declared.Actor.TheVariants.{Leaf};
+ghost use Rattle.tr_journal.specs.declared.Step.{Step};
 ghost use Rattle.tr_journal.specs.declared.Step.TheVariants.{Act};
-ghost use Rattle.tr_server.specs.Passes.{is_client};
 ghost use Rattle.tr_journal.specs.Openings.{tree_of};
+ghost use Rattle.tr_journal.specs.Steps.{IsStep};
 ghost use Rattle.tr_parts.specs.Turns.{IsMade};
 ghost use Rattle.tr_play.specs.Workers.{HasWorked};
 
@@ -14,46 +15,138 @@ use tr_base::NoMemory;
 use tr_client::Client;
 use tr_journal::{Actor, Step};
 use tr_levels::Ladder;
-use tr_server::{Pass, Session, Window};
+use tr_server::{Mu, Pass, Session, Window};
 
 /// How many commands may be posted with a pass before one is made under the tree's lock.
 const MOST_POSTED: u8 = 64;
 
-/// After how many steps of its own a worker tells how far it has come.
-const STEPS_A_NOTE: u32 = 8;
+/// So many steps a worker makes before it tells how far it has come.
+const STEPS_A_NOTE: usize = 16;
 
 impl<C: Client, L: Session, R: Wait, G: Gate> Context<'_, C, L, R, G> {
-    /// Makes the steps of a list, one after another, until memory runs out. Before each the gate is asked,
-    /// with no lock held. The painter is told of commands as they are made, since they wait for him, and of
-    /// the other steps in the end: what an edit of the tree makes bad the next one may cover. Until then he
-    /// is only told that the steps get on.
+    /// Makes the steps of a list, one after another, until memory runs out. The painter is told of commands
+    /// as they are made, since they wait for him, and of the other steps in the end: what an edit of the
+    /// tree makes bad the next one may cover. Until then he is only told that the steps get on.
     pub(crate) fn work(&self, pass: &mut Pass<C, L>, list: &List<'_, C::Cmd>)
         requires { All (λ step.
             IsMade (tree_of self.now.server.now.opening).nodes (pass.old.actor, step)) list.now }
         ensures { HasWorked pass.old pass.new list.now }
     {
-        let count = list.len() as u64;
         // Where memory for all of them is wanting, it is taken as they come.
         let _ = pass.reserve(list.len());
-        let mut made: u32 = 0;
-        let mut commands: u64 = 0;
-        let mut told: u64 = 0;
-        for k in 0..list.len() {
-            let step = list.step(k);
-            made = made.saturating_add(1);
-            self.gate.turn(self.rt, pass.actor(), made);
-            if self.make(pass, step).is_err() {
-                self.made.add(count.saturating_sub(told));
+        let mut left = list.len() as u64;
+        for n in 0..list.len().div_ceil(STEPS_A_NOTE) {
+            let part = list.part(n * STEPS_A_NOTE, STEPS_A_NOTE);
+            let Ok(()) = self.make_part(pass, &part) else {
+                self.made.add(left);
                 return;
-            }
-            commands = commands.saturating_add(u64::from(is_command(step)));
-            if made % STEPS_A_NOTE == 0 {
-                self.made.add(commands);
-                told = told.saturating_add(commands);
-                commands = 0;
-            }
+            };
+            let commands = part.commands();
+            self.made.add(commands);
+            left = left.saturating_sub(commands);
         }
-        self.made.add(count.saturating_sub(told));
+        self.made.add(left);
+    }
+
+    /// Makes steps, one after another: under one lock, where the gate lets nobody wait and no command is
+    /// among them, since a command needs its window's lock alone.
+    fn make_part(&self, pass: &mut Pass<C, L>, part: &List<'_, C::Cmd>) -> Result<(), NoMemory>
+        requires { All (λ step.
+            IsMade (tree_of self.now.server.now.opening).nodes (pass.old.actor, step)) part.now }
+        ensures worked { HasWorked pass.old pass.new part.now }
+        ensures ok { OnOk result (pass.new.mine ≡ pass.old.mine ++ part.now) }
+    {
+        if self.gate.is_open() && part.commands() == 0 {
+            self.make_together(pass, part)
+        } else {
+            self.make_each(pass, part)
+        }
+    }
+
+    /// Makes steps, one after another. Before each the gate is asked, with no lock held.
+    fn make_each(&self, pass: &mut Pass<C, L>, part: &List<'_, C::Cmd>) -> Result<(), NoMemory>
+        requires { All (λ step.
+            IsMade (tree_of self.now.server.now.opening).nodes (pass.old.actor, step)) part.now }
+        ensures worked { HasWorked pass.old pass.new part.now }
+        ensures ok { OnOk result (pass.new.mine ≡ pass.old.mine ++ part.now) }
+    {
+        for k in 0..part.len() {
+            let made = u32::try_from(pass.mine().len()).unwrap_or(u32::MAX);
+            self.gate
+                .turn(self.rt, pass.actor(), made.saturating_add(1));
+            let step = part.step(k);
+            self.make(pass, step)?;
+        }
+        Ok(())
+    }
+
+    /// Makes steps, one after another, under the tree's lock, which is taken once.
+    fn make_together(&self, pass: &mut Pass<C, L>, part: &List<'_, C::Cmd>) -> Result<(), NoMemory>
+        requires { All (λ step.
+            IsMade (tree_of self.now.server.now.opening).nodes (pass.old.actor, step)) part.now }
+        ensures worked { HasWorked pass.old pass.new part.now }
+        ensures ok { OnOk result (pass.new.mine ≡ pass.old.mine ++ part.now) }
+    {
+        let mut mu = self.server.enter(self.rt, Ladder::ground());
+        let made = self.make_all_under(&mut mu, pass, part);
+        mu.leave().end();
+        made
+    }
+
+    /// The same, with the tree's lock taken.
+    fn make_all_under(
+        &self,
+        mu: &mut Mu<'_, C, L>,
+        pass: &mut Pass<C, L>,
+        part: &List<'_, C::Cmd>,
+    ) -> Result<(), NoMemory>
+        requires ready { All (λ step.
+            IsMade (tree_of self.now.server.now.opening).nodes (pass.old.actor, step)) part.now }
+        requires steps { (step : Step C.Cmd) → IsStep (tree_of self.now.server.now.opening).nodes step →
+            IsStep (tree_of mu.old.opening).nodes step }
+        ensures worked { HasWorked pass.old pass.new part.now }
+        ensures ok { OnOk result (pass.new.mine ≡ pass.old.mine ++ part.now) }
+    {
+        for k in 0..part.len() {
+            let step = part.step(k).copy(self.alloc)?;
+            self.make_with(mu, pass, step)?;
+        }
+        Ok(())
+    }
+
+    /// Makes a step, with the tree's lock taken.
+    fn make_with(
+        &self,
+        mu: &mut Mu<'_, C, L>,
+        pass: &mut Pass<C, L>,
+        step: Step<C::Cmd>,
+    ) -> Result<(), NoMemory>
+        requires ready { IsMade (tree_of self.now.server.now.opening).nodes (pass.old.actor, step) }
+        requires steps { (step : Step C.Cmd) → IsStep (tree_of self.now.server.now.opening).nodes step →
+            IsStep (tree_of mu.old.opening).nodes step }
+        ensures opening { mu.new.opening ≡ mu.old.opening }
+        ensures actor { pass.new.actor ≡ pass.old.actor }
+        ensures mine { OnOk result (pass.new.mine ≡ pass.old.mine ++ step ∷ []) }
+        ensures err { OnErr result (pass.new.mine ≡ pass.old.mine) }
+    {
+        match pass.actor() {
+            Actor::Leaf(leaf) => mu.client_step(self.rt, self.server.window(leaf), pass, step)?,
+            _ => mu.step(pass, step)?,
+        };
+        Ok(())
+    }
+
+    /// Makes a step, under the tree's lock.
+    fn make_under(&self, pass: &mut Pass<C, L>, step: Step<C::Cmd>) -> Result<(), NoMemory>
+        requires { IsMade (tree_of self.now.server.now.opening).nodes (pass.old.actor, step) }
+        ensures actor { pass.new.actor ≡ pass.old.actor }
+        ensures mine { OnOk result (pass.new.mine ≡ pass.old.mine ++ step ∷ []) }
+        ensures err { OnErr result (pass.new.mine ≡ pass.old.mine) }
+    {
+        let mut mu = self.server.enter(self.rt, Ladder::ground());
+        let made = self.make_with(&mut mu, pass, step);
+        mu.leave().end();
+        made
     }
 
     /// Makes a step.
@@ -66,7 +159,7 @@ impl<C: Client, L: Session, R: Wait, G: Gate> Context<'_, C, L, R, G> {
         let step = step.copy(self.alloc)?;
         match pass.actor() {
             Actor::Leaf(leaf) => self.make_in(self.server.window(leaf), pass, step),
-            _ => self.make_at_desk(pass, step),
+            _ => self.make_under(pass, step),
         }
     }
 
@@ -85,7 +178,7 @@ impl<C: Client, L: Session, R: Wait, G: Gate> Context<'_, C, L, R, G> {
     {
         match step {
             Step::Act { leaf: _, cmd } => self.act(window, pass, cmd),
-            other => self.make_under(window, pass, other),
+            other => self.make_under(pass, other),
         }
     }
 
@@ -109,44 +202,4 @@ impl<C: Client, L: Session, R: Wait, G: Gate> Context<'_, C, L, R, G> {
             made
         }
     }
-
-    /// The client of a window makes another step, under the tree's lock.
-    fn make_under(
-        &self,
-        window: &Window<C, L>,
-        pass: &mut Pass<C, L>,
-        step: Step<C::Cmd>,
-    ) -> Result<(), NoMemory>
-        requires actor { pass.old.actor ≡ Leaf window.now }
-        requires step { IsMade (tree_of self.now.server.now.opening).nodes (pass.old.actor, step) }
-        ensures actor { pass.new.actor ≡ pass.old.actor }
-        ensures mine { OnOk result (pass.new.mine ≡ pass.old.mine ++ step ∷ []) }
-        ensures err { OnErr result (pass.new.mine ≡ pass.old.mine) }
-    {
-        let mut mu = self.server.enter(self.rt, Ladder::ground());
-        let made = mu.client_step(self.rt, window, pass, step);
-        mu.leave().end();
-        made?;
-        Ok(())
-    }
-
-    /// The desk makes a step, under the tree's lock.
-    fn make_at_desk(&self, pass: &mut Pass<C, L>, step: Step<C::Cmd>) -> Result<(), NoMemory>
-        requires actor { is_client pass.old.actor ≡ false }
-        requires step { IsMade (tree_of self.now.server.now.opening).nodes (pass.old.actor, step) }
-        ensures actor { pass.new.actor ≡ pass.old.actor }
-        ensures mine { OnOk result (pass.new.mine ≡ pass.old.mine ++ step ∷ []) }
-        ensures err { OnErr result (pass.new.mine ≡ pass.old.mine) }
-    {
-        let mut mu = self.server.enter(self.rt, Ladder::ground());
-        let made = mu.step(pass, step);
-        mu.leave().end();
-        made?;
-        Ok(())
-    }
-}
-
-/// Whether a step is a command of a client.
-fn is_command<M>(step: &Step<M>) -> bool {
-    matches!(step, Step::Act { .. })
 }

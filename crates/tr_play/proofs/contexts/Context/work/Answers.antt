@@ -1,21 +1,32 @@
-use Rattle.std.proofs.Common.{◌≡◌, ◌<◌, ◌+◌, ◌++◌, ◌∷◌, [], List, ap, length, sym, take, ◌∙◌, rules}
-use Rattle.std.proofs.lemmas.List.{append_assoc, take_more}
-use Rattle.std.proofs.lemmas.Option.{get_or_from_slice_get}
+use Rattle.std.proofs.Common.{◌≡◌, ◌+◌, ◌*◌, ◌++◌, ap, drop, take, ◌∙◌, arith, rules}
+use Rattle.std.proofs.lemmas.List.Elements.{All-drop, All-take}
 use Rattle.tr_journal.specs.declared.steps.Step.{Step}
+use Rattle.tr_journal.specs.Openings.{tree_of}
+use Rattle.tr_parts.specs.Turns.{IsMade}
+use Rattle.tr_play.proofs.WorkerLemmas.{made_on, worked_on}
 use Rattle.tr_play.proofs.contexts.Context.work.Goals as goal
 
-pub loop-k-preserved : goal.loop-k-preserved
-loop-k-preserved g c =
-    let k = c.loop-k.k in
+pub make_part-requires-after_bounds : goal.make_part-requires-after_bounds
+make_part-requires-after_bounds g c κs within =
+    let from = c.loop-n.n * 16 in
     let list = c.args.list.now in
+    let P : Step g.row.C-Cmd.Denot → Type 0 = λ step. IsMade (tree_of c.args.self.now.server.now.opening).nodes (c.args.pass.now.actor, step) in
+    rw (c.part-part.ensures, c.loop-n.invariant.0) (All-take P 16 (drop from list) (All-drop P from list c.requires))
+
+pub returns-in_default : goal.returns-in_default
+returns-in_default g c =
+    worked_on c.args.pass.now c.loop-n.pass c.make_part.new.pass c.args.list.now c.part-part.result (c.loop-n.n * 16) 16
+    c.part-part.ensures c.loop-n.invariant.0 c.loop-n.invariant.1 c.make_part.ensures.worked
+
+pub loop-n-preserved : goal.loop-n-preserved
+loop-n-preserved g c =
+    let from = c.loop-n.n * 16 in
     let before = c.args.pass.now.mine in
-    let step = c.step-step.result.now in
-    let low : k < length list = search rules in
-    let next : take (k + 1) list ≡ take k list ++ step ∷ [] =
-    take_more list k step low ∙ ap (λ (x : Step _). take k list ++ x ∷ []) (get_or_from_slice_get list k step step c.step-step.ensures) in
-    let made : c.make.new.pass.mine ≡ c.loop-k.pass.mine ++ step ∷ [] = search rules in (
-      c.make.ensures.actor ∙ c.loop-k.invariant.0,
-      made ∙ ap (λ (xs : List (Step _)). xs ++ step ∷ []) c.loop-k.invariant.1
-          ∙ append_assoc before (take k list) (step ∷ [])
-          ∙ ap (λ (xs : List (Step _)). before ++ xs) (sym next),
+    let list = c.args.list.now in
+    let made : c.make_part.new.pass.mine ≡ c.loop-n.pass.mine ++ c.part-part.result = search rules in
+    let next : from + 16 ≡ (c.loop-n.n + 1) * 16 = omega arith in (
+      c.make_part.ensures.worked.actor ∙ c.loop-n.invariant.0,
+      made
+          ∙ made_on before c.loop-n.pass.mine list c.part-part.result from 16 c.part-part.ensures c.loop-n.invariant.1
+          ∙ ap (λ m. before ++ take m list) next,
     )
