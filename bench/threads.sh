@@ -88,7 +88,8 @@ write alone 1 4000 25
 measure alone ''
 write waiting 8 4000 0
 measure waiting ''
-for workload in 'typescript 40000' 'editor 20000' 'moves 10000' 'figures 60000' 'events 90000' 'dumps 60' 'steps 2000'; do
+for workload in 'typescript 40000' 'unseen 45000' 'repaints 40000' 'editor 20000' 'moves 10000' 'painted 10000' 'figures 60000' \
+    'events 90000' 'dumps 60' 'colours 60' 'steps 2000'; do
     name=${workload% *}
     "$top/bench/workloads.sh" --write "$name" "${workload#* }" >"$folder/$name"
     measure "$name" 1.2
