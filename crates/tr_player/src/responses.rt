@@ -17,6 +17,7 @@ use std::sync::Wait;
 use std::thread::Threads;
 use tr_arguments::{Command, command_of};
 use tr_base::NoMemory;
+use tr_chunks::read_script_in_chunks;
 use tr_grammar::{Code, LONGEST_SCRIPT, ReadRefused};
 use tr_io::Source;
 use tr_mirror::{LONGEST_STREAM, MirrorFault};
@@ -166,7 +167,7 @@ fn response_to_played<R: Threads + Wait + Sync, G: Gate + Sync>(
     ensures { IfOk result (λ response.
         (due : Due) × IsResponse due response × IsDueOfText Play bytes.now due) }
 {
-    match read_script(workers.alloc, bytes) {
+    match read_script_in_chunks(workers.rt, workers.alloc, bytes) {
         Ok(script) => Ok(Response::Threaded(threads(workers, script)?)),
         Err(ReadRefused::Refused { line, code }) => refusal(workers.alloc, line, code),
         Err(ReadRefused::NoMemory) => Err(NoMemory),

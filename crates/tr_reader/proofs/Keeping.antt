@@ -1,7 +1,7 @@
 -- What a line adds keeps what is so of every script so far.
-use Rattle.std.proofs.Common.{◌≡◌, ℕ, ◌+◌, true, false, List, [], ◌∷◌, ◌++◌, length, Option, Some, None, is_some, is_none, refl, sym, ap, subst, ◌∙◌, arith, length-append}
+use Rattle.std.proofs.Common.{◌≡◌, ℕ, ◌+◌, true, false, List, All, [], ◌∷◌, ◌++◌, length, Option, Some, None, is_some, is_none, refl, sym, ap, subst, ◌∙◌, arith, length-append}
 use Rattle.std.specs.Prelude.{sum_by}
-use Rattle.std.proofs.lemmas.List.Elements.{All-nil, All-push}
+use Rattle.std.proofs.lemmas.List.Elements.{All-nil, All-push, All-append}
 use Rattle.std.proofs.lemmas.List.Sums.{sum_by-append}
 use Rattle.tr_base.specs.declared.Size.{Size}
 use Rattle.tr_base.specs.declared.Kind.{Kind}
@@ -12,11 +12,14 @@ use Rattle.tr_forest.specs.Nodes.{Nodes, leaf_count, fresh}
 use Rattle.tr_tree.specs.Trees.{Seen}
 use Rattle.tr_journal.specs.declared.Item.{Item}
 use Rattle.tr_journal.specs.declared.Item.TheVariants as items
+use Rattle.tr_journal.specs.declared.Actor.{Actor}
+use Rattle.tr_journal.specs.declared.Step.{Step}
 use Rattle.tr_journal.specs.declared.Query.{Query}
 use Rattle.tr_journal.specs.Openings.{tree_of, tree_after}
 use Rattle.tr_journal.specs.Steps.{IsQuery}
 use Rattle.tr_journal.proofs.OpeningLemmas.{tree_more, node_leaves, leaf_leaves, put_keeps}
 use Rattle.tr_widget.specs.declared.Widget.{Widget}
+use Rattle.tr_widget.specs.declared.WidgetCmd.{WidgetCmd}
 use Rattle.tr_grammar.specs.declared.Place.{Place}
 use Rattle.tr_grammar.specs.declared.Place.TheVariants as places
 use Rattle.tr_grammar.specs.declared.Meaning.{Meaning}
@@ -28,7 +31,7 @@ use Rattle.tr_grammar.specs.Faults.{version_line, screen_line, opening_line, ste
 use Rattle.tr_grammar.specs.Scripts.{after, with_name, with_glyph, whole, IsPlayable, IsPlayablePart, IsPlayableScript}
 use Rattle.tr_reader.proofs.NameLemmas.{none_before, none_after}
 use Rattle.tr_reader.specs.Laws.{IsBare, HasNoPart, HasParts, HasRead, IsSoFar}
-use Rattle.tr_reader.specs.Adding.{sort_of_meaning, IsSoundItem, IsSoundValue}
+use Rattle.tr_reader.specs.Adding.{is_at_steps, with_steps, sort_of_meaning, IsSoundItem, IsSoundValue}
 use Rattle.tr_reader.specs.declared.readers.Reader.TheInside.{Inside}
 use Rattle.tr_reader.specs.declared.readers.Declared.{Declared}
 use Rattle.tr_reader.specs.Insides.{items_in, names_in, so_far, IsKept}
@@ -237,6 +240,50 @@ kept_after r new c w m is kept a v taken made counted =
     record {
       law = subst (λ (s : SoFar). IsSoFar s) (sym same) (keeps c w m (subst (λ (s : SoFar). IsSoFar s) is kept.law) a v taken);
       reports = counted ∙ more ∙ sym (more_reports c w m) ∙ ap (λ (s : SoFar). reports_so_far s) (sym same);
+    }
+
+-- behind steps there is a root, and all parts can be played
+behind_steps : (p : Place) (c : SoFar) → is_at_steps p ≡ true → HasRead p c → HasParts c
+behind_steps places.Start c a h = cc
+behind_steps places.Head c a h = cc
+behind_steps places.Opening c a h = cc
+behind_steps places.Gap c a h = cc
+behind_steps places.Steps c a h = h
+behind_steps places.Ended c a h = cc
+
+-- the same of what is read behind them
+reads_steps : (p : Place) (c : SoFar) → is_at_steps p ≡ true → HasParts c → HasRead p c
+reads_steps places.Start c a h = cc
+reads_steps places.Head c a h = cc
+reads_steps places.Opening c a h = cc
+reads_steps places.Gap c a h = cc
+reads_steps places.Steps c a h = h
+reads_steps places.Ended c a h = cc
+
+-- steps that can be played keep what is so of every script so far
+keeps_steps : (c : SoFar) (made : List (Actor × Step WidgetCmd)) → IsSoFar c → is_at_steps c.place ≡ true →
+    All (IsPlayable (nodes_so_far c)) made → IsSoFar (with_steps c made)
+keeps_steps c made h a playable =
+    let old = behind_steps c.place c a h.read in
+    let parts : HasParts (with_steps c made) = record {
+      root = old.root;
+      ended = old.ended;
+      part = record {
+        reports = old.part.reports;
+        steps = All-append (IsPlayable (nodes_so_far c)) c.part.steps made old.part.steps playable;
+      };
+    } in
+    record { nodes = h.nodes; leaves = h.leaves; shared = h.shared; read = reads_steps c.place (with_steps c made) a parts }
+
+-- the fields keep it behind such steps, where c is what they say before them
+pub kept_behind_steps : (r new : Inside) (c : SoFar) (made : List (Actor × Step WidgetCmd)) → so_far r ≡ c → IsKept r →
+    is_at_steps c.place ≡ true → All (IsPlayable (nodes_so_far c)) made →
+    so_far new ≡ with_steps (so_far r) made → new.report_count ≡ r.report_count → IsKept new
+kept_behind_steps r new c made is kept a playable added counted =
+    let same : so_far new ≡ with_steps c made = added ∙ ap (λ (s : SoFar). with_steps s made) is in
+    record {
+      law = subst (λ (s : SoFar). IsSoFar s) (sym same) (keeps_steps c made (subst (λ (s : SoFar). IsSoFar s) is kept.law) a playable);
+      reports = counted ∙ kept.reports ∙ ap (λ (s : SoFar). reports_so_far s) is ∙ ap (λ (s : SoFar). reports_so_far s) (sym same);
     }
 
 -- an item of the opening stands there

@@ -1,23 +1,37 @@
 -- Which lines can come behind those so far, and what comes of them.
-use Rattle.std.specs.Prelude.{◌≡◌, ◌≤◌, ℕ, ⊤, true, false, List, Option, Some, None, is_some, Result, Ok, Err}
+use Rattle.std.specs.Prelude.{◌≡◌, ◌≤◌, ℕ, ⊤, Bool, true, false, List, ◌++◌, Option, Some, None, is_some, Result, Ok, Err}
 use Rattle.tr_forest.specs.declared.Edit.TheVariants as edits
 use Rattle.tr_forest.specs.declared.NodeFault.{NodeFault}
 use Rattle.tr_forest.specs.Nodes.{IsNode, IsNodeKind, is_leaf, shown_by}
 use Rattle.tr_forest.specs.Edits.{IsEdit, IsScreenSize}
 use Rattle.tr_journal.specs.declared.Item.{Item}
 use Rattle.tr_journal.specs.declared.Item.TheVariants as items
+use Rattle.tr_journal.specs.declared.Actor.{Actor}
+use Rattle.tr_journal.specs.declared.Step.{Step}
 use Rattle.tr_journal.specs.Steps.{IsQuery}
 use Rattle.tr_widget.specs.declared.Widget.{Widget}
+use Rattle.tr_widget.specs.declared.WidgetCmd.{WidgetCmd}
 use Rattle.tr_grammar.specs.declared.Code.{Code}
 use Rattle.tr_grammar.specs.declared.Code.TheVariants.{B6}
 use Rattle.tr_grammar.specs.declared.LineRefused.{LineRefused}
 use Rattle.tr_grammar.specs.declared.LineRefused.TheVariants as refused
+use Rattle.tr_grammar.specs.declared.Place.{Place}
+use Rattle.tr_grammar.specs.declared.Place.TheVariants as places
 use Rattle.tr_grammar.specs.declared.Meaning.{Meaning}
 use Rattle.tr_grammar.specs.declared.Meaning.TheVariants as meanings
 use Rattle.tr_grammar.specs.Names.{number_of}
 use Rattle.tr_grammar.specs.States.{SoFar}
 use Rattle.tr_grammar.specs.Faults.{Sort, version_line, screen_line, opening_line, step_line, report_line, allows, is_refused, nodes_so_far, has_ended}
 use Rattle.tr_grammar.specs.Scripts.{Script, after, whole, IsPlayable, IsPlayableScript}
+
+-- the last line that isn't silent makes a step
+abbrev pub is_at_steps : Place → Bool
+is_at_steps places.Steps = true
+is_at_steps p = false
+
+-- the script so far, where the part that goes on has these steps more
+abbrev pub with_steps : SoFar → List (Actor × Step WidgetCmd) → SoFar
+with_steps c made = record c { part = record c.part { steps = c.part.steps ++ made } }
 
 -- where a line that says this may stand
 abbrev pub sort_of_meaning : Meaning → Sort

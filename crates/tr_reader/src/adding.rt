@@ -1,9 +1,9 @@
 //! What a line adds.
-ghost use Rattle.std.specs.Prelude.{◌≡◌, [], true, false, OnOk, OnErr, is_some};
+ghost use Rattle.std.specs.Prelude.{◌≡◌, [], true, false, All, OnOk, OnErr, is_some};
 ghost use Rattle.tr_journal.specs.Steps.{IsQuery};
 ghost use Rattle.tr_grammar.specs.Faults.{version_line, opening_line, step_line, report_line, allows, is_one_too_many, nodes_so_far};
 ghost use Rattle.tr_grammar.specs.Scripts.{after, IsPlayable};
-ghost use Rattle.tr_reader.specs.Adding.{Adds, IsSoundMeaning};
+ghost use Rattle.tr_reader.specs.Adding.{Adds, IsSoundMeaning, is_at_steps, with_steps};
 
 use crate::parts::{Part, Steps, push};
 use crate::readers::Reader;
@@ -62,6 +62,24 @@ impl<'a> Reader<'a> {
         let _told: Option<(BoardCmd, LabelCmd, LinesCmd, CanvasCmd, MeterCmd, EditorCmd)> = None;
         self.steps.push(actor, step)?;
         self.place = Place::Steps;
+        Ok(())
+    }
+
+    /// Takes room for this many steps more in the part that goes on.
+    pub fn reserve_steps(&mut self, more: usize) -> Result<(), NoMemory>
+        ensures { self.new ≡ self.old }
+    {
+        self.steps.reserve(more)
+    }
+
+    /// Steps that were read apart come behind those of the part that goes on.
+    pub fn add_steps(&mut self, steps: Steps<WidgetCmd>) -> Result<(), NoMemory>
+        requires place { is_at_steps self.old.place ≡ true }
+        requires playable { All (IsPlayable (nodes_so_far self.old)) steps }
+        ensures ok { OnOk result (self.new ≡ with_steps self.old steps) }
+        ensures err { OnErr result (self.new ≡ self.old) }
+    {
+        self.steps.append(steps)?;
         Ok(())
     }
 

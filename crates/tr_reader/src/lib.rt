@@ -11,6 +11,6 @@ mod scripts;
 mod tries;
 
 pub use names::Names;
-pub use parts::Part;
+pub use parts::{Part, Steps};
 pub use readers::Reader;
 pub use scripts::Script;

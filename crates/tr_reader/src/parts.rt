@@ -1,4 +1,4 @@
-ghost use Rattle.std.specs.Prelude.{◌≡◌, [], ◌∷◌, ◌++◌, OnOk, OnErr};
+ghost use Rattle.std.specs.Prelude.{◌≡◌, [], ◌∷◌, ◌++◌, length, OnOk, OnErr};
 
 use std::alloc::Global;
 use std::marker::Model;
@@ -22,10 +22,10 @@ impl Model for Part {
     ghost view = { λ p. record { reports = p.reports.items; steps = p.steps.items } };
 }
 
-/// The steps of the part that goes on. The type of commands is a parameter for the prover, which has no
+/// Steps of a part, each with who makes it. The type of commands is a parameter for the prover, which has no
 /// rule for a `&mut` to a `Vec` of steps with this many sorts of commands.
 #[derive(Drop)]
-pub(crate) struct Steps<M> {
+pub struct Steps<M> {
     steps: Vec<(Actor, Step<M>)>,
 }
 
@@ -41,7 +41,7 @@ impl<M> Model for Steps<M> {
 
 impl<M: Drop> Steps<M> {
     /// No step.
-    pub(crate) fn new(alloc: Global) -> Steps<M>
+    pub fn new(alloc: Global) -> Steps<M>
         ensures { result ≡ [] }
     {
         Steps {
@@ -49,8 +49,33 @@ impl<M: Drop> Steps<M> {
         }
     }
 
+    /// How many there are.
+    pub fn len(&self) -> usize
+        ensures { result ≡ length self.now }
+    {
+        self.steps.len()
+    }
+
+    /// Takes room for this many steps more.
+    pub fn reserve(&mut self, more: usize) -> Result<(), NoMemory>
+        ensures { self.new ≡ self.old }
+    {
+        self.steps.reserve(more)?;
+        Ok(())
+    }
+
+    /// Other steps come behind these.
+    pub fn append(&mut self, other: Steps<M>) -> Result<(), NoMemory>
+        ensures ok { OnOk result (self.new ≡ self.old ++ other) }
+        ensures err { OnErr result (self.new ≡ self.old) }
+    {
+        let mut steps = other.steps;
+        self.steps.append(&mut steps)?;
+        Ok(())
+    }
+
     /// A step more, with who makes it.
-    pub(crate) fn push(&mut self, actor: Actor, step: Step<M>) -> Result<(), NoMemory>
+    pub fn push(&mut self, actor: Actor, step: Step<M>) -> Result<(), NoMemory>
         ensures ok { OnOk result (self.new ≡ self.old ++ (actor, step) ∷ []) }
         ensures err { OnErr result (self.new ≡ self.old) }
     {

@@ -11,6 +11,7 @@ ghost use Rattle.tr_grammar.specs.Meanings.{kind_of};
 ghost use Rattle.tr_grammar.specs.Faults.{version_line, screen_line, opening_line, step_line, report_line, allows, has_ended, suits, suits_leaf, is_foreign, is_one_too_many};
 ghost use Rattle.tr_words.specs.Answers.{Answers};
 ghost use Rattle.tr_reader.specs.Laws.{IsSoFar};
+ghost use Rattle.tr_reader.specs.Adding.{is_at_steps};
 
 use crate::readers::Reader;
 use tr_base::{Kind, LeafId, NodeId};
@@ -71,6 +72,13 @@ impl<'a> Reader<'a> {
         ensures { result ≡ has_ended self.now.place }
     {
         matches!(self.place, Place::Ended)
+    }
+
+    /// Whether the last line that isn't silent makes a step.
+    pub fn is_at_steps(&self) -> bool
+        ensures { result ≡ is_at_steps self.now.place }
+    {
+        matches!(self.place, Place::Steps)
     }
 
     /// A version line stands first.

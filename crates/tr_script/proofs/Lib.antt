@@ -1,5 +1,6 @@
 mod EdgeLemmas
 mod FormLemmas
-mod LineLemmas
+pub mod LineLemmas
 mod NameLemmas
-mod Pieces
+pub mod Pieces
+mod StepLemmas

@@ -17,4 +17,5 @@ mod report_lines;
 mod scripts;
 mod widget_lines;
 
+pub use lines::{take_line, take_step};
 pub use scripts::read_script;

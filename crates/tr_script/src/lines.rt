@@ -1,14 +1,14 @@
 //! The reading of a line.
-ghost use Rattle.std.specs.Prelude.{◌≡◌, ◌<◌, ◌⊎◌, ◌∷◌, None, IfErr, OnOk, OnErr};
+ghost use Rattle.std.specs.Prelude.{◌≡◌, ◌<◌, ◌⊎◌, ◌∷◌, true, false, None, IfErr, IsTrue, OnOk, OnErr};
 ghost use Rattle.std.specs.List.{AllPass};
 ghost use Rattle.tr_base.specs.Lines.{is_printable};
 ghost use Rattle.tr_grammar.specs.Words.{words_of, word_at};
 ghost use Rattle.tr_grammar.specs.Forms.{forms};
-ghost use Rattle.tr_grammar.specs.Faults.{first_of, line_faults, fault_of};
+ghost use Rattle.tr_grammar.specs.Faults.{first_of, line_faults, fault_of, is_foreign};
 ghost use Rattle.tr_grammar.specs.Scripts.{after, next};
 ghost use Rattle.tr_words.specs.Answers.{texts};
-ghost use Rattle.tr_reader.specs.Adding.{IsFault, IsSoundMeaning};
-ghost use Rattle.tr_script.specs.Reading.{Reads, plain_forms};
+ghost use Rattle.tr_reader.specs.Adding.{IsFault, IsSoundMeaning, is_at_steps};
+ghost use Rattle.tr_script.specs.Reading.{Reads, SaysStep, TakesStep, plain_forms};
 
 use crate::act_lines::read_at;
 use crate::desk_lines::read_desk;
@@ -22,8 +22,14 @@ use crate::report_lines::{
 };
 use std::alloc::Global;
 use tr_grammar::{Code, LineRefused, Meaning};
-use tr_reader::Reader;
+use tr_reader::{Reader, Steps};
+use tr_widget::WidgetCmd;
 use tr_words::{is_silent, plain_text, words_of};
+use w_canvas::CanvasCmd;
+use w_edit::EditorCmd;
+use w_lines::LinesCmd;
+use w_meter::MeterCmd;
+use w_plain::{BoardCmd, LabelCmd};
 
 /// How many lines a script may have.
 const MOST_LINES: usize = 100_000;
@@ -96,6 +102,60 @@ fn read_plain(reader: &Reader, first: &str, words: &[&str]) -> Result<Meaning, L
     }
 }
 
+/// The step that is said comes behind the others. It is told whether one is.
+fn push_said(steps: &mut Steps<WidgetCmd>, meaning: Meaning) -> bool
+    ensures { IsTrue result → SaysStep meaning steps.old steps.new }
+{
+    // For the prover: its borrow checker finds the types within a command only where the body names them.
+    let _told: Option<(BoardCmd, LabelCmd, LinesCmd, CanvasCmd, MeterCmd, EditorCmd)> = None;
+    let Meaning::Step { actor, step } = meaning else {
+        return false;
+    };
+    steps.push(actor, step).is_ok()
+}
+
+/// The same, where a command is one of its leaf's widget.
+fn add_step(reader: &Reader, steps: &mut Steps<WidgetCmd>, meaning: Meaning) -> bool
+    ensures own { IsTrue result → is_foreign reader.now meaning ≡ false }
+    ensures step { IsTrue result → SaysStep meaning steps.old steps.new }
+{
+    if reader.is_foreign(&meaning) {
+        return false;
+    }
+    push_said(steps, meaning)
+}
+
+/// Reads the line of this number apart from those before it, of which the reader knows some and the others
+/// made these steps: its step, if it makes one, comes behind them. It is told whether the line is silent or
+/// makes a step, and has no fault, and there was memory.
+pub fn take_step(
+    alloc: Global,
+    reader: &Reader,
+    steps: &mut Steps<WidgetCmd>,
+    number: usize,
+    bytes: &[u8],
+) -> bool
+    requires { is_at_steps reader.now.place ≡ true }
+    ensures { IsTrue result → TakesStep reader.now number bytes.now steps.old steps.new }
+{
+    if number > MOST_LINES {
+        return false;
+    }
+    let Some(line) = plain_text(bytes) else {
+        return false;
+    };
+    if is_silent(line) {
+        return true;
+    }
+    let Ok(words) = words_of(alloc, line) else {
+        return false;
+    };
+    match read_words(alloc, reader, &words, line) {
+        Ok(meaning) => add_step(reader, steps, meaning),
+        Err(_) => false,
+    }
+}
+
 /// What a line says that has so many others before it comes behind what they say. Its second word is
 /// `name`.
 fn take_meaning<'a>(
@@ -127,7 +187,7 @@ fn take_meaning<'a>(
 /// Reads the line of this number. After an `Err` the reader is as before; but behind the 100,000th line it
 /// may know the line that was refused.
 #[tactic(auto, unfolding(tr_grammar::specs::Faults::fault_of, tr_grammar::specs::Scripts::next))]
-pub fn take<'a>(
+pub fn take_line<'a>(
     alloc: Global,
     reader: &mut Reader<'a>,
     number: usize,

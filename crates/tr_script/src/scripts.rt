@@ -6,7 +6,7 @@ ghost use Rattle.tr_grammar.specs.Codes.{number_of_code};
 ghost use Rattle.tr_grammar.specs.States.{nothing_yet};
 ghost use Rattle.tr_words.specs.Answers.{texts};
 
-use crate::lines::take;
+use crate::lines::take_line;
 use std::alloc::Global;
 use tr_grammar::{Code, LONGEST_SCRIPT, LineRefused, ReadRefused};
 use tr_reader::{Reader, Script};
@@ -33,7 +33,7 @@ fn read_lines(alloc: Global, lines: &[&[u8]]) -> Result<Script, ReadRefused>
 {
     let mut reader = Reader::new(alloc);
     for (index, line) in lines.iter().enumerate() {
-        match take(alloc, &mut reader, index + 1, line) {
+        match take_line(alloc, &mut reader, index + 1, line) {
             Ok(()) => {}
             Err(LineRefused::NoMemory) => return Err(ReadRefused::NoMemory),
             Err(LineRefused::Fault(code)) => return Err(refused_at(index + 1, code)),

@@ -18,5 +18,5 @@ pub returns-in-Err-Refused : goal.returns-in-Err-Refused
 returns-in-Err-Refused g c =
     let r : Refusal = record { line = c.in-Err-Refused.line; code = c.in-Err-Refused.code } in
     let cause : refusal_of c.args.bytes.now ≡ Some r =
-    rw (c.in-Err-Refused.is, c.in-Err-Refused.field-0-is) at c.read_script.ensures.cause in
+    rw (c.in-Err-Refused.is, c.in-Err-Refused.field-0-is) at c.read_script_in_chunks.ensures.cause in
     refused_due Play c.args.bytes.now r _ _ c.refusal.result c.in-Err-Refused.line-is c.in-Err-Refused.code-is cause c.refusal.ensures

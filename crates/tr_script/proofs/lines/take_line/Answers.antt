@@ -8,7 +8,7 @@ use Rattle.tr_words.specs.Answers.{texts}
 use Rattle.tr_reader.specs.Adding.{IsFault}
 use Rattle.tr_script.specs.Reading.{Reads}
 use Rattle.tr_script.proofs.LineLemmas.{IsLoud, fault_of_words, next_of_words, fault_behind, after_said, refused_before}
-use Rattle.tr_script.proofs.lines.take.Goals as goal
+use Rattle.tr_script.proofs.lines.take_line.Goals as goal
 
 loud : (c : goal.After-drop-words-2) → IsLoud c.args.reader.now c.args.bytes.now
 loud c = record {

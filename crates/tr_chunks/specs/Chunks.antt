@@ -1,0 +1,46 @@
+-- Chunks: lines of a part that are read apart from those before them. Private contracts alone cite this file.
+use Rattle.std.specs.Prelude.{◌≡◌, ℕ, ◌+◌, ◌*◌, ◌/◌, ◌%◌, ◌<◌, ◌≤◌, min, ⊤, Option, Some, None, List, All, [], ◌∷◌, ◌++◌, length, take, slice_index_or}
+use Rattle.std.specs.Fork.{slice_chunk}
+use Rattle.tr_journal.specs.declared.Actor.{Actor}
+use Rattle.tr_journal.specs.declared.Step.{Step}
+use Rattle.tr_widget.specs.declared.WidgetCmd.{WidgetCmd}
+use Rattle.tr_grammar.specs.States.{SoFar}
+use Rattle.tr_grammar.specs.Faults.{nodes_so_far}
+use Rattle.tr_grammar.specs.Scripts.{first_fault, after_all, IsPlayable}
+use Rattle.tr_reader.specs.Adding.{with_steps}
+
+-- steps that lines make, each with who makes it
+abbrev pub Made : Type 0
+Made = List (Actor × Step WidgetCmd)
+
+-- these lines, of which the first is line n, make these steps, wherever they stand behind c and steps: whatever comes later, its first
+-- fault is the first of all, and what is said is what it says behind the steps made, which can be played
+pub record MakeSteps (c : SoFar) (n : ℕ) (lines : List (List ℕ)) (made : Made) : Type 0 where
+  pub fault : (before : Made) (later : List (List ℕ)) →
+      first_fault (with_steps c before) n (lines ++ later) ≡ first_fault (with_steps c (before ++ made)) (n + length lines) later
+  pub script : (before : Made) (later : List (List ℕ)) →
+      after_all (with_steps c before) (lines ++ later) ≡ after_all (with_steps c (before ++ made)) later
+  pub playable : All (IsPlayable (nodes_so_far c)) made
+
+-- the steps that a chunk's lines make; none are answered where it wasn't read, for whatever reason
+abbrev pub IsChunk : SoFar → ℕ → List (List ℕ) → Option Made → Type 0
+IsChunk c n lines None = ⊤
+IsChunk c n lines (Some made) = MakeSteps c n lines made
+
+-- what was read of line n and those behind it, cut into chunks of so many lines, of which the last may be shorter
+pub record AreChunks (c : SoFar) (n size : ℕ) (lines : List (List ℕ)) (chunks : List (Option Made)) : Type 0 where
+  pub count : length chunks ≡ length lines / size + min 1 (length lines % size)
+  pub each : (k : ℕ) (d : Option Made) → k < length chunks →
+      IsChunk c (n + k * size) (slice_chunk lines size k) (slice_index_or chunks k d)
+
+-- all of these lists, one behind another
+abbrev pub joined : {A : Type 0} → List (List A) → List A
+joined [] = []
+joined (xs ∷ lists) = xs ++ joined lists
+
+-- so many of the lines, of which the first is line n, are taken: the script so far has their steps
+pub record TakesLines (c : SoFar) (n : ℕ) (lines : List (List ℕ)) (new : SoFar) (count : ℕ) : Type 0 where
+  pub most : count ≤ length lines
+  pub made : Made
+  pub make : MakeSteps c n (take count lines) made
+  pub script : new ≡ with_steps c made
