@@ -24,12 +24,12 @@ use Rattle.tr_grammar.specs.States.{SoFar}
 use Rattle.tr_grammar.specs.Faults.{Sort, version_line, screen_line, opening_line, step_line, report_line, allows, is_refused, nodes_so_far, has_ended}
 use Rattle.tr_grammar.specs.Scripts.{Script, after, whole, IsPlayable, IsPlayableScript}
 
--- the last line that isn't silent makes a step
+-- the last line that wasn't silent made a step
 abbrev pub is_at_steps : Place → Bool
 is_at_steps places.Steps = true
 is_at_steps p = false
 
--- the script so far, where the part that goes on has these steps more
+-- the script so far with these steps more in the part that goes on; where the last line made a step, it is what these steps leave
 abbrev pub with_steps : SoFar → List (Actor × Step WidgetCmd) → SoFar
 with_steps c made = record c { part = record c.part { steps = c.part.steps ++ made } }
 
