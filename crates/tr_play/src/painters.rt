@@ -8,8 +8,13 @@ use std::sync::Wait;
 use std::thread::Threads;
 use tr_base::{LeafId, NoMemory};
 use tr_client::Client;
+use tr_journal::Step;
 use tr_levels::Ladder;
 use tr_server::{Mu, Pass, Session};
+
+/// Where no more points are bad the painter paints all by himself; where more are, `repaint_shared` has
+/// windows painted side by side.
+const FEW_POINTS: u32 = 1 << 18;
 
 impl<C: Client, L: Session, R: Threads + Wait + Sync, G: Gate> Context<'_, C, L, R, G> {
     /// The painter brings the screen up to date when clients have made their first 16 commands, after that
@@ -50,7 +55,25 @@ impl<C: Client, L: Session, R: Threads + Wait + Sync, G: Gate> Context<'_, C, L,
         ensures { pass.new.actor ≡ pass.old.actor }
     {
         self.hand_over_all(mu)?;
+        if mu.stage().bad_count() <= FEW_POINTS {
+            self.repaint_waiting(mu, pass)?;
+        }
         mu.repaint_shared(self.rt, pass)
+    }
+
+    /// Repaints each window for which something waits, before `repaint_shared` flushes it: where others cover
+    /// a part of the window a flush executes each scroll that waits, and a repaint paints it once.
+    fn repaint_waiting(&self, mu: &mut Mu<'_, C, L>, pass: &mut Pass<C, L>) -> Result<(), NoMemory>
+        requires { pass.old.actor ≡ Painter }
+        ensures { pass.new.actor ≡ pass.old.actor }
+    {
+        for n in 0..self.server.opening().tree().leaves() {
+            let leaf = LeafId(n);
+            if !mu.stage().batch(leaf).is_empty() {
+                mu.step(pass, Step::Repaint { leaf })?;
+            }
+        }
+        Ok(())
     }
 
     /// Hands over what waits in each window.

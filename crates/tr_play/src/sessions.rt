@@ -79,8 +79,8 @@ fn all_at_work<C: Client, L: Session, R: Threads + Wait + Sync, G: Gate + Sync>(
     all_work(context, workers.as_mut_slice(), lists, steps);
 }
 
-/// All workers do what is theirs, each in a thread of its own; but where there is one step alone, for which all
-/// others wait, one thread does it all.
+/// All workers do what is theirs, each in a thread of its own; but where there is one step alone, for which
+/// all others wait, one thread does it all.
 fn all_work<C: Client, L: Session, R: Threads + Wait + Sync, G: Gate + Sync>(
     context: &Context<'_, C, L, R, G>,
     workers: &mut [Pass<C, L>],

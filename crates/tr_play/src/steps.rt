@@ -37,11 +37,11 @@ impl<C: Client, L: Session, R: Wait, G: Gate> Context<'_, C, L, R, G> {
         let mut left = list.len() as u64;
         for n in 0..list.len().div_ceil(STEPS_A_NOTE) {
             let part = list.part(n * STEPS_A_NOTE, STEPS_A_NOTE);
-            let Ok(()) = self.make_part(pass, &part) else {
+            let commands = part.commands();
+            let Ok(()) = self.make_part(pass, &part, commands > 0) else {
                 self.made.add(left);
                 return;
             };
-            let commands = part.commands();
             self.made.add(commands);
             left = left.saturating_sub(commands);
         }
@@ -50,13 +50,18 @@ impl<C: Client, L: Session, R: Wait, G: Gate> Context<'_, C, L, R, G> {
 
     /// Makes steps, one after another: under one lock, where the gate lets nobody wait and no command is
     /// among them, since a command needs its window's lock alone.
-    fn make_part(&self, pass: &mut Pass<C, L>, part: &List<'_, C::Cmd>) -> Result<(), NoMemory>
+    fn make_part(
+        &self,
+        pass: &mut Pass<C, L>,
+        part: &List<'_, C::Cmd>,
+        has_commands: bool,
+    ) -> Result<(), NoMemory>
         requires { All (λ step.
             IsMade (tree_of self.now.server.now.opening).nodes (pass.old.actor, step)) part.now }
         ensures worked { HasWorked pass.old pass.new part.now }
         ensures ok { OnOk result (pass.new.mine ≡ pass.old.mine ++ part.now) }
     {
-        if self.gate.is_open() && part.commands() == 0 {
+        if self.gate.is_open() && !has_commands {
             self.make_together(pass, part)
         } else {
             self.make_each(pass, part)
