@@ -1,5 +1,5 @@
 -- What the readers of lines answer. Contracts of the crate's own functions alone cite this file.
-use Rattle.std.specs.Prelude.{◌≡◌, ℕ, List, All, [], ◌∷◌, ◌++◌, Bool, true, false, not, ◌||◌, if◌then◌else◌, codes, Option, Some, None, Result, Ok, Err, ⊤}
+use Rattle.std.specs.Prelude.{◌≡◌, ℕ, List, [], ◌∷◌, ◌++◌, Bool, true, false, not, ◌||◌, if◌then◌else◌, codes, Option, Some, None, Result, Ok, Err, ⊤}
 use Rattle.tr_grammar.specs.declared.Code.{Code}
 use Rattle.tr_grammar.specs.declared.Code.TheVariants.{B1, B2, B3, B4, B5}
 use Rattle.tr_grammar.specs.declared.LineRefused.{LineRefused}
@@ -10,8 +10,7 @@ use Rattle.tr_grammar.specs.Words.{word_at, nat_of, int_of, is_name, is_shape, i
 use Rattle.tr_grammar.specs.Forms.{Form, Version, Screen, Glyph, Put, PutAt, Root, Begin, Mouse, Motion, Key, Attach, AttachAt, Detach, Tint, Widen, Offset, Fix, Move, Lift, Show, Turn, Reshape, Resize, Rescreen, Sync, Dump, Peek, Journal, Where, Inbox, End, SetTint, SetTile, SetShift, SetText, AddLine, Clear, AddRect, AddSwap, AddExchange, Undo, SetBar, InsertText, EraseByte, SplitLine, GoTo, CopyText, PasteClip, among}
 use Rattle.tr_grammar.specs.Meanings.{meaning_of}
 use Rattle.tr_grammar.specs.States.{SoFar}
-use Rattle.tr_grammar.specs.Faults.{first_of, word_faults, fault_of, nodes_so_far}
-use Rattle.tr_grammar.specs.Scripts.{next, IsPlayable}
+use Rattle.tr_grammar.specs.Faults.{first_of, word_faults}
 use Rattle.tr_journal.specs.declared.Actor.{Actor}
 use Rattle.tr_journal.specs.declared.Step.{Step}
 use Rattle.tr_widget.specs.declared.WidgetCmd.{WidgetCmd}
@@ -23,7 +22,7 @@ use Rattle.tr_words.specs.declared.LeafWords.{LeafWords}
 use Rattle.tr_words.specs.declared.ShapeWords.{ShapeWords}
 use Rattle.tr_script.specs.declared.act_lines.EdgeWords.{EdgeWords}
 use Rattle.tr_script.specs.declared.act_lines.ActLine.{ActLine}
-use Rattle.tr_reader.specs.Adding.{IsSoundMeaning, with_steps}
+use Rattle.tr_reader.specs.Adding.{IsSoundMeaning}
 
 -- the first fault that the words show, where their form is this one
 abbrev pub word_fault : SoFar → Option Form → List (List ℕ) → Option Code
@@ -139,14 +138,7 @@ ReadsEdges ws P (Err e) =
     is_no_edge ws.west.now || (is_no_edge ws.east.now || (is_no_edge ws.north.now || (is_no_edge ws.south.now || rest))) ≡ true)
     × (e ≡ B2)
 
--- what is said makes a step, which comes behind those before it
-abbrev pub SaysStep : Meaning → List (Actor × Step WidgetCmd) → List (Actor × Step WidgetCmd) → Type 0
-SaysStep (meanings.Step actor step) old new = new ≡ old ++ (actor, step) ∷ []
-SaysStep m old new = ⊥
-
--- line n, behind the lines so far and any others that made steps, has no fault; where the last of those steps are the old ones, they are
--- the new ones behind it
-pub record TakesStep (c : SoFar) (n : ℕ) (line : List ℕ) (old new : List (Actor × Step WidgetCmd)) : Type 0 where
-  pub fault : (before : List (Actor × Step WidgetCmd)) → fault_of (with_steps c (before ++ old)) n line ≡ None
-  pub script : (before : List (Actor × Step WidgetCmd)) → next (with_steps c (before ++ old)) line ≡ with_steps c (before ++ new)
-  pub playable : All (IsPlayable (nodes_so_far c)) old → All (IsPlayable (nodes_so_far c)) new
+-- what is said makes a step, which comes behind those before it; or it makes none, and they are as before
+abbrev pub SaysStep : Meaning → List (Actor × Step WidgetCmd) → List (Actor × Step WidgetCmd) → Bool → Type 0
+SaysStep (meanings.Step actor step) old new taken = (taken ≡ true) × (new ≡ old ++ (actor, step) ∷ [])
+SaysStep m old new taken = (taken ≡ false) × (new ≡ old)

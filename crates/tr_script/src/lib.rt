@@ -17,5 +17,5 @@ mod report_lines;
 mod scripts;
 mod widget_lines;
 
-pub use lines::{take_line, take_step};
-pub use scripts::read_script;
+pub use lines::{MOST_LINES, take_line, take_step};
+pub use scripts::{read_script, refused_at};

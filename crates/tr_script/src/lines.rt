@@ -1,5 +1,5 @@
 //! The reading of a line.
-ghost use Rattle.std.specs.Prelude.{◌≡◌, ◌<◌, ◌⊎◌, ◌∷◌, true, false, None, IfErr, IsTrue, OnOk, OnErr};
+ghost use Rattle.std.specs.Prelude.{◌≡◌, ◌<◌, ◌⊎◌, ◌∷◌, true, false, None, IfOk, IfErr, OnOk, OnErr};
 ghost use Rattle.std.specs.List.{AllPass};
 ghost use Rattle.tr_base.specs.Lines.{is_printable};
 ghost use Rattle.tr_grammar.specs.Words.{words_of, word_at};
@@ -8,7 +8,8 @@ ghost use Rattle.tr_grammar.specs.Faults.{first_of, line_faults, fault_of, is_fo
 ghost use Rattle.tr_grammar.specs.Scripts.{after, next};
 ghost use Rattle.tr_words.specs.Answers.{texts};
 ghost use Rattle.tr_reader.specs.Adding.{IsFault, IsSoundMeaning, is_at_steps};
-ghost use Rattle.tr_script.specs.Reading.{Reads, SaysStep, TakesStep, plain_forms};
+ghost use Rattle.tr_script.specs.Apart.{TakesStep, stays_at_steps};
+ghost use Rattle.tr_script.specs.Reading.{Reads, SaysStep, plain_forms};
 
 use crate::act_lines::read_at;
 use crate::desk_lines::read_desk;
@@ -21,6 +22,7 @@ use crate::report_lines::{
     read_dump, read_end, read_inbox, read_journal, read_peek, read_sync, read_where,
 };
 use std::alloc::Global;
+use tr_base::NoMemory;
 use tr_grammar::{Code, LineRefused, Meaning};
 use tr_reader::{Reader, Steps};
 use tr_widget::WidgetCmd;
@@ -32,7 +34,7 @@ use w_meter::MeterCmd;
 use w_plain::{BoardCmd, LabelCmd};
 
 /// How many lines a script may have.
-const MOST_LINES: usize = 100_000;
+pub const MOST_LINES: usize = 100_000;
 
 /// The second word of a line, which is the name that it declares if it declares one.
 fn second<'a>(words: &[&'a str]) -> &'a str
@@ -102,57 +104,70 @@ fn read_plain(reader: &Reader, first: &str, words: &[&str]) -> Result<Meaning, L
     }
 }
 
-/// The step that is said comes behind the others. It is told whether one is.
-fn push_said(steps: &mut Steps<WidgetCmd>, meaning: Meaning) -> bool
-    ensures { IsTrue result → SaysStep meaning steps.old steps.new }
+/// The step that is said comes behind the others. Answers whether one is said.
+fn push_said(steps: &mut Steps<WidgetCmd>, meaning: Meaning) -> Result<bool, NoMemory>
+    ensures ok { IfOk result (SaysStep meaning steps.old steps.new) }
+    ensures err { OnErr result (steps.new ≡ steps.old) }
 {
     // For the prover: its borrow checker finds the types within a command only where the body names them.
     let _told: Option<(BoardCmd, LabelCmd, LinesCmd, CanvasCmd, MeterCmd, EditorCmd)> = None;
     let Meaning::Step { actor, step } = meaning else {
-        return false;
+        return Ok(false);
     };
-    steps.push(actor, step).is_ok()
+    steps.push(actor, step)?;
+    Ok(true)
 }
 
-/// The same, where a command is one of its leaf's widget.
-fn add_step(reader: &Reader, steps: &mut Steps<WidgetCmd>, meaning: Meaning) -> bool
-    ensures own { IsTrue result → is_foreign reader.now meaning ≡ false }
-    ensures step { IsTrue result → SaysStep meaning steps.old steps.new }
+/// The same, but a command of another widget than its leaf's isn't taken.
+fn take_said(
+    reader: &Reader,
+    steps: &mut Steps<WidgetCmd>,
+    meaning: Meaning,
+) -> Result<bool, NoMemory>
+    ensures foreign { is_foreign reader.now meaning ≡ true →
+        IfOk result (λ taken. (taken ≡ false) × (steps.new ≡ steps.old)) }
+    ensures own { is_foreign reader.now meaning ≡ false →
+        IfOk result (SaysStep meaning steps.old steps.new) }
+    ensures err { OnErr result (steps.new ≡ steps.old) }
 {
     if reader.is_foreign(&meaning) {
-        return false;
+        return Ok(false);
     }
     push_said(steps, meaning)
 }
 
-/// Reads the line of this number apart from those before it, of which the reader knows some and the others
-/// made these steps: its step, if it makes one, comes behind them. It is told whether the line is silent or
-/// makes a step, and has no fault, and there was memory.
+/// Reads the line of this number apart from those before it: the reader knows what they declare, and which
+/// steps the others made doesn't matter. Answers whether the line has no fault and is silent or makes a step;
+/// its step, if it makes one, comes behind `steps`. Else these are as before: the line has a fault, or is a
+/// sync.
 pub fn take_step(
     alloc: Global,
     reader: &Reader,
     steps: &mut Steps<WidgetCmd>,
     number: usize,
     bytes: &[u8],
-) -> bool
+) -> Result<bool, NoMemory>
     requires { is_at_steps reader.now.place ≡ true }
-    ensures { IsTrue result → TakesStep reader.now number bytes.now steps.old steps.new }
+    ensures answer { IfOk result (λ taken. taken ≡ stays_at_steps reader.now number bytes.now) }
+    ensures taken { IfOk result (λ taken. taken ≡ true →
+        TakesStep reader.now number bytes.now steps.old steps.new) }
+    ensures left { IfOk result (λ taken. taken ≡ false → steps.new ≡ steps.old) }
+    ensures err { OnErr result (steps.new ≡ steps.old) }
 {
     if number > MOST_LINES {
-        return false;
+        return Ok(false);
     }
     let Some(line) = plain_text(bytes) else {
-        return false;
+        return Ok(false);
     };
     if is_silent(line) {
-        return true;
+        return Ok(true);
     }
-    let Ok(words) = words_of(alloc, line) else {
-        return false;
-    };
+    let words = words_of(alloc, line)?;
     match read_words(alloc, reader, &words, line) {
-        Ok(meaning) => add_step(reader, steps, meaning),
-        Err(_) => false,
+        Ok(meaning) => take_said(reader, steps, meaning),
+        Err(LineRefused::NoMemory) => Err(NoMemory),
+        Err(LineRefused::Fault(_)) => Ok(false),
     }
 }
 

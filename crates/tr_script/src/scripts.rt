@@ -12,8 +12,8 @@ use tr_grammar::{Code, LONGEST_SCRIPT, LineRefused, ReadRefused};
 use tr_reader::{Reader, Script};
 use tr_words::lines_of;
 
-/// The refusal of a line.
-fn refused_at(line: usize, code: Code) -> ReadRefused
+/// The refusal of a line; line 0 stands for the whole text.
+pub fn refused_at(line: usize, code: Code) -> ReadRefused
     requires { line < 2 ^ 32 }
     ensures { result ≡ ReadRefused.Refused line (number_of_code code) }
 {

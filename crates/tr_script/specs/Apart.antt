@@ -1,0 +1,20 @@
+-- Lines that are read apart from those before them.
+use Rattle.std.specs.Prelude.{◌≡◌, ℕ, List, All, ◌++◌, Bool, ◌&&◌, None, is_none}
+use Rattle.tr_grammar.specs.States.{SoFar}
+use Rattle.tr_grammar.specs.Faults.{fault_of, nodes_so_far}
+use Rattle.tr_grammar.specs.Scripts.{next, IsPlayable}
+use Rattle.tr_journal.specs.declared.Actor.{Actor}
+use Rattle.tr_journal.specs.declared.Step.{Step}
+use Rattle.tr_widget.specs.declared.WidgetCmd.{WidgetCmd}
+use Rattle.tr_reader.specs.Adding.{is_at_steps, with_steps}
+
+-- line n behind c, whose last line made a step, has no fault, and is silent or makes a step too
+abbrev pub stays_at_steps : SoFar → ℕ → List ℕ → Bool
+stays_at_steps c n line = is_none (fault_of c n line) && is_at_steps (next c line).place
+
+-- line n is read behind c, whose last line made a step, and then any steps, the last of them the old ones: it has no fault and makes the
+-- new ones of the old; where the old can be played, so can the new
+pub record TakesStep (c : SoFar) (n : ℕ) (line : List ℕ) (old new : List (Actor × Step WidgetCmd)) : Type 0 where
+  pub fault : (before : List (Actor × Step WidgetCmd)) → fault_of (with_steps c (before ++ old)) n line ≡ None
+  pub script : (before : List (Actor × Step WidgetCmd)) → next (with_steps c (before ++ old)) line ≡ with_steps c (before ++ new)
+  pub playable : All (IsPlayable (nodes_so_far c)) old → All (IsPlayable (nodes_so_far c)) new
