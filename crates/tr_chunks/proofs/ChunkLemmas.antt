@@ -1,7 +1,7 @@
 -- Lines that make steps, one behind another, and chunk behind chunk.
 use Rattle.std.proofs.Common.{◌≡◌, ℕ, ◌+◌, ◌*◌, ◌/◌, ◌%◌, ◌<◌, ◌≤◌, zero, suc, min, true, Option, Some, None, List, map, All, [], ◌∷◌, ◌++◌, length, get_or, take, drop, refl, sym, ap, subst, ◌∙◌, arith, ⊎_elim, div-add-mod', mod-lt, eq-zero-or-pos, add-mul, one-mul, mul-le-mul_right, zero-mul, add-zero, suc-mul, drop-drop, length-drop, append_assoc, append-nil, length-append, ap₂, length-take-le, take-suc, take-add, take_all, take-append-drop, take-take, length-take}
 use Rattle.std.proofs.lemmas.List.Elements.{All-nil, All-append, All-from_get_or, All-head, All-rest, All-same}
-use Rattle.std.proofs.lemmas.List.{length-map}
+use Rattle.std.proofs.lemmas.List.{length-map, flat_map_more}
 use Rattle.std.specs.Borrow.{Bor}
 use Rattle.std.specs.Fork.{slice_chunk}
 use Rattle.tr_grammar.specs.States.{SoFar}
@@ -9,7 +9,7 @@ use Rattle.tr_grammar.specs.Faults.{fault_of, nodes_so_far}
 use Rattle.tr_grammar.specs.Scripts.{Refusal, next, first_fault, after_all, IsPlayable}
 use Rattle.tr_words.specs.Answers.{texts}
 use Rattle.tr_reader.specs.Adding.{is_at_steps, with_steps}
-use Rattle.tr_script.specs.Reading.{TakesStep}
+use Rattle.tr_script.specs.Apart.{TakesStep}
 use Rattle.tr_script.proofs.LineLemmas.{IsRead, one_read}
 use Rattle.tr_script.proofs.Pieces.{drop_texts}
 use Rattle.tr_chunks.specs.Chunks.{Made, AreChunks, IsChunk, MakeSteps, TakesLines, joined}
@@ -66,26 +66,28 @@ texts_chunk from n ps = texts_take n (drop from ps) ∙ ap (λ (ts : List (List 
 with_nothing : (c : SoFar) → with_steps c [] ≡ c
 with_nothing c = rw (append-nil c.part.steps) refl
 
+-- lines behind lines
+after_lines : (c : SoFar) (lines more : List (List ℕ)) → after_all c (lines ++ more) ≡ after_all (after_all c lines) more
+after_lines c [] more = refl
+after_lines c (line ∷ lines) more = after_lines (next c line) lines more
+
 -- no line makes no step
 pub none_made : (c : SoFar) (n : ℕ) → MakeSteps c n [] []
 none_made c n = record {
   fault = λ before later. rw (append-nil before, add-zero n) refl;
-  script = λ before later. rw (append-nil before) refl;
+  script = λ before. rw (append-nil before) refl;
   playable = All-nil (IsPlayable (nodes_so_far c));
 }
 
 module _ (c : SoFar) where
-  -- the first fault of lines behind these steps, and what is said behind them
+  -- the first fault of lines behind these steps
   fault_from : Made → ℕ → List (List ℕ) → Option Refusal
   fault_from before n lines = first_fault (with_steps c before) n lines
-
-  script_from : Made → List (List ℕ) → SoFar
-  script_from before lines = after_all (with_steps c before) lines
 
   -- a line more
   pub line_made : (n k : ℕ) (lines : List (List ℕ)) (line : List ℕ) (old new : Made) →
       MakeSteps c n lines old → k ≡ n + length lines → TakesStep c k line old new → MakeSteps c n (lines ++ line ∷ []) new
-  unfolding fault_from script_from
+  unfolding fault_from
   line_made n k lines line old new made at step =
       let end : k + 1 ≡ n + length (lines ++ line ∷ []) = omega (arith, length-append lines (line ∷ []), at) in
       record {
@@ -94,16 +96,15 @@ module _ (c : SoFar) where
             rw (step.fault before, step.script before) refl in
             ap (fault_from before n) (append_assoc lines (line ∷ []) later) ∙ made.fault before (line ∷ later)
             ∙ ap (λ m. fault_from (before ++ old) m (line ∷ later)) (sym at) ∙ one ∙ ap (λ m. fault_from (before ++ new) m later) end;
-        script = λ before later.
-            let one : script_from (before ++ old) (line ∷ later) ≡ script_from (before ++ new) later = rw (step.script before) refl in
-            ap (script_from before) (append_assoc lines (line ∷ []) later) ∙ made.script before (line ∷ later) ∙ one;
+        script = λ before.
+            after_lines (with_steps c before) lines (line ∷ []) ∙ ap (λ (s : SoFar). next s line) (made.script before) ∙ step.script before;
         playable = step.playable made.playable;
       }
 
-  -- lines behind lines
+  -- and lines behind lines
   pub both_made : (n k : ℕ) (lines more : List (List ℕ)) (made then : Made) →
       MakeSteps c n lines made → k ≡ n + length lines → MakeSteps c k more then → MakeSteps c n (lines ++ more) (made ++ then)
-  unfolding fault_from script_from
+  unfolding fault_from
   both_made n k lines more made then a at b =
       let end : k + length more ≡ n + length (lines ++ more) = omega (arith, length-append lines more, at) in
       record {
@@ -111,16 +112,15 @@ module _ (c : SoFar) where
             ap (fault_from before n) (append_assoc lines more later) ∙ a.fault before (more ++ later)
             ∙ ap (λ m. fault_from (before ++ made) m (more ++ later)) (sym at) ∙ b.fault (before ++ made) later
             ∙ ap₂ (λ s m. fault_from s m later) (append_assoc before made then) end;
-        script = λ before later.
-            ap (script_from before) (append_assoc lines more later) ∙ a.script before (more ++ later)
-            ∙ b.script (before ++ made) later ∙ ap (λ s. script_from s later) (append_assoc before made then);
+        script = λ before.
+            after_lines (with_steps c before) lines more ∙ ap (λ (s : SoFar). after_all s more) (a.script before)
+            ∙ b.script (before ++ made) ∙ ap (λ (xs : Made). with_steps c xs) (append_assoc before made then);
         playable = All-append (IsPlayable (nodes_so_far c)) made then a.playable b.playable;
       }
 
 -- lists, and one more of them
 joined_more : {A : Type 0} (lists : List (List A)) (xs : List A) → joined (lists ++ xs ∷ []) ≡ joined lists ++ xs
-joined_more [] xs = append-nil xs
-joined_more (ys ∷ lists) xs = rw (joined_more lists xs) (sym (append_assoc ys (joined lists) xs))
+joined_more lists xs = sym (flat_map_more (λ ys. ys) [] lists xs)
 
 -- chunks of this length, each of which makes the steps of its place
 module _ (c : SoFar) (n size : ℕ) (lines : List (List ℕ)) (chunks : List Made)
@@ -232,7 +232,9 @@ stretch_read all i count c made read fits stretch =
     record {
       fault = read.fault ∙ ap₂ (λ (s : SoFar) (ts : List (List ℕ)). first_fault s (i + 1) ts) none cut ∙ stretch.fault [] (drop (i + count) all)
           ∙ ap (λ (n : ℕ). first_fault (with_steps c made) n (drop (i + count) all)) end;
-      script = read.script ∙ ap₂ (λ (s : SoFar) (ts : List (List ℕ)). after_all s ts) none cut ∙ stretch.script [] (drop (i + count) all);
+      script = read.script ∙ ap₂ (λ (s : SoFar) (ts : List (List ℕ)). after_all s ts) none cut
+          ∙ after_lines (with_steps c []) (take count rest) (drop (i + count) all)
+          ∙ ap (λ (s : SoFar). after_all s (drop (i + count) all)) (stretch.script []);
     }
 
 -- the next line is read

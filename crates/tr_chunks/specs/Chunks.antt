@@ -1,5 +1,6 @@
 -- Chunks: lines of a part that are read apart from those before them. Private contracts alone cite this file.
-use Rattle.std.specs.Prelude.{◌≡◌, ℕ, ◌+◌, ◌*◌, ◌/◌, ◌%◌, ◌<◌, ◌≤◌, min, ⊤, Option, Some, None, List, All, [], ◌∷◌, ◌++◌, length, take, slice_index_or}
+use Rattle.std.specs.Prelude.{◌≡◌, ℕ, ◌+◌, ◌*◌, ◌/◌, ◌%◌, ◌<◌, ◌≤◌, min, ⊤, Option, Some, None, List, All, ◌++◌, length, take, slice_index_or}
+use Rattle.std.specs.List.{flat_map}
 use Rattle.std.specs.Fork.{slice_chunk}
 use Rattle.tr_journal.specs.declared.Actor.{Actor}
 use Rattle.tr_journal.specs.declared.Step.{Step}
@@ -14,12 +15,11 @@ abbrev pub Made : Type 0
 Made = List (Actor × Step WidgetCmd)
 
 -- these lines, of which the first is line n, make these steps, wherever they stand behind c and steps: whatever comes later, its first
--- fault is the first of all, and what is said is what it says behind the steps made, which can be played
+-- fault is the first of all; what they say is these steps, which can be played
 pub record MakeSteps (c : SoFar) (n : ℕ) (lines : List (List ℕ)) (made : Made) : Type 0 where
   pub fault : (before : Made) (later : List (List ℕ)) →
       first_fault (with_steps c before) n (lines ++ later) ≡ first_fault (with_steps c (before ++ made)) (n + length lines) later
-  pub script : (before : Made) (later : List (List ℕ)) →
-      after_all (with_steps c before) (lines ++ later) ≡ after_all (with_steps c (before ++ made)) later
+  pub script : (before : Made) → after_all (with_steps c before) lines ≡ with_steps c (before ++ made)
   pub playable : All (IsPlayable (nodes_so_far c)) made
 
 -- the steps that a chunk's lines make; none are answered where it wasn't read, for whatever reason
@@ -35,8 +35,7 @@ pub record AreChunks (c : SoFar) (n size : ℕ) (lines : List (List ℕ)) (chunk
 
 -- all of these lists, one behind another
 abbrev pub joined : {A : Type 0} → List (List A) → List A
-joined [] = []
-joined (xs ∷ lists) = xs ++ joined lists
+joined lists = flat_map (λ xs. xs) lists
 
 -- so many of the lines, of which the first is line n, are taken: the script so far has their steps
 pub record TakesLines (c : SoFar) (n : ℕ) (lines : List (List ℕ)) (new : SoFar) (count : ℕ) : Type 0 where

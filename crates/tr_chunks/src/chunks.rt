@@ -32,9 +32,9 @@ fn read_chunk(
         return None;
     }
     for (index, line) in chunk.iter().enumerate() {
-        if !take_step(alloc, reader, &mut steps, first + index, line) {
+        let Ok(true) = take_step(alloc, reader, &mut steps, first + index, line) else {
             return None;
-        }
+        };
     }
     Some(steps)
 }

@@ -2,7 +2,6 @@
 ghost use Rattle.std.specs.Prelude.{◌≡◌, ◌<◌, ◌≤◌, ◌+◌, ◌^◌, length, true, None, IfOk, IfErr};
 ghost use Rattle.tr_grammar.specs.Scripts.{refusal_of, script_of, first_fault, after_all, whole};
 ghost use Rattle.tr_grammar.specs.Scripts.{IsCause, IsPlayableScript};
-ghost use Rattle.tr_grammar.specs.Codes.{number_of_code};
 ghost use Rattle.tr_grammar.specs.States.{nothing_yet};
 ghost use Rattle.tr_words.specs.Answers.{texts};
 ghost use Rattle.tr_reader.specs.Adding.{is_at_steps};
@@ -15,7 +14,7 @@ use std::thread::Threads;
 use tr_base::NoMemory;
 use tr_grammar::{Code, LONGEST_SCRIPT, LineRefused, ReadRefused};
 use tr_reader::{Reader, Script};
-use tr_script::take_line;
+use tr_script::{MOST_LINES, refused_at, take_line};
 use tr_words::lines_of;
 
 /// How many lines are worth a thread.
@@ -23,20 +22,6 @@ const LINES_A_CHUNK: usize = 1_000;
 
 /// How many threads read at most.
 const MOST_CHUNKS: usize = 8;
-
-/// How many lines a script may have.
-const MOST_LINES: usize = 100_000;
-
-/// The refusal of a line.
-fn refused_at(line: usize, code: Code) -> ReadRefused
-    requires { line < 2 ^ 32 }
-    ensures { result ≡ ReadRefused.Refused line (number_of_code code) }
-{
-    ReadRefused::Refused {
-        line: line as u32,
-        code: code.number(),
-    }
-}
 
 /// How many of the first lines may make steps, if no more than `most` are looked at: those before the first
 /// that begins as a sync or the end does. Where this is mistaken the lines are read one after another.

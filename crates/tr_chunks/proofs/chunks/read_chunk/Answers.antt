@@ -1,4 +1,4 @@
-use Rattle.std.proofs.Common.{◌≡◌, ◌+◌, ℕ, List, [], get_or, take, length, ap, subst, sym, refl, arith, take_all}
+use Rattle.std.proofs.Common.{◌≡◌, ◌+◌, ℕ, List, [], get_or, take, length, ap, subst, sym, arith, take_all, rules}
 use Rattle.std.proofs.lemmas.List.{length-map}
 use Rattle.std.specs.Borrow.{Bor}
 use Rattle.tr_words.specs.Answers.{texts}
@@ -20,7 +20,7 @@ loop-index-preserved c =
     let at : c.args.first + i ≡ c.args.first + length (take i (texts chunk)) = ap (λ n. c.args.first + n) (sym (many_texts chunk i (omega arith))) in
     rw (one_text chunk i no_text c.loop-index-test.true)
     (line_made c.args.reader.now c.args.first (c.args.first + i) (take i (texts chunk)) (get_or chunk i no_text).now c.loop-index.steps c.take_step.new.steps
-    c.loop-index.invariant at (c.if-not-take_step.ensures refl))
+    c.loop-index.invariant at (c.in-Ok-true.ensures.taken (search rules)))
 
 pub returns : goal.returns
 returns c =
