@@ -24,38 +24,48 @@ fn reader_of(alloc: Global) -> Result<Reader<'static>, NoMemory> {
     Ok(reader)
 }
 
-/// How many steps a line of this number makes that is read apart from those before it, if it can be.
-fn steps_of(alloc: Global, number: usize, line: &str) -> Result<Option<usize>, NoMemory> {
+/// Whether a line of this number that is read apart from those before it, behind one step, is taken or isn't,
+/// and how many steps there are then. One that isn't taken leaves the step that was there.
+fn answers(
+    alloc: Global,
+    number: usize,
+    line: &str,
+    taken: bool,
+    count: usize,
+) -> Result<bool, NoMemory> {
     let reader = reader_of(alloc)?;
-    let mut steps = Steps::new(alloc);
-    if reader.is_at_steps() && take_step(alloc, &reader, &mut steps, number, line.as_bytes()) {
-        Ok(Some(steps.len()))
-    } else {
-        Ok(None)
+    if !reader.is_at_steps() {
+        return Ok(false);
     }
+    let mut steps = Steps::new(alloc);
+    let first = take_step(alloc, &reader, &mut steps, 7, "@a tint 5".as_bytes())?;
+    let second = take_step(alloc, &reader, &mut steps, number, line.as_bytes())?;
+    Ok(first && second == taken && steps.len() == count)
 }
 
 #[test]
 fn lines_apart(rt: HostRuntime) -> Result<(), Fail> {
-    for (number, line, steps) in [
-        (7, "@a flush", Some(1)),
-        (7, "@a tint 3", Some(1)),
-        (7, "mouse 1 down 1", Some(1)),
-        (100_000, "move a 1 0", Some(1)),
-        (100_001, "@a flush", None),
-        (7, "", Some(0)),
-        (7, "# sync", Some(0)),
-        (7, "sync", None),
-        (7, "dump", None),
-        (7, "end", None),
-        (7, "root a", None),
-        (7, "@b flush", None),
-        (7, "@a line x", None),
-        (7, "@a tint 256", None),
-        (7, "what is this", None),
+    for (number, line, taken, count) in [
+        (8, "@a flush", true, 2),
+        (8, "@a tint 3", true, 2),
+        (8, "mouse 1 down 1", true, 2),
+        (100_000, "move a 1 0", true, 2),
+        (100_001, "@a flush", false, 1),
+        (8, "", true, 1),
+        (8, "# sync", true, 1),
+        (100_001, "", false, 1),
+        (8, "sync", false, 1),
+        (8, "dump", false, 1),
+        (8, "end", false, 1),
+        (8, "root a", false, 1),
+        (8, "@b flush", false, 1),
+        (8, "@a line x", false, 1),
+        (8, "@a tint 256", false, 1),
+        (8, "what is this", false, 1),
+        (8, "@a flush\t", false, 1),
     ] {
         assert!(rt;
-            steps_of(rt.alloc(), number, line)? == steps,
+            answers(rt.alloc(), number, line, taken, count)?,
             "{number} {line}"
         );
     }
