@@ -1,4 +1,5 @@
-//! Tests of levels, cages, steps, answers, entries, journals and books. Nothing but tests is in here.
+//! Tests of levels, cages, steps, answers, entries, journals, books and the lines of differences. Nothing but
+//! tests is in here.
 #![tactic(auto)]
 
 #[cfg(test)]
@@ -7,6 +8,8 @@ mod books;
 mod cages;
 #[cfg(test)]
 mod copies;
+#[cfg(test)]
+mod differs;
 #[cfg(test)]
 mod digits;
 #[cfg(test)]

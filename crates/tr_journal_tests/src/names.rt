@@ -5,7 +5,7 @@ use tr_base::{LeafId, NodeId};
 use tr_journal::NameOf;
 
 /// The names of two nodes, of which the second is a leaf.
-struct TwoNames;
+pub struct TwoNames;
 
 impl NameOf for TwoNames {
     ghost use Rattle.std.specs.Prelude.{◌∷◌, []};

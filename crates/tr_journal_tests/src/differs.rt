@@ -1,0 +1,48 @@
+//! The lines of differences.
+use super::names::TwoNames;
+use super::steps::A;
+use std::alloc::Global;
+use std::test::Fail;
+use tr_base::NoMemory;
+use tr_dump::differs_line;
+use tr_journal::{Actor, Apart, Difference, Step};
+use w_plain::SolidCmd;
+
+/// The line of A's client's first step, a tint of 8, where the stage has a tint of 7; and that of an item of
+/// the opening.
+const LINES: &[u8] = b"differs leaf:a 1: tint 8 / tint 7
+differs opening 2: - / -
+";
+
+/// Appends both lines.
+fn lines(alloc: Global) -> Result<Vec<u8>, NoMemory> {
+    let own = Difference {
+        place: 1,
+        what: Apart::Own {
+            actor: Actor::Leaf(A),
+            made: Some(Step::Act {
+                leaf: A,
+                cmd: SolidCmd::Tint(8),
+            }),
+            found: Some(Step::Act {
+                leaf: A,
+                cmd: SolidCmd::Tint(7),
+            }),
+        },
+    };
+    let opening: Difference<SolidCmd> = Difference {
+        place: 2,
+        what: Apart::Opening,
+    };
+    let mut out = Vec::new(alloc);
+    differs_line(&own, &TwoNames, &mut out)?;
+    differs_line(&opening, &TwoNames, &mut out)?;
+    Ok(out)
+}
+
+#[test]
+fn a_difference_has_a_line(rt: HostRuntime) -> Result<(), Fail> {
+    let lines = lines(rt.alloc())?;
+    assert!(rt; lines.as_slice() == LINES);
+    Ok(())
+}
