@@ -27,7 +27,7 @@ const NO_END: &[u8] = b"trestle 1\nscreen 1 1 map8\n";
 /// Why it is refused.
 const NO_END_TEXT: &[u8] = b"refused: line 3 B8\n";
 
-fn words_of(alloc: Global, texts: &[&str]) -> Result<Vec<String>, AllocError> {
+pub(crate) fn words_of(alloc: Global, texts: &[&str]) -> Result<Vec<String>, AllocError> {
     let mut words = Vec::new(alloc);
     for text in texts {
         words.push(String::from_str(alloc, text)?)?;

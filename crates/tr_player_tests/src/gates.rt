@@ -1,0 +1,120 @@
+//! A script that threads play, and a gate that lets one client wait for another.
+use crate::faults::words_of;
+use std::alloc::{AllocError, Global};
+use std::hint;
+use std::sync::Wait;
+use std::sync::atomic::{AtomicU32, Ordering};
+use std::test::Fail;
+use std::thread::Threads;
+use tr_base::LeafId;
+use tr_io::{MemorySink, SteadySource};
+use tr_journal::{Actor, Step};
+use tr_play::Gate;
+use tr_player::trestle_call;
+use tr_stage::Stage;
+use tr_widget::Widget;
+
+/// Two windows side by side. The first one's client marks one point, the second one's two, and a key is hit.
+const MARKS: &[u8] = b"trestle 1
+screen 4 1 map8
+node r h 0
+leaf a 2 2 2 1 1 1 solid 1
+leaf b 2 2 2 1 1 1 solid 2
+put a r
+put b r
+root r
+begin
+@a mark 0 1 0 1
+@b mark 0 1 0 1
+@b mark 1 2 0 1
+key 1 65
+sync
+end
+";
+
+/// How often a client looks whether the other one has come so far.
+const TRIES: u32 = 100_000_000;
+
+/// Lets the first window's client wait until the second one's begins its second step.
+#[derive(Drop)]
+struct SecondFirst {
+    /// So often it was asked, but for where the client waited in vain.
+    asked: AtomicU32,
+    /// So many of its steps the second one has begun.
+    begun: AtomicU32,
+}
+
+impl SecondFirst {
+    /// Waits until the second window's client has begun its second step, and says whether it did.
+    fn came(&self) -> bool {
+        for _ in 0..TRIES {
+            if 2 <= self.begun.load(Ordering::SeqCst) {
+                return true;
+            }
+            hint::spin_loop();
+        }
+        false
+    }
+}
+
+impl Gate for SecondFirst {
+    fn turn<R: Wait>(&self, _rt: &R, actor: Actor, k: u32) {
+        match actor {
+            Actor::Leaf(LeafId(0)) => {
+                if !self.came() {
+                    return;
+                }
+            }
+            Actor::Leaf(LeafId(1)) => self.begun.store(k, Ordering::SeqCst),
+            _ => {}
+        }
+        self.asked.fetch_add(1, Ordering::SeqCst);
+    }
+}
+
+/// Whether the first mark is that of the second window's client.
+fn is_second_first(stage: &Stage<Widget>) -> bool {
+    let journal = stage.journal();
+    for k in 0..journal.len() {
+        let entry = journal.get(k);
+        if matches!(entry.step, Step::Mark { .. }) {
+            return entry.actor == Actor::Leaf(LeafId(1));
+        }
+    }
+    false
+}
+
+/// Whether threads play the script as the gate has it, and the text says so.
+fn is_played<R: Threads + Wait + Sync>(
+    rt: &R,
+    alloc: Global,
+    gate: &SecondFirst,
+) -> Result<bool, AllocError> {
+    let words = words_of(alloc, &["play"])?;
+    let mut source = SteadySource::new(Vec::from_slice(alloc, MARKS)?);
+    let mut sink = MemorySink::new(alloc, 4, Vec::new(alloc));
+    let (status, stage) = trestle_call(
+        rt,
+        alloc,
+        &words,
+        &mut source,
+        &mut sink,
+        gate,
+    ).into_stage();
+    let is_told = status == 0 && sink.written().ends_with(b"played threads\n");
+    match stage {
+        Some(stage) => Ok(is_told && is_second_first(&stage)),
+        None => Ok(false),
+    }
+}
+
+#[test]
+fn the_gate_is_asked_before_each_step(rt: HostRuntime) -> Result<(), Fail> {
+    let gate = SecondFirst {
+        asked: AtomicU32::new(0),
+        begun: AtomicU32::new(0),
+    };
+    let is_played = is_played(&rt, rt.alloc(), &gate)?;
+    assert!(rt; is_played && gate.asked.load(Ordering::SeqCst) == 4);
+    Ok(())
+}
