@@ -195,9 +195,9 @@ pub fn serial_call<S: Source, K: Sink>(
 
 /// Plays a script by threads where the words are `play`, and else does what `serial_call` does. For `play`
 /// a thread makes the steps of each leaf's client, one those of the desk, and one is the painter, who brings
-/// the screen up to date meanwhile; the gate is asked before each step of a script. What is written are the
-/// script's reports, and `played threads`. Should a session find its stage other than its passes say, all is
-/// played again on one thread, and what is written says so.
+/// the screen up to date meanwhile; the gate is asked before each step of a script, unless it says that it
+/// lets nobody wait. What is written are the script's reports, and `played threads`. Should a session find
+/// its stage other than its passes say, all is played again on one thread, and what is written says so.
 ///
 /// The threads take locks, so with `play` it may wait; it returns where each thread does.
 pub fn trestle_call<R: Threads + Wait + Sync, S: Source, K: Sink, G: Gate + Sync>(
