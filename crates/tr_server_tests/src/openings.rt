@@ -31,7 +31,7 @@ impl Coloured for Solid {
 }
 
 /// Just this length.
-fn exactly(length: u16) -> Shape
+pub fn exactly(length: u16) -> Shape
     requires { length ≤ 4096 }
 {
     Shape {

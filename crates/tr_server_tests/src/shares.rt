@@ -2,8 +2,9 @@
 ghost use Rattle.std.specs.Prelude.{◌≡◌, ◌≤◌, false, None, IsTrue};
 ghost use Rattle.tr_forest.specs.Nodes.{IsNodeKind, is_leaf, shown_by};
 
-use super::openings::Coloured;
+use super::openings::{Coloured, exactly};
 use super::sessions::{Trial, played_on};
+use std::alloc::Global;
 use std::process::Abort;
 use std::sync::Wait;
 use std::test::Fail;
@@ -17,20 +18,7 @@ use tr_server::{Pass, Server, Session, Share};
 use tr_stage::Stage;
 use w_plain::Solid;
 
-/// What a window wants, at least, by preference and at most, the same across and down but for the preference
-/// down.
-const NARROW: Shape = Shape {
-    lo: 2,
-    pref: 2,
-    hi: 2,
-};
-
-const FLAT: Shape = Shape {
-    lo: 1,
-    pref: 1,
-    hi: 1,
-};
-
+/// What a window wants, at least, by preference and at most, the same across and down.
 const ROOMY: Shape = Shape {
     lo: 1,
     pref: 2,
@@ -88,20 +76,25 @@ fn stage_of<C: Client>(
     }
 }
 
-/// Two points on one row.
-fn two_points() -> Shapes {
-    Shapes {
-        across: NARROW,
-        down: FLAT,
-    }
-}
-
-/// Two windows of two points each, side by side on one row.
-fn two_beside<C: Coloured>(rt: &(impl Abort + AllocGlobal)) -> Result<Stage<C>, EditRefused> {
-    let mut opening = Opening::new(rt.alloc(), Size { wide: 4, high: 1 }, Kind::Map8)?;
+/// Two windows of this size, side by side.
+fn two_beside<C: Coloured>(
+    rt: &(impl Abort + AllocGlobal),
+    size: Size,
+) -> Result<Stage<C>, EditRefused> {
+    let Size { wide, high } = size;
+    assert!(rt; 1 <= wide && wide <= 512 && 1 <= high && high <= 1024);
+    let screen = Size {
+        wide: 2 * wide,
+        high,
+    };
+    let shapes = Shapes {
+        across: exactly(wide),
+        down: exactly(high),
+    };
+    let mut opening = Opening::new(rt.alloc(), screen, Kind::Map8)?;
     add_node(rt, &mut opening, &NodeKind::H)?;
-    add_window(rt, &mut opening, two_points(), 1)?;
-    add_window(rt, &mut opening, two_points(), 2)?;
+    add_window(rt, &mut opening, shapes, 1)?;
+    add_window(rt, &mut opening, shapes, 2)?;
     stage_of(rt, opening)
 }
 
@@ -177,20 +170,47 @@ fn is_repaint<C: Client>(entry: &Entry<C::Cmd>, leaf: LeafId) -> bool {
     }
 }
 
-/// Whether the first row of the screen has these pixels.
-fn has_row<C: Client>(stage: &Stage<C>, row: &[u8]) -> bool {
+/// Whether each row of the screen has these pixels.
+fn has_rows<C: Client>(stage: &Stage<C>, row: &[u8]) -> bool {
     let screen = stage.screen();
-    0 < screen.size().high && screen.row(0) == row
+    for v in 0..screen.size().high {
+        if screen.row(v) != row {
+            return false;
+        }
+    }
+    true
+}
+
+/// A row of two windows that are so wide.
+fn row_of_two(alloc: Global, wide: u16) -> Result<Vec<u8>, NoMemory> {
+    let mut row = vec![in alloc; 1u8; usize::from(wide)]?;
+    row.resize(2 * usize::from(wide), 2)?;
+    Ok(row)
+}
+
+/// Whether two windows of this size are repainted, the first one before the second.
+fn are_painted<C: Coloured, R: Threads + Wait + Sync + Abort + AllocGlobal>(
+    rt: &R,
+    size: Size,
+) -> Result<bool, NoMemory> {
+    let Ok(stage) = two_beside::<C>(rt, size) else {
+        return Err(NoMemory);
+    };
+    let stage = played_on::<C, R>(rt, Trial::Repainted, stage)?;
+    let row = row_of_two(rt.alloc(), size.wide)?;
+    Ok(has_repaints(&stage, &[LeafId(0), LeafId(1)]) && has_rows(&stage, &row))
 }
 
 #[test]
 fn windows_are_painted_side_by_side(rt: HostRuntime) -> Result<(), Fail> {
-    let Ok(stage) = two_beside::<Solid>(&rt) else {
-        return Err(NoMemory.into());
-    };
-    let stage = played_on::<Solid, HostRuntime>(&rt, Trial::Repainted, stage)?;
-    assert!(rt; has_repaints(&stage, &[LeafId(0), LeafId(1)]), "the lines");
-    assert!(rt; has_row(&stage, &[1, 1, 2, 2]), "the screen");
+    // Four bad points are too few for shares, and so many are enough.
+    for (wide, high) in [(2, 1), (512, 512)] {
+        let size = Size { wide, high };
+        assert!(rt;
+            are_painted::<Solid, HostRuntime>(&rt, size)?,
+            "{wide} {high}"
+        );
+    }
     Ok(())
 }
 
@@ -228,6 +248,6 @@ fn a_share_is_given_back(rt: HostRuntime) -> Result<(), Fail> {
     };
     let stage = played_on::<Solid, HostRuntime>(&rt, Trial::GivenBack, stage)?;
     assert!(rt; has_repaints(&stage, &[]), "no line");
-    assert!(rt; has_row(&stage, &[0, 0, 0, 0]), "the screen");
+    assert!(rt; has_rows(&stage, &[0, 0, 0, 0]), "the screen");
     Ok(())
 }
