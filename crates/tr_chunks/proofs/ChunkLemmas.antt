@@ -1,5 +1,5 @@
 -- Lines that make steps, one behind another, and chunk behind chunk.
-use Rattle.std.proofs.Common.{◌≡◌, ℕ, ◌+◌, ◌*◌, ◌/◌, ◌%◌, ◌<◌, ◌≤◌, zero, suc, min, true, Option, Some, None, List, map, All, [], ◌∷◌, ◌++◌, length, get_or, take, drop, refl, sym, ap, subst, ◌∙◌, arith, ⊎_elim, div-add-mod', mod-lt, eq-zero-or-pos, add-mul, one-mul, mul-le-mul_right, zero-mul, add-zero, suc-mul, drop-drop, length-drop, append_assoc, append-nil, length-append, ap₂, length-take-le, take-suc, take-add, take_all, take-append-drop, take-take, length-take}
+use Rattle.std.proofs.Common.{◌≡◌, ℕ, ◌+◌, ◌*◌, ◌/◌, ◌%◌, ◌<◌, ◌≤◌, zero, suc, min, true, Option, Some, None, List, map, All, [], ◌∷◌, ◌++◌, length, get_or, take, drop, refl, sym, ap, subst, ◌∙◌, arith, inl, inr, ⊎_elim, div-add-mod', mod-lt, eq-zero-or-pos, add-mul, one-mul, mul-le-mul_right, zero-mul, add-zero, suc-mul, drop-drop, length-drop, append_assoc, append-nil, length-append, ap₂, length-take-le, take-suc, take-add, take_all, take-append-drop, take-take, length-take}
 use Rattle.std.proofs.lemmas.List.Elements.{All-nil, All-append, All-from_get_or, All-head, All-rest, All-same}
 use Rattle.std.proofs.lemmas.List.{length-map, flat_map_more}
 use Rattle.std.specs.Borrow.{Bor}
@@ -244,17 +244,21 @@ line_read lines i d c new lt read none is = rw is (one_read (texts lines) i c (g
 
 -- no line is taken
 pub none_taken : (c new : SoFar) (n : ℕ) (lines : List (List ℕ)) → new ≡ c → TakesLines c n lines new 0
-none_taken c new n lines same = record { most = omega arith; made = []; make = none_made c n; script = same ∙ sym (with_nothing c) }
+none_taken c new n lines same = record { all = inl refl; made = []; make = none_made c n; script = same ∙ sym (with_nothing c) }
 
 -- all are
 pub all_taken : (c new : SoFar) (n count : ℕ) (lines : List (List ℕ)) (made : Made) → count ≡ length lines → MakeSteps c n lines made →
     new ≡ with_steps c made → TakesLines c n lines new count
 all_taken c new n count lines made all make same = record {
-  most = omega (arith, all);
+  all = inr all;
   made = made;
   make = rw (take_all count lines (omega (arith, all))) make;
   script = same;
 }
+
+-- no more are taken than there are
+pub most_taken : (c new : SoFar) (n count : ℕ) (lines : List (List ℕ)) → TakesLines c n lines new count → count ≤ length lines
+most_taken c new n count lines taken = ⊎_elim (λ none. omega (arith, none)) (λ all. omega (arith, all)) taken.all
 
 -- so many of a stretch of the next lines are read
 pub lines_read : (lines rest stretch : List (Bor (List ℕ))) (i long count : ℕ) (c new : SoFar) → IsRead (texts lines) i c → i + long ≤ length lines →
@@ -263,7 +267,7 @@ lines_read lines rest stretch i long count c new read fits is_rest is_stretch ta
     let all : length (texts lines) ≡ length lines = length-map lines (λ (p : Bor (List ℕ)). p.now) in
     let same : texts stretch ≡ take long (drop i (texts lines)) =
     ap texts is_stretch ∙ ap (λ (ps : List (Bor (List ℕ))). texts (take long ps)) is_rest ∙ texts_chunk i long lines in
-    let most : count ≤ long = omega (arith, taken.most, ap (λ (ts : List (List ℕ)). length ts) same, length-take long (drop i (texts lines))) in
+    let most : count ≤ long = omega (arith, most_taken c new (i + 1) count (texts stretch) taken, ap (λ (ts : List (List ℕ)). length ts) same, length-take long (drop i (texts lines))) in
     let front : take count (texts stretch) ≡ take count (drop i (texts lines)) =
     ap (λ (ts : List (List ℕ)). take count ts) same ∙ take-take count long (drop i (texts lines)) most in
     let made = subst (λ (ts : List (List ℕ)). MakeSteps c (i + 1) ts taken.made) front taken.make in

@@ -1,5 +1,5 @@
 -- Chunks: lines of a part that are read apart from those before them. Private contracts alone cite this file.
-use Rattle.std.specs.Prelude.{◌≡◌, ℕ, ◌+◌, ◌*◌, ◌/◌, ◌%◌, ◌<◌, ◌≤◌, min, ⊤, Option, Some, None, List, All, ◌++◌, length, take, slice_index_or}
+use Rattle.std.specs.Prelude.{◌≡◌, ℕ, ◌+◌, ◌*◌, ◌/◌, ◌%◌, ◌<◌, min, ⊤, ◌⊎◌, Option, Some, None, List, All, ◌++◌, length, take, slice_index_or}
 use Rattle.std.specs.List.{flat_map}
 use Rattle.std.specs.Fork.{slice_chunk}
 use Rattle.tr_journal.specs.declared.Actor.{Actor}
@@ -14,8 +14,8 @@ use Rattle.tr_reader.specs.Adding.{with_steps}
 abbrev pub Made : Type 0
 Made = List (Actor × Step WidgetCmd)
 
--- these lines, of which the first is line n, make these steps, wherever they stand behind c and steps: whatever comes later, its first
--- fault is the first of all; what they say is these steps, which can be played
+-- Behind c and any more steps these lines, of which the first is line n, have no fault and add these steps, which can be played; so
+-- the first fault is that of what comes later.
 pub record MakeSteps (c : SoFar) (n : ℕ) (lines : List (List ℕ)) (made : Made) : Type 0 where
   pub fault : (before : Made) (later : List (List ℕ)) →
       first_fault (with_steps c before) n (lines ++ later) ≡ first_fault (with_steps c (before ++ made)) (n + length lines) later
@@ -37,9 +37,9 @@ pub record AreChunks (c : SoFar) (n size : ℕ) (lines : List (List ℕ)) (chunk
 abbrev pub joined : {A : Type 0} → List (List A) → List A
 joined lists = flat_map (λ xs. xs) lists
 
--- so many of the lines, of which the first is line n, are taken: the script so far has their steps
+-- so many of the lines, of which the first is line n, are taken, all or none: the script so far has their steps
 pub record TakesLines (c : SoFar) (n : ℕ) (lines : List (List ℕ)) (new : SoFar) (count : ℕ) : Type 0 where
-  pub most : count ≤ length lines
+  pub all : (count ≡ 0) ⊎ (count ≡ length lines)
   pub made : Made
   pub make : MakeSteps c n (take count lines) made
   pub script : new ≡ with_steps c made

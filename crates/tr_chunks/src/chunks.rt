@@ -82,7 +82,7 @@ fn all_some<T: Drop>(alloc: Global, options: Vec<Option<T>>) -> Option<Vec<T>>
     Some(all)
 }
 
-/// How many steps there are.
+/// How many steps there are, for the room that is taken for them.
 fn step_count(chunks: &[Steps<WidgetCmd>]) -> usize {
     let mut count: usize = 0;
     for chunk in chunks {

@@ -26,7 +26,8 @@ const MOST_CHUNKS: usize = 8;
 /// How many of the first lines may make steps, if no more than `most` are looked at: those before the first
 /// that begins as a sync or the end does. Where this is mistaken the lines are read one after another.
 fn step_lines(lines: &[&[u8]], most: usize) -> usize
-    ensures { result ≤ length lines.now }
+    ensures lines { result ≤ length lines.now }
+    ensures most { result ≤ most }
 {
     for (index, line) in lines.iter().enumerate() {
         if index >= most || line.starts_with(b"sync") || line.starts_with(b"end") {
@@ -38,7 +39,8 @@ fn step_lines(lines: &[&[u8]], most: usize) -> usize
 
 /// How many threads read: one for each processor, if their number is known, and eight at most.
 fn chunk_count<R: Threads>(rt: &R) -> usize
-    ensures { 0 < result }
+    ensures some { 0 < result }
+    ensures most { result ≤ 8 }
 {
     match thread::available_parallelism(rt) {
         Ok(count) => MOST_CHUNKS.min(count.get()),

@@ -1,10 +1,11 @@
 -- Steps of many actors, put into lists of each actor's one by one.
-use Rattle.std.proofs.Common.{◌≡◌, ℕ, ◌+◌, ◌<◌, Bool, true, false, ◌==◌, cond, List, [], ◌∷◌, ◌++◌, length, take, drop, get_or, map, refl, sym, ap, subst, ◌∙◌}
-use Rattle.std.specs.Prelude.{min, replicate, set}
+use Rattle.std.proofs.Common.{◌≡◌, ℕ, ◌+◌, ◌<◌, ◌↔◌, Bool, true, false, ◌==◌, cond, List, [], ◌∷◌, ◌++◌, length, take, drop, get_or, map, refl, sym, ap, subst, ◌∙◌, arith}
+use Rattle.std.specs.Prelude.{All, Some, min, replicate, set, slice_get}
 use Rattle.std.proofs.lemmas.Bool.{eqb-true, eq-eqb}
 use Rattle.std.proofs.lemmas.Grind.{get_or-set_at}
-use Rattle.std.proofs.lemmas.List.{append-nil, drop-map, get_or-map, get_or-replicate, get_or-set_other, get_or_default, length-map, length-replicate, length-set, map-set, map_push, take-map, take_min, take_more}
-use Rattle.std.proofs.lemmas.List.Elements.{All-get_or, All-nil, All-push, All-replicate, All-set}
+use Rattle.std.proofs.lemmas.List.{append-nil, drop-map, get_or-map, get_or-replicate, get_or-set_other, get_or_default, get_or-take, length-map, length-replicate, length-set, length-take-le, map-set, map_push, take-map, take-take, take_min, take_more}
+use Rattle.std.proofs.lemmas.Option.{get_or_from_slice_get}
+use Rattle.std.proofs.lemmas.List.Elements.{All-get_or, All-more, All-nil, All-push, All-replicate, All-set, All-take}
 use Rattle.tr_base.proofs.RectLemmas.{false-true}
 use Rattle.tr_journal.specs.declared.steps.Actor.{Actor}
 use Rattle.tr_journal.specs.declared.steps.Actor.TheVariants.{Leaf, Desk, Painter, Player}
@@ -15,6 +16,7 @@ use Rattle.tr_journal.specs.Lists.{ListsView, HasList, list_of, with_step}
 use Rattle.tr_journal.proofs.ActorLemmas.{steps_of-append}
 use Rattle.tr_play.specs.Lists.{AreListed}
 use Rattle.tr_play.specs.Turns.{AreWithin, PlacesView, are_below, lists_at, no_places, places_of, step_at, steps_at, with_place}
+use Rattle.tr_play.specs.Workers.{AreNoCommands, is_command}
 
 -- one step more, or none
 abbrev step_if : {M : Type 0} → Bool → Step M → List (Step M)
@@ -183,3 +185,31 @@ part_is made places rest k count n rest_is is =
     ∙ ap (λ (ps : List ℕ). steps_at made (take count ps)) rest_is
     ∙ sym (take-map (step_at made) count (drop k places))
     ∙ ap (λ xs. take count xs) (sym (drop-map (step_at made) k places))
+
+-- ---- commands
+
+-- where none of the steps so far is a command, and of one more
+pub none_more : {M : Type 0} (list : List (Step M)) (k : ℕ) (x : Step M) (old new : ℕ) → k < length list → slice_get list k ≡ Some x →
+    (old ≡ 0 ↔ AreNoCommands (take k list)) → (new ≡ 0 ↔ (old ≡ 0) × (is_command x ≡ false)) → new ≡ 0 ↔ AreNoCommands (take (k + 1) list)
+none_more {M} list k x old new low at was counts = (to, from)
+  where
+    P : Step M → Type 0
+    P = λ step. is_command step ≡ false
+
+    same : get_or list k x ≡ x
+    same = get_or_from_slice_get list k x x at
+
+    to : new ≡ 0 → All P (take (k + 1) list)
+    to none = All-more P list k x low (was.0 (counts.0 none).0) (subst P (sym same) (counts.0 none).1)
+
+    from : All P (take (k + 1) list) → new ≡ 0
+    from all = counts.1 (was.1 before, here)
+      where
+        long : length (take (k + 1) list) ≡ k + 1
+        long = length-take-le (k + 1) list (omega (arith, low))
+
+        before : All P (take k list)
+        before = subst (λ (steps : List (Step M)). All P steps) (take-take k (k + 1) list (omega arith)) (All-take P k (take (k + 1) list) all)
+
+        here : is_command x ≡ false
+        here = subst P (get_or-take (k + 1) list k x (omega arith) ∙ same) (All-get_or P (take (k + 1) list) k x (omega (arith, long)) all)

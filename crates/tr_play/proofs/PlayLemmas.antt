@@ -1,21 +1,27 @@
 -- Parts of a script that threads play.
-use Rattle.std.proofs.Common.{◌≡◌, ℕ, ◌+◌, ◌<◌, List, [], ◌∷◌, ◌++◌, length, take, get_or, sym, ap, subst, ◌∙◌}
+use Rattle.std.proofs.Common.{◌≡◌, ℕ, ◌+◌, ◌<◌, Bool, List, [], ◌∷◌, ◌++◌, length, take, drop, get_or, refl, sym, ap, ◌∙◌, arith, append_assoc, length-append, take-append-drop}
 use Rattle.std.specs.Prelude.{All}
-use Rattle.std.specs.List.{Contains}
-use Rattle.std.proofs.lemmas.List.{get_or-map, length-map, map_more}
-use Rattle.std.proofs.lemmas.List.Elements.{All-weaker, Contains-get_or}
+use Rattle.std.proofs.lemmas.List.{map-append, map_more}
+use Rattle.std.proofs.lemmas.List.Elements.{All-weaker}
 use Rattle.tr_client.specs.declared.clients.Client.{Ghosts}
 use Rattle.tr_forest.specs.Nodes.{Nodes}
-use Rattle.tr_journal.specs.declared.items.Item.{Item}
+use Rattle.tr_machine.specs.Replays.{IsLegal}
 use Rattle.tr_widget.specs.declared.WidgetCmd.{WidgetCmd}
+use Rattle.tr_widget.specs.Widgets.{widget_words}
 use Rattle.tr_grammar.specs.States.{Part as Seen}
 use Rattle.tr_grammar.specs.Scripts.{IsPlayable, IsPlayablePart}
 use Rattle.tr_interleaves.specs.Interleaves.{Part}
+use Rattle.tr_run.specs.declared.modes.Mode.TheVariants.{Serial}
+use Rattle.tr_run.specs.Views.{RunView}
+use Rattle.tr_parts.specs.Runs.{HasBegun, HasPlayedParts}
 use Rattle.tr_parts.specs.Turns.{IsMade}
+use Rattle.tr_parts.proofs.PlayLemmas.{HasResumed, all_played, has_any, next_played, parts_more}
 use Rattle.tr_server.specs.declared.closing.CloseRefused.{CloseRefused}
 use Rattle.tr_server.specs.declared.closing.CloseRefused.TheVariants as refused
 use Rattle.tr_server.specs.Closing.{IfDiffers}
-use Rattle.tr_play.specs.Plays.{DiffersInPart, HasLeft, part_of, parts_of}
+use Rattle.tr_play.specs.Begun.{DiffersAmong, DiffersNext}
+use Rattle.tr_play.specs.Plays.{DiffersInPart, begun_part, part_of, parts_of}
+use Rattle.tr_play.proofs.WorkerLemmas.{ran_nothing}
 
 -- the steps of a part that can be played can be made
 pub steps_made : (t : Nodes) (part : Seen) → IsPlayablePart t part → All (IsMade t) part.steps
@@ -28,20 +34,64 @@ pub parts_next : (parts : List Seen) (k : ℕ) (part : Seen) → (k < length par
 parts_next parts k part at =
     ap (λ (p : Seen). parts_of (take k parts) ++ part_of p ∷ []) at.1 ∙ sym (map_more part_of parts k part at.0)
 
--- a part of a script is one of its parts
-pub is_part : (parts : List Seen) (k : ℕ) (part : Seen) → (k < length parts) × (part ≡ get_or parts k part) → Contains (parts_of parts) (part_of part)
-is_part parts k part at =
-    let within : k < length (parts_of parts) = subst (λ (n : ℕ). k < n) (sym (length-map parts part_of)) at.0 in
-    let found : get_or (parts_of parts) k (part_of part) ≡ part_of (get_or parts k part) = get_or-map part_of parts k part (part_of part) at.0 in
-    subst (λ (p : Part WidgetCmd). Contains (parts_of parts) p) (found ∙ ap part_of (sym at.1)) (Contains-get_or (parts_of parts) k (part_of part) within)
+-- the parts of a script are those before one of them, that one, and the later ones
+parts_around : (parts : List Seen) (k : ℕ) (part : Seen) → (k < length parts) × (part ≡ get_or parts k part) →
+    parts_of parts ≡ parts_of (take k parts) ++ part_of part ∷ parts_of (drop (k + 1) parts)
+parts_around parts k part at =
+    ap parts_of (sym (take-append-drop (k + 1) parts))
+    ∙ map-append part_of (take (k + 1) parts) (drop (k + 1) parts)
+    ∙ ap (λ (ps : List (Part WidgetCmd)). ps ++ parts_of (drop (k + 1) parts)) (sym (parts_next parts k part at))
+    ∙ append_assoc (parts_of (take k parts)) (part_of part ∷ []) (parts_of (drop (k + 1) parts))
 
--- a session that found a difference did so with this part
-pub part_differed : {C : Type 0} (client : Ghosts C WidgetCmd) (items now : List (Item C)) (parts : List Seen) (part : Seen)
-    (e : CloseRefused C WidgetCmd) → now ≡ items → Contains (parts_of parts) (part_of part) →
-    IfDiffers e (λ d. HasLeft client now part.steps d) → IfDiffers e (λ d. DiffersInPart client items (parts_of parts) d)
-part_differed client items now parts part refused.NoMemory same of_script left = tt
-part_differed client items now parts part (refused.Differs d) same of_script left = record {
-  part = part_of part;
-  of_script = of_script;
-  left = subst (λ (xs : List (Item _)). HasLeft client xs part.steps d) same left;
-}
+module _ {C : Type 0} (client : Ghosts C WidgetCmd) where
+  -- a run in which a part was begun, where no step follows
+  no_steps : (a : RunView C WidgetCmd) → a.mode ≡ Serial → IsLegal client a.stage.opening a.stage.journal →
+      HasResumed client widget_words a a []
+  no_steps a mode legal = record {
+    mode = mode;
+    names = refl;
+    mode_kept = refl;
+    text = refl;
+    sum = refl;
+    ran = ran_nothing a.stage [] refl;
+    legal = legal;
+  }
+
+  -- the session of the next part differed: it is the one of a part behind those so far
+  pub part_differed : (a now : RunView C WidgetCmd) (parts : List Seen) (k : ℕ) (part : Seen) (is_later : Bool) (e : CloseRefused C WidgetCmd) →
+      (k < length parts) × (part ≡ get_or parts k part) → is_later ≡ has_any (parts_of (take k parts)) → now.mode ≡ Serial →
+      HasPlayedParts client widget_words a now (parts_of (take k parts)) →
+      IfDiffers e (λ d. DiffersNext client widget_words now is_later (part_of part) d) →
+      IfDiffers e (λ d. DiffersAmong client widget_words a (parts_of parts) d)
+  part_differed a now parts k part is_later refused.NoMemory at later mode played next = tt
+  part_differed a now parts k part is_later (refused.Differs d) at later mode played next =
+      let begun = begun_part (part_of part) in
+      let mode_now : next.run.mode ≡ Serial = next.begun.reported.adds.mode ∙ next.begun.sync.mode ∙ mode in
+      record {
+        before = parts_of (take k parts);
+        part = part_of part;
+        later = parts_of (drop (k + 1) parts);
+        are = parts_around parts k part at;
+        run = next.run;
+        played = parts_more client widget_words a now next.run (parts_of (take k parts)) is_later begun later played
+            (next_played client widget_words now next.run next.run is_later begun next.begun (no_steps next.run mode_now next.legal));
+        legal = next.legal;
+        left = next.left;
+      }
+
+  -- in a run before its first step
+  pub script_differed : (a : RunView C WidgetCmd) (parts : List (Part WidgetCmd)) (e : CloseRefused C WidgetCmd) → HasBegun a →
+      IfDiffers e (λ d. DiffersAmong client widget_words a parts d) → IfDiffers e (λ d. DiffersInPart client a.stage.opening parts d)
+  script_differed a parts refused.NoMemory begun among = tt
+  script_differed a parts (refused.Differs d) begun among =
+      let one = begun_part among.part ∷ [] in
+      record {
+        before = among.before;
+        part = among.part;
+        later = among.later;
+        of_script = among.are;
+        stage = among.run.stage;
+        played = (all_played client widget_words a among.run (among.before ++ one) begun (omega (arith, length-append among.before one))
+            among.played among.legal).stage;
+        left = among.left;
+      }

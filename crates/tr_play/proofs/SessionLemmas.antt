@@ -233,14 +233,13 @@ closed_differs server s passes lists made (refused.Differs d) ended closed = rec
 }
 
 -- what a session hands out, by the steps whose lists these are
-pub left_by : {C M : Type 0} (client : Ghosts C M) (s : StageView C M) (steps : List (Actor × Step M)) (lists : ListsView M) (e : CloseRefused C M) →
-    IsLegal client s.opening s.journal → AreListed (leaf_count (tree_of s.opening).nodes) steps lists → lists.player ≡ [] →
-    IfDiffers e (λ d. IsLeft s lists d) → IfDiffers e (λ d. HasLeft client s.opening steps d)
-left_by client s steps lists refused.NoMemory legal are none left = tt
-left_by {C} {M} client s steps lists (refused.Differs d) legal are none left = record {
+pub left_by : {C M : Type 0} (s : StageView C M) (steps : List (Actor × Step M)) (lists : ListsView M) (e : CloseRefused C M) →
+    AreListed (leaf_count (tree_of s.opening).nodes) steps lists → lists.player ≡ [] →
+    IfDiffers e (λ d. IsLeft s lists d) → IfDiffers e (λ d. HasLeft s steps d)
+left_by s steps lists refused.NoMemory are none left = tt
+left_by {C} {M} s steps lists (refused.Differs d) are none left = record {
   opening = left.opening;
-  legal = subst (λ (items : List (Item C)). IsLegal client items d.kept) (sym left.opening)
-      (subst (λ (lines : List (JournalLine M)). IsLegal client s.opening lines) (sym left.kept) legal);
+  kept = left.kept;
   lists = subst (λ (ls : ListsView M). AreListed (leaf_count (tree_of s.opening).nodes) steps ls) (sym left.lists_are) are;
   player = ap (λ (ls : ListsView M). ls.player) left.lists_are ∙ none;
   first = left.first;

@@ -21,7 +21,7 @@ use Rattle.tr_parts.specs.Turns.{HasRun, IsMade}
 use Rattle.tr_stage.specs.Stages.{StageView}
 use Rattle.tr_server.specs.Passes.{PassView}
 use Rattle.tr_play.specs.Lists.{AreListed, HaveLists}
-use Rattle.tr_play.specs.Sessions.{AreWhole}
+use Rattle.tr_play.specs.Sessions.{AreWhole, IsWhole}
 use Rattle.tr_play.specs.Workers.{AreReady, HasTaken, HasWorked, IsWorker}
 
 -- ---- steps
@@ -156,7 +156,7 @@ no_player {M} t (x ∷ xs) all =
 -- the passes so far, and one more
 pub whole_more : {M : Type 0} (passes : List (PassView M)) (k : ℕ) (lists : ListsView M) (pass : PassView M) →
     (k < length passes) × (pass ≡ get_or passes k pass) → AreWhole (take k passes) lists →
-    (is_maker pass.actor ≡ true → length pass.mine ≡ length (list_of lists pass.actor)) → AreWhole (take (k + 1) passes) lists
+    IsWhole pass lists → AreWhole (take (k + 1) passes) lists
 whole_more {M} passes k lists pass at so_far here = each
   where
     P : PassView M → Type 0

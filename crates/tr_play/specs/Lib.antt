@@ -3,3 +3,4 @@ pub mod Turns
 pub mod Workers
 pub mod Plays
 pub mod Sessions
+pub mod Begun

@@ -1,20 +1,20 @@
 -- What becomes of the parts of a script that threads play.
-use Rattle.std.specs.Prelude.{◌≡◌, List, [], map}
-use Rattle.std.specs.List.{Contains}
+use Rattle.std.specs.Prelude.{◌≡◌, List, [], ◌∷◌, ◌++◌, map}
 use Rattle.tr_client.specs.declared.clients.Client.{Ghosts}
 use Rattle.tr_forest.specs.Nodes.{leaf_count}
 use Rattle.tr_journal.specs.declared.items.Item.{Item}
 use Rattle.tr_journal.specs.declared.steps.Actor.{Actor}
 use Rattle.tr_journal.specs.declared.steps.Step.{Step}
 use Rattle.tr_journal.specs.Openings.{tree_of}
-use Rattle.tr_machine.specs.Replays.{IsLegal}
 use Rattle.tr_widget.specs.declared.WidgetCmd.{WidgetCmd}
 use Rattle.tr_grammar.specs.States.{Part as Seen}
 use Rattle.tr_interleaves.specs.Interleaves.{Part}
+use Rattle.tr_stage.specs.Stages.{StageView}
+use Rattle.tr_parts.specs.Plays.{HasInterleaved}
 use Rattle.tr_server.specs.Differing.{DiffersView, IsDifference}
 use Rattle.tr_play.specs.Lists.{AreListed}
 
--- a part of a script, as one whose steps may have any type of commands
+-- a part of a script as `Interleaves` takes it, where the type of commands is a parameter
 abbrev pub part_of : Seen → Part WidgetCmd
 part_of part = record { reports = part.reports; steps = part.steps }
 
@@ -22,18 +22,26 @@ part_of part = record { reports = part.reports; steps = part.steps }
 abbrev pub parts_of : List Seen → List (Part WidgetCmd)
 parts_of parts = map part_of parts
 
-module _ {C M : Type 0} (client : Ghosts C M) where
-  -- What a session handed out that found a difference after steps were made: it began with a legal journal over this opening; the lists are
-  -- each actor's steps, in their order, and the player's is empty; and this is what differs first.
-  pub record HasLeft (items : List (Item C)) (steps : List (Actor × Step M)) (d : DiffersView C M) : Type 0 where
-    pub opening : d.opening ≡ items
-    pub legal : IsLegal client d.opening d.kept
-    pub lists : AreListed (leaf_count (tree_of items).nodes) steps d.lists
-    pub player : d.lists.player ≡ []
-    pub first : IsDifference d
+-- a part of which only the reports were made
+abbrev pub begun_part : {M : Type 0} → Part M → Part M
+begun_part part = record { reports = part.reports; steps = [] }
 
-  -- that was so with one of the parts of a script
+-- What a session handed out that found a difference after steps were made on a stage: it began with the stage's opening and journal; the
+-- lists are each actor's steps, in their order, and the player's is empty; and this is what differs first.
+pub record HasLeft {C M : Type 0} (s : StageView C M) (steps : List (Actor × Step M)) (d : DiffersView C M) : Type 0 where
+  pub opening : d.opening ≡ s.opening
+  pub kept : d.kept ≡ s.journal
+  pub lists : AreListed (leaf_count (tree_of s.opening).nodes) steps d.lists
+  pub player : d.lists.player ≡ []
+  pub first : IsDifference d
+
+module _ {C M : Type 0} (client : Ghosts C M) where
+  -- that was so with one of the parts of a script: on a stage that had played the parts before it, and made its reports
   pub record DiffersInPart (items : List (Item C)) (parts : List (Part M)) (d : DiffersView C M) : Type 0 where
+    pub before : List (Part M)
     pub part : Part M
-    pub of_script : Contains parts part
-    pub left : HasLeft items part.steps d
+    pub later : List (Part M)
+    pub of_script : parts ≡ before ++ part ∷ later
+    pub stage : StageView C M
+    pub played : HasInterleaved client items (before ++ begun_part part ∷ []) stage
+    pub left : HasLeft stage part.steps d

@@ -7,11 +7,13 @@ use Rattle.tr_stage.specs.Stages.{StageView}
 use Rattle.tr_server.specs.Differing.{DiffersView, IsDifference}
 use Rattle.tr_server.specs.Passes.{PassView}
 
--- each actor but the painter made its list whole
+-- an actor made its list whole; the painter has none
+abbrev pub IsWhole : {M : Type 0} → PassView M → ListsView M → Type 0
+IsWhole pass lists = is_maker pass.actor ≡ true → length pass.mine ≡ length (list_of lists pass.actor)
+
+-- each actor did
 abbrev pub AreWhole : {M : Type 0} → List (PassView M) → ListsView M → Type 0
-AreWhole {M} passes lists =
-    (i : ℕ) (d : PassView M) → i < length passes → is_maker (slice_index_or passes i d).actor ≡ true →
-    length (slice_index_or passes i d).mine ≡ length (list_of lists (slice_index_or passes i d).actor)
+AreWhole {M} passes lists = (i : ℕ) (d : PassView M) → i < length passes → IsWhole (slice_index_or passes i d) lists
 
 -- what was handed out with a stage that wasn't found as it was left: what the session began with, the lists that were given, and what
 -- differs first

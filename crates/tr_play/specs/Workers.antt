@@ -1,10 +1,11 @@
 -- Private contracts alone cite this file.
 -- What a worker does with its pass.
-use Rattle.std.specs.Prelude.{◌≡◌, ℕ, ◌<◌, ⊤, true, All, List, ◌++◌, take}
+use Rattle.std.specs.Prelude.{◌≡◌, ℕ, ◌<◌, ⊤, Bool, true, false, All, List, ◌++◌, take}
 use Rattle.tr_forest.specs.Nodes.{Nodes}
 use Rattle.tr_journal.specs.declared.steps.Actor.{Actor}
 use Rattle.tr_journal.specs.declared.steps.Actor.TheVariants as actors
 use Rattle.tr_journal.specs.declared.steps.Step.{Step}
+use Rattle.tr_journal.specs.declared.steps.Step.TheVariants as steps
 use Rattle.tr_journal.specs.Actors.{is_maker}
 use Rattle.tr_journal.specs.Lists.{ListsView, list_of}
 use Rattle.tr_parts.specs.Turns.{IsMade}
@@ -16,6 +17,15 @@ IsWorker leaves (actors.Leaf leaf) = leaf.0 < leaves
 IsWorker leaves actors.Desk = ⊤
 IsWorker leaves actors.Painter = ⊤
 IsWorker leaves actors.Player = ⊥
+
+-- a step is a command of a client
+abbrev pub is_command : {M : Type 0} → Step M → Bool
+is_command (steps.Act leaf cmd) = true
+is_command step = false
+
+-- none of these steps is
+abbrev pub AreNoCommands : {M : Type 0} → List (Step M) → Type 0
+AreNoCommands list = All (λ step. is_command step ≡ false) list
 
 -- the first so many steps of a list were made with a pass
 pub record HasWorked {M : Type 0} (before after : PassView M) (list : List (Step M)) : Type 0 where

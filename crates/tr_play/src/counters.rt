@@ -16,8 +16,9 @@ const REST: u64 = 16;
 /// So many steps are never made: nobody waits.
 const NEVER: u64 = u64::MAX;
 
-/// How many steps of a part were made so far, by all workers together. A hint for whoever comes from time to
-/// time: no contract counts on it.
+/// For how many steps of a part nobody has to wait any more: for commands soon after they are made, for
+/// others when their actor has come to its end, also for those for which memory was wanting. A hint for
+/// whoever comes from time to time: no contract counts on it.
 #[derive(Drop)]
 pub(crate) struct Counter {
     made: AtomicU64,
@@ -38,8 +39,7 @@ impl Counter {
         }
     }
 
-    /// A worker got on, and so many steps more were made that somebody may wait for; or nobody is to wait for
-    /// them.
+    /// A worker got on, and for so many steps more nobody has to wait; 0 says that it only got on.
     pub(crate) fn add(&self, steps: u64) {
         self.notes.fetch_add(1, Ordering::SeqCst);
         if steps == 0 {
@@ -51,12 +51,12 @@ impl Counter {
         }
     }
 
-    /// How many steps were made that somebody may wait for.
+    /// For how many steps nobody has to wait any more.
     pub(crate) fn count(&self) -> u64 {
         self.made.load(Ordering::SeqCst)
     }
 
-    /// Whether so many steps were made.
+    /// Whether that is so for as many as these.
     pub(crate) fn has(&self, steps: u64) -> bool {
         self.count() >= steps
     }

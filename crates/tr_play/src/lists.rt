@@ -1,7 +1,9 @@
-ghost use Rattle.std.specs.Prelude.{◌≡◌, ◌<◌, Some, IfOk, drop, length, slice_get, take};
+ghost use Rattle.std.specs.Prelude.{◌≡◌, ◌<◌, ◌↔◌, Some, IfOk, drop, length, slice_get, take};
 ghost use Rattle.tr_journal.specs.Lists.{HasList, list_of};
 ghost use Rattle.tr_play.specs.Lists.{AreListed, HaveLists};
 ghost use Rattle.tr_play.specs.Turns.{are_below, steps_at};
+ghost use Rattle.tr_play.specs.Workers as spec;
+ghost use Rattle.tr_play.specs.Workers.{AreNoCommands};
 
 use crate::places::Places;
 use std::alloc::Global;
@@ -73,7 +75,7 @@ impl<'a, M: Command> List<'a, M> {
     }
 
     /// At most `count` of them, from the k-th on, counted from 0.
-    pub(crate) fn part(&self, k: usize, count: usize) -> List<'a, M>
+    pub(crate) fn slice(&self, k: usize, count: usize) -> List<'a, M>
         requires { k < length self.now }
         ensures { result ≡ take count (drop k self.now) }
     {
@@ -85,10 +87,14 @@ impl<'a, M: Command> List<'a, M> {
     }
 
     /// How many of them are commands.
-    pub(crate) fn commands(&self) -> u64 {
+    pub(crate) fn commands(&self) -> u64
+        ensures { (result ≡ 0) ↔ AreNoCommands self.now }
+    {
         let mut commands: u64 = 0;
         for k in 0..self.len() {
-            commands = commands.saturating_add(u64::from(is_command(self.step(k))));
+            if is_command(self.step(k)) {
+                commands = commands.saturating_add(1);
+            }
         }
         commands
     }
@@ -103,7 +109,9 @@ impl<'a, M: Command> List<'a, M> {
 }
 
 /// Whether a step is a command of a client.
-fn is_command<M>(step: &Step<M>) -> bool {
+fn is_command<M: Command>(step: &Step<M>) -> bool
+    ensures { result ≡ spec.is_command step.now }
+{
     matches!(step, Step::Act { .. })
 }
 

@@ -1,5 +1,10 @@
-ghost use Rattle.std.specs.Prelude.{◌≡◌, OnOk};
+ghost use Rattle.std.specs.Prelude.{◌≡◌, [], false, OnOk};
+ghost use Rattle.tr_base.specs.declared.LeafId.{LeafId};
+ghost use Rattle.tr_base.specs.declared.Point.{Point};
 ghost use Rattle.tr_journal.specs.declared.Actor.TheVariants.{Painter};
+ghost use Rattle.tr_machine.specs.States.{batch_of};
+ghost use Rattle.tr_machine.specs.Pictures.{render};
+ghost use Rattle.tr_stage.specs.Stages.{state};
 
 use crate::contexts::Context;
 use crate::gates::Gate;
@@ -10,17 +15,13 @@ use tr_base::{LeafId, NoMemory};
 use tr_client::Client;
 use tr_journal::Step;
 use tr_levels::Ladder;
-use tr_server::{Mu, Pass, Session};
-
-/// Where no more points are bad the painter paints all by himself; where more are, `repaint_shared` has
-/// windows painted side by side.
-const FEW_POINTS: u32 = 1 << 18;
+use tr_server::{FEW_POINTS, Mu, Pass, Session};
 
 impl<C: Client, L: Session, R: Threads + Wait + Sync, G: Gate> Context<'_, C, L, R, G> {
-    /// The painter brings the screen up to date when clients have made their first 16 commands, after that
-    /// whenever they have made one, but at most some sixty times a second, and at last when all steps were
-    /// made; in all once, and at most once more for each 16 steps of the part, until memory runs out. Once
-    /// he has waited in vain he comes for the last time.
+    /// The painter brings the screen up to date when clients have made their first 16 commands, or, where they
+    /// make fewer, the others are done, too; after that whenever they have made one, but at most some sixty
+    /// times a second, and at last when all steps were made; in all once, and at most once more for each 16
+    /// steps of the part, until memory runs out. Once he has waited in vain he comes for the last time.
     pub(crate) fn paint(&self, pass: &mut Pass<C, L>, steps: usize)
         requires { pass.old.actor ≡ Painter }
         ensures { pass.new.actor ≡ pass.old.actor }
@@ -52,7 +53,14 @@ impl<C: Client, L: Session, R: Threads + Wait + Sync, G: Gate> Context<'_, C, L,
     /// The same, with the tree's lock taken.
     fn paint_under(&self, mu: &mut Mu<'_, C, L>, pass: &mut Pass<C, L>) -> Result<(), NoMemory>
         requires { pass.old.actor ≡ Painter }
-        ensures { pass.new.actor ≡ pass.old.actor }
+        ensures actor { pass.new.actor ≡ pass.old.actor }
+
+        // Then nothing waits that was handed over, no point is bad, and the screen is as if it were painted
+        // from nothing.
+        ensures idle { let m = state C.Client mu.new in
+            OnOk result ((leaf : LeafId) → batch_of C.Client m leaf ≡ []) }
+        ensures good { let m = state C.Client mu.new in OnOk result ((p : Point) → m.bad p ≡ false) }
+        ensures screen { OnOk result (mu.new.screen ≡ render C.Client (state C.Client mu.new)) }
     {
         self.hand_over_all(mu)?;
         if mu.stage().bad_count() <= FEW_POINTS {

@@ -6,7 +6,8 @@ ghost use Rattle.tr_run.specs.declared.Mode.TheVariants.{Serial};
 ghost use Rattle.tr_parts.specs.Plays.{HasInterleaved, journal_texts, played_threads};
 ghost use Rattle.tr_parts.specs.Runs.{HasBegun, HasPlayedNext, HasPlayedParts};
 ghost use Rattle.tr_server.specs.Closing.{IfDiffers};
-ghost use Rattle.tr_play.specs.Plays.{DiffersInPart, HasLeft, part_of, parts_of};
+ghost use Rattle.tr_play.specs.Begun.{DiffersAmong, DiffersNext};
+ghost use Rattle.tr_play.specs.Plays.{DiffersInPart, part_of, parts_of};
 
 use crate::gates::Gate;
 use crate::threads::{Workers, make_side_by_side};
@@ -22,7 +23,8 @@ use tr_widget::WidgetCmd;
 
 /// Plays the parts of a script, of which there are some, in a run before its first step. The steps of each
 /// part are made by threads, in some order, and its reports before them. What is written are the texts of
-/// the reports in the journal that this makes, and that it is the threads' own.
+/// the reports in the journal that this makes, and that it is the threads' own. `Differs` says that a session
+/// found its stage other than its passes say; after an `Err` the run and its stage are gone.
 pub fn play<'a, C: Client<Cmd = WidgetCmd>, N: NameOf, R: Threads + Wait + Sync, G: Gate + Sync>(
     workers: &Workers<'_, R, G>,
     run: Run<'a, C, N>,
@@ -57,7 +59,7 @@ fn play_parts<'a, C: Client<Cmd = WidgetCmd>, N: NameOf, R: Threads + Wait + Syn
     ensures ok { IfOk result (λ new.
         HasPlayedParts C.Client widget_words run.entry new (parts_of parts.now)) }
     ensures differs { IfErr result (λ e. IfDiffers e (λ d.
-        DiffersInPart C.Client run.entry.stage.opening (parts_of parts.now) d)) }
+        DiffersAmong C.Client widget_words run.entry (parts_of parts.now) d)) }
 {
     let mut run = run;
     let mut is_later = false;
@@ -80,7 +82,7 @@ fn play_part<'a, C: Client<Cmd = WidgetCmd>, N: NameOf, R: Threads + Wait + Sync
     ensures ok { IfOk result (λ new.
         HasPlayedNext C.Client widget_words run.entry new is_later (part_of part.now)) }
     ensures differs { IfErr result (λ e. IfDiffers e (λ d.
-        HasLeft C.Client run.entry.stage.opening part.now.steps d)) }
+        DiffersNext C.Client widget_words run.entry is_later (part_of part.now) d)) }
 {
     let mut run = run;
     let Ok(()) = begin_part(&mut run, is_later, &part.reports) else {

@@ -1,11 +1,9 @@
-ghost use Rattle.std.specs.Prelude.{◌≡◌, ℕ, ◌+◌, ◌*◌, ◌<◌, [], true, All, IfOk, IfErr, IsTrue, length, vec_len, slice_index_or};
-ghost use Rattle.tr_journal.specs.Actors.{is_maker};
+ghost use Rattle.std.specs.Prelude.{◌≡◌, ℕ, ◌+◌, ◌*◌, ◌<◌, ◌↔◌, [], All, IfOk, IfErr, IsTrue, length, vec_len, slice_index_or};
 ghost use Rattle.tr_journal.specs.Differences.{Matches, account_of};
-ghost use Rattle.tr_journal.specs.Lists.{list_of};
 ghost use Rattle.tr_journal.specs.Openings.{tree_of};
 ghost use Rattle.tr_server.specs.Closing.{IfDiffers};
 ghost use Rattle.tr_server.specs.Sessions.{HasIds};
-ghost use Rattle.tr_play.specs.Sessions.{AreWhole, IsLeft};
+ghost use Rattle.tr_play.specs.Sessions.{AreWhole, IsLeft, IsWhole};
 ghost use Rattle.tr_play.specs.Workers.{AreReady, HasTaken, IsWorker};
 
 use crate::contexts::Context;
@@ -62,7 +60,8 @@ pub(crate) fn session<C: Client, L: Session, R: Threads + Wait + Sync, G: Gate +
     closed
 }
 
-/// All workers do what is theirs, with the passes in a `Vec`.
+/// The same with the passes in a `Vec`, which is lent as a slice here alone: so the prover has to look at
+/// one list of passes at a time.
 fn all_at_work<C: Client, L: Session, R: Threads + Wait + Sync, G: Gate + Sync>(
     context: &Context<'_, C, L, R, G>,
     workers: &mut Vec<Pass<C, L>>,
@@ -79,8 +78,8 @@ fn all_at_work<C: Client, L: Session, R: Threads + Wait + Sync, G: Gate + Sync>(
     all_work(context, workers.as_mut_slice(), lists, steps);
 }
 
-/// All workers do what is theirs, each in a thread of its own; but where there is one step alone, for which
-/// all others wait, one thread does it all.
+/// All workers do what is theirs, each in a thread of its own; but where there is one step at most, for
+/// which all others would wait, one thread does it all.
 fn all_work<C: Client, L: Session, R: Threads + Wait + Sync, G: Gate + Sync>(
     context: &Context<'_, C, L, R, G>,
     workers: &mut [Pass<C, L>],
@@ -102,13 +101,13 @@ fn all_work<C: Client, L: Session, R: Threads + Wait + Sync, G: Gate + Sync>(
             requires { IsWorker (length lists.now.leaves) pass.now.actor
                 × AreReady (tree_of context.now.server.now.opening).nodes lists.now }
             ensures { HasTaken lists.entry.now pass.entry.now pass.exit.now }
-        { take_part(context, pass, lists, steps) },
+        { do_own(context, pass, lists, steps) },
     );
 }
 
 /// A worker does what is its own: the painter repaints the screen, and each other actor makes the steps of
 /// its list.
-fn take_part<C: Client, L: Session, R: Threads + Wait + Sync, G: Gate + Sync>(
+fn do_own<C: Client, L: Session, R: Threads + Wait + Sync, G: Gate + Sync>(
     context: &Context<'_, C, L, R, G>,
     pass: &mut Pass<C, L>,
     lists: &Turns<'_, C::Cmd>,
@@ -127,7 +126,7 @@ fn take_part<C: Client, L: Session, R: Threads + Wait + Sync, G: Gate + Sync>(
 /// Whether each actor but the painter made its list whole.
 fn are_whole<C: Client, L: Session>(workers: &Vec<Pass<C, L>>, lists: &Turns<'_, C::Cmd>) -> bool
     requires { All (λ pass. IsWorker (length lists.now.leaves) pass.actor) workers.now.items }
-    ensures { IsTrue result → AreWhole workers.now.items lists.now }
+    ensures { IsTrue result ↔ AreWhole workers.now.items lists.now }
 {
     for pass in workers {
         if !is_whole(pass, lists) {
@@ -140,8 +139,7 @@ fn are_whole<C: Client, L: Session>(workers: &Vec<Pass<C, L>>, lists: &Turns<'_,
 /// Whether an actor made its list whole. The painter has none.
 fn is_whole<C: Client, L: Session>(pass: &Pass<C, L>, lists: &Turns<'_, C::Cmd>) -> bool
     requires { IsWorker (length lists.now.leaves) pass.now.actor }
-    ensures { IsTrue result → is_maker pass.now.actor ≡ true →
-        length pass.now.mine ≡ length (list_of lists.now pass.now.actor) }
+    ensures { IsTrue result ↔ IsWhole pass.now lists.now }
 {
     match pass.actor() {
         Actor::Painter => true,

@@ -1,11 +1,11 @@
-ghost use Rattle.std.specs.Prelude.{◌≡◌, ◌∷◌, ◌++◌, [], All, OnOk, OnErr};
+ghost use Rattle.std.specs.Prelude.{◌≡◌, ◌+◌, ◌-◌, ◌^◌, ◌∷◌, ◌++◌, [], false, min, length, All, OnOk, OnErr};
 ghost use Rattle.tr_journal.specs.declared.Actor.TheVariants.{Leaf};
 ghost use Rattle.tr_journal.specs.declared.Step.{Step};
 ghost use Rattle.tr_journal.specs.declared.Step.TheVariants.{Act};
 ghost use Rattle.tr_journal.specs.Openings.{tree_of};
 ghost use Rattle.tr_journal.specs.Steps.{IsStep};
 ghost use Rattle.tr_parts.specs.Turns.{IsMade};
-ghost use Rattle.tr_play.specs.Workers.{HasWorked};
+ghost use Rattle.tr_play.specs.Workers.{AreNoCommands, HasWorked};
 
 use crate::contexts::Context;
 use crate::gates::Gate;
@@ -36,9 +36,9 @@ impl<C: Client, L: Session, R: Wait, G: Gate> Context<'_, C, L, R, G> {
         let _ = pass.reserve(list.len());
         let mut left = list.len() as u64;
         for n in 0..list.len().div_ceil(STEPS_A_NOTE) {
-            let part = list.part(n * STEPS_A_NOTE, STEPS_A_NOTE);
-            let commands = part.commands();
-            let Ok(()) = self.make_part(pass, &part, commands > 0) else {
+            let slice = list.slice(n * STEPS_A_NOTE, STEPS_A_NOTE);
+            let commands = slice.commands();
+            let Ok(()) = self.make_slice(pass, &slice, commands > 0) else {
                 self.made.add(left);
                 return;
             };
@@ -50,50 +50,50 @@ impl<C: Client, L: Session, R: Wait, G: Gate> Context<'_, C, L, R, G> {
 
     /// Makes steps, one after another: under one lock, where the gate lets nobody wait and no command is
     /// among them, since a command needs its window's lock alone.
-    fn make_part(
+    fn make_slice(
         &self,
         pass: &mut Pass<C, L>,
-        part: &List<'_, C::Cmd>,
+        list: &List<'_, C::Cmd>,
         has_commands: bool,
     ) -> Result<(), NoMemory>
-        requires { All (λ step.
-            IsMade (tree_of self.now.server.now.opening).nodes (pass.old.actor, step)) part.now }
-        ensures worked { HasWorked pass.old pass.new part.now }
-        ensures ok { OnOk result (pass.new.mine ≡ pass.old.mine ++ part.now) }
+        requires ready { All (λ step.
+            IsMade (tree_of self.now.server.now.opening).nodes (pass.old.actor, step)) list.now }
+        requires commands { has_commands ≡ false → AreNoCommands list.now }
+        ensures worked { HasWorked pass.old pass.new list.now }
+        ensures ok { OnOk result (pass.new.mine ≡ pass.old.mine ++ list.now) }
     {
         if self.gate.is_open() && !has_commands {
-            self.make_together(pass, part)
+            self.make_together(pass, list)
         } else {
-            self.make_each(pass, part)
+            self.make_each(pass, list)
         }
     }
 
     /// Makes steps, one after another. Before each the gate is asked, with no lock held.
-    fn make_each(&self, pass: &mut Pass<C, L>, part: &List<'_, C::Cmd>) -> Result<(), NoMemory>
+    fn make_each(&self, pass: &mut Pass<C, L>, list: &List<'_, C::Cmd>) -> Result<(), NoMemory>
         requires { All (λ step.
-            IsMade (tree_of self.now.server.now.opening).nodes (pass.old.actor, step)) part.now }
-        ensures worked { HasWorked pass.old pass.new part.now }
-        ensures ok { OnOk result (pass.new.mine ≡ pass.old.mine ++ part.now) }
+            IsMade (tree_of self.now.server.now.opening).nodes (pass.old.actor, step)) list.now }
+        ensures worked { HasWorked pass.old pass.new list.now }
+        ensures ok { OnOk result (pass.new.mine ≡ pass.old.mine ++ list.now) }
     {
-        for k in 0..part.len() {
-            let made = u32::try_from(pass.mine().len()).unwrap_or(u32::MAX);
-            self.gate
-                .turn(self.rt, pass.actor(), made.saturating_add(1));
-            let step = part.step(k);
+        for k in 0..list.len() {
+            self.gate.turn(self.rt, pass.actor(), next_number(pass));
+            let step = list.step(k);
             self.make(pass, step)?;
         }
         Ok(())
     }
 
-    /// Makes steps, one after another, under the tree's lock, which is taken once.
-    fn make_together(&self, pass: &mut Pass<C, L>, part: &List<'_, C::Cmd>) -> Result<(), NoMemory>
-        requires { All (λ step.
-            IsMade (tree_of self.now.server.now.opening).nodes (pass.old.actor, step)) part.now }
-        ensures worked { HasWorked pass.old pass.new part.now }
-        ensures ok { OnOk result (pass.new.mine ≡ pass.old.mine ++ part.now) }
+    /// Makes steps, one after another, none of them a command, under the tree's lock, which is taken once.
+    fn make_together(&self, pass: &mut Pass<C, L>, list: &List<'_, C::Cmd>) -> Result<(), NoMemory>
+        requires ready { All (λ step.
+            IsMade (tree_of self.now.server.now.opening).nodes (pass.old.actor, step)) list.now }
+        requires commands { AreNoCommands list.now }
+        ensures worked { HasWorked pass.old pass.new list.now }
+        ensures ok { OnOk result (pass.new.mine ≡ pass.old.mine ++ list.now) }
     {
         let mut mu = self.server.enter(self.rt, Ladder::ground());
-        let made = self.make_all_under(&mut mu, pass, part);
+        let made = self.make_all_under(&mut mu, pass, list);
         mu.leave().end();
         made
     }
@@ -103,17 +103,17 @@ impl<C: Client, L: Session, R: Wait, G: Gate> Context<'_, C, L, R, G> {
         &self,
         mu: &mut Mu<'_, C, L>,
         pass: &mut Pass<C, L>,
-        part: &List<'_, C::Cmd>,
+        list: &List<'_, C::Cmd>,
     ) -> Result<(), NoMemory>
         requires ready { All (λ step.
-            IsMade (tree_of self.now.server.now.opening).nodes (pass.old.actor, step)) part.now }
+            IsMade (tree_of self.now.server.now.opening).nodes (pass.old.actor, step)) list.now }
         requires steps { (step : Step C.Cmd) → IsStep (tree_of self.now.server.now.opening).nodes step →
             IsStep (tree_of mu.old.opening).nodes step }
-        ensures worked { HasWorked pass.old pass.new part.now }
-        ensures ok { OnOk result (pass.new.mine ≡ pass.old.mine ++ part.now) }
+        ensures worked { HasWorked pass.old pass.new list.now }
+        ensures ok { OnOk result (pass.new.mine ≡ pass.old.mine ++ list.now) }
     {
-        for k in 0..part.len() {
-            let step = part.step(k).copy(self.alloc)?;
+        for k in 0..list.len() {
+            let step = list.step(k).copy(self.alloc)?;
             self.make_with(mu, pass, step)?;
         }
         Ok(())
@@ -207,4 +207,12 @@ impl<C: Client, L: Session, R: Wait, G: Gate> Context<'_, C, L, R, G> {
             made
         }
     }
+}
+
+/// Which step of the part the next one is that is made with a pass, counted from 1.
+fn next_number<C: Client, L: Session>(pass: &Pass<C, L>) -> u32
+    ensures { result ≡ min (length pass.now.mine + 1) (2 ^ 32 - 1) }
+{
+    let made = u32::try_from(pass.mine().len()).unwrap_or(u32::MAX);
+    made.saturating_add(1)
 }

@@ -20,8 +20,8 @@ use tr_parts::stands;
 use tr_server::CloseRefused;
 use tr_stage::Stage;
 
-/// What all workers have: the right to start threads and to wait, and the gate that is asked before each
-/// step.
+/// What all workers have: the right to start threads and to wait, memory, and the gate that is asked before
+/// each step of a client or of the desk.
 #[derive(Drop)]
 pub struct Workers<'a, R, G> {
     pub rt: &'a R,
@@ -42,7 +42,7 @@ pub(crate) fn make_side_by_side<C: Client, R: Threads + Wait + Sync, G: Gate + S
 ) -> Result<Stage<C>, CloseRefused<C>>
     requires { All (IsMade (tree_of stage.opening).nodes) steps.now }
     ensures ok { IfOk result (λ s. HasRun stage s steps.now) }
-    ensures differs { IfErr result (λ e. IfDiffers e (λ d. HasLeft C.Client stage.opening steps.now d)) }
+    ensures differs { IfErr result (λ e. IfDiffers e (λ d. HasLeft stage steps.now d)) }
 {
     if steps.is_empty() && is_settled(&stage) {
         return Ok(stage);

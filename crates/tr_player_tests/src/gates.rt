@@ -14,7 +14,8 @@ use tr_player::trestle_call;
 use tr_stage::Stage;
 use tr_widget::Widget;
 
-/// Two windows side by side. The first one's client marks one point, the second one's two, and a key is hit.
+/// Two windows side by side. The first one's client marks one point, and a key is hit. The second one's
+/// marks 18 points: more steps than its worker makes before it tells how far it has come.
 const MARKS: &[u8] = b"trestle 1
 screen 4 1 map8
 node r h 0
@@ -25,6 +26,22 @@ put b r
 root r
 begin
 @a mark 0 1 0 1
+@b mark 0 1 0 1
+@b mark 1 2 0 1
+@b mark 0 1 0 1
+@b mark 1 2 0 1
+@b mark 0 1 0 1
+@b mark 1 2 0 1
+@b mark 0 1 0 1
+@b mark 1 2 0 1
+@b mark 0 1 0 1
+@b mark 1 2 0 1
+@b mark 0 1 0 1
+@b mark 1 2 0 1
+@b mark 0 1 0 1
+@b mark 1 2 0 1
+@b mark 0 1 0 1
+@b mark 1 2 0 1
 @b mark 0 1 0 1
 @b mark 1 2 0 1
 key 1 65
@@ -38,7 +55,7 @@ const TRIES: u32 = 100_000_000;
 /// Lets the first window's client wait until the second one's begins its second step.
 #[derive(Drop)]
 struct SecondFirst {
-    /// So often it was asked, but for where the client waited in vain.
+    /// So often it was asked, but for where the client waited in vain or a step hadn't the next number.
     asked: AtomicU32,
     /// So many of its steps the second one has begun.
     begun: AtomicU32,
@@ -65,7 +82,11 @@ impl Gate for SecondFirst {
                     return;
                 }
             }
-            Actor::Leaf(LeafId(1)) => self.begun.store(k, Ordering::SeqCst),
+            Actor::Leaf(LeafId(1)) => {
+                if self.begun.swap(k, Ordering::SeqCst) != k.wrapping_sub(1) {
+                    return;
+                }
+            }
             _ => {}
         }
         self.asked.fetch_add(1, Ordering::SeqCst);
@@ -115,6 +136,6 @@ fn the_gate_is_asked_before_each_step(rt: HostRuntime) -> Result<(), Fail> {
         begun: AtomicU32::new(0),
     };
     let is_played = is_played(&rt, rt.alloc(), &gate)?;
-    assert!(rt; is_played && gate.asked.load(Ordering::SeqCst) == 4);
+    assert!(rt; is_played && gate.asked.load(Ordering::SeqCst) == 20);
     Ok(())
 }

@@ -1,5 +1,5 @@
-//! Tests of the top call where reads, writes and memory fail, and of a gate that it asks. Nothing but tests is
-//! in here: other calls that don't fail are tried by the linked program.
+//! Tests of the top call where reads, writes and memory fail, and of a gate that it asks. Nothing but tests
+//! is in here: other calls that don't fail are tried by the linked program.
 #![tactic(auto)]
 
 #[cfg(test)]

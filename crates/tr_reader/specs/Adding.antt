@@ -29,7 +29,8 @@ abbrev pub is_at_steps : Place → Bool
 is_at_steps places.Steps = true
 is_at_steps p = false
 
--- the script so far with these steps more in the part that goes on; where the last line made a step, it is what these steps leave
+-- the script so far with these steps more in the part that goes on; where the last line made a step: the script so far behind lines
+-- that make these steps
 abbrev pub with_steps : SoFar → List (Actor × Step WidgetCmd) → SoFar
 with_steps c made = record c { part = record c.part { steps = c.part.steps ++ made } }
 

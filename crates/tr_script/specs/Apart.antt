@@ -12,8 +12,8 @@ use Rattle.tr_reader.specs.Adding.{is_at_steps, with_steps}
 abbrev pub stays_at_steps : SoFar → ℕ → List ℕ → Bool
 stays_at_steps c n line = is_none (fault_of c n line) && is_at_steps (next c line).place
 
--- line n is read behind c, whose last line made a step, and then any steps, the last of them the old ones: it has no fault and makes the
--- new ones of the old; where the old can be played, so can the new
+-- Behind c, whose last line made a step, any more steps and then the old ones line n has no fault, and the new ones are the old with
+-- its step, if it makes one; where the old can be played, so can the new.
 pub record TakesStep (c : SoFar) (n : ℕ) (line : List ℕ) (old new : List (Actor × Step WidgetCmd)) : Type 0 where
   pub fault : (before : List (Actor × Step WidgetCmd)) → fault_of (with_steps c (before ++ old)) n line ≡ None
   pub script : (before : List (Actor × Step WidgetCmd)) → next (with_steps c (before ++ old)) line ≡ with_steps c (before ++ new)

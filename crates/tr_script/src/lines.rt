@@ -171,8 +171,7 @@ pub fn take_step(
     }
 }
 
-/// What a line says that has so many others before it comes behind what they say. Its second word is
-/// `name`.
+/// What the line of this number says comes behind what those before it say. Its second word is `name`.
 fn take_meaning<'a>(
     reader: &mut Reader<'a>,
     number: usize,

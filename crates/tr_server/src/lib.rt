@@ -16,6 +16,7 @@ mod windows;
 
 pub use closing::{CloseRefused, Differs};
 pub use passes::{Pass, Passes};
+pub use repaints::FEW_POINTS;
 pub use servers::Server;
 pub use sessions::Session;
 pub use shares::Share;

@@ -28,8 +28,9 @@ use tr_journal::Step;
 use tr_levels::{Held, Level};
 use tr_stage::Painted;
 
-/// So many bad points are painted sooner than threads are started that share them.
-const FEW_POINTS: u32 = 1 << 18;
+/// So many bad points are painted sooner than threads are started that share them: where no more are bad,
+/// `Mu::repaint_shared` paints all windows in turn.
+pub const FEW_POINTS: u32 = 1 << 18;
 
 impl<C: Client, L: Session> Locked<C, L> {
     /// The shares that may be painted.

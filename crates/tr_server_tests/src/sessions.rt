@@ -5,7 +5,7 @@ ghost use Rattle.tr_server.specs.Sessions.{HasIds};
 use super::beside::act_beside;
 use super::openings::{Coloured, stage_of_one};
 use super::rows::{fill_again, fill_and_act, hand_over_later, post_and_mark};
-use super::shares::{give_back, repaint_twice};
+use super::shares::{give_back, paint_share, repaint_twice};
 use std::marker::Brand;
 use std::process::Abort;
 use std::sync::Wait;
@@ -32,6 +32,8 @@ pub enum Trial {
     Repainted,
     /// A share is lent, and given back.
     GivenBack,
+    /// A share is painted, and put onto the screen.
+    Painted,
 }
 
 /// Makes the calls of a trial, with the passes of the client, the desk and the painter.
@@ -50,6 +52,7 @@ fn make<C: Coloured, L: Session, R: Threads + Wait + Sync + Abort>(
         Trial::Beside => act_beside(rt, server, workers),
         Trial::Repainted => repaint_twice(rt, server, workers),
         Trial::GivenBack => give_back(rt, server),
+        Trial::Painted => paint_share(rt, server, workers),
     }
 }
 

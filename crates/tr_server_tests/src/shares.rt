@@ -1,6 +1,8 @@
-//! Windows that are painted side by side, and shares that are given back.
-ghost use Rattle.std.specs.Prelude.{◌≡◌, ◌≤◌, false, None, IsTrue};
+//! Windows that are painted side by side, and shares that are painted and given back.
+ghost use Rattle.std.specs.Prelude.{◌≡◌, ◌≤◌, false, None, IsTrue, IfOk, IfSome};
 ghost use Rattle.tr_forest.specs.Nodes.{IsNodeKind, is_leaf, shown_by};
+ghost use Rattle.tr_machine.specs.Sharing.{IsPaintedOf};
+ghost use Rattle.tr_stage.specs.Stages.{state};
 
 use super::openings::{Coloured, exactly};
 use super::sessions::{Trial, played_on};
@@ -14,8 +16,8 @@ use tr_client::Client;
 use tr_forest::{Edit, EditRefused, NodeKind};
 use tr_journal::{Actor, Entry, Opening, Step, is_edit};
 use tr_levels::{Held, Ladder, Level};
-use tr_server::{Pass, Server, Session, Share};
-use tr_stage::Stage;
+use tr_server::{Mu, Pass, Server, Session, Share};
+use tr_stage::{Painted, Stage};
 use w_plain::Solid;
 
 /// What a window wants, at least, by preference and at most, the same across and down.
@@ -249,5 +251,57 @@ fn a_share_is_given_back(rt: HostRuntime) -> Result<(), Fail> {
     let stage = played_on::<Solid, HostRuntime>(&rt, Trial::GivenBack, stage)?;
     assert!(rt; has_repaints(&stage, &[]), "no line");
     assert!(rt; has_rows(&stage, &[0, 0, 0, 0]), "the screen");
+    Ok(())
+}
+
+/// Paints the share of the last leaf that has one, apart from the screen.
+fn paint_last<C: Client, L: Session>(mu: &Mu<'_, C, L>) -> Result<Option<Painted>, NoMemory>
+    ensures { IfOk result (λ last. IfSome last (λ painted.
+        IsPaintedOf C.Client (state C.Client mu.now) painted.leaf painted.part painted.pixels.items)) }
+{
+    let mut shares = mu.shares()?;
+    match shares.pop() {
+        None => Ok(None),
+        Some(share) => Ok(Some(share.paint()?)),
+    }
+}
+
+/// The painter puts what was painted of it onto the screen.
+fn put_last<C: Client, L: Session>(
+    rt: &impl Abort,
+    mu: &mut Mu<'_, C, L>,
+    pass: &mut Pass<C, L>,
+) -> Result<(), NoMemory> {
+    let Some(painted) = paint_last(mu)? else {
+        return Ok(());
+    };
+    let leaf = painted.leaf;
+    assert!(rt; pass.actor() == Actor::Painter);
+    assert!(rt; leaf.0 < mu.stage().opening().tree().leaves());
+    assert!(rt; mu.stage().batch(leaf).is_empty());
+    mu.put_painted(pass, painted)
+}
+
+/// The same under the tree's lock.
+pub fn paint_share<C: Client, L: Session, R: Wait + Abort>(
+    rt: &R,
+    server: &Server<C, L>,
+    workers: &mut [Pass<C, L>],
+) -> Result<(), NoMemory> {
+    let pass = painter(rt, workers);
+    let mut mu = server.enter(rt, Ladder::ground());
+    let put = put_last(rt, &mut mu, pass);
+    mu.leave().end();
+    put
+}
+
+#[test]
+fn a_share_is_painted_and_put(rt: HostRuntime) -> Result<(), Fail> {
+    let Ok(stage) = two_beside::<Solid>(&rt, Size { wide: 2, high: 1 }) else {
+        return Err(NoMemory.into());
+    };
+    let stage = played_on::<Solid, HostRuntime>(&rt, Trial::Painted, stage)?;
+    assert!(rt; has_repaints(&stage, &[LeafId(1)]), "the line");
+    assert!(rt; has_rows(&stage, &[0, 0, 2, 2]), "the screen");
     Ok(())
 }

@@ -1,11 +1,14 @@
 -- What a session hands out that differs names nothing without a name.
-use Rattle.std.proofs.Common.{◌≡◌, ℕ, List, [], ◌++◌, Result, Ok, Err, ap, subst, sym, ◌∙◌}
+use Rattle.std.proofs.Common.{◌≡◌, ℕ, List, [], ◌∷◌, ◌++◌, length, Result, Ok, Err, ap, refl, subst, sym, ◌∙◌, arith}
 use Rattle.std.specs.Prelude.{All, IfOk, codes}
-use Rattle.std.proofs.lemmas.List.Elements.{All-contains, All-map, All-weaker}
+use Rattle.std.specs.List.{Contains}
+use Rattle.std.proofs.lemmas.List.Elements.{All-contains, All-map, All-weaker, Contains-append_right}
 use Rattle.tr_journal.specs.declared.items.Item.{Item}
 use Rattle.tr_journal.specs.declared.steps.Actor.{Actor}
 use Rattle.tr_journal.specs.declared.steps.Step.{Step}
 use Rattle.tr_journal.specs.declared.differences.Difference.{Difference}
+use Rattle.tr_forest.specs.Nodes.{leaf_count}
+use Rattle.tr_journal.specs.Journals.{JournalLine}
 use Rattle.tr_journal.specs.Lists.{HasList}
 use Rattle.tr_journal.specs.Names.{Names}
 use Rattle.tr_journal.specs.Openings.{tree_of}
@@ -53,16 +56,22 @@ module _ (s : Script) (playable : IsPlayableScript s) where
       IsNamedDifference s.names d.difference
   differed_named d differed legal =
       let left = differed.left in
+      let played = differed.played in
+      let here : Contains (differed.part ∷ differed.later) differed.part = (0, omega arith, refl) in
+      let among : Contains (parts_of s.parts) differed.part =
+      subst (λ (parts : List (Part WidgetCmd)). Contains parts differed.part) (sym differed.of_script)
+      (Contains-append_right differed.before (differed.part ∷ differed.later) differed.part here) in
       let made : All (λ (m : Made). IsNamedStep s.names m.1) differed.part.steps =
       All-contains (λ (part : Part WidgetCmd). All (λ (m : Made). IsNamedStep s.names m.1) part.steps) (parts_of s.parts) differed.part
-      parts_named differed.of_script in
+      parts_named among in
       difference_named widgets s.names s.opening d
       (record {
         tree = are_named;
-        opening = left.opening;
-        kept = left.legal;
+        opening = left.opening ∙ played.opening;
+        kept = subst (λ (items : List (Item Widget)). IsLegal widgets items d.kept) (sym left.opening)
+            (subst (λ (lines : List (JournalLine WidgetCmd)). IsLegal widgets differed.stage.opening lines) (sym left.kept) played.legal);
         found = legal;
-        count = left.lists.count;
+        count = subst (λ (items : List (Item Widget)). length d.lists.leaves ≡ leaf_count (tree_of items).nodes) played.opening left.lists.count;
         steps = λ actor has.
             subst (λ (steps : List (Step WidgetCmd)). All (IsNamedStep s.names) steps)
             (sym (left.lists.steps actor (subst (λ (n : ℕ). HasList n actor) left.lists.count has)))

@@ -3,7 +3,7 @@ use Rattle.std.specs.Borrow.{Bor}
 use Rattle.tr_words.specs.Answers.{texts}
 use Rattle.tr_script.proofs.Pieces.{drop_texts}
 use Rattle.tr_script.proofs.LineLemmas.{is_refused_at}
-use Rattle.tr_chunks.proofs.ChunkLemmas.{line_read, lines_read, many_texts_all}
+use Rattle.tr_chunks.proofs.ChunkLemmas.{line_read, lines_read, many_texts_all, most_taken}
 use Rattle.tr_chunks.proofs.scripts.read_lines.Goals as goal
 
 no_text : Bor (List ℕ)
@@ -37,11 +37,12 @@ loop-index-preserved-then-is_at_steps g c =
     let taken = c.in_ok-index.ensures in
     let one =
     line_read lines i no_text c.loop-index.reader reader c.loop-index-test.true c.loop-index.invariant.0 c.in-Ok.ensures.none c.in-Ok.ensures.next in
-    let fits : i + 1 + long ≤ length lines = omega (arith, c.step_lines.ensures, c.split_at.ensures.back_len) in
+    let fits : i + 1 + long ≤ length lines = omega (arith, c.step_lines.ensures.lines, c.split_at.ensures.back_len) in
     let read =
     lines_read lines c.split_at.result.1.now c.split_at-then-is_at_steps.result.0.now (i + 1) long c.in_ok-index.field-0 reader
     c.take_lines.new.reader one fits c.split_at.ensures.back c.split_at-then-is_at_steps.ensures.front taken in
+    let most = most_taken reader c.take_lines.new.reader (i + 1 + 1) c.in_ok-index.field-0 (texts c.split_at-then-is_at_steps.result.0.now) taken in
     let few = many_texts_all c.split_at-then-is_at_steps.result.0.now in (
       read,
-      omega (arith, fits, taken.most, few, c.split_at-then-is_at_steps.ensures.front_len),
+      omega (arith, fits, most, few, c.split_at-then-is_at_steps.ensures.front_len),
     )

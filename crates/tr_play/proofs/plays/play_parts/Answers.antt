@@ -10,7 +10,7 @@ use Rattle.tr_interleaves.specs.Interleaves.{Part}
 use Rattle.tr_parts.specs.Runs.{HasPlayedParts}
 use Rattle.tr_parts.proofs.PlayLemmas.{has_any, has_any-more, parts_more}
 use Rattle.tr_play.specs.Plays.{part_of, parts_of}
-use Rattle.tr_play.proofs.PlayLemmas.{is_part, part_differed, parts_next}
+use Rattle.tr_play.proofs.PlayLemmas.{part_differed, parts_next}
 use Rattle.tr_play.proofs.plays.play_parts.Goals as goal
 
 pub play_part-requires-clause-playable : goal.play_part-requires-clause-playable
@@ -40,5 +40,6 @@ returns-in_err-run-clause-differs g c =
     let part = c.part-item.result in
     let given = err_from_is_err_and c.from_residual.result c.from_residual.ensures.1 in
     rw (given.1, given.2)
-    (part_differed g.C.Client c.args.run.stage.opening c.loop-part.run.stage.opening c.args.parts.now part c.in_err-run.field-0.0
-    c.loop-part.invariant.opening (is_part c.args.parts.now k part (c.loop-part-test.true, c.part-item.is)) c.in_err-run.ensures.differs)
+    (part_differed g.C.Client c.args.run c.loop-part.run c.args.parts.now k part c.loop-part.is_later c.in_err-run.field-0.0
+    (c.loop-part-test.true, c.part-item.is) c.loop-part.invariant.later c.loop-part.invariant.mode c.loop-part.invariant.played
+    c.in_err-run.ensures.differs)

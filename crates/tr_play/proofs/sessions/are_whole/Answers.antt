@@ -1,4 +1,4 @@
-use Rattle.std.proofs.Common.{◌≡◌, ◌<◌, ◌≤◌, List, length, get_or, subst, rules}
+use Rattle.std.proofs.Common.{◌≡◌, ◌<◌, ◌≤◌, List, length, get_or, refl, subst, rules}
 use Rattle.std.specs.Prelude.{IsTrue}
 use Rattle.std.proofs.lemmas.List.{take_all}
 use Rattle.tr_server.specs.Passes.{PassView}
@@ -16,11 +16,13 @@ loop-pass-preserved g c =
       subst (λ (xs : List (PassView _)). k < length xs) same c.loop-pass-test.true,
       subst (λ (xs : List (PassView _)). pass ≡ get_or xs k pass) same c.pass-item.is,
     )
-    c.loop-pass.invariant (c.is_whole.ensures is)
+    c.loop-pass.invariant (c.is_whole.ensures.0 is)
 
 pub returns : goal.returns
-returns g c is =
+returns g c =
     let k = c.loop-pass.pass-index in
     let past = subst (λ (xs : List (PassView _)). length xs ≤ k) c.deref-pass-items.ensures.value c.loop-pass-test.false in
+    let whole =
     subst (λ (passes : List (PassView _)). AreWhole passes c.args.lists.now)
-    (take_all k c.args.workers.now.items past) c.loop-pass.invariant
+    (take_all k c.args.workers.now.items past) c.loop-pass.invariant in
+    (λ is. whole, λ are. refl)

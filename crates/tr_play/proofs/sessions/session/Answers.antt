@@ -45,7 +45,7 @@ returns g c =
       fresh = c.in-Ok.ensures.workers;
       many = many;
       taken = taken;
-      are_whole = c.are_whole-is_whole.ensures is;
+      are_whole = c.are_whole-is_whole.ensures.0 is;
       count = c.requires.count;
       player = c.requires.player;
     }) in

@@ -28,7 +28,7 @@ returns-in_err-stage-clause-differs g c =
     let count : c.leaves-leaves.result ≡ leaf_count (tree_of c.args.stage.opening).nodes = search rules in
     let given = err_from_is_err_and c.from_residual.result c.from_residual.ensures.1 in
     rw (given.1, given.2)
-    (left_by g.C.Client c.args.stage c.args.steps.now c.in-Ok.lists c.in_err-stage.field-0.0 c.stands.ensures.legal
+    (left_by c.args.stage c.args.steps.now c.in-Ok.lists c.in_err-stage.field-0.0
     (subst (λ (n : ℕ). AreListed n c.args.steps.now c.in-Ok.lists) count c.in-Ok.ensures)
     (c.in-Ok.ensures.steps Player tt ∙ no_player (tree_of c.args.stage.opening).nodes c.args.steps.now c.requires)
     c.in_err-stage.ensures.differs)

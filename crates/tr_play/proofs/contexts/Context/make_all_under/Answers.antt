@@ -5,7 +5,7 @@ use Rattle.tr_play.proofs.contexts.Context.make_all_under.Goals as goal
 pub loop-k-preserved : goal.loop-k-preserved
 loop-k-preserved g c =
     let k = c.loop-k.k in
-    let list = c.args.part.now in
+    let list = c.args.list.now in
     let step = c.step.result.now in
     let low : k < length list = search rules in
     let made : c.make_with.new.pass.mine ≡ c.loop-k.pass.mine ++ step ∷ [] = search rules in (

@@ -1,7 +1,7 @@
 use Rattle.std.proofs.Common.{◌-◌, ◌∙◌, ap, drop, length, take}
 use Rattle.std.proofs.lemmas.List.{take_rest}
 use Rattle.tr_play.proofs.ListLemmas.{part_is}
-use Rattle.tr_play.proofs.lists.List.part.Goals as goal
+use Rattle.tr_play.proofs.lists.List.slice.Goals as goal
 
 pub returns : goal.returns
 returns g c =
