@@ -1,5 +1,5 @@
 -- What the definitions say of a script of two parts, computed: a command of leaf 0, a sync, and then a report, a command of leaf 1, and two keys.
-use Rattle.std.proofs.Common.{◌≡◌, ℕ, false, true, List, [], ◌∷◌, ap, refl, sym, arith}
+use Rattle.std.proofs.Common.{◌≡◌, ℕ, true, List, [], ◌∷◌, ap, refl, sym, arith}
 use Rattle.tr_base.proofs.RectLemmas.{false-true}
 use Rattle.tr_journal.specs.declared.answers.Answer.TheVariants.{Done}
 use Rattle.tr_journal.specs.declared.steps.Actor.{Actor}
