@@ -267,7 +267,8 @@ lines_read lines rest stretch i long count c new read fits is_rest is_stretch ta
     let all : length (texts lines) ≡ length lines = length-map lines (λ (p : Bor (List ℕ)). p.now) in
     let same : texts stretch ≡ take long (drop i (texts lines)) =
     ap texts is_stretch ∙ ap (λ (ps : List (Bor (List ℕ))). texts (take long ps)) is_rest ∙ texts_chunk i long lines in
-    let most : count ≤ long = omega (arith, most_taken c new (i + 1) count (texts stretch) taken, ap (λ (ts : List (List ℕ)). length ts) same, length-take long (drop i (texts lines))) in
+    let fewer : count ≤ length (texts stretch) = most_taken c new (i + 1) count (texts stretch) taken in
+    let most : count ≤ long = omega (arith, fewer, ap (λ (ts : List (List ℕ)). length ts) same, length-take long (drop i (texts lines))) in
     let front : take count (texts stretch) ≡ take count (drop i (texts lines)) =
     ap (λ (ts : List (List ℕ)). take count ts) same ∙ take-take count long (drop i (texts lines)) most in
     let made = subst (λ (ts : List (List ℕ)). MakeSteps c (i + 1) ts taken.made) front taken.make in
