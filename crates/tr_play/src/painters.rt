@@ -18,10 +18,11 @@ use tr_levels::Ladder;
 use tr_server::{FEW_POINTS, Mu, Pass, Session};
 
 impl<C: Client, L: Session, R: Threads + Wait + Sync, G: Gate> Context<'_, C, L, R, G> {
-    /// The painter brings the screen up to date when clients have made their first 16 commands, or, where they
-    /// make fewer, the others are done, too; after that whenever they have made one, but at most some sixty
-    /// times a second, and at last when all steps were made; in all once, and at most once more for each 16
-    /// steps of the part, until memory runs out. Once he has waited in vain he comes for the last time.
+    /// The painter brings the screen up to date when clients have made their first 16 commands, or, where
+    /// they make fewer, the others are done, too; after that whenever they have made one, but at most some
+    /// sixty times a second, and at last when all steps were made; in all once, and at most once more for
+    /// each 16 steps of the part, until memory runs out. Once he has waited in vain he comes for the last
+    /// time.
     pub(crate) fn paint(&self, pass: &mut Pass<C, L>, steps: usize)
         requires { pass.old.actor ≡ Painter }
         ensures { pass.new.actor ≡ pass.old.actor }
