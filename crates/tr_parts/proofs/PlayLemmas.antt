@@ -247,6 +247,7 @@ module _ {C M : Type 0} (client : Ghosts C M) (words : M → List ℕ) where
   pub record HasEnded (a b : RunView C M) (parts : List (Part M)) : Type 0 where
     pub stage : HasInterleaved client a.stage.opening parts b.stage
     pub text : b.text ≡ journal_texts client words a.names a.stage.opening b.stage.journal
+    pub sum : b.sum ≡ a.sum
 
   pub all_played : (a b : RunView C M) (parts : List (Part M)) → HasBegun a → 0 < length parts → HasPlayedParts client words a b parts →
       IsLegal client b.stage.opening b.stage.journal → HasEnded a b parts
@@ -266,6 +267,9 @@ module _ {C M : Type 0} (client : Ghosts C M) (words : M → List ℕ) where
         ∙ ap (λ (ls : List (JournalLine M)). texts_from client words a.names Serial ls was played.lines) begun.journal
         ∙ ap (λ (m : State C M). texts_from client words a.names Serial [] m played.lines) at_start
         ∙ ap (λ (ls : List (JournalLine M)). texts_from client words a.names Serial [] (start items) ls) (sym lines);
+    sum = played.adds.sum
+        ∙ ap (λ (mode : Mode). sum_from client mode was a.sum played.lines) begun.mode
+        ∙ other_sum was a.sum played.lines;
   }
     where
       played : HasPlayedSome client words a b parts

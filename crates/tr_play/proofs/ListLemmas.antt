@@ -15,7 +15,7 @@ use Rattle.tr_journal.specs.Actors.{is_by}
 use Rattle.tr_journal.specs.Lists.{ListsView, HasList, list_of, with_step}
 use Rattle.tr_journal.proofs.ActorLemmas.{steps_of-append}
 use Rattle.tr_play.specs.Lists.{AreListed}
-use Rattle.tr_play.specs.Turns.{AreWithin, PlacesView, are_below, lists_at, no_places, places_of, step_at, steps_at, with_place}
+use Rattle.tr_play.specs.Places.{AreWithin, PlacesView, are_below, lists_at, no_places, places_of, step_at, steps_at, with_place}
 use Rattle.tr_play.specs.Workers.{AreNoCommands, is_command}
 
 -- one step more, or none

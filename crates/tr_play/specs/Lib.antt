@@ -1,5 +1,5 @@
 pub mod Lists
-pub mod Turns
+pub mod Places
 pub mod Workers
 pub mod Plays
 pub mod Sessions

@@ -1,7 +1,7 @@
 ghost use Rattle.std.specs.Prelude.{◌≡◌, ◌<◌, ◌↔◌, Some, IfOk, drop, length, slice_get, take};
 ghost use Rattle.tr_journal.specs.Lists.{HasList, list_of};
 ghost use Rattle.tr_play.specs.Lists.{AreListed, HaveLists};
-ghost use Rattle.tr_play.specs.Turns.{are_below, steps_at};
+ghost use Rattle.tr_play.specs.Places.{are_below, steps_at};
 ghost use Rattle.tr_play.specs.Workers as spec;
 ghost use Rattle.tr_play.specs.Workers.{AreNoCommands};
 
@@ -17,15 +17,15 @@ const MOST_STEPS: usize = u32::MAX as usize;
 /// The steps of a part, and where among them each actor's stand. A contract sees the lists of the actors'
 /// steps.
 #[derive(Drop)]
-pub(crate) struct Turns<'a, M: Command> {
+pub(crate) struct PartLists<'a, M: Command> {
     steps: &'a [(Actor, Step<M>)],
     places: Places,
 }
 
-impl<'a, M: Command> Model for Turns<'a, M> {
+impl<'a, M: Command> Model for PartLists<'a, M> {
     ghost use Rattle.std.specs.Prelude.{length};
     ghost use Rattle.tr_journal.specs.Lists.{ListsView};
-    ghost use Rattle.tr_play.specs.Turns.{AreWithin, lists_at};
+    ghost use Rattle.tr_play.specs.Places.{AreWithin, lists_at};
 
     ghost Value = { ListsView M };
 
@@ -34,7 +34,7 @@ impl<'a, M: Command> Model for Turns<'a, M> {
     ghost invariant = { λ t. AreWithin (length t.steps.now) t.places };
 }
 
-impl<'a, M: Command> Turns<'a, M> {
+impl<'a, M: Command> PartLists<'a, M> {
     /// The steps of an actor.
     pub(crate) fn of(&self, actor: Actor) -> List<'_, M>
         requires { HasList (length self.now.leaves) actor }
@@ -57,7 +57,7 @@ pub(crate) struct List<'a, M: Command> {
 impl<'a, M: Command> Model for List<'a, M> {
     ghost use Rattle.std.specs.Prelude.{List, length};
     ghost use Rattle.tr_journal.specs.declared.steps.Step.{Step};
-    ghost use Rattle.tr_play.specs.Turns.{are_below, steps_at};
+    ghost use Rattle.tr_play.specs.Places.{are_below, steps_at};
 
     ghost Value = { List (Step M) };
 
@@ -135,7 +135,7 @@ pub(crate) fn lists_of<'a, M: Command>(
     alloc: Global,
     steps: &'a [(Actor, Step<M>)],
     leaves: u8,
-) -> Result<Turns<'a, M>, NoMemory>
+) -> Result<PartLists<'a, M>, NoMemory>
     requires { HaveLists leaves steps.now }
     ensures { IfOk result (λ lists. AreListed leaves steps.now lists) }
 {
@@ -146,5 +146,5 @@ pub(crate) fn lists_of<'a, M: Command>(
     for place in 0..steps.len() {
         places.add(steps[place].0, place as u32)?;
     }
-    Ok(Turns { steps, places })
+    Ok(PartLists { steps, places })
 }

@@ -1,6 +1,6 @@
 ghost use Rattle.std.specs.Prelude.{◌≡◌, ◌<◌, ◌∷◌, [], ◌++◌, length, get_or, set, replicate, IfOk, OnOk, OnErr};
 ghost use Rattle.tr_journal.specs.Lists.{HasList};
-ghost use Rattle.tr_play.specs.Turns.{no_places, places_of, with_place};
+ghost use Rattle.tr_play.specs.Places.{no_places, places_of, with_place};
 
 use std::alloc::Global;
 use std::marker::Model;
@@ -17,7 +17,7 @@ pub(crate) struct Places {
 }
 
 impl Model for Places {
-    ghost use Rattle.tr_play.specs.Turns.{PlacesView};
+    ghost use Rattle.tr_play.specs.Places.{PlacesView};
 
     ghost Value = { PlacesView };
 

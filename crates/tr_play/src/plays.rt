@@ -37,6 +37,7 @@ pub fn play<'a, C: Client<Cmd = WidgetCmd>, N: NameOf, R: Threads + Wait + Sync,
         HasInterleaved C.Client run.entry.stage.opening (parts_of parts.now) end.stage) }
     ensures text { IfOk result (λ end. end.text.items ≡ journal_texts C.Client widget_words
         run.entry.names run.entry.stage.opening end.stage.journal ++ played_threads) }
+    ensures sum { IfOk result (λ end. end.sum ≡ run.entry.sum) }
     ensures differs { IfErr result (λ e. IfDiffers e (λ d.
         DiffersInPart C.Client run.entry.stage.opening (parts_of parts.now) d)) }
 {

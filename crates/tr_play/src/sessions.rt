@@ -9,7 +9,7 @@ ghost use Rattle.tr_play.specs.Workers.{AreReady, HasTaken, IsWorker};
 use crate::contexts::Context;
 use crate::counters::Counter;
 use crate::gates::Gate;
-use crate::lists::Turns;
+use crate::lists::PartLists;
 use crate::threads::Workers;
 use std::sync::Wait;
 use std::sync::ledger::Blank;
@@ -26,7 +26,7 @@ pub(crate) fn session<C: Client, L: Session, R: Threads + Wait + Sync, G: Gate +
     workers: &Workers<'_, R, G>,
     blank: Blank,
     stage: Stage<C>,
-    lists: &Turns<'_, C::Cmd>,
+    lists: &PartLists<'_, C::Cmd>,
     steps: usize,
 ) -> Result<Stage<C>, CloseRefused<C>>
     requires name { blank.name ≡ L.name }
@@ -65,7 +65,7 @@ pub(crate) fn session<C: Client, L: Session, R: Threads + Wait + Sync, G: Gate +
 fn all_at_work<C: Client, L: Session, R: Threads + Wait + Sync, G: Gate + Sync>(
     context: &Context<'_, C, L, R, G>,
     workers: &mut Vec<Pass<C, L>>,
-    lists: &Turns<'_, C::Cmd>,
+    lists: &PartLists<'_, C::Cmd>,
     steps: usize,
 )
     requires some { 0 < vec_len workers.old }
@@ -83,7 +83,7 @@ fn all_at_work<C: Client, L: Session, R: Threads + Wait + Sync, G: Gate + Sync>(
 fn all_work<C: Client, L: Session, R: Threads + Wait + Sync, G: Gate + Sync>(
     context: &Context<'_, C, L, R, G>,
     workers: &mut [Pass<C, L>],
-    lists: &Turns<'_, C::Cmd>,
+    lists: &PartLists<'_, C::Cmd>,
     steps: usize,
 )
     requires some { 0 < length workers.old }
@@ -110,7 +110,7 @@ fn all_work<C: Client, L: Session, R: Threads + Wait + Sync, G: Gate + Sync>(
 fn do_own<C: Client, L: Session, R: Threads + Wait + Sync, G: Gate + Sync>(
     context: &Context<'_, C, L, R, G>,
     pass: &mut Pass<C, L>,
-    lists: &Turns<'_, C::Cmd>,
+    lists: &PartLists<'_, C::Cmd>,
     steps: usize,
 )
     requires worker { IsWorker (length lists.now.leaves) pass.old.actor }
@@ -124,7 +124,7 @@ fn do_own<C: Client, L: Session, R: Threads + Wait + Sync, G: Gate + Sync>(
 }
 
 /// Whether each actor but the painter made its list whole.
-fn are_whole<C: Client, L: Session>(workers: &Vec<Pass<C, L>>, lists: &Turns<'_, C::Cmd>) -> bool
+fn are_whole<C: Client, L: Session>(workers: &Vec<Pass<C, L>>, lists: &PartLists<'_, C::Cmd>) -> bool
     requires { All (λ pass. IsWorker (length lists.now.leaves) pass.actor) workers.now.items }
     ensures { IsTrue result ↔ AreWhole workers.now.items lists.now }
 {
@@ -137,7 +137,7 @@ fn are_whole<C: Client, L: Session>(workers: &Vec<Pass<C, L>>, lists: &Turns<'_,
 }
 
 /// Whether an actor made its list whole. The painter has none.
-fn is_whole<C: Client, L: Session>(pass: &Pass<C, L>, lists: &Turns<'_, C::Cmd>) -> bool
+fn is_whole<C: Client, L: Session>(pass: &Pass<C, L>, lists: &PartLists<'_, C::Cmd>) -> bool
     requires { IsWorker (length lists.now.leaves) pass.now.actor }
     ensures { IsTrue result ↔ IsWhole pass.now lists.now }
 {

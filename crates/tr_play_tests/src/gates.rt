@@ -9,9 +9,9 @@ use tr_play::Gate;
 /// How often a client looks whether the other one has come so far.
 const TRIES: u32 = 100_000_000;
 
-/// The client of a window, and how long its first step waits.
+/// How far the client of a window has come, and how long its first step waits.
 #[derive(Drop)]
-pub struct Turns {
+pub struct Progress {
     /// So many of its steps it has begun.
     begun: AtomicU32,
     /// So many steps the other one begins before this one's first step is made.
@@ -21,16 +21,16 @@ pub struct Turns {
 /// Two clients, those of the first two windows, of which one may wait for the other.
 #[derive(Drop)]
 pub struct Meeting {
-    first: Turns,
-    second: Turns,
+    first: Progress,
+    second: Progress,
     /// A client went on although the other one hadn't come so far.
     missed: AtomicU32,
 }
 
-impl Turns {
+impl Progress {
     /// A client's that has begun nothing.
-    fn new(awaits: u32) -> Turns {
-        Turns {
+    fn new(awaits: u32) -> Progress {
+        Progress {
             begun: AtomicU32::new(0),
             awaits,
         }
@@ -38,9 +38,9 @@ impl Turns {
 }
 
 /// Waits until a client has begun so many steps, and says whether it did.
-fn came(turns: &Turns, steps: u32) -> bool {
+fn came(progress: &Progress, steps: u32) -> bool {
     for _ in 0..TRIES {
-        if steps <= turns.begun.load(Ordering::SeqCst) {
+        if steps <= progress.begun.load(Ordering::SeqCst) {
             return true;
         }
         hint::spin_loop();
@@ -52,8 +52,8 @@ impl Meeting {
     /// The first step of each client waits until the other one has begun so many.
     pub fn new(first_awaits: u32, second_awaits: u32) -> Meeting {
         Meeting {
-            first: Turns::new(first_awaits),
-            second: Turns::new(second_awaits),
+            first: Progress::new(first_awaits),
+            second: Progress::new(second_awaits),
             missed: AtomicU32::new(0),
         }
     }
@@ -64,7 +64,7 @@ impl Meeting {
     }
 
     /// A client begins its k-th step.
-    fn begin(&self, own: &Turns, other: &Turns, k: u32) {
+    fn begin(&self, own: &Progress, other: &Progress, k: u32) {
         own.begun.store(k, Ordering::SeqCst);
         if k == 1 && !came(other, own.awaits) {
             self.missed.store(1, Ordering::SeqCst);

@@ -1,5 +1,5 @@
 use Rattle.std.proofs.Common.{◌+◌, sym, subst}
-use Rattle.tr_play.specs.Turns.{PlacesView}
+use Rattle.tr_play.specs.Places.{PlacesView}
 use Rattle.tr_play.proofs.ListLemmas.{ArePlaced, placed_next, placed_none}
 use Rattle.tr_play.proofs.lists.lists_of.Goals as goal
 

@@ -31,6 +31,14 @@ returns-in-Ok-clause-text g c =
     ∙ ap (λ (s : StageView _ _). journal_texts g.C.Client widget_words c.args.run.names c.args.run.stage.opening s.journal ++ played_threads)
     (sym c.in-Ok.ensures.stage)
 
+pub returns-in-Ok-clause-sum : goal.returns-in-Ok-clause-sum
+returns-in-Ok-clause-sum g c =
+    let parts = parts_of c.args.parts.now in
+    let b = c.in_ok-run.run' in
+    let legal = subst (λ (s : StageView _ _). IsLegal g.C.Client s.opening s.journal) c.stage.ensures c.stands.ensures.legal in
+    let some = subst (λ (n : ℕ). 0 < n) (sym (length-map c.args.parts.now part_of)) c.requires.some in
+    c.in-Ok.ensures.sum ∙ (all_played g.C.Client widget_words c.args.run b parts c.requires.begun some c.in_ok-run.ensures.ok legal).sum
+
 pub returns-in_err-run-clause-differs : goal.returns-in_err-run-clause-differs
 returns-in_err-run-clause-differs g c =
     let given = err_from_is_err_and c.from_residual.result c.from_residual.ensures.1 in
