@@ -124,7 +124,10 @@ fn do_own<C: Client, L: Session, R: Threads + Wait + Sync, G: Gate + Sync>(
 }
 
 /// Whether each actor but the painter made its list whole.
-fn are_whole<C: Client, L: Session>(workers: &Vec<Pass<C, L>>, lists: &PartLists<'_, C::Cmd>) -> bool
+fn are_whole<C: Client, L: Session>(
+    workers: &Vec<Pass<C, L>>,
+    lists: &PartLists<'_, C::Cmd>,
+) -> bool
     requires { All (λ pass. IsWorker (length lists.now.leaves) pass.actor) workers.now.items }
     ensures { IsTrue result ↔ AreWhole workers.now.items lists.now }
 {
