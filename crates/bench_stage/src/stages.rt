@@ -62,12 +62,18 @@ impl From<io::Error> for Stopped {
 /// A stage whose windows lie on a Z, each in front of those before it, and a bit further south-east.
 pub fn stage_of<C: Client>(alloc: Global, contents: &[C]) -> Result<Stage<C>, Stopped> {
     let mut opening = Opening::new(alloc, SCREEN, Kind::Map8)?;
-    write_glyphs(&mut opening)?;
-    add_root(&mut opening)?;
-    for content in contents {
-        add(&mut opening, content.copy(alloc)?)?;
-    }
+    fill(alloc, &mut opening, contents)?;
     start(alloc, opening)
+}
+
+/// Puts the glyphs, the root and the windows into an opening that has nothing.
+fn fill<C: Client>(alloc: Global, opening: &mut Opening<C>, contents: &[C]) -> Result<(), Stopped> {
+    write_glyphs(opening)?;
+    add_root(opening)?;
+    for content in contents {
+        add(opening, content.copy(alloc)?)?;
+    }
+    Ok(())
 }
 
 /// Writes a glyph for each byte that can have one.

@@ -1,8 +1,9 @@
 //! A client posts a command while another thread has the tree's lock.
 use super::calls::{post, window};
-use super::lines::{Line, has_lines};
+use super::lines::Line;
 use super::openings::Coloured;
-use super::sessions::{Trial, played};
+use super::rows::leaves_lines;
+use super::sessions::Trial;
 use std::process::Abort;
 use std::sync::Wait;
 use std::sync::atomic::{AtomicU32, Ordering};
@@ -12,7 +13,6 @@ use std::{hint, thread};
 use tr_base::NoMemory;
 use tr_levels::Ladder;
 use tr_server::{Pass, Server, Session};
-use w_plain::Solid;
 
 /// How often a thread looks whether the other one has come so far.
 const TRIES: u32 = 100_000_000;
@@ -93,7 +93,6 @@ pub fn act_beside<C: Coloured, L: Session, R: Threads + Wait + Sync + Abort>(
 
 #[test]
 fn a_command_is_posted_beside_the_lock(rt: HostRuntime) -> Result<(), Fail> {
-    let stage = played::<Solid, HostRuntime>(&rt, Trial::Beside)?;
-    assert!(rt; has_lines(&stage, &[Line::Posted(7)]));
+    assert!(rt; leaves_lines(&rt, Trial::Beside, &[Line::Posted(7)])?);
     Ok(())
 }

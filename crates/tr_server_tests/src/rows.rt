@@ -7,6 +7,7 @@ use std::alloc::Global;
 use std::process::Abort;
 use std::sync::Wait;
 use std::test::Fail;
+use std::thread::Threads;
 use tr_base::{LeafId, NoMemory, Op, Rect, Size, whole};
 use tr_forest::Edit;
 use tr_journal::Step;
@@ -50,18 +51,32 @@ fn waits_alone<C: Coloured>(stage: &Stage<C>, size: Size, tint: u8) -> bool {
     }
 }
 
+/// Whether what was posted waits, prepared for the size that the screen got.
+fn is_prepared_anew<C: Coloured>(stage: &Stage<C>) -> bool {
+    has_lines(stage, &[Line::Alter, Line::Posted(7)])
+        && waits_alone(stage, Size { wide: 3, high: 1 }, 7)
+}
+
+/// Whether that is so once it was handed over.
+fn prepares_anew<R: Threads + Wait + Sync + Abort + AllocGlobal>(rt: &R) -> Result<bool, NoMemory> {
+    let stage = played::<Solid, R>(rt, Trial::HandedLater)?;
+    Ok(is_prepared_anew(&stage))
+}
+
 #[test]
 fn what_was_posted_is_prepared_anew_for_another_size(rt: HostRuntime) -> Result<(), Fail> {
-    let stage = played::<Solid, HostRuntime>(&rt, Trial::HandedLater)?;
-    assert!(rt;
-        has_lines(&stage, &[Line::Alter, Line::Posted(7)]),
-        "the lines"
-    );
-    assert!(rt;
-        waits_alone(&stage, Size { wide: 3, high: 1 }, 7),
-        "the batch"
-    );
+    assert!(rt; prepares_anew(&rt)?);
     Ok(())
+}
+
+/// Whether the journal of one window's stage has these entries, and no others, after a trial.
+pub fn leaves_lines<R: Threads + Wait + Sync + Abort + AllocGlobal>(
+    rt: &R,
+    trial: Trial,
+    lines: &[Line],
+) -> Result<bool, NoMemory> {
+    let stage = played::<Solid, R>(rt, trial)?;
+    Ok(has_lines(&stage, lines))
 }
 
 /// Posts the commands for the colours from 0 to 63, as many as may be.
@@ -112,9 +127,8 @@ fn lines_of_full(alloc: Global) -> Result<Vec<Line>, NoMemory> {
 
 #[test]
 fn a_full_pass_acts_under_the_lock(rt: HostRuntime) -> Result<(), Fail> {
-    let stage = played::<Solid, HostRuntime>(&rt, Trial::Full)?;
     let lines = lines_of_full(rt.alloc())?;
-    assert!(rt; has_lines(&stage, &lines));
+    assert!(rt; leaves_lines(&rt, Trial::Full, &lines)?);
     Ok(())
 }
 
@@ -129,9 +143,8 @@ fn lines_of_both(alloc: Global) -> Result<Vec<Line>, NoMemory> {
 
 #[test]
 fn a_pass_can_be_filled_again(rt: HostRuntime) -> Result<(), Fail> {
-    let stage = played::<Solid, HostRuntime>(&rt, Trial::FullAgain)?;
     let lines = lines_of_both(rt.alloc())?;
-    assert!(rt; has_lines(&stage, &lines));
+    assert!(rt; leaves_lines(&rt, Trial::FullAgain, &lines)?);
     Ok(())
 }
 
@@ -151,7 +164,7 @@ pub fn post_and_mark<C: Coloured, L: Session, R: Wait + Abort>(
 
 #[test]
 fn what_waits_comes_before_a_step_of_its_client(rt: HostRuntime) -> Result<(), Fail> {
-    let stage = played::<Solid, HostRuntime>(&rt, Trial::Marked)?;
-    assert!(rt; has_lines(&stage, &[Line::Posted(7), Line::Posted(8), Line::Mark]));
+    let lines = [Line::Posted(7), Line::Posted(8), Line::Mark];
+    assert!(rt; leaves_lines(&rt, Trial::Marked, &lines)?);
     Ok(())
 }

@@ -1,5 +1,5 @@
 //! A session in which a test makes calls.
-ghost use Rattle.std.specs.Prelude.{◌≡◌, ◌+◌, ◌*◌, length};
+ghost use Rattle.std.specs.Prelude.{◌≡◌, ◌+◌, ◌*◌, length, vec_len};
 ghost use Rattle.tr_server.specs.Sessions.{HasIds};
 
 use super::beside::act_beside;
@@ -12,7 +12,8 @@ use std::sync::Wait;
 use std::sync::ledger::Blank;
 use std::thread::Threads;
 use tr_base::NoMemory;
-use tr_server::{Pass, Passes, Server, Session};
+use tr_client::Client;
+use tr_server::{CloseRefused, Pass, Passes, Server, Session};
 use tr_stage::Stage;
 
 /// What is done in a session.
@@ -61,7 +62,7 @@ pub fn played<C: Coloured, R: Threads + Wait + Sync + Abort + AllocGlobal>(
     rt: &R,
     trial: Trial,
 ) -> Result<Stage<C>, NoMemory> {
-    played_on(rt, trial, stage_of_one::<C>(rt)?)
+    Ok(played_on(rt, trial, stage_of_one::<C>(rt)?))
 }
 
 /// A stage after a session.
@@ -69,7 +70,7 @@ pub fn played_on<C: Coloured, R: Threads + Wait + Sync + Abort + AllocGlobal>(
     rt: &R,
     trial: Trial,
     stage: Stage<C>,
-) -> Result<Stage<C>, NoMemory> {
+) -> Stage<C> {
     let leaves = stage.opening().tree().leaves();
     let parts = 2 * u64::from(leaves) + 3;
     session::<C, Brand, R>(rt, trial, Blank::new(parts), stage)
@@ -81,21 +82,37 @@ fn session<C: Coloured, L: Session, R: Threads + Wait + Sync + Abort + AllocGlob
     trial: Trial,
     blank: Blank,
     stage: Stage<C>,
-) -> Result<Stage<C>, NoMemory>
+) -> Stage<C>
     requires name { blank.name ≡ L.name }
     requires parts { (blank.parts ≡ L.parts) × (L.parts ≡ 2 * L.leaves + 3) }
     requires ids { HasIds L.nodes L.leaves stage.opening }
     requires entries { length stage.journal ≡ L.entries }
 {
-    let Ok((server, passes)) = Server::<C, L>::start(rt.alloc(), blank, stage) else {
-        return Err(NoMemory);
-    };
-    let Passes {
-        mut workers,
-        player,
-    } = passes;
-    let made = make(rt, trial, &server, workers.as_mut_slice());
-    let closed = server.close(rt, Passes { workers, player });
-    made?;
-    closed.or(Err(NoMemory))
+    match Server::<C, L>::start(rt.alloc(), blank, stage) {
+        Ok((server, passes)) => make_and_close(rt, trial, server, passes),
+        Err(_stage) => panic!(rt; "no memory for a session"),
+    }
+}
+
+/// Makes the calls of a trial, and closes the session, which has all its passes.
+fn make_and_close<C: Coloured, L: Session, R: Threads + Wait + Sync + Abort>(
+    rt: &R,
+    trial: Trial,
+    server: Server<C, L>,
+    mut passes: Passes<C, L>,
+) -> Stage<C>
+    requires { vec_len passes.workers ≡ L.leaves + 2 }
+{
+    let made = make(rt, trial, &server, passes.workers.as_mut_slice());
+    assert!(rt; made.is_ok(), "no memory for a call");
+    stage_of(rt, server.close(rt, passes))
+}
+
+/// The stage of a session that was closed. Each function from which a stage or a refusal vanishes costs the
+/// prover a minute, so where it isn't closed the test ends here.
+fn stage_of<C: Client>(rt: &impl Abort, closed: Result<Stage<C>, CloseRefused<C>>) -> Stage<C> {
+    match closed {
+        Ok(stage) => stage,
+        Err(_refused) => panic!(rt; "the session isn't closed"),
+    }
 }

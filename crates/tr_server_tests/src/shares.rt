@@ -190,17 +190,28 @@ fn row_of_two(alloc: Global, wide: u16) -> Result<Vec<u8>, NoMemory> {
     Ok(row)
 }
 
+/// Whether a trial on this stage repaints these leaves, and each row of the screen has these pixels then.
+fn shows<C: Coloured, R: Threads + Wait + Sync + Abort + AllocGlobal>(
+    rt: &R,
+    trial: Trial,
+    stage: Stage<C>,
+    leaves: &[LeafId],
+    row: &[u8],
+) -> bool {
+    let stage = played_on(rt, trial, stage);
+    has_repaints(&stage, leaves) && has_rows(&stage, row)
+}
+
 /// Whether two windows of this size are repainted, the first one before the second.
 fn are_painted<C: Coloured, R: Threads + Wait + Sync + Abort + AllocGlobal>(
     rt: &R,
     size: Size,
 ) -> Result<bool, NoMemory> {
+    let row = row_of_two(rt.alloc(), size.wide)?;
     let Ok(stage) = two_beside::<C>(rt, size) else {
         return Err(NoMemory);
     };
-    let stage = played_on::<C, R>(rt, Trial::Repainted, stage)?;
-    let row = row_of_two(rt.alloc(), size.wide)?;
-    Ok(has_repaints(&stage, &[LeafId(0), LeafId(1)]) && has_rows(&stage, &row))
+    Ok(shows(rt, Trial::Repainted, stage, &[LeafId(0), LeafId(1)], &row))
 }
 
 #[test]
@@ -248,9 +259,7 @@ fn a_share_is_given_back(rt: HostRuntime) -> Result<(), Fail> {
     let Ok(stage) = bordered::<Solid>(&rt) else {
         return Err(NoMemory.into());
     };
-    let stage = played_on::<Solid, HostRuntime>(&rt, Trial::GivenBack, stage)?;
-    assert!(rt; has_repaints(&stage, &[]), "no line");
-    assert!(rt; has_rows(&stage, &[0, 0, 0, 0]), "the screen");
+    assert!(rt; shows(&rt, Trial::GivenBack, stage, &[], &[0, 0, 0, 0]));
     Ok(())
 }
 
@@ -300,8 +309,6 @@ fn a_share_is_painted_and_put(rt: HostRuntime) -> Result<(), Fail> {
     let Ok(stage) = two_beside::<Solid>(&rt, Size { wide: 2, high: 1 }) else {
         return Err(NoMemory.into());
     };
-    let stage = played_on::<Solid, HostRuntime>(&rt, Trial::Painted, stage)?;
-    assert!(rt; has_repaints(&stage, &[LeafId(1)]), "the line");
-    assert!(rt; has_rows(&stage, &[0, 0, 2, 2]), "the screen");
+    assert!(rt; shows(&rt, Trial::Painted, stage, &[LeafId(1)], &[0, 0, 2, 2]));
     Ok(())
 }
