@@ -82,8 +82,10 @@ fn text<C: Client>(alloc: Global, west: C, east: C) -> Result<Vec<u8>, Stopped> 
 
 /// Plays a run to its end. It answers what was printed meanwhile.
 fn play<C: Client>(mut run: Run<'static, C, Names>) -> Result<Vec<u8>, Stopped> {
-    make_all(&mut run)?;
-    Ok(text_of(run))
+    let made = make_all(&mut run);
+    let text = text_of(run);
+    made?;
+    Ok(text)
 }
 
 /// All that happens.
@@ -98,8 +100,8 @@ fn make_all<C: Client>(run: &mut Run<C, Names>) -> Result<(), Stopped> {
     list(run)
 }
 
-/// What was printed. For the prover a function of its own: `play` is slow to prove where it takes a run
-/// apart.
+/// What was printed. For the prover a function of its own, in which alone a run vanishes: `play` is slow to
+/// prove where it takes one apart, or may return before.
 fn text_of<C: Client>(run: Run<'static, C, Names>) -> Vec<u8> {
     let Finished { text, .. } = run.finish();
     text
