@@ -58,7 +58,9 @@ pub fn measure<R: Clock + AllocGlobal, C: Client>(
     extent: Extent,
 ) -> Result<Measured, Stopped> {
     let mut stage = stage_of(rt.alloc(), &plan.contents)?;
-    run(rt, &mut stage, plan, extent)
+    let measured = run(rt, &mut stage, plan, extent);
+    drop(stage);
+    measured
 }
 
 fn run<R: Clock + AllocGlobal, C: Client>(

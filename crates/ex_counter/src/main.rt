@@ -103,7 +103,8 @@ fn make_all<C: Client>(run: &mut Run<C, Names>) -> Result<(), Stopped> {
 /// What was printed. For the prover a function of its own, in which alone a run vanishes: `play` is slow to
 /// prove where it takes one apart, or may return before.
 fn text_of<C: Client>(run: Run<'static, C, Names>) -> Vec<u8> {
-    let Finished { text, .. } = run.finish();
+    let Finished { stage, text, .. } = run.finish();
+    drop(stage);
     text
 }
 

@@ -90,15 +90,25 @@ fn read_lines<R: Threads + Sync>(
     while index < lines.len() {
         match take_line(alloc, &mut reader, index + 1, lines[index]) {
             Ok(()) => {}
-            Err(LineRefused::NoMemory) => return Err(ReadRefused::NoMemory),
-            Err(LineRefused::Fault(code)) => return Err(refused_at(index + 1, code)),
+            Err(LineRefused::NoMemory) => {
+                drop(reader);
+                return Err(ReadRefused::NoMemory);
+            }
+            Err(LineRefused::Fault(code)) => {
+                drop(reader);
+                return Err(refused_at(index + 1, code));
+            }
         }
         index += 1;
         if index >= tried && reader.is_at_steps() {
             let (_, rest) = lines.split_at(index);
             let (ahead, _) = rest.split_at(step_lines(rest, MOST_LINES.saturating_sub(index)));
             tried = index + ahead.len();
-            index += take_lines(rt, alloc, &mut reader, index + 1, ahead)?;
+            let Ok(taken) = take_lines(rt, alloc, &mut reader, index + 1, ahead) else {
+                drop(reader);
+                return Err(ReadRefused::NoMemory);
+            };
+            index += taken;
         }
     }
     match reader.finish()? {

@@ -87,6 +87,7 @@ fn play_part<'a, C: Client<Cmd = WidgetCmd>, N: NameOf, R: Threads + Wait + Sync
 {
     let mut run = run;
     let Ok(()) = begin_part(&mut run, is_later, &part.reports) else {
+        drop(run);
         return Err(CloseRefused::NoMemory);
     };
     stands(run.stage());
@@ -96,6 +97,9 @@ fn play_part<'a, C: Client<Cmd = WidgetCmd>, N: NameOf, R: Threads + Wait + Sync
             stands(&stage);
             Ok(paused.resume(stage))
         }
-        Err(refused) => Err(refused),
+        Err(refused) => {
+            drop(paused);
+            Err(refused)
+        }
     }
 }

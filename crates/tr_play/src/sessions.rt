@@ -55,6 +55,8 @@ pub(crate) fn session<C: Client, L: Session, R: Threads + Wait + Sync, G: Gate +
     let is_whole = are_whole(&passes.workers, lists);
     let closed = server.close(workers.rt, passes);
     if !is_whole {
+        // Said, since the prover takes apart what vanishes unsaid.
+        drop(closed);
         return Err(CloseRefused::NoMemory);
     }
     closed

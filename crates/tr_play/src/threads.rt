@@ -49,6 +49,7 @@ pub(crate) fn make_side_by_side<C: Client, R: Threads + Wait + Sync, G: Gate + S
     }
     let leaves = stage.opening().tree().leaves();
     let Ok(lists) = lists_of(workers.alloc, steps, leaves) else {
+        drop(stage);
         return Err(CloseRefused::NoMemory);
     };
     let blank = Blank::new(2 * u64::from(leaves) + 3);

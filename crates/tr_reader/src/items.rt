@@ -143,11 +143,13 @@ impl<'a> Reader<'a> {
         ensures err { OnErr result (self.new ≡ self.old) }
     {
         let opening = Opening::new(self.alloc, size, kind)?;
-        self.declared = Some(Declared {
-            opening,
-            nodes: NameTable::new(self.alloc),
-            leaves: NameTable::new(self.alloc),
-        });
+        drop(
+            self.declared.replace(Declared {
+                opening,
+                nodes: NameTable::new(self.alloc),
+                leaves: NameTable::new(self.alloc),
+            }),
+        );
         self.place = Place::Opening;
         Ok(())
     }
@@ -165,7 +167,7 @@ impl<'a> Reader<'a> {
             return Err(LOST);
         };
         let added = declared.opening.glyph(byte, rows);
-        self.declared = Some(declared);
+        drop(self.declared.replace(declared));
         added?;
         self.glyphs.push_reserved(byte);
         Ok(())
@@ -182,7 +184,7 @@ impl<'a> Reader<'a> {
             return Err(LOST);
         };
         let added = declared.add_node(name, kind, tint);
-        self.declared = Some(declared);
+        drop(self.declared.replace(declared));
         added?;
         Ok(())
     }
@@ -199,7 +201,7 @@ impl<'a> Reader<'a> {
             return Err(LOST);
         };
         let added = declared.add_leaf(name, shapes, content);
-        self.declared = Some(declared);
+        drop(self.declared.replace(declared));
         added?;
         Ok(())
     }
@@ -215,7 +217,7 @@ impl<'a> Reader<'a> {
             return Err(LOST.into());
         };
         let added = put(&mut declared.opening, child, parent, at);
-        self.declared = Some(declared);
+        drop(self.declared.replace(declared));
         added?;
         Ok(())
     }
@@ -231,7 +233,7 @@ impl<'a> Reader<'a> {
             return Err(LOST.into());
         };
         let added = set_root(&mut declared.opening, node);
-        self.declared = Some(declared);
+        drop(self.declared.replace(declared));
         added?;
         Ok(())
     }

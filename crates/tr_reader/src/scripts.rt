@@ -2,7 +2,7 @@ ghost use Rattle.std.specs.Prelude.{IfOk};
 ghost use Rattle.tr_reader.specs.Adding.{Finishes};
 
 use crate::names::Names;
-use crate::parts::Part;
+use crate::parts::{Part, push};
 use crate::readers::{Declared, Reader};
 use std::marker::Model;
 use tr_base::NoMemory;
@@ -34,6 +34,8 @@ impl<'a> Reader<'a> {
         ensures { IfOk result (λ found. Finishes self.entry found) }
     {
         if !self.has_ended() {
+            // Said, here and below, since the prover takes apart what vanishes unsaid.
+            drop(self);
             return Ok(None);
         }
         let Reader {
@@ -54,13 +56,19 @@ impl<'a> Reader<'a> {
         else {
             unreachable!();
         };
-        ended.push(Part {
+        let names = Names::of(alloc, &nodes, &leaves);
+        drop((nodes, leaves));
+        let last = Part {
             reports,
             steps: steps.into_vec(),
-        })?;
+        };
+        let (Ok(()), Ok(names)) = (push(&mut ended, last), names) else {
+            drop((opening, ended));
+            return Err(NoMemory);
+        };
         Ok(Some(Script {
             opening,
-            names: Names::of(alloc, &nodes, &leaves)?,
+            names,
             parts: ended,
         }))
     }

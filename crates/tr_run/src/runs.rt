@@ -102,7 +102,10 @@ impl<'a, C: Client, N: NameOf> Run<'a, C, N> {
                 text: Vec::new(alloc),
                 sum: 0,
             }),
-            Err(_) => Err(NoMemory),
+            Err(opening) => {
+                drop(opening);
+                Err(NoMemory)
+            }
         }
     }
 

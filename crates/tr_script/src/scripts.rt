@@ -35,8 +35,14 @@ fn read_lines(alloc: Global, lines: &[&[u8]]) -> Result<Script, ReadRefused>
     for (index, line) in lines.iter().enumerate() {
         match take_line(alloc, &mut reader, index + 1, line) {
             Ok(()) => {}
-            Err(LineRefused::NoMemory) => return Err(ReadRefused::NoMemory),
-            Err(LineRefused::Fault(code)) => return Err(refused_at(index + 1, code)),
+            Err(LineRefused::NoMemory) => {
+                drop(reader);
+                return Err(ReadRefused::NoMemory);
+            }
+            Err(LineRefused::Fault(code)) => {
+                drop(reader);
+                return Err(refused_at(index + 1, code));
+            }
         }
     }
     match reader.finish()? {

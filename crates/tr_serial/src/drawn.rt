@@ -68,8 +68,9 @@ pub fn summary(alloc: Global, number: u32) -> Result<Played, NoMemory>
         entries: stage.journal().len(),
         sum,
     };
-    Ok(Played {
-        text: totals.text(alloc)?,
-        stage,
-    })
+    let Ok(text) = totals.text(alloc) else {
+        drop(stage);
+        return Err(NoMemory);
+    };
+    Ok(Played { text, stage })
 }

@@ -66,7 +66,10 @@ pub(crate) fn play(alloc: Global, script: Script, mode: Mode) -> Result<Finished
         parts,
     } = script;
     let mut run = Run::start(alloc, opening, &names, mode)?;
-    play_parts(&mut run, parts)?;
+    let Ok(()) = play_parts(&mut run, parts) else {
+        drop(run);
+        return Err(NoMemory);
+    };
     Ok(run.finish())
 }
 

@@ -118,15 +118,17 @@ impl<C: Client, L: Session> Server<C, L> {
         let Server {
             alloc: _,
             locked,
-            windows: _,
+            windows,
             opening,
             kept,
             is_taken: _,
         } = self;
+        drop(windows);
         let Passes { workers, player } = passes;
         let (steps, mut all) = player.spend();
         let Ok(mut lists) = lists else {
             spend_all(workers);
+            drop((locked, opening, kept, steps, all));
             return Err(CloseRefused::NoMemory);
         };
         lists.put(Actor::Player, steps);
@@ -233,7 +235,10 @@ fn compare<C: Client>(
         × (d.kept ≡ kept.lines) × (d.lists ≡ lists) × IsDifference d)) }
 {
     match stage.audit(&opening, &kept, &lists) {
-        Ok(None) => Ok(stage),
+        Ok(None) => {
+            drop((opening, kept, lists));
+            Ok(stage)
+        }
         Ok(Some(difference)) => Err(CloseRefused::Differs(Differs {
             difference,
             stage,
@@ -241,6 +246,9 @@ fn compare<C: Client>(
             kept,
             lists,
         })),
-        Err(_) => Err(CloseRefused::NoMemory),
+        Err(_) => {
+            drop((stage, opening, kept, lists));
+            Err(CloseRefused::NoMemory)
+        }
     }
 }

@@ -79,13 +79,16 @@ impl<C: Client, L: Session> Server<C, L> {
             return Err(stage);
         };
         let Ok(kept) = stage.journal().copy() else {
+            drop(opening);
             return Err(stage);
         };
         let leaves = stage.opening().tree().leaves();
         let Ok(windows) = windows_of(alloc, &stage, leaves, &mut all) else {
+            drop((opening, kept));
             return Err(stage);
         };
         let Ok(workers) = workers_of(alloc, leaves, &mut all) else {
+            drop((opening, kept, windows));
             return Err(stage);
         };
         let player = Pass::fresh(alloc, Actor::Player, all);

@@ -34,14 +34,14 @@ loop-index-preserved-then-is_at_steps g c =
     let i = c.loop-index.index in
     let reader = c.take_line.new.reader in
     let long = c.step_lines.result in
-    let taken = c.in_ok-index.ensures in
+    let taken = c.in-Ok-take_lines.ensures in
     let one =
     line_read lines i no_text c.loop-index.reader reader c.loop-index-test.true c.loop-index.invariant.0 c.in-Ok.ensures.none c.in-Ok.ensures.next in
     let fits : i + 1 + long ≤ length lines = omega (arith, c.step_lines.ensures.lines, c.split_at.ensures.back_len) in
     let read =
-    lines_read lines c.split_at.result.1.now c.split_at-then-is_at_steps.result.0.now (i + 1) long c.in_ok-index.field-0 reader
+    lines_read lines c.split_at.result.1.now c.split_at-then-is_at_steps.result.0.now (i + 1) long c.in-Ok-take_lines.taken reader
     c.take_lines.new.reader one fits c.split_at.ensures.back c.split_at-then-is_at_steps.ensures.front taken in
-    let most = most_taken reader c.take_lines.new.reader (i + 1 + 1) c.in_ok-index.field-0 (texts c.split_at-then-is_at_steps.result.0.now) taken in
+    let most = most_taken reader c.take_lines.new.reader (i + 1 + 1) c.in-Ok-take_lines.taken (texts c.split_at-then-is_at_steps.result.0.now) taken in
     let few = many_texts_all c.split_at-then-is_at_steps.result.0.now in (
       read,
       omega (arith, fits, most, few, c.split_at-then-is_at_steps.ensures.front_len),

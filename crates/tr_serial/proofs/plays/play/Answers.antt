@@ -29,7 +29,7 @@ returns c =
       sum = c.in_ok-run.ensures.sum;
     } in
     let end = played widgets widget_words c.in_ok-run.run' c.play_parts.new.run i.opening i.names c.args.mode (cues i.parts.items) started
-    c.in_ok-play_parts.ensures in
+    c.in-Ok.ensures in
     let ends = subst (λ (s : Script). HasPlayed widgets widget_words c.play_parts.new.run s.opening s.names c.args.mode (cues s.parts))
     c.script.view_is end in
     record {
