@@ -3,10 +3,12 @@ ghost use Rattle.std.specs.Prelude.{IsTrue};
 ghost use Rattle.std.specs.List.{AllByRecursion};
 ghost use Rattle.tr_region.specs.Points.{IsInSquare};
 
-use std::alloc::Global;
+use super::ends::made;
+use std::alloc::AllocGlobal;
 use std::collections::BTreeSet;
+use std::process::Abort;
 use std::test::Fail;
-use tr_base::{NoMemory, Point, Rect};
+use tr_base::{Point, Rect};
 use tr_region::Region;
 
 // The edges of rectangles in a square of 4 by 4, along one axis.
@@ -55,52 +57,65 @@ fn has_rects(region: &Region, want: &[Rect]) -> bool {
 }
 
 /// Whether rectangles are cut, and joined where they touch.
-fn are_cut_and_joined(alloc: Global) -> Result<bool, NoMemory> {
-    let square = Region::of_rect(alloc, rect(0, 2, 0, 2))?;
-    let corner = Region::of_rect(alloc, rect(0, 1, 0, 1))?;
-    let rest = square.minus(&corner)?;
-    let all = rest.union(&corner)?;
-    let common = rest.meet(&Region::of_rect(alloc, rect(1, 3, 0, 1))?)?;
-    Ok(
-        has_rects(&rest, &[rect(1, 2, 0, 1), rect(0, 2, 1, 2)])
-            && has_rects(&all, &[rect(0, 2, 0, 2)])
-            && has_rects(&common, &[rect(1, 2, 0, 1)])
-            && common.has(Point { h: 1, v: 0 })
-            && !common.has(Point { h: 2, v: 0 })
-            && all.same(&square)
-            && !all.same(&rest)
-            && rest.copy()?.same(&rest),
-    )
+fn are_cut_and_joined(rt: &(impl Abort + AllocGlobal)) -> bool {
+    let square = made(rt, Region::of_rect(rt.alloc(), rect(0, 2, 0, 2)));
+    let corner = made(rt, Region::of_rect(rt.alloc(), rect(0, 1, 0, 1)));
+    let rest = made(rt, square.minus(&corner));
+    let all = made(rt, rest.union(&corner));
+    let common = made(
+        rt,
+        rest.meet(&made(rt, Region::of_rect(rt.alloc(), rect(1, 3, 0, 1)))),
+    );
+    has_rects(&rest, &[rect(1, 2, 0, 1), rect(0, 2, 1, 2)])
+        && has_rects(&all, &[rect(0, 2, 0, 2)])
+        && has_rects(&common, &[rect(1, 2, 0, 1)])
+        && common.has(Point { h: 1, v: 0 })
+        && !common.has(Point { h: 2, v: 0 })
+        && all.same(&square)
+        && !all.same(&rest)
+        && made(rt, rest.copy()).same(&rest)
 }
 
 /// Whether bands of rows are joined where they have the same rectangles.
-fn are_bands_joined(alloc: Global) -> Result<bool, NoMemory> {
-    let west = Region::of_rect(alloc, rect(0, 1, 0, 1))?;
-    let two = west.union(&Region::of_rect(alloc, rect(1, 2, 1, 2))?)?;
-    let three = two.union(&Region::of_rect(alloc, rect(1, 2, 0, 1))?)?;
-    let four = three.union(&Region::of_rect(alloc, rect(0, 1, 1, 2))?)?;
+fn are_bands_joined(rt: &(impl Abort + AllocGlobal)) -> bool {
+    let west = made(rt, Region::of_rect(rt.alloc(), rect(0, 1, 0, 1)));
+    let two = made(
+        rt,
+        west.union(&made(rt, Region::of_rect(rt.alloc(), rect(1, 2, 1, 2)))),
+    );
+    let three = made(
+        rt,
+        two.union(&made(rt, Region::of_rect(rt.alloc(), rect(1, 2, 0, 1)))),
+    );
+    let four = made(
+        rt,
+        three.union(&made(rt, Region::of_rect(rt.alloc(), rect(0, 1, 1, 2)))),
+    );
     let diagonal = [rect(0, 1, 0, 1), rect(1, 2, 1, 2)];
-    Ok(has_rects(&two, &diagonal) && has_rects(&four, &[rect(0, 2, 0, 2)]))
+    has_rects(&two, &diagonal) && has_rects(&four, &[rect(0, 2, 0, 2)])
 }
 
 /// A square without the square in its middle.
-fn ring(alloc: Global) -> Result<Region, NoMemory> {
-    let outer = Region::of_rect(alloc, rect(0, 4, 0, 4))?;
-    outer.minus(&Region::of_rect(alloc, rect(1, 3, 1, 3))?)
+fn ring(rt: &(impl Abort + AllocGlobal)) -> Region {
+    let outer = made(rt, Region::of_rect(rt.alloc(), rect(0, 4, 0, 4)));
+    made(
+        rt,
+        outer.minus(&made(rt, Region::of_rect(rt.alloc(), rect(1, 3, 1, 3)))),
+    )
 }
 
 /// A region moved by one point; none where it reaches beyond the square.
-fn east_of(region: &Region) -> Result<Option<Region>, NoMemory> {
+fn east_of(rt: &impl Abort, region: &Region) -> Option<Region> {
     if !is_in_square(region) {
-        return Ok(None);
+        return None;
     }
-    Ok(Some(one_east(region)?))
+    Some(one_east(rt, region))
 }
 
-fn one_east(region: &Region) -> Result<Region, NoMemory>
+fn one_east(rt: &impl Abort, region: &Region) -> Region
     requires { AllByRecursion IsInSquare region.now }
 {
-    region.shift(Point { h: 1, v: 0 })
+    made(rt, region.shift(Point { h: 1, v: 0 }))
 }
 
 /// The number of points of a region; none where it reaches beyond the square.
@@ -119,10 +134,10 @@ fn counted(region: &Region) -> u64
 }
 
 /// Whether a ring is moved and counted.
-fn is_ring_moved(alloc: Global) -> Result<bool, NoMemory> {
-    let ring = ring(alloc)?;
-    let Some(east) = east_of(&ring)? else {
-        return Ok(false);
+fn is_ring_moved(rt: &(impl Abort + AllocGlobal)) -> bool {
+    let ring = ring(rt);
+    let Some(east) = east_of(rt, &ring) else {
+        return false;
     };
     let want = [
         rect(1, 5, 0, 1),
@@ -130,24 +145,24 @@ fn is_ring_moved(alloc: Global) -> Result<bool, NoMemory> {
         rect(4, 5, 1, 3),
         rect(1, 5, 3, 4),
     ];
-    Ok(has_rects(&east, &want) && count_of(&ring) == Some(12))
+    has_rects(&east, &want) && count_of(&ring) == Some(12)
 }
 
 /// Whether no rectangle is no point.
-fn is_none_empty(alloc: Global) -> Result<bool, NoMemory> {
-    let none = Region::empty(alloc);
-    let flat = Region::of_rect(alloc, rect(3, 3, 0, 9))?;
-    let some = Region::of_rect(alloc, rect(3, 4, 0, 9))?;
+fn is_none_empty(rt: &(impl Abort + AllocGlobal)) -> bool {
+    let none = Region::empty(rt.alloc());
+    let flat = made(rt, Region::of_rect(rt.alloc(), rect(3, 3, 0, 9)));
+    let some = made(rt, Region::of_rect(rt.alloc(), rect(3, 4, 0, 9)));
     let is_counted = none.is_empty() && count_of(&none) == Some(0);
-    Ok(is_counted && flat.same(&none) && !some.is_empty() && some.minus(&some)?.is_empty())
+    is_counted && flat.same(&none) && !some.is_empty() && made(rt, some.minus(&some)).is_empty()
 }
 
 #[test]
 fn regions_are_lists_of_rectangles(rt: HostRuntime) -> Result<(), Fail> {
-    assert!(rt; are_cut_and_joined(rt.alloc())?, "cut and joined");
-    assert!(rt; are_bands_joined(rt.alloc())?, "bands");
-    assert!(rt; is_ring_moved(rt.alloc())?, "a ring");
-    assert!(rt; is_none_empty(rt.alloc())?, "no rectangle");
+    assert!(rt; are_cut_and_joined(&rt), "cut and joined");
+    assert!(rt; are_bands_joined(&rt), "bands");
+    assert!(rt; is_ring_moved(&rt), "a ring");
+    assert!(rt; is_none_empty(&rt), "no rectangle");
     Ok(())
 }
 
@@ -170,55 +185,57 @@ fn points_of(region: &Region) -> u16 {
 }
 
 // The regions of all sets of points of the square, each built of its points.
-fn built(alloc: Global) -> Result<Vec<Region>, NoMemory> {
-    let mut regions = Vec::new(alloc);
-    regions.push(Region::empty(alloc))?;
+fn built(rt: &(impl Abort + AllocGlobal)) -> Vec<Region> {
+    let mut regions = Vec::new(rt.alloc());
+    made(rt, regions.push(Region::empty(rt.alloc())));
     for v in 0..4i8 {
         for h in 0..4i8 {
-            let point = Region::of_rect(alloc, rect(h, h + 1, v, v + 1))?;
-            double(&mut regions, &point)?;
+            let point = made(rt, Region::of_rect(rt.alloc(), rect(h, h + 1, v, v + 1)));
+            double(rt, &mut regions, &point);
         }
     }
-    Ok(regions)
+    regions
 }
 
 // Adds each region once more, with a point.
-fn double(regions: &mut Vec<Region>, point: &Region) -> Result<(), NoMemory> {
+fn double(rt: &impl Abort, regions: &mut Vec<Region>, point: &Region) {
     for i in 0..regions.len() {
         if let Some(region) = regions.get(i) {
-            let more = region.union(point)?;
-            regions.push(more)?;
+            let more = made(rt, region.union(point));
+            made(rt, regions.push(more));
         }
     }
-    Ok(())
 }
 
 // The points of each rectangle in the square, and of none.
-fn rect_points(alloc: Global) -> Result<Vec<u16>, NoMemory> {
-    let mut points = Vec::new(alloc);
-    points.push(0)?;
+fn rect_points(rt: &(impl Abort + AllocGlobal)) -> Vec<u16> {
+    let mut points = Vec::new(rt.alloc());
+    made(rt, points.push(0));
     for (west, east) in SIDES {
         for (north, south) in SIDES {
-            let region = Region::of_rect(alloc, rect(west, east, north, south))?;
-            points.push(points_of(&region))?;
+            let region = made(
+                rt,
+                Region::of_rect(rt.alloc(), rect(west, east, north, south)),
+            );
+            made(rt, points.push(points_of(&region)));
         }
     }
-    Ok(points)
+    points
 }
 
 // The unions of one set of each list, each once.
-fn unions(alloc: Global, first: &[u16], second: &[u16]) -> Result<Vec<u16>, NoMemory> {
-    let mut sets = BTreeSet::new(alloc);
+fn unions(rt: &(impl Abort + AllocGlobal), first: &[u16], second: &[u16]) -> Vec<u16> {
+    let mut sets = BTreeSet::new(rt.alloc());
     for a in first {
         for b in second {
-            sets.insert(*a | *b)?;
+            made(rt, sets.insert(*a | *b));
         }
     }
-    let mut list = Vec::new(alloc);
+    let mut list = Vec::new(rt.alloc());
     for set in &sets {
-        list.push(*set)?;
+        made(rt, list.push(*set));
     }
-    Ok(list)
+    list
 }
 
 fn is_built(regions: &[Region], region: &Region, points: u16) -> bool {
@@ -228,18 +245,16 @@ fn is_built(regions: &[Region], region: &Region, points: u16) -> bool {
     }
 }
 
-fn agrees(regions: &[Region], first: u16, second: u16) -> Result<bool, NoMemory> {
+fn agrees(rt: &impl Abort, regions: &[Region], first: u16, second: u16) -> bool {
     let (Some(a), Some(b)) = (
         regions.get(usize::from(first)),
         regions.get(usize::from(second)),
     ) else {
-        return Ok(false);
+        return false;
     };
-    Ok(
-        is_built(regions, &a.union(b)?, first | second)
-            && is_built(regions, &a.meet(b)?, first & second)
-            && is_built(regions, &a.minus(b)?, first & !second),
-    )
+    is_built(regions, &made(rt, a.union(b)), first | second)
+        && is_built(regions, &made(rt, a.meet(b)), first & second)
+        && is_built(regions, &made(rt, a.minus(b)), first & !second)
 }
 
 /// Whether each region has the points of its place.
@@ -253,33 +268,33 @@ fn have_their_points(regions: &[Region]) -> bool {
 }
 
 /// Whether a region agrees with each of others.
-fn agrees_with_all(regions: &[Region], first: u16, others: &[u16]) -> Result<bool, NoMemory> {
+fn agrees_with_all(rt: &impl Abort, regions: &[Region], first: u16, others: &[u16]) -> bool {
     for second in others {
-        if !agrees(regions, first, *second)? {
-            return Ok(false);
+        if !agrees(rt, regions, first, *second) {
+            return false;
         }
     }
-    Ok(true)
+    true
 }
 
 /// Whether the answers for each second region of at most two rectangles, from the first or the second on,
 /// beside each of at most three, are those of the points.
-fn half_agrees(alloc: Global, start: usize) -> Result<bool, NoMemory> {
-    let regions = built(alloc)?;
-    let ones = rect_points(alloc)?;
-    let twos = unions(alloc, &ones, &ones)?;
-    let threes = unions(alloc, &twos, &ones)?;
+fn half_agrees(rt: &(impl Abort + AllocGlobal), start: usize) -> bool {
+    let regions = built(rt);
+    let ones = rect_points(rt);
+    let twos = unions(rt, &ones, &ones);
+    let threes = unions(rt, &twos, &ones);
     for (i, first) in twos.iter().enumerate() {
-        if i % 2 == start && !agrees_with_all(&regions, *first, &threes)? {
-            return Ok(false);
+        if i % 2 == start && !agrees_with_all(rt, &regions, *first, &threes) {
+            return false;
         }
     }
-    Ok(twos.len() == 2_126 && threes.len() == 14_712)
+    twos.len() == 2_126 && threes.len() == 14_712
 }
 
 #[test]
 fn regions_have_the_points_of_their_places(rt: HostRuntime) -> Result<(), Fail> {
-    let regions = built(rt.alloc())?;
+    let regions = built(&rt);
     assert!(rt; regions.len() == 65_536 && have_their_points(&regions));
     Ok(())
 }
@@ -287,12 +302,12 @@ fn regions_have_the_points_of_their_places(rt: HostRuntime) -> Result<(), Fail> 
 // (two halves, since a test has a minute, and a slow machine takes half of that for all)
 #[test]
 fn answers_are_those_of_the_points(rt: HostRuntime) -> Result<(), Fail> {
-    assert!(rt; half_agrees(rt.alloc(), 0)?);
+    assert!(rt; half_agrees(&rt, 0));
     Ok(())
 }
 
 #[test]
 fn answers_are_those_of_the_points_in_the_other_half(rt: HostRuntime) -> Result<(), Fail> {
-    assert!(rt; half_agrees(rt.alloc(), 1)?);
+    assert!(rt; half_agrees(&rt, 1));
     Ok(())
 }

@@ -1,15 +1,17 @@
 //! The rows and bands of regions.
-use std::alloc::Global;
+use super::ends::made;
+use std::alloc::AllocGlobal;
+use std::process::Abort;
 use std::test::Fail;
-use tr_base::{NoMemory, Rect};
+use tr_base::Rect;
 use tr_region::{Band, Region};
 
 /// Two rectangles side by side in rows 2 to 4, and one in rows 6 to 9.
-fn three(alloc: Global) -> Result<Region, NoMemory> {
-    let west = Region::of_rect(alloc, Rect::edges(0, 2, 2, 5))?;
-    let east = Region::of_rect(alloc, Rect::edges(4, 6, 2, 5))?;
-    let south = Region::of_rect(alloc, Rect::edges(1, 9, 6, 10))?;
-    west.union(&east)?.union(&south)
+fn three(rt: &(impl Abort + AllocGlobal)) -> Region {
+    let west = made(rt, Region::of_rect(rt.alloc(), Rect::edges(0, 2, 2, 5)));
+    let east = made(rt, Region::of_rect(rt.alloc(), Rect::edges(4, 6, 2, 5)));
+    let south = made(rt, Region::of_rect(rt.alloc(), Rect::edges(1, 9, 6, 10)));
+    made(rt, made(rt, west.union(&east)).union(&south))
 }
 
 /// Whether a band has these rows, and so many rectangles.
@@ -19,7 +21,7 @@ fn is_band(band: &Band, want: (u16, u16, usize)) -> bool {
 
 #[test]
 fn rows_have_their_rectangles(rt: HostRuntime) -> Result<(), Fail> {
-    let region = three(rt.alloc())?;
+    let region = three(&rt);
     for (v, count) in [
         (-1, 0),
         (1, 0),
@@ -37,7 +39,7 @@ fn rows_have_their_rectangles(rt: HostRuntime) -> Result<(), Fail> {
 
 #[test]
 fn bands_are_met_from_both_ends(rt: HostRuntime) -> Result<(), Fail> {
-    let region = three(rt.alloc())?;
+    let region = three(&rt);
     // the rows that are asked for, the first band in them, and the last one
     for (north, south, first, last) in [
         (0, 20, (2, 5, 2), (6, 10, 1)),

@@ -1,16 +1,18 @@
 //! Runs and rows of screens that are moved.
-ghost use Rattle.std.specs.Prelude.{◌≡◌, ◌≤◌, IfOk};
+ghost use Rattle.std.specs.Prelude.{◌≡◌, ◌≤◌};
 
+use super::ends::made;
 use super::screens::shows;
-use std::alloc::Global;
+use std::alloc::AllocGlobal;
+use std::process::Abort;
 use std::test::Fail;
-use tr_base::{Kind, NoMemory, Point, Size};
+use tr_base::{Kind, Point, Size};
 use tr_screen::{Run, Screen};
 
 /// Whether runs are lent and moved, also through a spare row.
-fn are_moved(alloc: Global) -> Result<bool, NoMemory> {
+fn are_moved(rt: &(impl Abort + AllocGlobal)) -> bool {
     let size = Size { wide: 4, high: 3 };
-    let mut screen = Screen::blank(alloc, size, Kind::Map8)?;
+    let mut screen = made(rt, Screen::blank(rt.alloc(), size, Kind::Map8));
     let east = Run {
         v: 1,
         west: 1,
@@ -36,33 +38,36 @@ fn are_moved(alloc: Global) -> Result<bool, NoMemory> {
     screen.move_run_through(west, Point { h: -1, v: 0 }, &mut spare);
     screen.move_run(south, Point { h: 1, v: 1 });
     let is_south = shows(&screen, 4, 3, &[0, 0, 0, 0, 1, 2, 3, 3, 0, 1, 2, 3]);
-    Ok(is_lent && is_west && is_east && is_south)
+    is_lent && is_west && is_east && is_south
 }
 
 /// A screen of seven rows, each of pixels that are its number.
-fn numbered(alloc: Global, wide: u16) -> Result<Screen, NoMemory>
+fn numbered(rt: &(impl Abort + AllocGlobal), wide: u16) -> Screen
     requires { 1 ≤ wide × (wide ≤ 1024) }
-    ensures { IfOk result (λ s. s.size ≡ record { wide = wide; high = 7 }) }
+    ensures { result.size ≡ record { wide = wide; high = 7 } }
 {
-    let mut screen = Screen::blank(alloc, Size { wide, high: 7 }, Kind::Map8)?;
+    let mut screen = made(
+        rt,
+        Screen::blank(rt.alloc(), Size { wide, high: 7 }, Kind::Map8),
+    );
     screen.row_mut(1).fill(1);
     screen.row_mut(2).fill(2);
     screen.row_mut(3).fill(3);
     screen.row_mut(4).fill(4);
     screen.row_mut(5).fill(5);
     screen.row_mut(6).fill(6);
-    Ok(screen)
+    screen
 }
 
 /// Whether rows of this width are moved to the south and to the north.
-fn are_rows_moved(alloc: Global, wide: u16) -> Result<bool, NoMemory>
+fn are_rows_moved(rt: &(impl Abort + AllocGlobal), wide: u16) -> bool
     requires { 1 ≤ wide × (wide ≤ 1024) }
 {
-    let mut screen = numbered(alloc, wide)?;
+    let mut screen = numbered(rt, wide);
     screen.move_rows(1, 6, Point { h: 0, v: 1 });
     let is_south = has_column(&screen, &[0, 0, 1, 2, 3, 4, 6]);
     screen.move_rows(0, 5, Point { h: 0, v: -2 });
-    Ok(is_south && has_column(&screen, &[1, 2, 3, 4, 6, 4, 6]))
+    is_south && has_column(&screen, &[1, 2, 3, 4, 6, 4, 6])
 }
 
 /// Whether the rows of a screen begin with these pixels.
@@ -78,10 +83,10 @@ fn has_column(screen: &Screen, want: &[u8]) -> bool {
 
 #[test]
 fn runs_and_rows_are_moved(rt: HostRuntime) -> Result<(), Fail> {
-    assert!(rt; are_moved(rt.alloc())?, "runs");
+    assert!(rt; are_moved(&rt), "runs");
     // rows that are short, and rows that are long enough to be moved piece by piece
     for wide in [3, 100] {
-        assert!(rt; are_rows_moved(rt.alloc(), wide)?, "rows of {wide}");
+        assert!(rt; are_rows_moved(&rt, wide), "rows of {wide}");
     }
     Ok(())
 }

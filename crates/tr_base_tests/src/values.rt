@@ -3,7 +3,9 @@ ghost use Rattle.std.specs.Prelude.{◌≤◌, length};
 ghost use Rattle.std.specs.List.{AllPass};
 ghost use Rattle.tr_base.specs.Lines.{is_printable};
 
-use std::alloc::Global;
+use super::ends::made;
+use std::alloc::{AllocGlobal, Global};
+use std::process::Abort;
 use std::test::Fail;
 use tr_base::{
     Command, Font, Kind, LINE, Line, NoMemory, Op, Pixmap, Point, REACH, Rect, Size, Tile, eff,
@@ -105,45 +107,51 @@ fn have_glyph(font: &Font, bytes: &[u8], glyph: [u8; 8]) -> bool {
 }
 
 /// Whether a font keeps the glyph that it is given, and no other one.
-fn keeps_its_glyph(alloc: Global) -> Result<bool, NoMemory> {
+fn keeps_its_glyph(rt: &(impl Abort + AllocGlobal)) -> bool {
     let boxed = [255, 129, 129, 129, 129, 129, 129, 255];
     let glyph = [1, 2, 3, 4, 5, 6, 7, 8];
-    let mut font = Font::empty(alloc)?;
-    let empty = font.copy()?;
+    let mut font = made(rt, Font::empty(rt.alloc()));
+    let empty = made(rt, font.copy());
     let is_empty = have_glyph(&font, &[0, 31, 32, 65, 126, 127, 255], boxed);
     font.set(65, glyph);
-    let copy = font.copy()?;
+    let copy = made(rt, font.copy());
     let is_kept = have_glyph(&font, &[65], glyph) && have_glyph(&font, &[66], boxed);
     let is_new = font.same(&copy) && !font.same(&empty);
     font.set(65, boxed);
-    Ok(is_empty && is_kept && is_new && font.same(&empty))
+    is_empty && is_kept && is_new && font.same(&empty)
 }
 
 /// Whether a pixmap has the pixels that it is given, row after row.
-fn has_its_pixels(alloc: Global) -> Result<bool, NoMemory> {
+fn has_its_pixels(rt: &(impl Abort + AllocGlobal)) -> bool {
     let bytes = [3, 4, 5, 6, 7, 8];
-    let pixmap = Pixmap::new(Size { wide: 2, high: 3 }, Vec::from_slice(alloc, &bytes)?);
-    let other = Pixmap::new(Size { wide: 3, high: 2 }, Vec::from_slice(alloc, &bytes)?);
-    let copy = pixmap.copy()?;
+    let pixmap = Pixmap::new(
+        Size { wide: 2, high: 3 },
+        made(rt, Vec::from_slice(rt.alloc(), &bytes)),
+    );
+    let other = Pixmap::new(
+        Size { wide: 3, high: 2 },
+        made(rt, Vec::from_slice(rt.alloc(), &bytes)),
+    );
+    let copy = made(rt, pixmap.copy());
     let points = pixmap.at(Point { h: 1, v: 2 }) == 8 && pixmap.at(Point { h: 1, v: 0 }) == 4;
-    Ok(points && pixmap.row(1) == [5, 6].as_slice() && pixmap.same(&copy) && !pixmap.same(&other))
+    points && pixmap.row(1) == [5, 6].as_slice() && pixmap.same(&copy) && !pixmap.same(&other)
 }
 
 /// Whether a line of text has the bytes that it is given.
-fn has_its_bytes(bytes: &[u8]) -> Result<bool, NoMemory>
+fn has_its_bytes(rt: &impl Abort, bytes: &[u8]) -> bool
     requires short { length bytes.now ≤ LINE }
     requires printable { AllPass is_printable bytes.now }
 {
-    let line = Line::of(bytes)?;
-    Ok(line.bytes() == bytes && line.same(&line.copy()?))
+    let line = made(rt, Line::of(bytes));
+    line.bytes() == bytes && line.same(&made(rt, line.copy()))
 }
 
 #[test]
 fn fonts_pixmaps_and_lines_keep_what_they_were_given(rt: HostRuntime) -> Result<(), Fail> {
-    assert!(rt; keeps_its_glyph(rt.alloc())?);
-    assert!(rt; has_its_pixels(rt.alloc())?);
-    assert!(rt; has_its_bytes(b"")? && has_its_bytes(b" ~")?);
-    assert!(rt; has_its_bytes(&[126; 79])? && has_its_bytes(&[126; LINE])?);
+    assert!(rt; keeps_its_glyph(&rt));
+    assert!(rt; has_its_pixels(&rt));
+    assert!(rt; has_its_bytes(&rt, b"") && has_its_bytes(&rt, b" ~"));
+    assert!(rt; has_its_bytes(&rt, &[126; 79]) && has_its_bytes(&rt, &[126; LINE]));
     Ok(())
 }
 
@@ -174,15 +182,15 @@ impl Command for Digit {
 }
 
 /// Whether a command is copied, compared and printed, through the bound.
-fn is_printed<M: Command>(alloc: Global, command: &M, words: &[u8]) -> Result<bool, NoMemory> {
+fn is_printed<M: Command>(rt: &(impl Abort + AllocGlobal), command: &M, words: &[u8]) -> bool {
     command.known();
-    let mut out = Vec::new(alloc);
-    command.print(&mut out)?;
-    Ok(command.copy(alloc)?.same(command) && out.as_slice() == words)
+    let mut out = Vec::new(rt.alloc());
+    made(rt, command.print(&mut out));
+    made(rt, command.copy(rt.alloc())).same(command) && out.as_slice() == words
 }
 
 #[test]
 fn commands_are_copied_compared_and_printed(rt: HostRuntime) -> Result<(), Fail> {
-    assert!(rt; is_printed(rt.alloc(), &Digit(7), &[7])?);
+    assert!(rt; is_printed(&rt, &Digit(7), &[7]));
     Ok(())
 }

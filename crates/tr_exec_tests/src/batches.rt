@@ -1,7 +1,7 @@
 //! Paint commands and batches of them.
-use std::alloc::Global;
-use std::test::Fail;
-use tr_base::{Line, NoMemory, Op, Pair, Pixmap, Point, Rect, Size, Tile};
+use super::ends::made;
+use std::process::Abort;
+use tr_base::{Line, Op, Pair, Pixmap, Point, Rect, Size, Tile};
 use tr_paint::{Batch, Paint};
 
 const F: Pair = Pair {
@@ -10,41 +10,56 @@ const F: Pair = Pair {
 };
 
 /// One command of each kind, all with the clip (0, 12, 0, 6), and before them one with an empty area.
-fn all(alloc: Global) -> Result<Batch, NoMemory> {
+fn all(rt: &(impl Abort + AllocGlobal)) -> Batch {
     let clip = Rect::edges(0, 12, 0, 6);
     let delta = Point { h: 2, v: -1 };
-    let mut batch = Batch::new(alloc);
-    batch.push(Paint::Text {
-        clip,
-        at: delta,
-        ops: F,
-        text: Line::of(b"")?,
-    })?;
-    batch.push(Paint::Tint {
-        clip,
-        op: Op::Exchange(0, 1),
-    })?;
-    batch.push(Paint::Texture {
-        clip,
-        ops: F,
-        tile: Tile { rows: [0xcc; 8] },
-        delta,
-    })?;
-    let pixels = Vec::from_slice(alloc, &[1, 2, 3, 4, 5, 6])?;
-    batch.push(Paint::Pixels {
-        clip,
-        src: Pixmap::new(Size { wide: 2, high: 3 }, pixels),
-        delta,
-    })?;
-    batch.push(Paint::Text {
-        clip,
-        at: delta,
-        ops: F,
-        text: Line::of(b"A")?,
-    })?;
-    batch.push(Paint::Scroll { clip, delta })?;
-    batch.push(Paint::Spoil { clip })?;
-    Ok(batch)
+    let mut batch = Batch::new(rt.alloc());
+    made(
+        rt,
+        batch.push(Paint::Text {
+            clip,
+            at: delta,
+            ops: F,
+            text: made(rt, Line::of(b"")),
+        }),
+    );
+    made(
+        rt,
+        batch.push(Paint::Tint {
+            clip,
+            op: Op::Exchange(0, 1),
+        }),
+    );
+    made(
+        rt,
+        batch.push(Paint::Texture {
+            clip,
+            ops: F,
+            tile: Tile { rows: [0xcc; 8] },
+            delta,
+        }),
+    );
+    let pixels = made(rt, Vec::from_slice(rt.alloc(), &[1, 2, 3, 4, 5, 6]));
+    made(
+        rt,
+        batch.push(Paint::Pixels {
+            clip,
+            src: Pixmap::new(Size { wide: 2, high: 3 }, pixels),
+            delta,
+        }),
+    );
+    made(
+        rt,
+        batch.push(Paint::Text {
+            clip,
+            at: delta,
+            ops: F,
+            text: made(rt, Line::of(b"A")),
+        }),
+    );
+    made(rt, batch.push(Paint::Scroll { clip, delta }));
+    made(rt, batch.push(Paint::Spoil { clip }));
+    batch
 }
 
 /// Whether each command has the area of its place, and paints its points whatever was there or not.
@@ -67,12 +82,12 @@ fn have_areas(batch: &Batch) -> bool {
 }
 
 /// Whether a batch is copied, put behind itself, and cleared.
-fn is_doubled(batch: &mut Batch) -> Result<bool, NoMemory> {
-    let copy = batch.copy()?;
-    batch.append(&copy)?;
+fn is_doubled(rt: &impl Abort, batch: &mut Batch) -> bool {
+    let copy = made(rt, batch.copy());
+    made(rt, batch.append(&copy));
     let is_twice = batch.len() == 12 && copy.len() == 6 && is_text(batch, 9);
     batch.clear();
-    Ok(is_twice && batch.is_empty())
+    is_twice && batch.is_empty()
 }
 
 /// Whether a command paints text.
@@ -81,10 +96,9 @@ fn is_text(batch: &Batch, place: usize) -> bool {
 }
 
 #[test]
-fn batches_leave_out_empty_areas(rt: HostRuntime) -> Result<(), Fail> {
-    let mut batch = all(rt.alloc())?;
+fn batches_leave_out_empty_areas(rt: HostRuntime) {
+    let mut batch = all(&rt);
     assert!(rt; have_areas(&batch));
     assert!(rt; batch.touches(Point { h: 11, v: 5 }) && !batch.touches(Point { h: 12, v: 5 }));
-    assert!(rt; is_doubled(&mut batch)?);
-    Ok(())
+    assert!(rt; is_doubled(&rt, &mut batch));
 }

@@ -1,11 +1,12 @@
 //! Batches, regions and screens that are drawn at random.
-ghost use Rattle.std.specs.Prelude.{◌≡◌, IfOk};
+ghost use Rattle.std.specs.Prelude.{◌≡◌};
 ghost use Rattle.tr_screen.specs.Pictures.{IsScreenSize};
 ghost use Rattle.tr_paint.specs.Paints.{IsNear, IsNearPaint, IsNearPoint, IsNearRect};
 ghost use Rattle.tr_exec.specs.Executions.{IsOrigin, LiesOn};
 
-use std::alloc::Global;
-use tr_base::{Font, Kind, Line, NoMemory, Op, Pair, Pixmap, Point, Rect, Size, Tile, whole};
+use super::ends::made;
+use std::process::Abort;
+use tr_base::{Font, Kind, Line, Op, Pair, Pixmap, Point, Rect, Size, Tile, whole};
 use tr_paint::{Batch, Paint};
 use tr_region::Region;
 use tr_screen::Screen;
@@ -105,89 +106,92 @@ impl Draw {
         Tile { rows }
     }
 
-    fn text(&mut self) -> Result<Line, NoMemory> {
+    fn text(&mut self, rt: &impl Abort) -> Line {
         match self.byte() % 3 {
-            0 => Line::of(b""),
-            1 => Line::of(b"a"),
-            _ => Line::of(b"~a"),
+            0 => made(rt, Line::of(b"")),
+            1 => made(rt, Line::of(b"a")),
+            _ => made(rt, Line::of(b"~a")),
         }
     }
 
-    pub fn font(&mut self, alloc: Global) -> Result<Font, NoMemory> {
-        let mut font = Font::empty(alloc)?;
+    pub fn font(&mut self, rt: &(impl Abort + AllocGlobal)) -> Font {
+        let mut font = made(rt, Font::empty(rt.alloc()));
         font.set(b'a', self.tile().rows);
-        Ok(font)
+        font
     }
 
     /// A picture of four columns and two rows.
-    fn pixmap(&mut self, alloc: Global) -> Result<Pixmap, NoMemory> {
-        let pixels = Vec::from_slice(alloc, &self.tile().rows)?;
-        Ok(Pixmap::new(Size { wide: 4, high: 2 }, pixels))
+    fn pixmap(&mut self, rt: &(impl Abort + AllocGlobal)) -> Pixmap {
+        let pixels = made(rt, Vec::from_slice(rt.alloc(), &self.tile().rows));
+        Pixmap::new(Size { wide: 4, high: 2 }, pixels)
     }
 
-    fn paint(&mut self, alloc: Global) -> Result<Paint, NoMemory>
-        ensures { IfOk result IsNearPaint }
+    fn paint(&mut self, rt: &(impl Abort + AllocGlobal)) -> Paint
+        ensures { IsNearPaint result }
     {
         let clip = self.rect();
         let delta = self.step();
         match self.byte() % 8 {
-            0 => Ok(Paint::Tint {
+            0 => Paint::Tint {
                 clip,
                 op: self.op(),
-            }),
-            1 => Ok(Paint::Texture {
+            },
+            1 => Paint::Texture {
                 clip,
                 ops: self.pair(),
                 tile: self.tile(),
                 delta,
-            }),
-            2 => Ok(Paint::Pixels {
+            },
+            2 => Paint::Pixels {
                 clip,
-                src: self.pixmap(alloc)?,
+                src: self.pixmap(rt),
                 delta,
-            }),
-            3 => Ok(Paint::Text {
+            },
+            3 => Paint::Text {
                 clip,
                 at: delta,
                 ops: self.pair(),
-                text: self.text()?,
-            }),
-            4 => Ok(Paint::Spoil { clip }),
-            _ => Ok(Paint::Scroll { clip, delta }),
+                text: self.text(rt),
+            },
+            4 => Paint::Spoil { clip },
+            _ => Paint::Scroll { clip, delta },
         }
     }
 
     /// Up to eleven commands.
-    pub fn batch(&mut self, alloc: Global) -> Result<Batch, NoMemory> {
-        let mut batch = Batch::new(alloc);
+    pub fn batch(&mut self, rt: &(impl Abort + AllocGlobal)) -> Batch {
+        let mut batch = Batch::new(rt.alloc());
         for done in 0..self.byte() % 12 {
-            batch.push(self.paint(alloc)?)?;
+            made(rt, batch.push(self.paint(rt)));
         }
-        Ok(batch)
+        batch
     }
 
     /// Some points of a screen.
-    pub fn region(&mut self, alloc: Global, size: Size) -> Result<Region, NoMemory>
-        ensures { IfOk result (λ r. LiesOn size r) }
+    pub fn region(&mut self, rt: &(impl Abort + AllocGlobal), size: Size) -> Region
+        ensures { LiesOn size result }
     {
+        let alloc = rt.alloc();
         let mut points = Region::empty(alloc);
         for done in 0..self.byte() % 8 {
-            points = points.union(&Region::of_rect(alloc, self.rect())?)?;
+            let more = made(rt, Region::of_rect(alloc, self.rect()));
+            points = made(rt, points.union(&more));
         }
-        Region::of_rect(alloc, whole(size))?.meet(&points)
+        let all = made(rt, Region::of_rect(alloc, whole(size)));
+        made(rt, all.meet(&points))
     }
 
     /// A screen with any pixels, some beyond those of its kind.
-    pub fn screen(&mut self, alloc: Global, size: Size, kind: Kind) -> Result<Screen, NoMemory>
+    pub fn screen(&mut self, rt: &(impl Abort + AllocGlobal), size: Size, kind: Kind) -> Screen
         requires { IsScreenSize size }
-        ensures size { IfOk result (λ s. s.size ≡ size) }
-        ensures kind { IfOk result (λ s. s.kind ≡ kind) }
+        ensures size { result.size ≡ size }
+        ensures kind { result.kind ≡ kind }
     {
-        let mut screen = Screen::blank(alloc, size, kind)?;
+        let mut screen = made(rt, Screen::blank(rt.alloc(), size, kind));
         for v in 0..size.high {
             self.pixels(screen.row_mut(v));
         }
-        Ok(screen)
+        screen
     }
 
     fn pixels(&mut self, row: &mut [u8]) {

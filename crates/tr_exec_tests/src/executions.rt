@@ -1,10 +1,9 @@
 //! Small batches on a row of four points.
-ghost use Rattle.std.specs.Prelude.{IfOk};
 ghost use Rattle.tr_exec.specs.Executions.{LiesOn};
 
-use std::alloc::Global;
-use std::test::Fail;
-use tr_base::{Env, Font, Kind, Line, NoMemory, Op, Pair, Pixmap, Point, Rect, Size, Tile, whole};
+use super::ends::made;
+use std::process::Abort;
+use tr_base::{Env, Font, Kind, Line, Op, Pair, Pixmap, Point, Rect, Size, Tile, whole};
 use tr_exec::execute;
 use tr_paint::{Batch, Paint};
 use tr_region::Region;
@@ -23,94 +22,121 @@ const F: Pair = Pair {
 };
 
 /// The points of a rectangle that lie on a screen.
-fn part(alloc: Global, size: Size, rect: Rect) -> Result<Region, NoMemory>
-    ensures { IfOk result (λ r. LiesOn size r) }
+fn part(rt: &(impl Abort + AllocGlobal), size: Size, rect: Rect) -> Region
+    ensures { LiesOn size result }
 {
-    Region::of_rect(alloc, whole(size))?.meet(&Region::of_rect(alloc, rect)?)
+    let all = made(rt, Region::of_rect(rt.alloc(), whole(size)));
+    let part = made(rt, Region::of_rect(rt.alloc(), rect));
+    made(rt, all.meet(&part))
 }
 
 /// The pixels of a screen of four points in a row, after the batch, and its bad points.
 fn executed(
-    alloc: Global,
+    rt: &(impl Abort + AllocGlobal),
     before: [u8; 4],
     bad: Rect,
     batch: &Batch,
-) -> Result<(Vec<u8>, Region), NoMemory> {
+) -> (Vec<u8>, Region) {
+    let alloc = rt.alloc();
     let size = Size { wide: 4, high: 1 };
-    let mut screen = Screen::blank(alloc, size, Kind::Map8)?;
+    let mut screen = made(rt, Screen::blank(alloc, size, Kind::Map8));
     screen.row_mut(0).copy_from_slice(&before);
-    let font = Font::empty(alloc)?;
+    let font = made(rt, Font::empty(alloc));
     let env = Env {
         kind: Kind::Map8,
         font: &font,
     };
-    let visible = part(alloc, screen.size(), whole(screen.size()))?;
-    let mut bad = part(alloc, screen.size(), bad)?;
-    execute(alloc, batch, &env, CORNER, &visible, &mut screen, &mut bad)?;
-    Ok((Vec::from_slice(alloc, screen.row(0))?, bad))
+    let visible = part(rt, screen.size(), whole(screen.size()));
+    let mut bad = part(rt, screen.size(), bad);
+    made(
+        rt,
+        execute(alloc, batch, &env, CORNER, &visible, &mut screen, &mut bad),
+    );
+    (made(rt, Vec::from_slice(alloc, screen.row(0))), bad)
 }
 
 /// A batch of one command.
-fn scroll(alloc: Global) -> Result<Batch, NoMemory> {
+fn scroll(rt: &(impl Abort + AllocGlobal)) -> Batch {
     let clip = Rect::edges(0, 4, 0, 1);
-    let mut batch = Batch::new(alloc);
-    batch.push(Paint::Scroll {
-        clip,
-        delta: Point { h: 1, v: 0 },
-    })?;
-    Ok(batch)
+    let mut batch = Batch::new(rt.alloc());
+    made(
+        rt,
+        batch.push(Paint::Scroll {
+            clip,
+            delta: Point { h: 1, v: 0 },
+        }),
+    );
+    batch
 }
 
-fn exchange(alloc: Global) -> Result<Batch, NoMemory> {
+fn exchange(rt: &(impl Abort + AllocGlobal)) -> Batch {
     let clip = Rect::edges(0, 4, 0, 1);
-    let mut batch = Batch::new(alloc);
-    batch.push(Paint::Tint {
-        clip,
-        op: Op::Exchange(0, 1),
-    })?;
-    Ok(batch)
+    let mut batch = Batch::new(rt.alloc());
+    made(
+        rt,
+        batch.push(Paint::Tint {
+            clip,
+            op: Op::Exchange(0, 1),
+        }),
+    );
+    batch
 }
 
-fn texture(alloc: Global) -> Result<Batch, NoMemory> {
+fn texture(rt: &(impl Abort + AllocGlobal)) -> Batch {
     let clip = Rect::edges(0, 4, 0, 1);
-    let mut batch = Batch::new(alloc);
-    batch.push(Paint::Texture {
-        clip,
-        ops: BACKGROUND_OR_NOTHING,
-        tile: Tile { rows: [0xcc; 8] },
-        delta: Point { h: 0, v: 0 },
-    })?;
-    Ok(batch)
+    let mut batch = Batch::new(rt.alloc());
+    made(
+        rt,
+        batch.push(Paint::Texture {
+            clip,
+            ops: BACKGROUND_OR_NOTHING,
+            tile: Tile { rows: [0xcc; 8] },
+            delta: Point { h: 0, v: 0 },
+        }),
+    );
+    batch
 }
 
-fn spoil_and_tint(alloc: Global) -> Result<Batch, NoMemory> {
-    let mut batch = Batch::new(alloc);
-    batch.push(Paint::Spoil {
-        clip: Rect::edges(0, 2, 0, 1),
-    })?;
-    batch.push(Paint::Tint {
-        clip: Rect::edges(1, 3, 0, 1),
-        op: Op::Set(9),
-    })?;
-    Ok(batch)
+fn spoil_and_tint(rt: &(impl Abort + AllocGlobal)) -> Batch {
+    let mut batch = Batch::new(rt.alloc());
+    made(
+        rt,
+        batch.push(Paint::Spoil {
+            clip: Rect::edges(0, 2, 0, 1),
+        }),
+    );
+    made(
+        rt,
+        batch.push(Paint::Tint {
+            clip: Rect::edges(1, 3, 0, 1),
+            op: Op::Set(9),
+        }),
+    );
+    batch
 }
 
-fn picture(alloc: Global) -> Result<Batch, NoMemory> {
+fn picture(rt: &(impl Abort + AllocGlobal)) -> Batch {
     let clip = Rect::edges(0, 4, 0, 1);
-    let mut batch = Batch::new(alloc);
-    let pixels = Vec::from_slice(alloc, &[3, 4])?;
-    batch.push(Paint::Pixels {
-        clip,
-        src: Pixmap::new(Size { wide: 2, high: 1 }, pixels),
-        delta: Point { h: 1, v: 0 },
-    })?;
-    batch.push(Paint::Text {
-        clip: Rect::edges(3, 4, 0, 1),
-        at: Point { h: 3, v: -1 },
-        ops: F,
-        text: Line::of(b"A")?,
-    })?;
-    Ok(batch)
+    let mut batch = Batch::new(rt.alloc());
+    let pixels = made(rt, Vec::from_slice(rt.alloc(), &[3, 4]));
+    made(
+        rt,
+        batch.push(Paint::Pixels {
+            clip,
+            src: Pixmap::new(Size { wide: 2, high: 1 }, pixels),
+            delta: Point { h: 1, v: 0 },
+        }),
+    );
+    made(
+        rt,
+        batch.push(Paint::Text {
+            clip: Rect::edges(3, 4, 0, 1),
+            at: Point { h: 3, v: -1 },
+            ops: F,
+            text: made(rt, Line::of(b"A")),
+        }),
+    );
+    batch
 }
 
 /// Whether each point of a row has its pixel, or is bad where none is wanted.
@@ -126,60 +152,58 @@ fn is_left(row: &[u8], bad: &Region, want: [Option<u8>; 4]) -> bool {
 
 /// Whether a batch leaves this of a row, of which some points were bad.
 fn leaves(
-    alloc: Global,
+    rt: &(impl Abort + AllocGlobal),
     before: [u8; 4],
     bad: Rect,
     batch: &Batch,
     want: [Option<u8>; 4],
-) -> Result<bool, NoMemory> {
-    let (row, bad) = executed(alloc, before, bad, batch)?;
-    Ok(is_left(&row, &bad, want))
+) -> bool {
+    let (row, bad) = executed(rt, before, bad, batch);
+    is_left(&row, &bad, want)
 }
 
 #[test]
-fn a_row_is_painted(rt: HostRuntime) -> Result<(), Fail> {
+fn a_row_is_painted(rt: HostRuntime) {
     let none = Rect::edges(0, 0, 0, 0);
     let third = Rect::edges(2, 3, 0, 1);
     let all = Rect::edges(0, 4, 0, 1);
-    let alloc = rt.alloc();
     let cases = [
         (
             [5, 6, 7, 8],
             third,
-            scroll(alloc)?,
+            scroll(&rt),
             [None, Some(5), Some(6), None],
         ),
         (
             [0, 1, 7, 8],
             third,
-            exchange(alloc)?,
+            exchange(&rt),
             [Some(1), Some(0), None, Some(8)],
         ),
         (
             [5, 6, 7, 8],
             none,
-            texture(alloc)?,
+            texture(&rt),
             [Some(5), Some(6), Some(0), Some(0)],
         ),
-        ([5, 6, 7, 8], all, texture(alloc)?, [None, None, None, None]),
+        ([5, 6, 7, 8], all, texture(&rt), [None, None, None, None]),
         (
             [5, 6, 7, 8],
             none,
-            spoil_and_tint(alloc)?,
+            spoil_and_tint(&rt),
             [None, Some(9), Some(9), Some(8)],
         ),
         (
             [5, 6, 7, 8],
             all,
-            picture(alloc)?,
+            picture(&rt),
             [None, Some(3), Some(4), Some(1)],
         ),
     ];
     for (before, bad, batch, want) in cases {
         assert!(rt;
-            leaves(alloc, before, bad, &batch, want)?,
+            leaves(&rt, before, bad, &batch, want),
             "{want:?} of {before:?}"
         );
     }
-    Ok(())
 }

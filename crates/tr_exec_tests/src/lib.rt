@@ -7,6 +7,8 @@ mod batches;
 #[cfg(test)]
 mod draws;
 #[cfg(test)]
+mod ends;
+#[cfg(test)]
 mod executions;
 #[cfg(test)]
 mod repairs;

@@ -13,9 +13,9 @@ ghost use Rattle.tr_exec.specs.Executions.{IsOrigin, LiesOn, placed, base_of};
 ghost use Rattle.tr_exec.specs.Strokes.{IsCorner, IsInCells};
 
 use super::draws::Draw;
-use std::alloc::Global;
-use std::test::Fail;
-use tr_base::{Env, Font, Line, NoMemory, Op, Pair, Point, eff, is_set, moved, tile_bit, whole};
+use super::ends::made;
+use std::process::Abort;
+use tr_base::{Env, Font, Line, Op, Pair, Point, eff, is_set, moved, tile_bit, whole};
 use tr_exec::execute;
 use tr_paint::{Batch, Paint};
 use tr_region::Region;
@@ -199,38 +199,45 @@ fn cell_bit(font: &Font, text: &Line, from: Point) -> bool
 }
 
 /// Whether a random batch leaves what the trace tells, and nothing else changes.
-fn leaves_what_is_traced(alloc: Global, draw: &mut Draw) -> Result<bool, NoMemory> {
-    let font = draw.font(alloc)?;
+fn leaves_what_is_traced(rt: &(impl Abort + AllocGlobal), draw: &mut Draw) -> bool {
+    let font = draw.font(rt);
     let env = Env {
         kind: draw.kind(),
         font: &font,
     };
     let size = draw.size();
-    let batch = draw.batch(alloc)?;
-    let visible = draw.region(alloc, size)?;
+    let batch = draw.batch(rt);
+    let visible = draw.region(rt, size);
     let mut again = *draw;
     let ground = Ground {
         env,
         origin: draw.step(),
         visible: &visible,
-        bad: &draw.region(alloc, size)?,
-        screen: &draw.screen(alloc, size, env.kind)?,
+        bad: &draw.region(rt, size),
+        screen: &draw.screen(rt, size, env.kind),
     };
     let origin = again.step();
-    let mut bad = again.region(alloc, size)?;
-    let mut screen = again.screen(alloc, size, env.kind)?;
-    execute(alloc, &batch, &env, origin, &visible, &mut screen, &mut bad)?;
-    Ok(ground.first_difference(&batch, &screen, &bad).is_none())
+    let mut bad = again.region(rt, size);
+    let mut screen = again.screen(rt, size, env.kind);
+    made(
+        rt,
+        execute(
+            rt.alloc(),
+            &batch,
+            &env,
+            origin,
+            &visible,
+            &mut screen,
+            &mut bad,
+        ),
+    );
+    ground.first_difference(&batch, &screen, &bad).is_none()
 }
 
 #[test]
-fn random_batches_are_traced(rt: HostRuntime) -> Result<(), Fail> {
+fn random_batches_are_traced(rt: HostRuntime) {
     let mut draw = Draw::new(7);
     for count in 0..20_000 {
-        assert!(rt;
-            leaves_what_is_traced(rt.alloc(), &mut draw)?,
-            "batch {count}"
-        );
+        assert!(rt; leaves_what_is_traced(&rt, &mut draw), "batch {count}");
     }
-    Ok(())
 }

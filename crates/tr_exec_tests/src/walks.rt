@@ -1,12 +1,11 @@
 //! A brush that is led over a region.
-ghost use Rattle.std.specs.Prelude.{IfOk};
 ghost use Rattle.tr_region.specs.Points.{holds};
 ghost use Rattle.tr_screen.specs.Runs.{Repaints};
 ghost use Rattle.tr_exec.specs.Walks.{AreOn, in_area};
 
-use std::alloc::Global;
-use std::test::Fail;
-use tr_base::{Kind, NoMemory, Rect, Size, whole};
+use super::ends::made;
+use std::process::Abort;
+use tr_base::{Kind, Rect, Size, whole};
 use tr_exec::{Brush, paint_within};
 use tr_region::Region;
 use tr_screen::{Run, Screen};
@@ -41,24 +40,26 @@ fn fill_area(screen: &mut Screen, region: &Region, area: Rect)
 }
 
 /// The points of a screen, but those of a rectangle.
-fn without(alloc: Global, size: Size, hole: Rect) -> Result<Region, NoMemory>
-    ensures { IfOk result (λ r. AreOn size (holds r)) }
+fn without(rt: &(impl Abort + AllocGlobal), size: Size, hole: Rect) -> Region
+    ensures { AreOn size (holds result) }
 {
-    let hole = Region::of_rect(alloc, hole)?;
-    Region::of_rect(alloc, whole(size))?.minus(&hole)
+    let hole = made(rt, Region::of_rect(rt.alloc(), hole));
+    let all = made(rt, Region::of_rect(rt.alloc(), whole(size)));
+    made(rt, all.minus(&hole))
 }
 
 /// Whether a screen of six columns and three rows has these rows after an area is filled, but for a hole.
-fn fills(alloc: Global, area: Rect, want: [[u8; 6]; 3]) -> Result<bool, NoMemory> {
-    let mut screen = Screen::blank(alloc, Size { wide: 6, high: 3 }, Kind::Map8)?;
-    let region = without(alloc, screen.size(), Rect::edges(2, 4, 0, 2))?;
+fn fills(rt: &(impl Abort + AllocGlobal), area: Rect, want: [[u8; 6]; 3]) -> bool {
+    let size = Size { wide: 6, high: 3 };
+    let mut screen = made(rt, Screen::blank(rt.alloc(), size, Kind::Map8));
+    let region = without(rt, screen.size(), Rect::edges(2, 4, 0, 2));
     fill_area(&mut screen, &region, area);
     let north = screen.row(0) == want[0].as_slice() && screen.row(1) == want[1].as_slice();
-    Ok(north && screen.row(2) == want[2].as_slice())
+    north && screen.row(2) == want[2].as_slice()
 }
 
 #[test]
-fn a_region_is_filled_within_an_area(rt: HostRuntime) -> Result<(), Fail> {
+fn a_region_is_filled_within_an_area(rt: HostRuntime) {
     let none = [0, 0, 0, 0, 0, 0];
     for (area, want) in [
         (
@@ -76,7 +77,6 @@ fn a_region_is_filled_within_an_area(rt: HostRuntime) -> Result<(), Fail> {
         (Rect::edges(2, 4, 0, 2), [none, none, none]),
         (Rect::edges(1, 1, 0, 4), [none, none, none]),
     ] {
-        assert!(rt; fills(rt.alloc(), area, want)?, "{area:?}");
+        assert!(rt; fills(&rt, area, want), "{area:?}");
     }
-    Ok(())
 }

@@ -1,7 +1,9 @@
 //! Books of commands that wait.
-use std::alloc::Global;
+use super::ends::made;
+use std::alloc::AllocGlobal;
+use std::process::Abort;
 use std::test::Fail;
-use tr_base::{Font, Kind, NoMemory, Size};
+use tr_base::{Font, Kind, Size};
 use tr_book::Book;
 use tr_client::Prepared;
 use tr_levels::{Held, Level};
@@ -12,9 +14,12 @@ const SMALL: Size = Size { wide: 3, high: 2 };
 const OTHER: Size = Size { wide: 1, high: 4 };
 
 /// A book over a window of this colour.
-fn book(alloc: Global, tint: u8) -> Result<Book<Solid>, NoMemory> {
-    let font = Font::empty(alloc)?;
-    Book::fresh(alloc, Solid::new(tint), &font, SMALL, Kind::Map8)
+fn book(rt: &(impl Abort + AllocGlobal), tint: u8) -> Book<Solid> {
+    let font = made(rt, Font::empty(rt.alloc()));
+    made(
+        rt,
+        Book::fresh(rt.alloc(), Solid::new(tint), &font, SMALL, Kind::Map8),
+    )
 }
 
 /// Whether a book has these levels, and was handed over so many commands.
@@ -30,48 +35,45 @@ fn leads(book: &Book<Solid>, from: u8, to: u8, commands: &[SolidCmd]) -> bool {
 }
 
 /// Whether commands wait in their order, also once they are fitted anew.
-fn keeps_its_commands(alloc: Global) -> Result<bool, NoMemory> {
-    let mut book = book(alloc, 5)?;
+fn keeps_its_commands(rt: &(impl Abort + AllocGlobal)) -> bool {
+    let mut book = book(rt, 5);
     let is_fresh = has(&book, &[], 0) && leads(&book, 5, 5, &[]);
     let mu = Held::none().with(Level::Mu);
-    book.post(mu, SolidCmd::Tint(7))?;
-    book.post(Held::none(), SolidCmd::Tint(8))?;
+    made(rt, book.post(mu, SolidCmd::Tint(7)));
+    made(rt, book.post(Held::none(), SolidCmd::Tint(8)));
     let commands = [SolidCmd::Tint(7), SolidCmd::Tint(8)];
     let is_posted = has(&book, &[mu, Held::none()], 0) && leads(&book, 5, 8, &commands);
-    let font = Font::empty(alloc)?;
-    book.refit(Solid::new(1), &font, OTHER, Kind::Mono)?;
+    let font = made(rt, Font::empty(rt.alloc()));
+    made(rt, book.refit(Solid::new(1), &font, OTHER, Kind::Mono));
     let is_refitted = has(&book, &[mu, Held::none()], 0) && leads(&book, 1, 8, &commands);
     let prepared = book.prepared();
-    Ok(
-        is_fresh
-            && is_posted
-            && is_refitted
-            && prepared.size == OTHER
-            && prepared.kind == Kind::Mono,
-    )
+    is_fresh && is_posted && is_refitted && prepared.size == OTHER && prepared.kind == Kind::Mono
 }
 
 /// What waits is handed over, and the next commands are prepared over what it leaves. False where too much
 /// was handed over.
-fn hand_over(alloc: Global, book: &mut Book<Solid>) -> Result<bool, NoMemory> {
-    let font = Font::empty(alloc)?;
+fn hand_over(rt: &(impl Abort + AllocGlobal), book: &mut Book<Solid>) -> bool {
+    let font = made(rt, Font::empty(rt.alloc()));
     let content = book.prepared().to;
-    let fresh = Prepared::fresh(alloc, content, &font, SMALL, Kind::Map8)?;
+    let fresh = made(
+        rt,
+        Prepared::fresh(rt.alloc(), content, &font, SMALL, Kind::Map8),
+    );
     if book.handed() >= 100 || book.waiting() >= 100 {
-        return Ok(false);
+        return false;
     }
     book.renew(fresh);
-    Ok(true)
+    true
 }
 
 /// Whether what was handed over is counted, and doesn't wait any more.
-fn counts_what_it_hands_over(alloc: Global) -> Result<bool, NoMemory> {
-    let mut book = book(alloc, 5)?;
-    book.post(Held::none(), SolidCmd::Tint(7))?;
-    book.post(Held::none(), SolidCmd::Tint(8))?;
-    let is_first = hand_over(alloc, &mut book)? && has(&book, &[], 2) && leads(&book, 8, 8, &[]);
-    book.post(Held::none(), SolidCmd::Tint(9))?;
-    Ok(is_first && hand_over(alloc, &mut book)? && has(&book, &[], 3))
+fn counts_what_it_hands_over(rt: &(impl Abort + AllocGlobal)) -> bool {
+    let mut book = book(rt, 5);
+    made(rt, book.post(Held::none(), SolidCmd::Tint(7)));
+    made(rt, book.post(Held::none(), SolidCmd::Tint(8)));
+    let is_first = hand_over(rt, &mut book) && has(&book, &[], 2) && leads(&book, 8, 8, &[]);
+    made(rt, book.post(Held::none(), SolidCmd::Tint(9)));
+    is_first && hand_over(rt, &mut book) && has(&book, &[], 3)
 }
 
 /// What waits is handed over, and the next commands are prepared over a copy of what it leaves. False where
@@ -86,20 +88,20 @@ fn go_on(book: &mut Book<Solid>) -> bool {
 }
 
 /// Whether a book that goes on counts what it hands over, and prepares what comes next over it.
-fn goes_on(alloc: Global) -> Result<bool, NoMemory> {
-    let mut book = book(alloc, 5)?;
-    book.post(Held::none(), SolidCmd::Tint(7))?;
-    book.post(Held::none(), SolidCmd::Tint(8))?;
+fn goes_on(rt: &(impl Abort + AllocGlobal)) -> bool {
+    let mut book = book(rt, 5);
+    made(rt, book.post(Held::none(), SolidCmd::Tint(7)));
+    made(rt, book.post(Held::none(), SolidCmd::Tint(8)));
     let is_first = go_on(&mut book) && has(&book, &[], 2) && leads(&book, 8, 8, &[]);
-    book.post(Held::none(), SolidCmd::Tint(9))?;
+    made(rt, book.post(Held::none(), SolidCmd::Tint(9)));
     let is_second = has(&book, &[Held::none()], 2) && leads(&book, 8, 9, &[SolidCmd::Tint(9)]);
-    Ok(is_first && is_second && go_on(&mut book) && has(&book, &[], 3))
+    is_first && is_second && go_on(&mut book) && has(&book, &[], 3)
 }
 
 #[test]
 fn books_keep_and_count_commands(rt: HostRuntime) -> Result<(), Fail> {
-    assert!(rt; keeps_its_commands(rt.alloc())?);
-    assert!(rt; counts_what_it_hands_over(rt.alloc())?);
-    assert!(rt; goes_on(rt.alloc())?);
+    assert!(rt; keeps_its_commands(&rt));
+    assert!(rt; counts_what_it_hands_over(&rt));
+    assert!(rt; goes_on(&rt));
     Ok(())
 }

@@ -1,9 +1,10 @@
 //! The lines of differences.
+use super::ends::made;
 use super::names::TwoNames;
 use super::steps::A;
-use std::alloc::Global;
+use std::alloc::AllocGlobal;
+use std::process::Abort;
 use std::test::Fail;
-use tr_base::NoMemory;
 use tr_dump::differs_line;
 use tr_journal::{Actor, Apart, Difference, Step};
 use w_plain::SolidCmd;
@@ -15,7 +16,7 @@ differs opening 2: - / -
 ";
 
 /// Appends both lines.
-fn lines(alloc: Global) -> Result<Vec<u8>, NoMemory> {
+fn lines(rt: &(impl Abort + AllocGlobal)) -> Vec<u8> {
     let own = Difference {
         place: 1,
         what: Apart::Own {
@@ -34,15 +35,15 @@ fn lines(alloc: Global) -> Result<Vec<u8>, NoMemory> {
         place: 2,
         what: Apart::Opening,
     };
-    let mut out = Vec::new(alloc);
-    differs_line(&own, &TwoNames, &mut out)?;
-    differs_line(&opening, &TwoNames, &mut out)?;
-    Ok(out)
+    let mut out = Vec::new(rt.alloc());
+    made(rt, differs_line(&own, &TwoNames, &mut out));
+    made(rt, differs_line(&opening, &TwoNames, &mut out));
+    out
 }
 
 #[test]
 fn a_difference_has_a_line(rt: HostRuntime) -> Result<(), Fail> {
-    let lines = lines(rt.alloc())?;
+    let lines = lines(&rt);
     assert!(rt; lines.as_slice() == LINES);
     Ok(())
 }

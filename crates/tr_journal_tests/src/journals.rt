@@ -2,10 +2,12 @@
 ghost use Rattle.std.specs.Prelude.{◌≡◌};
 
 use super::digits::Digit;
+use super::ends::made;
 use super::steps::A;
-use std::alloc::Global;
+use std::alloc::AllocGlobal;
+use std::process::Abort;
 use std::test::Fail;
-use tr_base::{Event, NoMemory};
+use tr_base::Event;
 use tr_journal::{Actor, Answer, Delivery, Entry, Journal, Reply, Step};
 use tr_levels::{Held, Level};
 
@@ -35,14 +37,14 @@ fn delivery(time: u32) -> Delivery {
 
 /// A journal of four entries, which sent none, two, none and one of three deliveries; the last two are put
 /// into reserved room.
-fn journal(alloc: Global, sent: &[Delivery; 3]) -> Result<Journal<Digit>, NoMemory> {
-    let mut journal = Journal::new(alloc);
-    journal.push(entry(1, 0), &[])?;
-    journal.push(entry(2, 2), &sent[..2])?;
-    journal.reserve(2)?;
+fn journal(rt: &(impl Abort + AllocGlobal), sent: &[Delivery; 3]) -> Journal<Digit> {
+    let mut journal = Journal::new(rt.alloc());
+    made(rt, journal.push(entry(1, 0), &[]));
+    made(rt, journal.push(entry(2, 2), &sent[..2]));
+    made(rt, journal.reserve(2));
     journal.push_reserved(entry(3, 0), &[]);
     journal.push_reserved(entry(4, 1), &sent[2..]);
-    Ok(journal)
+    journal
 }
 
 /// Whether the entry at a place is that of this time, and sent these.
@@ -56,8 +58,8 @@ fn has_entry(journal: &Journal<Digit>, place: usize, time: u32, sent: &[Delivery
 #[test]
 fn a_journal_keeps_what_was_sent(rt: HostRuntime) -> Result<(), Fail> {
     let sent = [delivery(1), delivery(2), delivery(3)];
-    let journal = journal(rt.alloc(), &sent)?;
-    let copied = journal.copy()?;
+    let journal = journal(&rt, &sent);
+    let copied = made(&rt, journal.copy());
     assert!(rt; copied.len() == 4 && !copied.is_empty());
     for (place, time, start, end) in [(0, 1, 0, 0), (1, 2, 0, 2), (2, 3, 2, 2), (3, 4, 2, 3)] {
         let sent = &sent[start..end];

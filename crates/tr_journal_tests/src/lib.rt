@@ -13,6 +13,8 @@ mod differs;
 #[cfg(test)]
 mod digits;
 #[cfg(test)]
+mod ends;
+#[cfg(test)]
 mod journals;
 #[cfg(test)]
 mod levels;

@@ -1,9 +1,11 @@
 //! The ranges of the numbers in steps.
 use super::digits::Digit;
+use super::ends::made;
 use super::steps::{A, steps};
-use std::alloc::Global;
+use std::alloc::AllocGlobal;
+use std::process::Abort;
 use std::test::Fail;
-use tr_base::{Kind, LeafId, NoMemory, NodeId, Point, Rect, Selection, Shape, Shapes, Size};
+use tr_base::{Kind, LeafId, NodeId, Point, Rect, Selection, Shape, Shapes, Size};
 use tr_cage::Cage;
 use tr_forest::{Edit, NodeKind};
 use tr_journal::{Query, Step, is_step};
@@ -12,7 +14,7 @@ use tr_tree::Tree;
 const B: LeafId = LeafId(1);
 
 /// Two nodes and a leaf, none of which hangs anywhere.
-fn three_nodes(alloc: Global) -> Result<Tree, NoMemory> {
+fn three_nodes(rt: &(impl Abort + AllocGlobal)) -> Tree {
     let length = Shape {
         lo: 1,
         pref: 1,
@@ -22,11 +24,14 @@ fn three_nodes(alloc: Global) -> Result<Tree, NoMemory> {
         across: length,
         down: length,
     };
-    let mut tree = Tree::new(alloc, Size { wide: 4, high: 4 }, Kind::Map8)?;
-    tree.add(NodeKind::H, 0)?;
-    tree.add(NodeKind::Z, 0)?;
-    tree.add(NodeKind::Leaf { leaf: A, shapes }, 0)?;
-    Ok(tree)
+    let mut tree = made(
+        rt,
+        Tree::new(rt.alloc(), Size { wide: 4, high: 4 }, Kind::Map8),
+    );
+    made(rt, tree.add(NodeKind::H, 0));
+    made(rt, tree.add(NodeKind::Z, 0));
+    made(rt, tree.add(NodeKind::Leaf { leaf: A, shapes }, 0));
+    tree
 }
 
 /// Steps of which a number or a value is out of its range.
@@ -90,7 +95,7 @@ fn are_steps(tree: &Tree, steps: &[Step<Digit>], want: bool) -> bool {
 
 #[test]
 fn steps_have_their_ranges(rt: HostRuntime) -> Result<(), Fail> {
-    let tree = three_nodes(rt.alloc())?;
+    let tree = three_nodes(&rt);
     assert!(rt; are_steps(&tree, &steps(), true));
     assert!(rt; are_steps(&tree, &wrong_steps(), false));
     Ok(())

@@ -1,10 +1,10 @@
 //! Scripts whose clients wait for one another.
+use crate::ends::made;
 use crate::gates::Meeting;
 use std::process::Abort;
 use std::sync::Wait;
-use std::test::Fail;
 use std::thread::Threads;
-use tr_base::{LeafId, NoMemory};
+use tr_base::LeafId;
 use tr_journal::{Actor, Step};
 use tr_play::{Gate, Workers, play};
 use tr_reader::Script;
@@ -33,16 +33,15 @@ end
 /// What is written of it.
 const PLAYED: &[u8] = b"played threads\n";
 
-/// Plays a script by threads that ask a gate before each step. Each function from which a stage or a refusal
-/// vanishes costs the prover a minute, so where the script isn't played the test ends here.
+/// Plays a script by threads that ask a gate before each step. Where the script isn't played the test ends.
 fn played<R: Threads + Wait + Sync + Abort + AllocGlobal, G: Gate + Sync>(
     rt: &R,
     text: &[u8],
     gate: &G,
-) -> Result<Finished<Widget>, NoMemory> {
+) -> Finished<Widget> {
     let alloc = rt.alloc();
     let Ok(script) = read_script(alloc, text) else {
-        return Err(NoMemory);
+        panic!(rt; "the script isn't read");
     };
     let Script {
         opening,
@@ -50,11 +49,8 @@ fn played<R: Threads + Wait + Sync + Abort + AllocGlobal, G: Gate + Sync>(
         parts,
     } = script;
     assert!(rt; 0 < parts.len());
-    let run = Run::start(alloc, opening, &names, Mode::Serial)?;
-    match play(&Workers { rt, alloc, gate }, run, &parts) {
-        Ok(end) => Ok(end),
-        Err(_refused) => panic!(rt; "no memory for a session, or it differs"),
-    }
+    let run = made(rt, Run::start(alloc, opening, &names, Mode::Serial));
+    made(rt, play(&Workers { rt, alloc, gate }, run, &parts))
 }
 
 /// How many entries stand before the first mark of a leaf's client.
@@ -80,23 +76,23 @@ fn is_second_first(end: &Finished<Widget>) -> bool {
 fn brings_second_first<R: Threads + Wait + Sync + Abort + AllocGlobal, G: Gate + Sync>(
     rt: &R,
     gate: &G,
-) -> Result<bool, NoMemory> {
-    let end = played(rt, MARKS, gate)?;
-    Ok(is_second_first(&end))
+) -> bool {
+    let end = played(rt, MARKS, gate);
+    let is_second_first = is_second_first(&end);
+    drop(end);
+    is_second_first
 }
 
 #[test]
-fn a_client_waits_for_the_second_step_of_another(rt: HostRuntime) -> Result<(), Fail> {
+fn a_client_waits_for_the_second_step_of_another(rt: HostRuntime) {
     let gate = Meeting::new(2, 0);
-    let is_second_first = brings_second_first(&rt, &gate)?;
+    let is_second_first = brings_second_first(&rt, &gate);
     assert!(rt; gate.is_met() && is_second_first);
-    Ok(())
 }
 
 #[test]
-fn two_clients_meet_at_their_first_steps(rt: HostRuntime) -> Result<(), Fail> {
+fn two_clients_meet_at_their_first_steps(rt: HostRuntime) {
     let gate = Meeting::new(1, 1);
-    let _ = brings_second_first(&rt, &gate)?;
+    let _ = brings_second_first(&rt, &gate);
     assert!(rt; gate.is_met());
-    Ok(())
 }

@@ -1,6 +1,6 @@
 //! Which cause is answered where several stand together, and what is written and read then.
-use std::alloc::{AllocError, Global};
-use std::test::Fail;
+use crate::ends::made;
+use std::process::Abort;
 use tr_base::NoMemory;
 use tr_io::{Failed, MemorySink, MemorySource, Sink, Source, SteadySource};
 use tr_player::serial_call;
@@ -27,26 +27,31 @@ const NO_END: &[u8] = b"trestle 1\nscreen 1 1 map8\n";
 /// Why it is refused.
 const NO_END_TEXT: &[u8] = b"refused: line 3 B8\n";
 
-pub(crate) fn words_of(alloc: Global, texts: &[&str]) -> Result<Vec<String>, AllocError> {
-    let mut words = Vec::new(alloc);
+pub(crate) fn words_of(rt: &(impl Abort + AllocGlobal), texts: &[&str]) -> Vec<String> {
+    let mut words = Vec::new(rt.alloc());
     for text in texts {
-        words.push(String::from_str(alloc, text)?)?;
+        let word = made(rt, String::from_str(rt.alloc(), text));
+        made(rt, words.push(word));
     }
-    Ok(words)
+    words
 }
 
 /// The status that a call ends in, and how many entries the journal of its stage has, if it hands one out.
 pub(crate) fn end_of<S: Source, K: Sink>(
-    alloc: Global,
+    rt: &(impl Abort + AllocGlobal),
     texts: &[&str],
     source: &mut S,
     sink: &mut K,
-) -> Result<(u8, Option<usize>), AllocError> {
-    let words = words_of(alloc, texts)?;
-    let (status, stage) = serial_call(alloc, &words, source, sink).into_stage();
+) -> (u8, Option<usize>) {
+    let words = words_of(rt, texts);
+    let (status, stage) = serial_call(rt.alloc(), &words, source, sink).into_stage();
     match stage {
-        Some(stage) => Ok((status, Some(stage.journal().len()))),
-        None => Ok((status, None)),
+        Some(stage) => {
+            let entries = stage.journal().len();
+            drop(stage);
+            (status, Some(entries))
+        }
+        None => (status, None),
     }
 }
 
@@ -68,19 +73,19 @@ struct End<'a> {
 }
 
 /// Whether a call ends so, with a stage exactly where its status is 0.
-fn ends(alloc: Global, call: &Call, want: &End) -> Result<bool, AllocError> {
-    let mut source = MemorySource::new(
-        Vec::from_slice(alloc, call.script)?,
-        Vec::from_slice(alloc, call.reads)?,
-    );
-    let mut sink = MemorySink::new(alloc, 4, Vec::from_slice(alloc, call.writes)?);
-    let (status, entries) = end_of(alloc, call.texts, &mut source, &mut sink)?;
+fn ends(rt: &(impl Abort + AllocGlobal), call: &Call, want: &End) -> bool {
+    let alloc = rt.alloc();
+    let script = made(rt, Vec::from_slice(alloc, call.script));
+    let mut source = MemorySource::new(script, made(rt, Vec::from_slice(alloc, call.reads)));
+    let writes = made(rt, Vec::from_slice(alloc, call.writes));
+    let mut sink = MemorySink::new(alloc, 4, writes);
+    let (status, entries) = end_of(rt, call.texts, &mut source, &mut sink);
     let is_due = status == want.status && entries.is_some() == (status == 0);
-    Ok(is_due && sink.written() == want.text && source.left().len() == want.left)
+    is_due && sink.written() == want.text && source.left().len() == want.left
 }
 
 #[test]
-fn causes_are_looked_at_in_their_order(rt: HostRuntime) -> Result<(), Fail> {
+fn causes_are_looked_at_in_their_order(rt: HostRuntime) {
     let none = [].as_slice();
     for (place, (word, script, reads, writes, status, text)) in [
         // The usage before a read fault, with nothing read.
@@ -120,14 +125,13 @@ fn causes_are_looked_at_in_their_order(rt: HostRuntime) -> Result<(), Fail> {
             text,
             left,
         };
-        assert!(rt; ends(rt.alloc(), &call, &end)?, "at {place}");
+        assert!(rt; ends(&rt, &call, &end), "at {place}");
     }
-    Ok(())
 }
 
 /// Whether a text of so many bytes is refused in this way, and so many bytes are left unread.
-fn is_refused(alloc: Global, bytes: usize, text: &[u8], left: usize) -> Result<bool, AllocError> {
-    let script = vec![in alloc; b'#'; bytes]?;
+fn is_refused(rt: &(impl Abort + AllocGlobal), bytes: usize, text: &[u8], left: usize) -> bool {
+    let script = made(rt, vec![in rt.alloc(); b'#'; bytes]);
     let call = Call {
         texts: &["serial"],
         script: &script,
@@ -139,30 +143,28 @@ fn is_refused(alloc: Global, bytes: usize, text: &[u8], left: usize) -> Result<b
         text,
         left,
     };
-    ends(alloc, &call, &end)
+    ends(rt, &call, &end)
 }
 
 #[test]
-fn too_long_a_text_is_not_read_to_its_end(rt: HostRuntime) -> Result<(), Fail> {
+fn too_long_a_text_is_not_read_to_its_end(rt: HostRuntime) {
     for (bytes, text, left) in [
         (4_194_304, b"refused: line 1 B9\n".as_slice(), 0),
         (4_194_305, TOO_LARGE, 0),
         (4_194_310, TOO_LARGE, 5),
     ] {
-        assert!(rt; is_refused(rt.alloc(), bytes, text, left)?, "{bytes} bytes");
+        assert!(rt; is_refused(&rt, bytes, text, left), "{bytes} bytes");
     }
-    Ok(())
 }
 
 #[test]
-fn a_number_is_summed_up_and_nothing_is_read(rt: HostRuntime) -> Result<(), Fail> {
-    let mut source = SteadySource::new(Vec::from_slice(rt.alloc(), PIXEL)?);
+fn a_number_is_summed_up_and_nothing_is_read(rt: HostRuntime) {
+    let mut source = SteadySource::new(made(&rt, Vec::from_slice(rt.alloc(), PIXEL)));
     let mut sink = MemorySink::new(rt.alloc(), 4, Vec::new(rt.alloc()));
-    let (status, entries) = end_of(rt.alloc(), &["gen", "1"], &mut source, &mut sink)?;
+    let (status, entries) = end_of(&rt, &["gen", "1"], &mut source, &mut sink);
     let is_read = source.left().len() != PIXEL.len();
     let is_summed = sink.written().starts_with(b"gen 1\nlines 2039\nentries ");
     assert!(rt; status == 0 && entries.is_some() && is_summed && !is_read);
-    Ok(())
 }
 
 /// A sink that has no memory for what is written.
@@ -188,11 +190,10 @@ impl Sink for FullSink {
 }
 
 #[test]
-fn want_of_memory_has_a_status(rt: HostRuntime) -> Result<(), Fail> {
+fn want_of_memory_has_a_status(rt: HostRuntime) {
     for word in ["serial", "check", "paint"] {
-        let mut source = SteadySource::new(Vec::from_slice(rt.alloc(), PIXEL)?);
-        let (status, entries) = end_of(rt.alloc(), &[word], &mut source, &mut FullSink)?;
+        let mut source = SteadySource::new(made(&rt, Vec::from_slice(rt.alloc(), PIXEL)));
+        let (status, entries) = end_of(&rt, &[word], &mut source, &mut FullSink);
         assert!(rt; status == 6 && entries.is_none(), "{word}");
     }
-    Ok(())
 }

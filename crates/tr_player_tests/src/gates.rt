@@ -1,10 +1,10 @@
 //! A script that threads play, and a gate that lets one client wait for another.
+use crate::ends::made;
 use crate::faults::words_of;
-use std::alloc::{AllocError, Global};
 use std::hint;
+use std::process::Abort;
 use std::sync::Wait;
 use std::sync::atomic::{AtomicU32, Ordering};
-use std::test::Fail;
 use std::thread::Threads;
 use tr_base::LeafId;
 use tr_io::{MemorySink, SteadySource};
@@ -106,13 +106,10 @@ fn is_second_first(stage: &Stage<Widget>) -> bool {
 }
 
 /// Whether threads play the script as the gate has it, and the text says so.
-fn is_played<R: Threads + Wait + Sync>(
-    rt: &R,
-    alloc: Global,
-    gate: &SecondFirst,
-) -> Result<bool, AllocError> {
-    let words = words_of(alloc, &["play"])?;
-    let mut source = SteadySource::new(Vec::from_slice(alloc, MARKS)?);
+fn is_played<R: Threads + Wait + Sync + Abort + AllocGlobal>(rt: &R, gate: &SecondFirst) -> bool {
+    let alloc = rt.alloc();
+    let words = words_of(rt, &["play"]);
+    let mut source = SteadySource::new(made(rt, Vec::from_slice(alloc, MARKS)));
     let mut sink = MemorySink::new(alloc, 4, Vec::new(alloc));
     let (status, stage) = trestle_call(
         rt,
@@ -124,18 +121,21 @@ fn is_played<R: Threads + Wait + Sync>(
     ).into_stage();
     let is_told = status == 0 && sink.written().ends_with(b"played threads\n");
     match stage {
-        Some(stage) => Ok(is_told && is_second_first(&stage)),
-        None => Ok(false),
+        Some(stage) => {
+            let is_played = is_told && is_second_first(&stage);
+            drop(stage);
+            is_played
+        }
+        None => false,
     }
 }
 
 #[test]
-fn the_gate_is_asked_before_each_step(rt: HostRuntime) -> Result<(), Fail> {
+fn the_gate_is_asked_before_each_step(rt: HostRuntime) {
     let gate = SecondFirst {
         asked: AtomicU32::new(0),
         begun: AtomicU32::new(0),
     };
-    let is_played = is_played(&rt, rt.alloc(), &gate)?;
+    let is_played = is_played(&rt, &gate);
     assert!(rt; is_played && gate.asked.load(Ordering::SeqCst) == 20);
-    Ok(())
 }

@@ -1,7 +1,7 @@
 //! A script of 75 bytes that comes byte by byte, and is cut: each read and each write fails in turn.
+use crate::ends::made;
 use crate::faults::{DUMP, PIXEL, READ_FAULT, end_of};
-use std::alloc::{AllocError, Global};
-use std::test::Fail;
+use std::process::Abort;
 use tr_io::{MemorySink, PieceSource};
 
 /// A call: its words, the script, and the read and the write that fail, 0 for none. A read gives one byte,
@@ -16,16 +16,16 @@ struct Call<'a> {
 
 /// Whether a call ends with this status, with this text written, and with a stage exactly where the status
 /// is 0.
-fn ends(alloc: Global, call: &Call, status: u8, text: &[u8]) -> Result<bool, AllocError> {
-    let mut source = PieceSource::new(
-        Vec::from_slice(alloc, call.script)?,
-        1,
-        Vec::from_slice(alloc, &[call.read])?,
-    );
-    let mut sink = MemorySink::new(alloc, 4, Vec::from_slice(alloc, &[call.write])?);
-    let (answered, entries) = end_of(alloc, call.texts, &mut source, &mut sink)?;
+fn ends(rt: &(impl Abort + AllocGlobal), call: &Call, status: u8, text: &[u8]) -> bool {
+    let alloc = rt.alloc();
+    let script = made(rt, Vec::from_slice(alloc, call.script));
+    let read = made(rt, Vec::from_slice(alloc, &[call.read]));
+    let mut source = PieceSource::new(script, 1, read);
+    let write = made(rt, Vec::from_slice(alloc, &[call.write]));
+    let mut sink = MemorySink::new(alloc, 4, write);
+    let (answered, entries) = end_of(rt, call.texts, &mut source, &mut sink);
     let is_due = answered == status && entries.is_some() == (status == 0);
-    Ok(is_due && sink.written() == text)
+    is_due && sink.written() == text
 }
 
 /// A script that is played, and of which this read fails.
@@ -39,19 +39,18 @@ fn fails_at_read(read: u64) -> Call<'static> {
 }
 
 #[test]
-fn each_read_fails(rt: HostRuntime) -> Result<(), Fail> {
+fn each_read_fails(rt: HostRuntime) {
     for read in 1..=76 {
         assert!(rt;
-            ends(rt.alloc(), &fails_at_read(read), 4, READ_FAULT)?,
+            ends(&rt, &fails_at_read(read), 4, READ_FAULT),
             "read {read}"
         );
     }
-    assert!(rt; ends(rt.alloc(), &fails_at_read(77), 0, DUMP)?, "none");
-    Ok(())
+    assert!(rt; ends(&rt, &fails_at_read(77), 0, DUMP), "none");
 }
 
 #[test]
-fn each_write_fails_and_the_script_is_cut(rt: HostRuntime) -> Result<(), Fail> {
+fn each_write_fails_and_the_script_is_cut(rt: HostRuntime) {
     let serial = ["serial"].as_slice();
     for (place, (texts, script, read, write, status, text)) in [
         (serial, PIXEL, 0, 1, 5, b"".as_slice()),
@@ -81,7 +80,6 @@ fn each_write_fails_and_the_script_is_cut(rt: HostRuntime) -> Result<(), Fail> {
             read: *read,
             write: *write,
         };
-        assert!(rt; ends(rt.alloc(), &call, *status, text)?, "at {place}");
+        assert!(rt; ends(&rt, &call, *status, text), "at {place}");
     }
-    Ok(())
 }

@@ -1,7 +1,6 @@
 //! Scripts that are drawn from a number.
-use std::alloc::Global;
-use std::test::Fail;
-use tr_base::NoMemory;
+use super::ends::made;
+use std::process::Abort;
 use tr_gen::script_of;
 
 /// A sum of a text in which each byte and its place count.
@@ -14,14 +13,14 @@ fn sum_of(text: &[u8]) -> u32 {
 }
 
 /// Whether the script of a number has this length and this sum.
-fn has_sum(alloc: Global, number: u32, len: usize, sum: u32) -> Result<bool, NoMemory> {
-    let text = script_of(alloc, number)?;
-    Ok(text.len() == len && sum_of(&text) == sum)
+fn has_sum(rt: &(impl Abort + AllocGlobal), number: u32, len: usize, sum: u32) -> bool {
+    let text = made(rt, script_of(rt.alloc(), number));
+    text.len() == len && sum_of(&text) == sum
 }
 
 // The lengths and the sums are those of a program that was written apart.
 #[test]
-fn whole_texts(rt: HostRuntime) -> Result<(), Fail> {
+fn whole_texts(rt: HostRuntime) {
     for (number, len, sum) in [
         (0, 28768, 3307905702),
         (1, 28883, 2158488942),
@@ -29,7 +28,6 @@ fn whole_texts(rt: HostRuntime) -> Result<(), Fail> {
         (2147483648, 29001, 987512389),
         (4294967295, 29218, 2919402465),
     ] {
-        assert!(rt; has_sum(rt.alloc(), number, len, sum)?, "{number}");
+        assert!(rt; has_sum(&rt, number, len, sum), "{number}");
     }
-    Ok(())
 }

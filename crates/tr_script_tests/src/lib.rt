@@ -5,4 +5,6 @@
 #[cfg(test)]
 mod drawn;
 #[cfg(test)]
+mod ends;
+#[cfg(test)]
 mod steps;

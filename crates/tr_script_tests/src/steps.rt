@@ -1,7 +1,6 @@
 //! Lines that are read apart from those before them.
-use std::alloc::Global;
-use std::test::Fail;
-use tr_base::NoMemory;
+use super::ends::made;
+use std::process::Abort;
 use tr_reader::{Reader, Steps};
 use tr_script::{take_line, take_step};
 
@@ -14,37 +13,43 @@ begin
 @a flush";
 
 /// A reader behind these lines.
-fn reader_of(alloc: Global) -> Result<Reader<'static>, NoMemory> {
-    let mut reader = Reader::new(alloc);
+fn reader_of(rt: &(impl Abort + AllocGlobal)) -> Reader<'static> {
+    let mut reader = Reader::new(rt.alloc());
     for (index, line) in BEFORE.lines().enumerate() {
-        if take_line(alloc, &mut reader, index + 1, line.as_bytes()).is_err() {
-            return Err(NoMemory);
-        }
+        made(
+            rt,
+            take_line(rt.alloc(), &mut reader, index + 1, line.as_bytes()),
+        );
     }
-    Ok(reader)
+    reader
 }
 
 /// Whether a line of this number that is read apart from those before it, behind one step, is taken or isn't,
 /// and how many steps there are then. One that isn't taken leaves the step that was there.
 fn answers(
-    alloc: Global,
+    rt: &(impl Abort + AllocGlobal),
+    reader: &Reader,
     number: usize,
     line: &str,
     taken: bool,
     count: usize,
-) -> Result<bool, NoMemory> {
-    let reader = reader_of(alloc)?;
-    if !reader.is_at_steps() {
-        return Ok(false);
-    }
-    let mut steps = Steps::new(alloc);
-    let first = take_step(alloc, &reader, &mut steps, 7, "@a tint 5".as_bytes())?;
-    let second = take_step(alloc, &reader, &mut steps, number, line.as_bytes())?;
-    Ok(first && second == taken && steps.len() == count)
+) -> bool {
+    assert!(rt; reader.is_at_steps());
+    let mut steps = Steps::new(rt.alloc());
+    let first = made(
+        rt,
+        take_step(rt.alloc(), reader, &mut steps, 7, "@a tint 5".as_bytes()),
+    );
+    let second = made(
+        rt,
+        take_step(rt.alloc(), reader, &mut steps, number, line.as_bytes()),
+    );
+    first && second == taken && steps.len() == count
 }
 
 #[test]
-fn lines_apart(rt: HostRuntime) -> Result<(), Fail> {
+fn lines_apart(rt: HostRuntime) {
+    let reader = reader_of(&rt);
     for (number, line, taken, count) in [
         (8, "@a flush", true, 2),
         (8, "@a tint 3", true, 2),
@@ -65,9 +70,9 @@ fn lines_apart(rt: HostRuntime) -> Result<(), Fail> {
         (8, "@a flush\t", false, 1),
     ] {
         assert!(rt;
-            answers(rt.alloc(), number, line, taken, count)?,
+            answers(&rt, &reader, number, line, taken, count),
             "{number} {line}"
         );
     }
-    Ok(())
+    drop(reader);
 }

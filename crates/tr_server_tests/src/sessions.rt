@@ -105,12 +105,15 @@ fn make_and_close<C: Coloured, L: Session, R: Threads + Wait + Sync + Abort>(
 {
     let made = make(rt, trial, &server, passes.workers.as_mut_slice());
     assert!(rt; made.is_ok(), "no memory for a call");
-    stage_of(rt, server.close(rt, passes))
+    stage_of_closed(rt, server.close(rt, passes))
 }
 
 /// The stage of a session that was closed. Each function from which a stage or a refusal vanishes costs the
 /// prover a minute, so where it isn't closed the test ends here.
-fn stage_of<C: Client>(rt: &impl Abort, closed: Result<Stage<C>, CloseRefused<C>>) -> Stage<C> {
+fn stage_of_closed<C: Client>(
+    rt: &impl Abort,
+    closed: Result<Stage<C>, CloseRefused<C>>,
+) -> Stage<C> {
     match closed {
         Ok(stage) => stage,
         Err(_refused) => panic!(rt; "the session isn't closed"),

@@ -7,13 +7,13 @@ ghost use Rattle.tr_journal.specs.Steps.{AreLevels, IsStep, may, covers};
 ghost use Rattle.tr_stage.specs.Stages as spec;
 
 use super::acts::By;
+use super::ends::made;
 use super::openings::{Part, Sample, opening_of};
 use super::traces::same_commands;
 use std::process::Abort;
 use tr_base::{Event, LeafId, Line, NoMemory, Point, Selection, Size, whole};
 use tr_book::Book;
 use tr_client::Client;
-use tr_forest::EditRefused;
 use tr_journal::{
     Actor, Delivery, Difference, Entry, Journal, Lists, Opening, Reply, Step, are_levels, covers,
     is_step, may,
@@ -49,30 +49,21 @@ fn allow_leaf<C: Client>(rt: &impl Abort, stage: &Stage<C>, leaf: LeafId)
 }
 
 /// The stage of an opening whose root was set.
-fn begin<C: Client>(
-    rt: &(impl Abort + AllocGlobal),
-    opening: Opening<C>,
-) -> Result<Stage<C>, EditRefused> {
+fn begin<C: Client>(rt: &(impl Abort + AllocGlobal), opening: Opening<C>) -> Stage<C> {
     assert!(rt; opening.is_ready());
-    match Stage::start(rt.alloc(), opening) {
-        Ok(stage) => Ok(stage),
-        Err(_opening) => Err(EditRefused::NoMemory),
-    }
+    made(rt, Stage::start(rt.alloc(), opening))
 }
 
 pub fn start<C: Client + Sample>(
     rt: &(impl Abort + AllocGlobal),
     size: Size,
     parts: &[Part],
-) -> Result<Stage<C>, EditRefused> {
-    begin(rt, opening_of(rt, size, parts)?)
+) -> Stage<C> {
+    begin(rt, opening_of(rt, size, parts))
 }
 
-pub fn again<C: Client>(
-    rt: &(impl Abort + AllocGlobal),
-    stage: &Stage<C>,
-) -> Result<Stage<C>, EditRefused> {
-    begin(rt, stage.opening().copy()?)
+pub fn again<C: Client>(rt: &(impl Abort + AllocGlobal), stage: &Stage<C>) -> Stage<C> {
+    begin(rt, made(rt, stage.opening().copy()))
 }
 
 pub fn make<C: Client>(
@@ -100,9 +91,9 @@ pub fn make_reserved<C: Client>(
     stage: &mut Stage<C>,
     by: &By,
     step: Step<C::Cmd>,
-) -> Result<Reply, NoMemory> {
-    stage.reserve(1)?;
-    Ok(reserved(rt, stage, by, step))
+) -> Reply {
+    made(rt, stage.reserve(1));
+    reserved(rt, stage, by, step)
 }
 
 pub fn make_three_reserved<C: Client>(
@@ -110,13 +101,13 @@ pub fn make_three_reserved<C: Client>(
     stage: &mut Stage<C>,
     by: &By,
     steps: [Step<C::Cmd>; 3],
-) -> Result<[Reply; 3], NoMemory> {
-    stage.reserve(3)?;
+) -> [Reply; 3] {
+    made(rt, stage.reserve(3));
     let [first, second, third] = steps;
     let first = reserved(rt, stage, by, first);
     let second = reserved(rt, stage, by, second);
     let third = reserved(rt, stage, by, third);
-    Ok([first, second, third])
+    [first, second, third]
 }
 
 /// Hands a command over that was posted while the tree's lock was held.
@@ -125,27 +116,26 @@ pub fn hand_over<C: Client>(
     stage: &mut Stage<C>,
     leaf: LeafId,
     cmd: C::Cmd,
-) -> Result<(), NoMemory> {
+) {
     allow_leaf(rt, stage, leaf);
-    let content = stage.content(leaf).copy(rt.alloc())?;
+    let content = made(rt, stage.content(leaf).copy(rt.alloc()));
     let (size, kind) = (stage.leaf_size(leaf), stage.tree().kind());
-    let mut book = Book::fresh(rt.alloc(), content, stage.font(), size, kind)?;
-    book.post(Held::none().with(Level::Mu), cmd)?;
+    let mut book = made(
+        rt,
+        Book::fresh(rt.alloc(), content, stage.font(), size, kind),
+    );
+    made(rt, book.post(Held::none().with(Level::Mu), cmd));
     // Called for what it tells the prover: that each command has a level.
     let _ = book.waiting();
-    stage.take_over(leaf, book.prepared(), book.levels())
+    made(rt, stage.take_over(leaf, book.prepared(), book.levels()));
 }
 
 /// Paints a leaf's bad points apart from the screen, and puts them there.
-pub fn repaint_apart<C: Client>(
-    rt: &impl Abort,
-    stage: &mut Stage<C>,
-    leaf: LeafId,
-) -> Result<(), NoMemory> {
+pub fn repaint_apart<C: Client>(rt: &impl Abort, stage: &mut Stage<C>, leaf: LeafId) {
     allow_leaf(rt, stage, leaf);
     assert!(rt; stage.batch(leaf).is_empty());
-    let painted = stage.paint_bad(leaf)?;
-    stage.put_painted(painted)
+    let painted = made(rt, stage.paint_bad(leaf));
+    made(rt, stage.put_painted(painted));
 }
 
 /// The first difference between a stage and what is handed in: its own opening, no journal, and this one step
@@ -155,11 +145,14 @@ pub fn difference<C: Client>(
     stage: &Stage<C>,
     leaf: LeafId,
     step: Step<C::Cmd>,
-) -> Result<Option<Difference<C::Cmd>>, NoMemory> {
+) -> Option<Difference<C::Cmd>> {
     allow_leaf(rt, stage, leaf);
-    let mut lists = Lists::new(rt.alloc(), stage.opening().tree().leaves())?;
-    lists.add(Actor::Leaf(leaf), step)?;
-    stage.audit(stage.opening(), &Journal::new(rt.alloc()), &lists)
+    let mut lists = made(rt, Lists::new(rt.alloc(), stage.opening().tree().leaves()));
+    made(rt, lists.add(Actor::Leaf(leaf), step));
+    made(
+        rt,
+        stage.audit(stage.opening(), &Journal::new(rt.alloc()), &lists),
+    )
 }
 
 pub fn settle<C: Client>(stage: &mut Stage<C>) -> Result<(), NoMemory> {
@@ -224,13 +217,9 @@ pub fn dropped<C: Client>(rt: &impl Abort, stage: &Stage<C>, leaf: LeafId) -> u3
     stage.inbox(leaf).dropped()
 }
 
-pub fn value<C: Client>(
-    rt: &(impl Abort + AllocGlobal),
-    stage: &Stage<C>,
-    leaf: LeafId,
-) -> Result<Line, NoMemory> {
+pub fn value<C: Client>(rt: &(impl Abort + AllocGlobal), stage: &Stage<C>, leaf: LeafId) -> Line {
     allow_leaf(rt, stage, leaf);
-    stage.content(leaf).value(rt.alloc())
+    made(rt, stage.content(leaf).value(rt.alloc()))
 }
 
 pub fn commands<C: Client>(rt: &impl Abort, stage: &Stage<C>, leaf: LeafId) -> usize {

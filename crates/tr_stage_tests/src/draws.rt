@@ -5,11 +5,10 @@ ghost use Rattle.w_canvas.specs.Areas.{IsFigureEdge};
 ghost use Rattle.w_plain.specs.Shifts.{IsShift};
 
 use super::acts::Act;
+use super::ends::made;
 use super::openings::{Part, Shown, line};
 use std::process::Abort;
-use tr_base::{
-    Kind, LeafId, Line, NoMemory, NodeId, Point, Rect, Selection, Shape, Shapes, Size, Tile,
-};
+use tr_base::{Kind, LeafId, Line, NodeId, Point, Rect, Selection, Shape, Shapes, Size, Tile};
 use tr_cage::Cage;
 use tr_forest::{Edit, NodeKind};
 use tr_journal::Query;
@@ -207,7 +206,7 @@ impl Draw {
         rows
     }
 
-    fn text(&mut self, rt: &impl Abort) -> Result<Line, NoMemory> {
+    fn text(&mut self, rt: &impl Abort) -> Line {
         let texts = [b"".as_slice(), b"a".as_slice(), b"~a".as_slice()];
         line(rt, texts[usize::from(self.below(3))])
     }
@@ -258,15 +257,15 @@ impl Draw {
     }
 
     /// What a leaf's content can be told.
-    fn cmd(&mut self, rt: &impl Abort, n: u8) -> Result<WidgetCmd, NoMemory> {
-        Ok(match n {
+    fn cmd(&mut self, rt: &impl Abort, n: u8) -> WidgetCmd {
+        match n {
             0 => WidgetCmd::Solid(SolidCmd::Tint(self.byte())),
             1 => WidgetCmd::Board(self.board_cmd(rt)),
-            2 => WidgetCmd::Label(LabelCmd::Text(self.text(rt)?)),
-            3 => WidgetCmd::Lines(self.lines_cmd(rt)?),
+            2 => WidgetCmd::Label(LabelCmd::Text(self.text(rt))),
+            3 => WidgetCmd::Lines(self.lines_cmd(rt)),
             4 => WidgetCmd::Canvas(self.canvas_cmd(rt)),
             _ => WidgetCmd::Meter(self.meter_cmd()),
-        })
+        }
     }
 
     fn board_cmd(&mut self, rt: &impl Abort) -> BoardCmd {
@@ -277,11 +276,11 @@ impl Draw {
         }
     }
 
-    fn lines_cmd(&mut self, rt: &impl Abort) -> Result<LinesCmd, NoMemory> {
+    fn lines_cmd(&mut self, rt: &impl Abort) -> LinesCmd {
         if self.is_once_in(9) {
-            Ok(LinesCmd::Clear)
+            LinesCmd::Clear
         } else {
-            Ok(LinesCmd::Line(self.text(rt)?))
+            LinesCmd::Line(self.text(rt))
         }
     }
 
@@ -305,34 +304,33 @@ impl Draw {
     }
 
     /// The parts of an opening with a node of each kind and a leaf of each widget, hung up as it comes.
-    pub fn parts(&mut self, rt: &impl AllocGlobal) -> Result<Vec<Part>, NoMemory> {
+    pub fn parts(&mut self, rt: &(impl Abort + AllocGlobal)) -> Vec<Part> {
         let mut parts = Vec::new(rt.alloc());
-        parts.push(Part::Letter(self.rows()))?;
+        made(rt, parts.push(Part::Letter(self.rows())));
         for n in 0..INNER {
             let kind = self.inner(n);
-            parts.push(Part::Node(kind, self.byte()))?;
+            made(rt, parts.push(Part::Node(kind, self.byte())));
         }
         for n in 0..LEAVES {
             let across = self.lengths();
             let down = self.lengths();
-            parts.push(Part::Leaf(across, down, self.shown(n)))?;
+            made(rt, parts.push(Part::Leaf(across, down, self.shown(n))));
         }
-        self.hung(&mut parts)?;
-        Ok(parts)
+        self.hung(rt, &mut parts);
+        parts
     }
 
     /// Tries three times to hang each node up.
-    fn hung(&mut self, parts: &mut Vec<Part>) -> Result<(), NoMemory> {
+    fn hung(&mut self, rt: &impl Abort, parts: &mut Vec<Part>) {
         // For the prover: its borrow checker finds the types within a part only where the body names them.
         let _told: Option<NodeKind> = None;
         for _try in 0..3 {
             for child in 1..NODES {
                 let parent = self.parent();
                 let Point { h, v } = self.point();
-                parts.push(Part::Try(u16::from(child), parent, h, v))?;
+                made(rt, parts.push(Part::Try(u16::from(child), parent, h, v)));
             }
         }
-        Ok(())
     }
 
     /// Mostly the root.
@@ -454,10 +452,10 @@ impl Draw {
     }
 
     /// A step of any sort.
-    pub fn act(&mut self, rt: &impl Abort, devices: &Devices) -> Result<Act, NoMemory> {
+    pub fn act(&mut self, rt: &impl Abort, devices: &Devices) -> Act {
         let leaf = self.leaf();
-        Ok(match self.below(40) {
-            0..=10 => self.telling(rt, leaf)?,
+        match self.below(40) {
+            0..=10 => self.telling(rt, leaf),
             11..=14 => Act::Mark(leaf, rect_of(rt, &self.edges())),
             15..=21 => Act::Alter(self.edit()),
             22..=26 => Act::Flush(leaf),
@@ -465,20 +463,20 @@ impl Draw {
             30 | 31 => Act::PaintFrame,
             32..=35 => self.input(devices),
             _ => self.leaf_act(rt, devices, leaf),
-        })
+        }
     }
 
     /// Some leaf is told something.
-    pub fn told(&mut self, rt: &impl Abort) -> Result<Act, NoMemory> {
+    pub fn told(&mut self, rt: &impl Abort) -> Act {
         let leaf = self.leaf();
         self.telling(rt, leaf)
     }
 
     /// A leaf is told something; seldom a command of another widget, which does nothing.
-    fn telling(&mut self, rt: &impl Abort, leaf: LeafId) -> Result<Act, NoMemory> {
+    fn telling(&mut self, rt: &impl Abort, leaf: LeafId) -> Act {
         let other = self.below(LEAVES);
         let n = if self.is_once_in(9) { other } else { leaf.0 };
-        Ok(Act::Tell(leaf, self.cmd(rt, n)?))
+        Act::Tell(leaf, self.cmd(rt, n))
     }
 
     /// A step of an input device.

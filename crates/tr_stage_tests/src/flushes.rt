@@ -4,9 +4,7 @@ use super::openings::{Part, Shown, line};
 use super::played::Played;
 use super::runs::*;
 use std::process::Abort;
-use std::test::Fail;
-use tr_base::{NoMemory, Size};
-use tr_forest::EditRefused;
+use tr_base::Size;
 use tr_widget::WidgetCmd;
 use w_lines::LinesCmd;
 
@@ -14,41 +12,34 @@ use w_lines::LinesCmd;
 const TEXT: &[u8] = b"aAbAAaAc";
 
 /// The stage of a typescript that has all of the screen, once it was painted.
-fn typescript<P: Played>(rt: &(impl Abort + AllocGlobal)) -> Result<P, EditRefused> {
+fn typescript<P: Played>(rt: &(impl Abort + AllocGlobal)) -> P {
     let parts = [Part::Glyph, Part::Leaf([64; 3], [32; 3], Shown::Lines)];
-    let mut stage = P::start(rt, Size { wide: 64, high: 32 }, &parts)?;
-    settle(&mut stage)?;
-    Ok(stage)
+    let mut stage = P::start(rt, Size { wide: 64, high: 32 }, &parts);
+    settle(rt, &mut stage);
+    stage
 }
 
 /// One more line, which is written in both.
-fn write_in_both<P: Played>(
-    rt: &impl Abort,
-    at_once: &mut P,
-    one_by_one: &mut P,
-    text: &[u8],
-) -> Result<(), NoMemory> {
-    let act = Act::Tell(A, WidgetCmd::Lines(LinesCmd::Line(line(rt, text)?)));
-    make(rt, at_once, &act)?;
-    make(rt, one_by_one, &act)?;
-    make(rt, one_by_one, &Act::Flush(A))?;
-    Ok(())
+fn write_in_both<P: Played>(rt: &impl Abort, at_once: &mut P, one_by_one: &mut P, text: &[u8]) {
+    let act = Act::Tell(A, WidgetCmd::Lines(LinesCmd::Line(line(rt, text))));
+    make(rt, at_once, &act);
+    make(rt, one_by_one, &act);
+    make(rt, one_by_one, &Act::Flush(A));
 }
 
 /// Whether one flush of many lines shows what a flush after each of them does, and leaves no point bad.
-fn flushed_at_once<P: Played>(rt: &(impl Abort + AllocGlobal)) -> Result<bool, EditRefused> {
-    let mut at_once: P = typescript(rt)?;
-    let mut one_by_one: P = typescript(rt)?;
+fn flushed_at_once<P: Played>(rt: &(impl Abort + AllocGlobal)) -> bool {
+    let mut at_once: P = typescript(rt);
+    let mut one_by_one: P = typescript(rt);
     for n in 0..25usize {
-        write_in_both(rt, &mut at_once, &mut one_by_one, &TEXT[..n % 8])?;
+        write_in_both(rt, &mut at_once, &mut one_by_one, &TEXT[..n % 8]);
     }
-    make(rt, &mut at_once, &Act::Flush(A))?;
-    peeks(rt, &at_once, (0, 0, 0))?;
-    Ok(have_same_rows(rt, &at_once, &one_by_one))
+    make(rt, &mut at_once, &Act::Flush(A));
+    peeks(rt, &at_once, (0, 0, 0));
+    have_same_rows(rt, &at_once, &one_by_one)
 }
 
 #[test]
-fn many_lines_are_flushed_as_one_by_one(rt: HostRuntime) -> Result<(), Fail> {
-    assert!(rt; flushed_at_once::<Tested>(&rt)?);
-    Ok(())
+fn many_lines_are_flushed_as_one_by_one(rt: HostRuntime) {
+    assert!(rt; flushed_at_once::<Tested>(&rt));
 }

@@ -11,6 +11,8 @@ mod calls;
 #[cfg(test)]
 mod draws;
 #[cfg(test)]
+mod ends;
+#[cfg(test)]
 mod flushes;
 #[cfg(test)]
 mod openings;

@@ -3,6 +3,7 @@ ghost use Rattle.std.specs.Prelude.{◌≡◌, ◌<◌, ◌≤◌, false, None, 
 ghost use Rattle.tr_base.specs.Layouts.{farthest, IsOffset};
 ghost use Rattle.tr_forest.specs.Nodes.{IsNodeKind, is_leaf, shown_by};
 
+use super::ends::{accepted, made};
 use std::process::Abort;
 use tr_base::{Kind, Line, NoMemory, NodeId, Point, Shape, Shapes, Size, Tile, is_printable};
 use tr_client::Client;
@@ -53,26 +54,26 @@ pub enum Shown {
 /// whose pictures it needn't know.
 pub trait Sample: Sized {
     /// A content that shows this.
-    fn showing(rt: &(impl Abort + AllocGlobal), shown: Shown) -> Result<Self, NoMemory>;
+    fn showing(rt: &(impl Abort + AllocGlobal), shown: Shown) -> Self;
 }
 
 impl Sample for Widget {
-    fn showing(rt: &(impl Abort + AllocGlobal), shown: Shown) -> Result<Widget, NoMemory> {
-        Ok(match shown {
+    fn showing(rt: &(impl Abort + AllocGlobal), shown: Shown) -> Widget {
+        match shown {
             Shown::Solid(tint) => Widget::Solid(Solid::new(tint)),
             Shown::Board(tile) => Widget::Board(Board::new(tile, Point { h: 0, v: 0 })),
-            Shown::Label => Widget::Label(Label::new(line(rt, b"hi")?)?),
-            Shown::Lines => Widget::Lines(Lines::new(rt.alloc())?),
-            Shown::Canvas => Widget::Canvas(Canvas::new(rt.alloc())?),
-            Shown::Meter => Widget::Meter(Meter::new(rt.alloc(), 1)?),
-        })
+            Shown::Label => Widget::Label(made(rt, Label::new(line(rt, b"hi")))),
+            Shown::Lines => Widget::Lines(made(rt, Lines::new(rt.alloc()))),
+            Shown::Canvas => Widget::Canvas(made(rt, Canvas::new(rt.alloc()))),
+            Shown::Meter => Widget::Meter(made(rt, Meter::new(rt.alloc(), 1))),
+        }
     }
 }
 
 /// The line of these bytes.
-pub fn line(rt: &impl Abort, bytes: &[u8]) -> Result<Line, NoMemory> {
+pub fn line(rt: &impl Abort, bytes: &[u8]) -> Line {
     assert!(rt; bytes.len() <= 80 && bytes.iter().all(|byte| is_printable(*byte)));
-    Line::of(bytes)
+    made(rt, Line::of(bytes))
 }
 
 /// Lengths of at least, by preference, and at most.
@@ -114,27 +115,15 @@ fn is_inner(kind: &NodeKind) -> bool
 }
 
 /// Adds a node that is no leaf.
-fn add_node<C: Client>(
-    rt: &impl Abort,
-    opening: &mut Opening<C>,
-    kind: &NodeKind,
-    tint: u8,
-) -> Result<(), NoMemory> {
+fn add_node<C: Client>(rt: &impl Abort, opening: &mut Opening<C>, kind: &NodeKind, tint: u8) {
     assert!(rt; opening.tree().count() < 256 && is_inner(kind));
-    opening.node(*kind, tint)?;
-    Ok(())
+    made(rt, opening.node(*kind, tint));
 }
 
 /// Adds a leaf.
-fn add_leaf<C: Client>(
-    rt: &impl Abort,
-    opening: &mut Opening<C>,
-    shapes: Shapes,
-    content: C,
-) -> Result<(), NoMemory> {
+fn add_leaf<C: Client>(rt: &impl Abort, opening: &mut Opening<C>, shapes: Shapes, content: C) {
     assert!(rt; opening.tree().count() < 256 && opening.tree().leaves() < 32);
-    opening.leaf(shapes, content)?;
-    Ok(())
+    made(rt, opening.leaf(shapes, content));
 }
 
 /// Makes a node the child of another.
@@ -156,47 +145,43 @@ fn try_put<C: Client>(
     child: NodeId,
     parent: NodeId,
     at: Point,
-) -> Result<(), EditRefused> {
+) {
     match put(rt, opening, child, parent, at) {
-        Ok(()) | Err(EditRefused::Fault(_)) => Ok(()),
-        Err(EditRefused::NoMemory) => Err(EditRefused::NoMemory),
+        Ok(()) | Err(EditRefused::Fault(_)) => {}
+        Err(EditRefused::NoMemory) => made(rt, Err(NoMemory)),
     }
 }
 
 /// Makes the first node the root.
-fn set_root<C: Client>(rt: &impl Abort, opening: &mut Opening<C>) -> Result<(), EditRefused> {
+fn set_root<C: Client>(rt: &impl Abort, opening: &mut Opening<C>) {
     assert!(rt; 0 < opening.tree().count());
-    opening.root(NodeId(0))
+    accepted(rt, opening.root(NodeId(0)));
 }
 
-fn add<C: Client + Sample>(
-    rt: &(impl Abort + AllocGlobal),
-    opening: &mut Opening<C>,
-    part: &Part,
-) -> Result<(), EditRefused> {
+fn add<C: Client + Sample>(rt: &(impl Abort + AllocGlobal), opening: &mut Opening<C>, part: &Part) {
     match part {
-        Part::Glyph => Ok(opening.glyph(b'A', [0xff; 8])?),
-        Part::Letter(rows) => Ok(opening.glyph(b'a', *rows)?),
-        Part::Node(kind, tint) => Ok(add_node(rt, opening, kind, *tint)?),
+        Part::Glyph => made(rt, opening.glyph(b'A', [0xff; 8])),
+        Part::Letter(rows) => made(rt, opening.glyph(b'a', *rows)),
+        Part::Node(kind, tint) => add_node(rt, opening, kind, *tint),
         Part::Leaf(across, down, shown) => {
             let shapes = shapes(rt, across, down);
-            Ok(add_leaf(rt, opening, shapes, C::showing(rt, *shown)?)?)
+            add_leaf(rt, opening, shapes, C::showing(rt, *shown));
         }
         Part::Put(child, parent, h, v) => {
             let at = Point { h: *h, v: *v };
-            put(rt, opening, NodeId(*child), NodeId(*parent), at)
+            accepted(rt, put(rt, opening, NodeId(*child), NodeId(*parent), at));
         }
         Part::Try(child, parent, h, v) => {
             let at = Point { h: *h, v: *v };
-            try_put(rt, opening, NodeId(*child), NodeId(*parent), at)
+            try_put(rt, opening, NodeId(*child), NodeId(*parent), at);
         }
     }
 }
 
 /// The screen alone.
-fn blank<C: Client>(rt: &(impl Abort + AllocGlobal), size: Size) -> Result<Opening<C>, NoMemory> {
+fn blank<C: Client>(rt: &(impl Abort + AllocGlobal), size: Size) -> Opening<C> {
     assert!(rt; 1 <= size.wide && size.wide <= 1024 && 1 <= size.high && size.high <= 1024);
-    Opening::new(rt.alloc(), size, Kind::Map8)
+    made(rt, Opening::new(rt.alloc(), size, Kind::Map8))
 }
 
 /// The opening of a screen of this size.
@@ -204,11 +189,11 @@ pub fn opening_of<C: Client + Sample>(
     rt: &(impl Abort + AllocGlobal),
     size: Size,
     parts: &[Part],
-) -> Result<Opening<C>, EditRefused> {
-    let mut opening = blank(rt, size)?;
+) -> Opening<C> {
+    let mut opening = blank(rt, size);
     for part in parts {
-        add(rt, &mut opening, part)?;
+        add(rt, &mut opening, part);
     }
-    set_root(rt, &mut opening)?;
-    Ok(opening)
+    set_root(rt, &mut opening);
+    opening
 }

@@ -4,35 +4,26 @@ use super::calls;
 use super::openings::Part;
 use std::process::Abort;
 use tr_base::{Event, LeafId, Line, NoMemory, Point, Selection, Size};
-use tr_forest::EditRefused;
 use tr_journal::{Delivery, Difference, Entry, Reply, Step};
 use tr_paint::Batch;
 use tr_stage::{Peek, Stage};
 use tr_widget::{Widget, WidgetCmd};
 
 /// A stage as the tests see it: what it does, and nothing of why. So no proof of a test knows the laws of a
-/// stage of widgets, which take minutes to be written out. Where a call isn't allowed the test ends.
+/// stage of widgets, which take minutes to be written out. Where a call isn't allowed the test ends, and
+/// where it wants memory too, but for the three that answer this: they are called once more.
 pub trait Played: Sized + Drop {
     /// The stage of an opening that is made of these parts.
-    fn start(
-        rt: &(impl Abort + AllocGlobal),
-        size: Size,
-        parts: &[Part],
-    ) -> Result<Self, EditRefused>;
+    fn start(rt: &(impl Abort + AllocGlobal), size: Size, parts: &[Part]) -> Self;
 
     /// Another stage of the same opening.
-    fn again(&self, rt: &(impl Abort + AllocGlobal)) -> Result<Self, EditRefused>;
+    fn again(&self, rt: &(impl Abort + AllocGlobal)) -> Self;
 
     /// Makes a step.
     fn make(&mut self, rt: &impl Abort, by: &By, step: Step<WidgetCmd>) -> Result<Reply, NoMemory>;
 
     /// Makes a step for which room was reserved.
-    fn make_reserved(
-        &mut self,
-        rt: &impl Abort,
-        by: &By,
-        step: Step<WidgetCmd>,
-    ) -> Result<Reply, NoMemory>;
+    fn make_reserved(&mut self, rt: &impl Abort, by: &By, step: Step<WidgetCmd>) -> Reply;
 
     /// Makes three steps for which room was reserved at once.
     fn make_three_reserved(
@@ -40,18 +31,13 @@ pub trait Played: Sized + Drop {
         rt: &impl Abort,
         by: &By,
         steps: [Step<WidgetCmd>; 3],
-    ) -> Result<[Reply; 3], NoMemory>;
+    ) -> [Reply; 3];
 
     /// Hands a command over that was posted while the tree's lock was held.
-    fn hand_over(
-        &mut self,
-        rt: &(impl Abort + AllocGlobal),
-        leaf: LeafId,
-        cmd: WidgetCmd,
-    ) -> Result<(), NoMemory>;
+    fn hand_over(&mut self, rt: &(impl Abort + AllocGlobal), leaf: LeafId, cmd: WidgetCmd);
 
     /// Paints a leaf's bad points apart from the screen, and puts them there.
-    fn repaint_apart(&mut self, rt: &impl Abort, leaf: LeafId) -> Result<(), NoMemory>;
+    fn repaint_apart(&mut self, rt: &impl Abort, leaf: LeafId);
 
     /// The first difference between the stage and what is handed in: its own opening, no journal, and this
     /// one step of a leaf.
@@ -60,7 +46,7 @@ pub trait Played: Sized + Drop {
         rt: &(impl Abort + AllocGlobal),
         leaf: LeafId,
         step: Step<WidgetCmd>,
-    ) -> Result<Option<Difference<WidgetCmd>>, NoMemory>;
+    ) -> Option<Difference<WidgetCmd>>;
 
     fn settle(&mut self) -> Result<(), NoMemory>;
 
@@ -94,7 +80,7 @@ pub trait Played: Sized + Drop {
     fn dropped(&self, rt: &impl Abort, leaf: LeafId) -> u32;
 
     /// What others read who read a leaf's content.
-    fn value(&self, rt: &(impl Abort + AllocGlobal), leaf: LeafId) -> Result<Line, NoMemory>;
+    fn value(&self, rt: &(impl Abort + AllocGlobal), leaf: LeafId) -> Line;
 
     /// How many paint commands wait for a leaf.
     fn commands(&self, rt: &impl Abort, leaf: LeafId) -> usize;
@@ -129,15 +115,11 @@ pub trait Played: Sized + Drop {
 
 /// Each is one call, of a function without conditions: so the proof needn't write the laws out.
 impl Played for Stage<Widget> {
-    fn start(
-        rt: &(impl Abort + AllocGlobal),
-        size: Size,
-        parts: &[Part],
-    ) -> Result<Self, EditRefused> {
+    fn start(rt: &(impl Abort + AllocGlobal), size: Size, parts: &[Part]) -> Self {
         calls::start(rt, size, parts)
     }
 
-    fn again(&self, rt: &(impl Abort + AllocGlobal)) -> Result<Self, EditRefused> {
+    fn again(&self, rt: &(impl Abort + AllocGlobal)) -> Self {
         calls::again(rt, self)
     }
 
@@ -145,12 +127,7 @@ impl Played for Stage<Widget> {
         calls::make(rt, self, by, step)
     }
 
-    fn make_reserved(
-        &mut self,
-        rt: &impl Abort,
-        by: &By,
-        step: Step<WidgetCmd>,
-    ) -> Result<Reply, NoMemory> {
+    fn make_reserved(&mut self, rt: &impl Abort, by: &By, step: Step<WidgetCmd>) -> Reply {
         calls::make_reserved(rt, self, by, step)
     }
 
@@ -159,21 +136,16 @@ impl Played for Stage<Widget> {
         rt: &impl Abort,
         by: &By,
         steps: [Step<WidgetCmd>; 3],
-    ) -> Result<[Reply; 3], NoMemory> {
+    ) -> [Reply; 3] {
         calls::make_three_reserved(rt, self, by, steps)
     }
 
-    fn hand_over(
-        &mut self,
-        rt: &(impl Abort + AllocGlobal),
-        leaf: LeafId,
-        cmd: WidgetCmd,
-    ) -> Result<(), NoMemory> {
-        calls::hand_over(rt, self, leaf, cmd)
+    fn hand_over(&mut self, rt: &(impl Abort + AllocGlobal), leaf: LeafId, cmd: WidgetCmd) {
+        calls::hand_over(rt, self, leaf, cmd);
     }
 
-    fn repaint_apart(&mut self, rt: &impl Abort, leaf: LeafId) -> Result<(), NoMemory> {
-        calls::repaint_apart(rt, self, leaf)
+    fn repaint_apart(&mut self, rt: &impl Abort, leaf: LeafId) {
+        calls::repaint_apart(rt, self, leaf);
     }
 
     fn difference(
@@ -181,7 +153,7 @@ impl Played for Stage<Widget> {
         rt: &(impl Abort + AllocGlobal),
         leaf: LeafId,
         step: Step<WidgetCmd>,
-    ) -> Result<Option<Difference<WidgetCmd>>, NoMemory> {
+    ) -> Option<Difference<WidgetCmd>> {
         calls::difference(rt, self, leaf, step)
     }
 
@@ -229,7 +201,7 @@ impl Played for Stage<Widget> {
         calls::dropped(rt, self, leaf)
     }
 
-    fn value(&self, rt: &(impl Abort + AllocGlobal), leaf: LeafId) -> Result<Line, NoMemory> {
+    fn value(&self, rt: &(impl Abort + AllocGlobal), leaf: LeafId) -> Line {
         calls::value(rt, self, leaf)
     }
 

@@ -4,10 +4,9 @@ use super::openings::{Part, Shown, line};
 use super::played::Played;
 use super::runs::*;
 use std::process::Abort;
-use std::test::Fail;
-use tr_base::{Click, Event, NoMemory, NodeId, Point, Rect, Selection, Size};
+use tr_base::{Click, Event, NodeId, Point, Rect, Selection, Size};
 use tr_cage::Cage;
-use tr_forest::{Edit, EditRefused, NodeKind};
+use tr_forest::{Edit, NodeKind};
 use tr_journal::{Answer, Query};
 use tr_widget::WidgetCmd;
 use w_plain::SolidCmd;
@@ -31,7 +30,7 @@ fn clicked(time: u32, click: Click, button: u8, h: i32) -> Event {
 }
 
 /// The stage of a window with a text, and of another one east of it.
-fn label_and_solid<P: Played>(rt: &(impl Abort + AllocGlobal)) -> Result<P, EditRefused> {
+fn label_and_solid<P: Played>(rt: &(impl Abort + AllocGlobal)) -> P {
     let parts = [
         Part::Glyph,
         Part::Node(NodeKind::H, 0),
@@ -44,9 +43,9 @@ fn label_and_solid<P: Played>(rt: &(impl Abort + AllocGlobal)) -> Result<P, Edit
 }
 
 /// A step of each sort of the input devices, and each with selections, is done.
-fn devices<P: Played>(rt: &impl Abort, stage: &mut P) -> Result<(), NoMemory> {
+fn devices<P: Played>(rt: &impl Abort, stage: &mut P) {
     let down = clicked(1, Click::FirstDown, 1, 0);
-    let value = Answer::Value(line(rt, b"hi")?);
+    let value = Answer::Value(line(rt, b"hi"));
     let rows = [
         (Act::Motion(1, 0, 0), DONE, None),
         (Act::Mouse(1, 1, true), DONE, Some((A, down))),
@@ -57,11 +56,11 @@ fn devices<P: Played>(rt: &impl Abort, stage: &mut P) -> Result<(), NoMemory> {
         (Act::Disown(A, Selection::Key), DONE, None),
         (Act::Take(A), Answer::Taken(down), None),
     ];
-    plays(rt, stage, &rows)
+    plays(rt, stage, &rows);
 }
 
 /// A step of each other sort is done.
-fn paintings<P: Played>(rt: &impl Abort, stage: &mut P) -> Result<(), NoMemory> {
+fn paintings<P: Played>(rt: &impl Abort, stage: &mut P) {
     let tinted = WidgetCmd::Solid(SolidCmd::Tint(6));
     let node = NodeId(0);
     let rows = [
@@ -75,18 +74,17 @@ fn paintings<P: Played>(rt: &impl Abort, stage: &mut P) -> Result<(), NoMemory> 
         (Act::Report(Query::Peek), 0, None),
         (Act::Sync, 0, Some((1, 2, 0))),
     ];
-    lags(rt, stage, &rows)
+    lags(rt, stage, &rows);
 }
 
 /// What is read of the windows then.
-fn has_windows<P: Played>(rt: &(impl Abort + AllocGlobal), stage: &P) -> Result<(), NoMemory> {
-    assert!(rt; stage.value(rt, A)?.same(&line(rt, b"hi")?));
-    assert!(rt; stage.value(rt, B)?.same(&line(rt, b"6")?));
+fn has_windows<P: Played>(rt: &(impl Abort + AllocGlobal), stage: &P) {
+    assert!(rt; stage.value(rt, A).same(&line(rt, b"hi")));
+    assert!(rt; stage.value(rt, B).same(&line(rt, b"6")));
     assert!(rt; stage.commands(rt, A) == 0 && stage.commands(rt, B) == 2);
     assert_eq!(rt; stage.leaf_size(rt, B), Size { wide: 1, high: 1 });
     waits(rt, stage, A, &[STRUCK]);
     assert_eq!(rt; stage.dropped(rt, A), 0);
-    Ok(())
 }
 
 /// What is read of all else.
@@ -101,16 +99,16 @@ fn has_devices<P: Played>(rt: &impl Abort, stage: &P) {
     assert_eq!(rt; stage.entries(), 17);
 }
 
-fn all_done_and_read<P: Played>(rt: &(impl Abort + AllocGlobal)) -> Result<(), EditRefused> {
-    let mut stage: P = label_and_solid(rt)?;
-    devices(rt, &mut stage)?;
-    paintings(rt, &mut stage)?;
-    has_windows(rt, &stage)?;
+fn all_done_and_read<P: Played>(rt: &(impl Abort + AllocGlobal)) {
+    let mut stage: P = label_and_solid(rt);
+    devices(rt, &mut stage);
+    paintings(rt, &mut stage);
+    has_windows(rt, &stage);
     has_devices(rt, &stage);
-    Ok(shows(rt, &mut stage, &[&[1, 6]])?)
+    shows(rt, &mut stage, &[&[1, 6]]);
 }
 
 #[test]
-fn each_sort_of_step_is_done_and_each_read_answers(rt: HostRuntime) -> Result<(), Fail> {
-    Ok(all_done_and_read::<Tested>(&rt)?)
+fn each_sort_of_step_is_done_and_each_read_answers(rt: HostRuntime) {
+    all_done_and_read::<Tested>(&rt);
 }

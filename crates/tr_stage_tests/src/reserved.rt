@@ -4,13 +4,12 @@ use super::openings::{Part, Shown};
 use super::played::Played;
 use super::runs::*;
 use std::process::Abort;
-use std::test::Fail;
 use tr_base::Size;
-use tr_forest::{EditRefused, NodeKind};
+use tr_forest::NodeKind;
 
 /// The stage of two windows of two points each, side by side, on a screen of one row. What they leave is the
 /// frame of node 0.
-pub fn two_beside<P: Played>(rt: &(impl Abort + AllocGlobal), wide: u16) -> Result<P, EditRefused> {
+pub fn two_beside<P: Played>(rt: &(impl Abort + AllocGlobal), wide: u16) -> P {
     let parts = [
         Part::Node(NodeKind::H, 0),
         Part::Leaf([2; 3], [1; 3], Shown::Solid(1)),
@@ -22,9 +21,9 @@ pub fn two_beside<P: Played>(rt: &(impl Abort + AllocGlobal), wide: u16) -> Resu
 }
 
 /// Three steps answer the same, with room reserved and without, and then a fourth one.
-fn reserved<P: Played>(rt: &(impl Abort + AllocGlobal)) -> Result<(), EditRefused> {
-    let mut stage: P = two_beside(rt, 4)?;
-    let mut other = stage.again(rt)?;
+fn reserved<P: Played>(rt: &(impl Abort + AllocGlobal)) {
+    let mut stage: P = two_beside(rt, 4);
+    let mut other = stage.again(rt);
     let acts = [
         Act::Motion(1, 0, 0),
         Act::Mouse(2, 1, true),
@@ -33,16 +32,15 @@ fn reserved<P: Played>(rt: &(impl Abort + AllocGlobal)) -> Result<(), EditRefuse
     let fourth = Act::Motion(4, 3, 0);
     let by = maker_of(&fourth);
     let steps = [step_of(&acts[0]), step_of(&acts[1]), step_of(&acts[2])];
-    let replies = stage.make_three_reserved(rt, &by, steps)?;
+    let replies = stage.make_three_reserved(rt, &by, steps);
     for (act, reply) in acts.iter().zip(replies.iter()) {
-        assert!(rt; reply.same(&make(rt, &mut other, act)?));
+        assert!(rt; reply.same(&make(rt, &mut other, act)));
     }
-    let reply = stage.make_reserved(rt, &by, step_of(&fourth))?;
-    assert!(rt; reply.same(&make(rt, &mut other, &fourth)?));
-    Ok(())
+    let reply = stage.make_reserved(rt, &by, step_of(&fourth));
+    assert!(rt; reply.same(&make(rt, &mut other, &fourth)));
 }
 
 #[test]
-fn reserved_steps_answer_as_others_do(rt: HostRuntime) -> Result<(), Fail> {
-    Ok(reserved::<Tested>(&rt)?)
+fn reserved_steps_answer_as_others_do(rt: HostRuntime) {
+    reserved::<Tested>(&rt);
 }

@@ -1,6 +1,7 @@
 //! What is done with stages. What a test does is data: loops over it are proved once, where a test with as
 //! many calls would be proved call by call.
 use super::acts::{Act, By, maker_of, step_of};
+use super::ends::made;
 use super::played::Played;
 use std::process::Abort;
 use tr_base::{Event, LeafId, NoMemory};
@@ -27,15 +28,15 @@ pub type Lag = (Act, u16, Option<Counts>);
 pub type Row = (Act, Answer, Option<(LeafId, Event)>);
 
 /// Makes the step, of which the journal has an entry then.
-pub fn make<P: Played>(rt: &impl Abort, stage: &mut P, act: &Act) -> Result<Reply, NoMemory> {
+pub fn make<P: Played>(rt: &impl Abort, stage: &mut P, act: &Act) -> Reply {
     let by = maker_of(act);
     let before = stage.entries();
     let reply = match stage.make(rt, &by, step_of(act)) {
         Ok(reply) => reply,
-        Err(NoMemory) => make_again(rt, stage, act, before)?,
+        Err(NoMemory) => make_again(rt, stage, act, before),
     };
     assert!(rt; stage.has_entry(rt, before, &entry_of(&by, act, &reply)));
-    Ok(reply)
+    reply
 }
 
 /// The entry of a step.
@@ -49,39 +50,29 @@ fn entry_of(by: &By, act: &Act, reply: &Reply) -> Entry<WidgetCmd> {
 }
 
 /// Makes a step for which memory was wanted once: the stage is as before, and so the test goes on.
-fn make_again<P: Played>(
-    rt: &impl Abort,
-    stage: &mut P,
-    act: &Act,
-    before: usize,
-) -> Result<Reply, NoMemory> {
+fn make_again<P: Played>(rt: &impl Abort, stage: &mut P, act: &Act, before: usize) -> Reply {
     assert_eq!(rt; stage.entries(), before);
-    stage.make(rt, &maker_of(act), step_of(act))
+    made(rt, stage.make(rt, &maker_of(act), step_of(act)))
 }
 
 /// Settles it. Where memory was wanted once, what was painted by then stands, and the rest follows.
-pub fn settle<P: Played>(stage: &mut P) -> Result<(), NoMemory> {
+pub fn settle<P: Played>(rt: &impl Abort, stage: &mut P) {
     match stage.settle() {
-        Ok(()) => Ok(()),
-        Err(NoMemory) => stage.settle(),
+        Ok(()) => {}
+        Err(NoMemory) => made(rt, stage.settle()),
     }
 }
 
 /// So many points are bad, so many commands wait, and so many points are stale.
-pub fn peeks<P: Played>(
-    rt: &impl Abort,
-    stage: &P,
-    (bad, waiting, stale): Counts,
-) -> Result<(), NoMemory> {
+pub fn peeks<P: Played>(rt: &impl Abort, stage: &P, (bad, waiting, stale): Counts) {
     let peek = match stage.peek() {
         Ok(peek) => peek,
-        Err(NoMemory) => stage.peek()?,
+        Err(NoMemory) => made(rt, stage.peek()),
     };
     assert!(rt;
         peek.bad == bad && peek.waiting == waiting && peek.stale == stale,
         "{peek:?}"
     );
-    Ok(())
 }
 
 /// The screen has these rows.
@@ -94,37 +85,35 @@ pub fn has_rows<P: Played>(rt: &impl Abort, stage: &P, rows: &[&[u8]]) {
 }
 
 /// Once it is settled, the screen has these rows.
-pub fn shows<P: Played>(rt: &impl Abort, stage: &mut P, rows: &[&[u8]]) -> Result<(), NoMemory> {
-    settle(stage)?;
+pub fn shows<P: Played>(rt: &impl Abort, stage: &mut P, rows: &[&[u8]]) {
+    settle(rt, stage);
     has_rows(rt, stage, rows);
-    peeks(rt, stage, (0, 0, 0))
+    peeks(rt, stage, (0, 0, 0));
 }
 
 /// Each step is done, sends so much, and leaves so much to paint.
-pub fn lags<P: Played>(rt: &impl Abort, stage: &mut P, rows: &[Lag]) -> Result<(), NoMemory> {
+pub fn lags<P: Played>(rt: &impl Abort, stage: &mut P, rows: &[Lag]) {
     for (i, (act, sent, peek)) in rows.iter().enumerate() {
-        let reply = make(rt, stage, act)?;
+        let reply = make(rt, stage, act);
         assert!(rt;
             reply.answer.same(&Answer::Done) && reply.sent == *sent,
             "row {i}: {reply:?}"
         );
         if let Some(peek) = peek {
-            peeks(rt, stage, *peek)?;
+            peeks(rt, stage, *peek);
         }
     }
-    Ok(())
 }
 
 /// Each step answers and sends what its row says.
-pub fn plays<P: Played>(rt: &impl Abort, stage: &mut P, rows: &[Row]) -> Result<(), NoMemory> {
+pub fn plays<P: Played>(rt: &impl Abort, stage: &mut P, rows: &[Row]) {
     for (i, (act, answer, sent)) in rows.iter().enumerate() {
         let before = stage.entries();
-        let reply = make(rt, stage, act)?;
+        let reply = make(rt, stage, act);
         assert!(rt; reply.answer.same(answer), "row {i}: {reply:?}");
         let found = stage.sent(rt, before);
         assert!(rt; is_sent(found, sent), "row {i}: {found:?}");
     }
-    Ok(())
 }
 
 /// Whether just this was sent, and not dropped.

@@ -3,8 +3,6 @@ use super::played::Played;
 use super::reserved::two_beside;
 use super::runs::*;
 use std::process::Abort;
-use std::test::Fail;
-use tr_forest::EditRefused;
 use tr_journal::{Actor, Entry, Reply, Step};
 use tr_levels::{Held, Level};
 use tr_widget::WidgetCmd;
@@ -39,18 +37,18 @@ fn entries() -> [Entry<WidgetCmd>; 2] {
 }
 
 /// A window is told something by one call, and another one repainted by two, each with its entry.
-fn shared<P: Played>(rt: &(impl Abort + AllocGlobal)) -> Result<(), EditRefused> {
-    let mut stage: P = two_beside(rt, 4)?;
+fn shared<P: Played>(rt: &(impl Abort + AllocGlobal)) {
+    let mut stage: P = two_beside(rt, 4);
     let [told, repainted] = entries();
-    stage.hand_over(rt, A, TOLD)?;
-    stage.repaint_apart(rt, B)?;
+    stage.hand_over(rt, A, TOLD);
+    stage.repaint_apart(rt, B);
     assert!(rt; stage.has_entry(rt, 0, &told) && stage.has_entry(rt, 1, &repainted));
     has_rows(rt, &stage, &[&[0, 0, 2, 2]]);
-    peeks(rt, &stage, (2, 1, 0))?;
-    Ok(shows(rt, &mut stage, &[&[5, 5, 2, 2]])?)
+    peeks(rt, &stage, (2, 1, 0));
+    shows(rt, &mut stage, &[&[5, 5, 2, 2]]);
 }
 
 #[test]
-fn commands_are_handed_over_and_bad_points_put(rt: HostRuntime) -> Result<(), Fail> {
-    Ok(shared::<Tested>(&rt)?)
+fn commands_are_handed_over_and_bad_points_put(rt: HostRuntime) {
+    shared::<Tested>(&rt);
 }

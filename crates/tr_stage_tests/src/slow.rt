@@ -3,6 +3,7 @@
 ghost use Rattle.std.specs.Prelude.{IsTrue};
 ghost use Rattle.tr_client.specs.Laws.{IsWindowSize};
 
+use super::ends::made;
 use super::openings::{Part, Sample, opening_of};
 use super::traces::{Seen, after_all, later, pixel_at};
 use std::alloc::Global;
@@ -59,25 +60,25 @@ pub struct Slow<C: Client> {
 }
 
 /// All points of a screen, row by row.
-fn points(alloc: Global, size: Size) -> Result<Vec<Point>, NoMemory> {
+fn points(rt: &impl Abort, alloc: Global, size: Size) -> Vec<Point> {
     let mut points = Vec::new(alloc);
     for v in 0..size.high {
         for h in 0..size.wide {
             let (h, v) = (i32::from(h), i32::from(v));
-            points.push(Point { h, v })?;
+            made(rt, points.push(Point { h, v }));
         }
     }
-    Ok(points)
+    points
 }
 
 /// All points of a tree's screen, with who owns each.
-fn owned_points(rt: &impl Abort, alloc: Global, tree: &Tree) -> Result<Vec<Owned>, NoMemory> {
+fn owned_points(rt: &impl Abort, alloc: Global, tree: &Tree) -> Vec<Owned> {
     let mut owned = Vec::new(alloc);
-    for p in &points(alloc, tree.size())? {
+    for p in &points(rt, alloc, tree.size()) {
         let spot = spot_of(rt, tree, *p);
-        owned.push(Owned { at: *p, spot })?;
+        made(rt, owned.push(Owned { at: *p, spot }));
     }
-    Ok(owned)
+    owned
 }
 
 fn spot_of(rt: &impl Abort, tree: &Tree, p: Point) -> Spot {
@@ -145,13 +146,13 @@ fn is_frame(spot: &Spot) -> bool {
 }
 
 /// The tree after an edit, unless that is refused.
-fn edited(rt: &impl Abort, tree: &Tree, edit: &Edit) -> Result<Option<Tree>, NoMemory> {
+fn edited(rt: &impl Abort, tree: &Tree, edit: &Edit) -> Option<Tree> {
     assert!(rt; is_edit(tree, edit));
-    let mut is = tree.copy()?;
+    let mut is = made(rt, tree.copy());
     match is.edit(edit) {
-        Ok(()) => Ok(Some(is)),
-        Err(EditRefused::Fault(_)) => Ok(None),
-        Err(EditRefused::NoMemory) => Err(NoMemory),
+        Ok(()) => Some(is),
+        Err(EditRefused::Fault(_)) => None,
+        Err(EditRefused::NoMemory) => made(rt, Err(NoMemory)),
     }
 }
 
@@ -193,29 +194,26 @@ fn keeps<C: Client>(rt: &impl Abort, content: &C, from: Size, to: Size) -> Rect 
 }
 
 /// The windows of an opening, which show their contents.
-fn windows_of<C: Client>(
-    rt: &(impl Abort + AllocGlobal),
-    opening: &Opening<C>,
-) -> Result<Vec<Window<C>>, NoMemory> {
+fn windows_of<C: Client>(rt: &(impl Abort + AllocGlobal), opening: &Opening<C>) -> Vec<Window<C>> {
     let mut windows = Vec::new(rt.alloc());
     for n in 0..opening.tree().leaves() {
-        windows.push(window_of(rt, opening, LeafId(n))?)?;
+        made(rt, windows.push(window_of(rt, opening, LeafId(n))));
     }
-    Ok(windows)
+    windows
 }
 
 fn window_of<C: Client>(
     rt: &(impl Abort + AllocGlobal),
     opening: &Opening<C>,
     leaf: LeafId,
-) -> Result<Window<C>, NoMemory> {
+) -> Window<C> {
     assert!(rt; leaf.0 < opening.tree().leaves());
     let content = opening.content(leaf);
-    Ok(Window {
-        content: content.copy(rt.alloc())?,
-        shown: content.copy(rt.alloc())?,
+    Window {
+        content: made(rt, content.copy(rt.alloc())),
+        shown: made(rt, content.copy(rt.alloc())),
         batch: Batch::new(rt.alloc()),
-    })
+    }
 }
 
 /// The model of the opening of these parts, of which all points are bad.
@@ -223,28 +221,25 @@ pub fn open<C: Client + Sample>(
     rt: &(impl Abort + AllocGlobal),
     size: Size,
     parts: &[Part],
-) -> Result<Slow<C>, EditRefused> {
-    Ok(model_of(rt, &opening_of(rt, size, parts)?)?)
+) -> Slow<C> {
+    model_of(rt, &opening_of(rt, size, parts))
 }
 
-fn model_of<C: Client>(
-    rt: &(impl Abort + AllocGlobal),
-    opening: &Opening<C>,
-) -> Result<Slow<C>, NoMemory> {
+fn model_of<C: Client>(rt: &(impl Abort + AllocGlobal), opening: &Opening<C>) -> Slow<C> {
     let alloc = rt.alloc();
-    let tree = opening.tree().copy()?;
-    let font = opening.font().copy()?;
-    let windows = windows_of(rt, opening)?;
-    let owned = owned_points(rt, alloc, &tree)?;
-    let bad = points(alloc, tree.size())?;
-    Ok(Slow {
+    let tree = made(rt, opening.tree().copy());
+    let font = made(rt, opening.font().copy());
+    let windows = windows_of(rt, opening);
+    let owned = owned_points(rt, alloc, &tree);
+    let bad = points(rt, alloc, tree.size());
+    Slow {
         alloc,
         tree,
         owned,
         font,
         windows,
         bad,
-    })
+    }
 }
 
 impl<C: Client> Window<C> {
@@ -256,30 +251,23 @@ impl<C: Client> Window<C> {
     }
 
     /// It shows its content, and nothing waits.
-    fn renew(&mut self, alloc: Global) -> Result<(), NoMemory> {
-        self.shown = self.content.copy(alloc)?;
+    fn renew(&mut self, rt: &impl Abort, alloc: Global) {
+        self.shown = made(rt, self.content.copy(alloc));
         self.batch.clear();
-        Ok(())
     }
 
-    fn change(&mut self, alloc: Global, env: &Env, size: Size, cmd: &C::Cmd) -> Result<(), NoMemory>
+    fn change(&mut self, rt: &impl Abort, alloc: Global, env: &Env, size: Size, cmd: &C::Cmd)
         requires { IsWindowSize size }
     {
-        let (next, patch) = self.content.change(alloc, env, size, cmd)?;
-        self.batch.extend(patch)?;
+        let (next, patch) = made(rt, self.content.change(alloc, env, size, cmd));
+        made(rt, self.batch.extend(patch));
         self.content = next;
-        Ok(())
     }
 }
 
 impl<C: Client> Slow<C> {
     /// Makes a step, which the stage answered in this way.
-    pub fn step(
-        &mut self,
-        rt: &impl Abort,
-        step: &Step<C::Cmd>,
-        answer: &Answer,
-    ) -> Result<(), NoMemory> {
+    pub fn step(&mut self, rt: &impl Abort, step: &Step<C::Cmd>, answer: &Answer) {
         match step {
             Step::Act { leaf, cmd } => self.act(rt, *leaf, cmd),
             Step::Mark { leaf, clip } => self.mark(rt, *leaf, clip),
@@ -288,7 +276,7 @@ impl<C: Client> Slow<C> {
             Step::Flush { leaf } => self.flush(rt, *leaf),
             Step::Repaint { leaf } => self.repaint(rt, *leaf),
             Step::PaintFrame => self.paint_frame(rt),
-            _ => Ok(()),
+            _ => {}
         }
     }
 
@@ -297,91 +285,88 @@ impl<C: Client> Slow<C> {
         &self.windows[usize::from(leaf.0)]
     }
 
-    fn act(&mut self, rt: &impl Abort, leaf: LeafId, cmd: &C::Cmd) -> Result<(), NoMemory> {
+    fn act(&mut self, rt: &impl Abort, leaf: LeafId, cmd: &C::Cmd) {
         let size = size_of(rt, &self.tree, leaf);
         let env = Env {
             kind: self.tree.kind(),
             font: &self.font,
         };
         assert!(rt; usize::from(leaf.0) < self.windows.len());
-        self.windows[usize::from(leaf.0)].change(self.alloc, &env, size, cmd)
+        self.windows[usize::from(leaf.0)].change(rt, self.alloc, &env, size, cmd);
     }
 
-    fn mark(&mut self, rt: &impl Abort, leaf: LeafId, clip: &Rect) -> Result<(), NoMemory> {
+    fn mark(&mut self, rt: &impl Abort, leaf: LeafId, clip: &Rect) {
         let clip = part_of_window(size_of(rt, &self.tree, leaf), clip);
         assert!(rt; usize::from(leaf.0) < self.windows.len());
-        self.windows[usize::from(leaf.0)]
-            .batch
-            .push(Paint::Spoil { clip })
+        let batch = &mut self.windows[usize::from(leaf.0)].batch;
+        made(rt, batch.push(Paint::Spoil { clip }));
     }
 
     /// A window reacts to the event that it took.
-    fn take(&mut self, rt: &impl Abort, leaf: LeafId, answer: &Answer) -> Result<(), NoMemory> {
+    fn take(&mut self, rt: &impl Abort, leaf: LeafId, answer: &Answer) {
         let Answer::Taken(event) = answer else {
-            return Ok(());
+            return;
         };
-        match self.window(rt, leaf).content.react(self.alloc, event)? {
+        match made(rt, self.window(rt, leaf).content.react(self.alloc, event)) {
             Some(cmd) => self.act(rt, leaf, &cmd),
-            None => Ok(()),
+            None => {}
         }
     }
 
     /// What waits is painted: bad are the points whose colour isn't known then.
-    fn flush(&mut self, rt: &impl Abort, leaf: LeafId) -> Result<(), NoMemory> {
-        let seen = self.flushed(rt, leaf)?;
+    fn flush(&mut self, rt: &impl Abort, leaf: LeafId) {
+        let seen = self.flushed(rt, leaf);
         let corner = corner_of(rt, &self.tree, leaf);
-        self.repair(rt, leaf)?;
+        self.repair(rt, leaf);
         for seen in &seen {
             if seen.pixel.is_none() {
-                self.bad.push(later(seen.at, corner))?;
+                made(rt, self.bad.push(later(seen.at, corner)));
             }
         }
-        self.renew(rt, leaf)
+        self.renew(rt, leaf);
     }
 
     /// The visible points of a leaf once what waits is painted.
-    fn flushed(&self, rt: &impl Abort, leaf: LeafId) -> Result<Vec<Seen>, NoMemory> {
-        let known = self.known(rt, leaf)?;
+    fn flushed(&self, rt: &impl Abort, leaf: LeafId) -> Vec<Seen> {
+        let known = self.known(rt, leaf);
         let env = Env {
             kind: self.tree.kind(),
             font: &self.font,
         };
-        after_all(self.alloc, &env, &known, &self.window(rt, leaf).batch)
+        after_all(rt, self.alloc, &env, &known, &self.window(rt, leaf).batch)
     }
 
-    fn repaint(&mut self, rt: &impl Abort, leaf: LeafId) -> Result<(), NoMemory> {
-        self.repair(rt, leaf)?;
-        self.renew(rt, leaf)
+    fn repaint(&mut self, rt: &impl Abort, leaf: LeafId) {
+        self.repair(rt, leaf);
+        self.renew(rt, leaf);
     }
 
     /// No point of a leaf is bad.
-    fn repair(&mut self, rt: &impl Abort, leaf: LeafId) -> Result<(), NoMemory> {
+    fn repair(&mut self, rt: &impl Abort, leaf: LeafId) {
         let mut bad = Vec::new(self.alloc);
         for p in &self.bad {
             if !is_in(leaf, &spot_of(rt, &self.tree, *p)) {
-                bad.push(*p)?;
+                made(rt, bad.push(*p));
             }
         }
         self.bad = bad;
-        Ok(())
     }
 
     /// No point of a frame is bad.
-    fn paint_frame(&mut self, rt: &impl Abort) -> Result<(), NoMemory> {
+    fn paint_frame(&mut self, rt: &impl Abort) {
         let mut bad = Vec::new(self.alloc);
         for p in &self.bad {
             if !is_frame(&spot_of(rt, &self.tree, *p)) {
-                bad.push(*p)?;
+                made(rt, bad.push(*p));
             }
         }
         self.bad = bad;
-        Ok(())
     }
 
     /// A window shows its content, and nothing waits.
-    fn renew(&mut self, rt: &impl Abort, leaf: LeafId) -> Result<(), NoMemory> {
+    fn renew(&mut self, rt: &impl Abort, leaf: LeafId) {
         assert!(rt; usize::from(leaf.0) < self.windows.len());
-        self.windows[usize::from(leaf.0)].renew(self.alloc)
+        self.windows[usize::from(leaf.0)].renew(rt, self.alloc);
     }
 
     fn is_bad(&self, p: Point) -> bool {
@@ -389,70 +374,63 @@ impl<C: Client> Slow<C> {
     }
 
     /// The visible points of a leaf, in its coordinates.
-    fn visible(&self, leaf: LeafId) -> Result<Vec<Seen>, NoMemory> {
+    fn visible(&self, rt: &impl Abort, leaf: LeafId) -> Vec<Seen> {
         let mut seen = Vec::new(self.alloc);
         for point in &self.owned {
             if let Spot::Leaf { leaf: own, at, .. } = point.spot {
                 if own == leaf {
-                    seen.push(Seen { at, pixel: None })?;
+                    made(rt, seen.push(Seen { at, pixel: None }));
                 }
             }
         }
-        Ok(seen)
+        seen
     }
 
     /// The visible points of a leaf with the colours of a content.
-    fn picture(&self, rt: &impl Abort, leaf: LeafId, which: Which) -> Result<Vec<Seen>, NoMemory> {
-        let seen = self.visible(leaf)?;
+    fn picture(&self, rt: &impl Abort, leaf: LeafId, which: Which) -> Vec<Seen> {
+        let seen = self.visible(rt, leaf);
         let env = Env {
             kind: self.tree.kind(),
             font: &self.font,
         };
         let size = size_of(rt, &self.tree, leaf);
         let content = self.window(rt, leaf).content(which);
-        let batch = content.paint(self.alloc, &env, size, whole(size))?;
-        after_all(self.alloc, &env, &seen, &batch)
+        let batch = made(rt, content.paint(self.alloc, &env, size, whole(size)));
+        after_all(rt, self.alloc, &env, &seen, &batch)
     }
 
     /// The visible points of a leaf with the colours that are known.
-    fn known(&self, rt: &impl Abort, leaf: LeafId) -> Result<Vec<Seen>, NoMemory> {
+    fn known(&self, rt: &impl Abort, leaf: LeafId) -> Vec<Seen> {
         let corner = corner_of(rt, &self.tree, leaf);
         let mut known = Vec::new(self.alloc);
-        for Seen { at, pixel } in &self.picture(rt, leaf, Which::Shown)? {
+        for Seen { at, pixel } in &self.picture(rt, leaf, Which::Shown) {
             let is_bad = self.is_bad(later(*at, corner));
             let pixel = if is_bad { None } else { *pixel };
-            known.push(Seen { at: *at, pixel })?;
+            made(rt, known.push(Seen { at: *at, pixel }));
         }
-        Ok(known)
+        known
     }
 
-    fn alter(&mut self, rt: &impl Abort, edit: &Edit) -> Result<(), NoMemory> {
-        let Some(is) = edited(rt, &self.tree, edit)? else {
-            return Ok(());
+    fn alter(&mut self, rt: &impl Abort, edit: &Edit) {
+        let Some(is) = edited(rt, &self.tree, edit) else {
+            return;
         };
-        let owned = owned_points(rt, self.alloc, &is)?;
-        self.bad = self.bad_after(rt, &is, edit, &owned)?;
-        self.renew_changed(rt, &is)?;
+        let owned = owned_points(rt, self.alloc, &is);
+        self.bad = self.bad_after(rt, &is, edit, &owned);
+        self.renew_changed(rt, &is);
         self.tree = is;
         self.owned = owned;
-        Ok(())
     }
 
     /// The points that are bad after an edit.
-    fn bad_after(
-        &self,
-        rt: &impl Abort,
-        is: &Tree,
-        edit: &Edit,
-        owned: &[Owned],
-    ) -> Result<Vec<Point>, NoMemory> {
+    fn bad_after(&self, rt: &impl Abort, is: &Tree, edit: &Edit, owned: &[Owned]) -> Vec<Point> {
         let mut bad = Vec::new(self.alloc);
         for point in owned {
             if !self.is_good_after(rt, is, edit, point) {
-                bad.push(point.at)?;
+                made(rt, bad.push(point.at));
             }
         }
-        Ok(bad)
+        bad
     }
 
     /// Whether a point of the new screen is good after an edit.
@@ -497,29 +475,28 @@ impl<C: Client> Slow<C> {
     }
 
     /// The windows whose size is another one, or that have other pixels, show their content.
-    fn renew_changed(&mut self, rt: &impl Abort, is: &Tree) -> Result<(), NoMemory> {
+    fn renew_changed(&mut self, rt: &impl Abort, is: &Tree) {
         let is_other_kind = self.tree.kind() != is.kind();
         for n in 0..is.leaves() {
             let leaf = LeafId(n);
             if is_other_kind || size_of(rt, &self.tree, leaf) != size_of(rt, is, leaf) {
-                self.renew(rt, leaf)?;
+                self.renew(rt, leaf);
             }
         }
-        Ok(())
     }
 
     /// All is painted from nothing. How many steps a stage has to make for that.
-    pub fn settled(&mut self, rt: &impl Abort) -> Result<usize, NoMemory> {
+    pub fn settled(&mut self, rt: &impl Abort) -> usize {
         let mut count = usize::from(self.is_any_frame_bad(rt));
         for n in 0..self.tree.leaves() {
             let leaf = LeafId(n);
             if self.is_unsettled(rt, leaf) {
                 count = count.saturating_add(1);
             }
-            self.renew(rt, leaf)?;
+            self.renew(rt, leaf);
         }
         self.bad.clear();
-        Ok(count)
+        count
     }
 
     fn is_unsettled(&self, rt: &impl Abort, leaf: LeafId) -> bool {
@@ -562,8 +539,8 @@ impl<C: Client> Slow<C> {
     }
 
     /// What others read who read a leaf's content.
-    pub fn read(&self, rt: &impl Abort, leaf: LeafId) -> Result<Line, NoMemory> {
-        self.window(rt, leaf).content.value(self.alloc)
+    pub fn read(&self, rt: &impl Abort, leaf: LeafId) -> Line {
+        made(rt, self.window(rt, leaf).content.value(self.alloc))
     }
 
     /// The paint commands that wait for a leaf.
@@ -572,28 +549,29 @@ impl<C: Client> Slow<C> {
     }
 
     /// All points of the screen.
-    pub fn screen(&self, rt: &impl Abort) -> Result<Vec<Pixel>, NoMemory> {
-        let shown = self.pictures(rt, Which::Shown)?;
-        let wanted = self.pictures(rt, Which::Present)?;
+    pub fn screen(&self, rt: &impl Abort) -> Vec<Pixel> {
+        let shown = self.pictures(rt, Which::Shown);
+        let wanted = self.pictures(rt, Which::Present);
         let mut pixels = Vec::new(self.alloc);
         for Owned { at, spot } in &self.owned {
-            pixels.push(Pixel {
+            let pixel = Pixel {
                 at: *at,
                 is_bad: self.is_bad(*at),
                 shown: colour(&shown, spot),
                 wanted: colour(&wanted, spot),
-            })?;
+            };
+            made(rt, pixels.push(pixel));
         }
-        Ok(pixels)
+        pixels
     }
 
     /// The pictures of all leaves.
-    fn pictures(&self, rt: &impl Abort, which: Which) -> Result<Vec<Vec<Seen>>, NoMemory> {
+    fn pictures(&self, rt: &impl Abort, which: Which) -> Vec<Vec<Seen>> {
         let mut pictures = Vec::new(self.alloc);
         for n in 0..self.tree.leaves() {
-            pictures.push(self.picture(rt, LeafId(n), which)?)?;
+            made(rt, pictures.push(self.picture(rt, LeafId(n), which)));
         }
-        Ok(pictures)
+        pictures
     }
 }
 

@@ -1,6 +1,8 @@
 //! What paint commands make of the points of a window, plainly: each is applied to all of them in turn.
+use super::ends::made;
 use std::alloc::Global;
-use tr_base::{Env, Font, Line, NoMemory, Op, Pair, Point, eff, is_set, tile_bit};
+use std::process::Abort;
+use tr_base::{Env, Font, Line, Op, Pair, Point, eff, is_set, tile_bit};
 use tr_paint::{Batch, Paint};
 
 /// A visible point of a window, in its coordinates, with its colour where that is known.
@@ -12,25 +14,27 @@ pub struct Seen {
 
 /// The points after the commands.
 pub fn after_all(
+    rt: &impl Abort,
     alloc: Global,
     env: &Env,
     before: &[Seen],
     batch: &Batch,
-) -> Result<Vec<Seen>, NoMemory> {
-    let mut seen = Vec::from_slice(alloc, before)?;
+) -> Vec<Seen> {
+    let mut seen = made(rt, Vec::from_slice(alloc, before));
     for paint in batch.paints() {
-        seen = after_one(alloc, env, &seen, paint)?;
+        seen = after_one(rt, alloc, env, &seen, paint);
     }
-    Ok(seen)
+    seen
 }
 
 /// The points after a command.
 fn after_one(
+    rt: &impl Abort,
     alloc: Global,
     env: &Env,
     before: &[Seen],
     paint: &Paint,
-) -> Result<Vec<Seen>, NoMemory> {
+) -> Vec<Seen> {
     let mut seen = Vec::new(alloc);
     for old in before {
         let pixel = if is_touched(paint, old.at) {
@@ -38,9 +42,9 @@ fn after_one(
         } else {
             old.pixel
         };
-        seen.push(Seen { at: old.at, pixel })?;
+        made(rt, seen.push(Seen { at: old.at, pixel }));
     }
-    Ok(seen)
+    seen
 }
 
 /// The colour of a point, if it is visible and known.

@@ -6,9 +6,7 @@ use super::played::Played;
 use super::runs::*;
 use super::slow::{Pixel, Slow, open};
 use std::process::Abort;
-use std::test::Fail;
-use tr_base::{LeafId, Line, NoMemory, Point, Selection, Size};
-use tr_forest::EditRefused;
+use tr_base::{LeafId, Line, Point, Selection, Size};
 use tr_journal::Answer;
 use tr_paint::Batch;
 use tr_widget::Widget;
@@ -16,23 +14,19 @@ use tr_widget::Widget;
 /// The slow model as the trials see it: what it says of a stage, and nothing of why.
 pub trait Recomputed: Sized + Drop {
     /// The model of an opening that is made of these parts.
-    fn open(
-        rt: &(impl Abort + AllocGlobal),
-        size: Size,
-        parts: &[Part],
-    ) -> Result<Self, EditRefused>;
+    fn open(rt: &(impl Abort + AllocGlobal), size: Size, parts: &[Part]) -> Self;
 
     /// Makes a step, which the stage answered in this way.
-    fn make(&mut self, rt: &impl Abort, act: &Act, answer: &Answer) -> Result<(), NoMemory>;
+    fn make(&mut self, rt: &impl Abort, act: &Act, answer: &Answer);
 
     /// All is painted from nothing. How many steps a stage has to make for that.
-    fn settle(&mut self, rt: &impl Abort) -> Result<usize, NoMemory>;
+    fn settle(&mut self, rt: &impl Abort) -> usize;
 
     /// The size of the screen.
     fn size(&self) -> Size;
 
     /// All points of the screen.
-    fn pixels(&self, rt: &impl Abort) -> Result<Vec<Pixel>, NoMemory>;
+    fn pixels(&self, rt: &impl Abort) -> Vec<Pixel>;
 
     /// How many leaves there are.
     fn leaves(&self) -> u8;
@@ -41,26 +35,22 @@ pub trait Recomputed: Sized + Drop {
     fn leaf_size(&self, rt: &impl Abort, leaf: LeafId) -> Size;
 
     /// What others read who read a leaf's content.
-    fn value(&self, rt: &impl Abort, leaf: LeafId) -> Result<Line, NoMemory>;
+    fn value(&self, rt: &impl Abort, leaf: LeafId) -> Line;
 
     /// The paint commands that wait for a leaf.
     fn batch(&self, rt: &impl Abort, leaf: LeafId) -> &Batch;
 }
 
 impl Recomputed for Slow<Widget> {
-    fn open(
-        rt: &(impl Abort + AllocGlobal),
-        size: Size,
-        parts: &[Part],
-    ) -> Result<Self, EditRefused> {
+    fn open(rt: &(impl Abort + AllocGlobal), size: Size, parts: &[Part]) -> Self {
         open(rt, size, parts)
     }
 
-    fn make(&mut self, rt: &impl Abort, act: &Act, answer: &Answer) -> Result<(), NoMemory> {
-        self.step(rt, &step_of(act), answer)
+    fn make(&mut self, rt: &impl Abort, act: &Act, answer: &Answer) {
+        self.step(rt, &step_of(act), answer);
     }
 
-    fn settle(&mut self, rt: &impl Abort) -> Result<usize, NoMemory> {
+    fn settle(&mut self, rt: &impl Abort) -> usize {
         self.settled(rt)
     }
 
@@ -68,7 +58,7 @@ impl Recomputed for Slow<Widget> {
         self.screen_size()
     }
 
-    fn pixels(&self, rt: &impl Abort) -> Result<Vec<Pixel>, NoMemory> {
+    fn pixels(&self, rt: &impl Abort) -> Vec<Pixel> {
         self.screen(rt)
     }
 
@@ -80,7 +70,7 @@ impl Recomputed for Slow<Widget> {
         self.window_size(rt, leaf)
     }
 
-    fn value(&self, rt: &impl Abort, leaf: LeafId) -> Result<Line, NoMemory> {
+    fn value(&self, rt: &impl Abort, leaf: LeafId) -> Line {
         self.read(rt, leaf)
     }
 
@@ -95,9 +85,9 @@ pub fn make_both<P: Played, M: Recomputed>(
     stage: &mut P,
     slow: &mut M,
     act: &Act,
-) -> Result<(), NoMemory> {
-    let reply = make(rt, stage, act)?;
-    slow.make(rt, act, &reply.answer)
+) {
+    let reply = make(rt, stage, act);
+    slow.make(rt, act, &reply.answer);
 }
 
 /// A leaf has the size, the content and the commands that the model has.
@@ -106,34 +96,29 @@ fn has_same_window<P: Played, M: Recomputed>(
     stage: &P,
     slow: &M,
     leaf: LeafId,
-) -> Result<(), NoMemory> {
+) {
     assert_eq!(rt;
         stage.leaf_size(rt, leaf),
         slow.leaf_size(rt, leaf),
         "{leaf:?}"
     );
-    let (found, wanted) = (stage.value(rt, leaf)?, slow.value(rt, leaf)?);
+    let (found, wanted) = (stage.value(rt, leaf), slow.value(rt, leaf));
     assert!(rt; found.same(&wanted), "{leaf:?}");
     assert!(rt;
         stage.has_commands(rt, leaf, slow.batch(rt, leaf)),
         "{leaf:?}"
     );
-    Ok(())
 }
 
 /// How many commands wait, where each leaf has what the model has.
-fn waiting<P: Played, M: Recomputed>(
-    rt: &(impl Abort + AllocGlobal),
-    stage: &P,
-    slow: &M,
-) -> Result<u64, NoMemory> {
+fn waiting<P: Played, M: Recomputed>(rt: &(impl Abort + AllocGlobal), stage: &P, slow: &M) -> u64 {
     let mut waiting: u64 = 0;
     for n in 0..slow.leaves() {
         let leaf = LeafId(n);
-        has_same_window(rt, stage, slow, leaf)?;
+        has_same_window(rt, stage, slow, leaf);
         waiting = waiting.saturating_add(stage.commands(rt, leaf) as u64);
     }
-    Ok(waiting)
+    waiting
 }
 
 /// Each point is bad where the model's is, and has the colour of the shown contents elsewhere.
@@ -166,13 +151,13 @@ fn is_as_recomputed<P: Played, M: Recomputed>(
     rt: &(impl Abort + AllocGlobal),
     stage: &P,
     slow: &M,
-) -> Result<(), NoMemory> {
+) {
     assert_eq!(rt; stage.size(), slow.size());
-    let waiting = waiting(rt, stage, slow)?;
-    let pixels = slow.pixels(rt)?;
+    let waiting = waiting(rt, stage, slow);
+    let pixels = slow.pixels(rt);
     has_pixels(rt, stage, &pixels);
     let (bad, stale) = lacks(&pixels);
-    peeks(rt, stage, (bad, waiting, stale))
+    peeks(rt, stage, (bad, waiting, stale));
 }
 
 /// It is settled by as many steps as it must, and then the screen is as if painted from nothing.
@@ -180,13 +165,13 @@ pub fn settles<P: Played, M: Recomputed>(
     rt: &(impl Abort + AllocGlobal),
     stage: &mut P,
     slow: &mut M,
-) -> Result<(), NoMemory> {
+) {
     let before = stage.entries();
-    settle(stage)?;
-    let count = slow.settle(rt)?;
+    settle(rt, stage);
+    let count = slow.settle(rt);
     assert_eq!(rt; stage.entries(), before.saturating_add(count));
-    is_as_recomputed(rt, stage, slow)?;
-    peeks(rt, stage, (0, 0, 0))
+    is_as_recomputed(rt, stage, slow);
+    peeks(rt, stage, (0, 0, 0));
 }
 
 /// What steps are drawn by.
@@ -204,47 +189,37 @@ fn trial<P: Played, M: Recomputed>(
     draw: &mut Draw,
     stage: &mut P,
     slow: &mut M,
-) -> Result<(), NoMemory> {
-    let act = draw.act(rt, &devices_of(stage))?;
-    make_both(rt, stage, slow, &act)?;
-    is_as_recomputed(rt, stage, slow)?;
+) {
+    let act = draw.act(rt, &devices_of(stage));
+    make_both(rt, stage, slow, &act);
+    is_as_recomputed(rt, stage, slow);
     if draw.is_settling() {
-        settles(rt, stage, slow)?;
+        settles(rt, stage, slow);
     }
-    Ok(())
 }
 
 /// So many steps of a random run, which begins and ends with all painted.
-fn run<P: Played, M: Recomputed>(
-    rt: &(impl Abort + AllocGlobal),
-    draw: &mut Draw,
-    steps: u32,
-) -> Result<(), EditRefused> {
+fn run<P: Played, M: Recomputed>(rt: &(impl Abort + AllocGlobal), draw: &mut Draw, steps: u32) {
     let size = draw.size();
-    let parts = draw.parts(rt)?;
-    let mut stage = P::start(rt, size, &parts)?;
-    let mut slow = M::open(rt, size, &parts)?;
-    settles(rt, &mut stage, &mut slow)?;
+    let parts = draw.parts(rt);
+    let mut stage = P::start(rt, size, &parts);
+    let mut slow = M::open(rt, size, &parts);
+    settles(rt, &mut stage, &mut slow);
     for _step in 0..steps {
-        trial(rt, draw, &mut stage, &mut slow)?;
+        trial(rt, draw, &mut stage, &mut slow);
     }
-    Ok(settles(rt, &mut stage, &mut slow)?)
+    settles(rt, &mut stage, &mut slow);
 }
 
 /// So many random runs.
-fn runs<P: Played, M: Recomputed>(
-    rt: &(impl Abort + AllocGlobal),
-    runs: u32,
-    steps: u32,
-) -> Result<(), EditRefused> {
+fn runs<P: Played, M: Recomputed>(rt: &(impl Abort + AllocGlobal), runs: u32, steps: u32) {
     let mut draw = Draw::small(7);
     for _run in 0..runs {
-        run::<P, M>(rt, &mut draw, steps)?;
+        run::<P, M>(rt, &mut draw, steps);
     }
-    Ok(())
 }
 
 #[test]
-fn random_runs_are_those_of_the_slow_model(rt: HostRuntime) -> Result<(), Fail> {
-    Ok(runs::<Tested, Slow<Widget>>(&rt, 60, 60)?)
+fn random_runs_are_those_of_the_slow_model(rt: HostRuntime) {
+    runs::<Tested, Slow<Widget>>(&rt, 60, 60);
 }

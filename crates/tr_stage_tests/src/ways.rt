@@ -6,9 +6,6 @@ use super::runs::*;
 use super::slow::Slow;
 use super::trials::{Recomputed, devices_of, make_both, settles};
 use std::process::Abort;
-use std::test::Fail;
-use tr_base::NoMemory;
-use tr_forest::EditRefused;
 use tr_journal::Actor;
 use tr_widget::Widget;
 
@@ -23,28 +20,19 @@ struct Beside<P: Played, M: Recomputed> {
 }
 
 /// All make a step. What a leaf paints by it is flushed in the second stage.
-fn make_all<P: Played, M: Recomputed>(
-    rt: &impl Abort,
-    all: &mut Beside<P, M>,
-    act: &Act,
-) -> Result<(), NoMemory> {
-    make_both(rt, &mut all.late, &mut all.model, act)?;
-    make(rt, &mut all.flushed, act)?;
+fn make_all<P: Played, M: Recomputed>(rt: &impl Abort, all: &mut Beside<P, M>, act: &Act) {
+    make_both(rt, &mut all.late, &mut all.model, act);
+    make(rt, &mut all.flushed, act);
     if let Actor::Leaf(leaf) = maker_of(act).actor {
-        make(rt, &mut all.flushed, &Act::Flush(leaf))?;
+        make(rt, &mut all.flushed, &Act::Flush(leaf));
     }
-    Ok(())
 }
 
 /// Once all is repainted, both stages show the same, and that is as if painted from nothing.
-fn repaints<P: Played, M: Recomputed>(
-    rt: &(impl Abort + AllocGlobal),
-    all: &mut Beside<P, M>,
-) -> Result<(), NoMemory> {
-    settles(rt, &mut all.late, &mut all.model)?;
-    settle(&mut all.flushed)?;
+fn repaints<P: Played, M: Recomputed>(rt: &(impl Abort + AllocGlobal), all: &mut Beside<P, M>) {
+    settles(rt, &mut all.late, &mut all.model);
+    settle(rt, &mut all.flushed);
     assert!(rt; have_same_rows(rt, &all.late, &all.flushed));
-    Ok(())
 }
 
 /// A step of any sort, a command for a leaf, and now and then all is repainted.
@@ -52,51 +40,41 @@ fn trial<P: Played, M: Recomputed>(
     rt: &(impl Abort + AllocGlobal),
     draw: &mut Draw,
     all: &mut Beside<P, M>,
-) -> Result<(), NoMemory> {
-    let any = draw.act(rt, &devices_of(&all.late))?;
-    make_all(rt, all, &any)?;
-    let told = draw.told(rt)?;
-    make_all(rt, all, &told)?;
+) {
+    let any = draw.act(rt, &devices_of(&all.late));
+    make_all(rt, all, &any);
+    let told = draw.told(rt);
+    make_all(rt, all, &told);
     if draw.below(3) == 0 {
-        repaints(rt, all)?;
+        repaints(rt, all);
     }
-    Ok(())
 }
 
 /// So many steps of a random run, which begins and ends with all painted.
-fn run<P: Played, M: Recomputed>(
-    rt: &(impl Abort + AllocGlobal),
-    draw: &mut Draw,
-    steps: u32,
-) -> Result<(), EditRefused> {
+fn run<P: Played, M: Recomputed>(rt: &(impl Abort + AllocGlobal), draw: &mut Draw, steps: u32) {
     let size = draw.size();
-    let parts = draw.parts(rt)?;
+    let parts = draw.parts(rt);
     let mut all: Beside<P, M> = Beside {
-        late: P::start(rt, size, &parts)?,
-        model: M::open(rt, size, &parts)?,
-        flushed: P::start(rt, size, &parts)?,
+        late: P::start(rt, size, &parts),
+        model: M::open(rt, size, &parts),
+        flushed: P::start(rt, size, &parts),
     };
-    repaints(rt, &mut all)?;
+    repaints(rt, &mut all);
     for _step in 0..steps {
-        trial(rt, draw, &mut all)?;
+        trial(rt, draw, &mut all);
     }
-    Ok(repaints(rt, &mut all)?)
+    repaints(rt, &mut all);
 }
 
 /// So many random runs.
-fn runs<P: Played, M: Recomputed>(
-    rt: &(impl Abort + AllocGlobal),
-    runs: u32,
-    steps: u32,
-) -> Result<(), EditRefused> {
+fn runs<P: Played, M: Recomputed>(rt: &(impl Abort + AllocGlobal), runs: u32, steps: u32) {
     let mut draw = Draw::large(26);
     for _run in 0..runs {
-        run::<P, M>(rt, &mut draw, steps)?;
+        run::<P, M>(rt, &mut draw, steps);
     }
-    Ok(())
 }
 
 #[test]
-fn a_repaint_of_either_way_shows_the_same(rt: HostRuntime) -> Result<(), Fail> {
-    Ok(runs::<Tested, Slow<Widget>>(&rt, 40, 60)?)
+fn a_repaint_of_either_way_shows_the_same(rt: HostRuntime) {
+    runs::<Tested, Slow<Widget>>(&rt, 40, 60);
 }

@@ -4,8 +4,10 @@ ghost use Rattle.tr_client.specs.Laws.{IsWindowSize};
 ghost use Rattle.w_plain.specs.Shifts.{IsShift};
 ghost use Rattle.w_canvas.specs.Areas.{IsFigureEdge};
 
-use std::alloc::Global;
-use tr_base::{Font, Kind, Line, NoMemory, Point, Rect, Size, Tile};
+use super::ends::made;
+use std::alloc::AllocGlobal;
+use std::process::Abort;
+use tr_base::{Font, Kind, Line, Point, Rect, Size, Tile};
 use tr_testing::Numbers;
 use tr_widget::WidgetCmd;
 use w_canvas::{Area, CanvasCmd};
@@ -47,20 +49,21 @@ impl Draw {
         }
     }
 
-    fn line(&mut self) -> Result<Line, NoMemory> {
-        match self.byte() % 4 {
+    fn line(&mut self, rt: &impl Abort) -> Line {
+        let line = match self.byte() % 4 {
             0 => Line::of(b""),
             1 => Line::of(b"a"),
             2 => Line::of(b"Zz~"),
             _ => Line::of(b" to be "),
-        }
+        };
+        made(rt, line)
     }
 
-    pub fn font(&mut self, alloc: Global) -> Result<Font, NoMemory> {
-        let mut font = Font::empty(alloc)?;
+    pub fn font(&mut self, rt: &(impl Abort + AllocGlobal)) -> Font {
+        let mut font = made(rt, Font::empty(rt.alloc()));
         font.set(b'a', self.tile().rows);
         font.set(b'~', self.tile().rows);
-        Ok(font)
+        font
     }
 
     pub fn kind(&mut self) -> Kind {
@@ -109,22 +112,23 @@ impl Draw {
     }
 
     /// Commands of all widgets.
-    pub fn commands(&mut self, alloc: Global) -> Result<Vec<WidgetCmd>, NoMemory> {
-        let mut commands = Vec::new(alloc);
+    pub fn commands(&mut self, rt: &(impl Abort + AllocGlobal)) -> Vec<WidgetCmd> {
+        let mut commands = Vec::new(rt.alloc());
         for _ in 0..100 {
-            self.add_command(&mut commands)?;
+            let cmd = self.command(rt);
+            made(rt, commands.push(cmd));
         }
-        Ok(commands)
+        commands
     }
 
-    /// Puts a command of any widget behind the others.
-    fn add_command(&mut self, commands: &mut Vec<WidgetCmd>) -> Result<(), NoMemory> {
-        commands.push(match self.byte() % 20 {
+    /// A command of any widget.
+    fn command(&mut self, rt: &impl Abort) -> WidgetCmd {
+        match self.byte() % 20 {
             0 => WidgetCmd::Solid(SolidCmd::Tint(self.byte())),
             1 => WidgetCmd::Board(BoardCmd::Tile(self.tile())),
             2 => WidgetCmd::Board(BoardCmd::Shift(Shift::by(self.point()))),
-            3 => WidgetCmd::Label(LabelCmd::Text(self.line()?)),
-            4..9 => WidgetCmd::Lines(LinesCmd::Line(self.line()?)),
+            3 => WidgetCmd::Label(LabelCmd::Text(self.line(rt))),
+            4..9 => WidgetCmd::Lines(LinesCmd::Line(self.line(rt))),
             9 => WidgetCmd::Lines(LinesCmd::Clear),
             10 | 11 => WidgetCmd::Canvas(CanvasCmd::Rect {
                 area: self.area(),
@@ -140,10 +144,9 @@ impl Draw {
                 bar: BarNumber::of(self.byte() % 5),
                 height: self.byte() % 32,
             }),
-            16 | 17 => WidgetCmd::Editor(EditorCmd::Insert(self.line()?)),
+            16 | 17 => WidgetCmd::Editor(EditorCmd::Insert(self.line(rt))),
             18 => WidgetCmd::Editor(EditorCmd::Split),
             _ => WidgetCmd::Editor(EditorCmd::Erase),
-        })?;
-        Ok(())
+        }
     }
 }

@@ -5,6 +5,8 @@
 #[cfg(test)]
 mod draws;
 #[cfg(test)]
+mod ends;
+#[cfg(test)]
 mod laws;
 #[cfg(test)]
 mod pictures;

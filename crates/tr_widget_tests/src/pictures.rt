@@ -1,7 +1,9 @@
 //! What a widget paints, held against its picture point by point.
 use super::draws::Draw;
-use std::alloc::Global;
-use tr_base::{Env, Font, Kind, Line, NoMemory, Op, Point, Rect, Size, eff, tile_bit};
+use super::ends::made;
+use std::alloc::AllocGlobal;
+use std::process::Abort;
+use tr_base::{Env, Font, Kind, Line, Op, Point, Rect, Size, eff, tile_bit};
 use tr_testing::{Grid, painted, patched, text_bit};
 use tr_widget::{Widget, WidgetCmd};
 use w_canvas::Figure;
@@ -84,8 +86,8 @@ struct Seen<'a> {
 
 impl Seen<'_> {
     /// The picture, of which some points are unknown.
-    fn partly_known(&self, alloc: Global, draw: &mut Draw) -> Result<Grid, NoMemory> {
-        let mut grid = Grid::unknown(alloc, self.size)?;
+    fn partly_known(&self, rt: &(impl Abort + AllocGlobal), draw: &mut Draw) -> Grid {
+        let mut grid = made(rt, Grid::unknown(rt.alloc(), self.size));
         for v in 0..i32::from(self.size.high) {
             for h in 0..i32::from(self.size.wide) {
                 let q = Point { h, v };
@@ -94,7 +96,7 @@ impl Seen<'_> {
                 }
             }
         }
-        Ok(grid)
+        grid
     }
 
     /// Whether each point of the patched grid is unknown or has its colour, and just the points of the clip
@@ -118,12 +120,12 @@ impl Seen<'_> {
 /// The widget after a command, if the command's patch, over a part of the old picture, and what is painted,
 /// over nothing, are the pictures that it has.
 pub fn shown_after(
-    alloc: Global,
+    rt: &(impl Abort + AllocGlobal),
     widget: &Widget,
     cmd: &WidgetCmd,
     draw: &mut Draw,
-) -> Result<Option<Widget>, NoMemory> {
-    let font = draw.font(alloc)?;
+) -> Option<Widget> {
+    let font = draw.font(rt);
     let env = Env {
         kind: draw.kind(),
         font: &font,
@@ -134,18 +136,18 @@ pub fn shown_after(
         env: &env,
         size,
     };
-    let base = was.partly_known(alloc, draw)?;
-    let (next, patched) = patched(alloc, &env, size, widget, cmd, base)?;
+    let base = was.partly_known(rt, draw);
+    let (next, patched) = made(rt, patched(rt.alloc(), &env, size, widget, cmd, base));
     let clip = draw.clip();
-    let painted = painted(alloc, &env, size, clip, &next)?;
+    let painted = made(rt, painted(rt.alloc(), &env, size, clip, &next));
     let is = Seen {
         widget: &next,
         env: &env,
         size,
     };
     if is.is_shown(&patched, &painted, &clip) {
-        Ok(Some(next))
+        Some(next)
     } else {
-        Ok(None)
+        None
     }
 }

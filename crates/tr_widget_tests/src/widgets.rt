@@ -1,9 +1,11 @@
 //! Each widget, and commands of each.
 use super::draws::Draw;
+use super::ends::made;
 use super::pictures::shown_after;
-use std::alloc::Global;
+use std::alloc::AllocGlobal;
+use std::process::Abort;
 use std::test::Fail;
-use tr_base::{Command, Env, Font, Kind, Line, NoMemory, Op, Point, Rect, Size, Tile};
+use tr_base::{Command, Env, Font, Kind, Line, Op, Point, Rect, Size, Tile};
 use tr_client::{Client, Prepared};
 use tr_paint::Paint;
 use tr_widget::{Widget, WidgetCmd};
@@ -20,92 +22,129 @@ pub const TILE: Tile = Tile {
 };
 
 /// A content of each widget.
-pub fn contents(alloc: Global) -> Result<Vec<Widget>, NoMemory> {
+pub fn contents(rt: &(impl Abort + AllocGlobal)) -> Vec<Widget> {
+    let alloc = rt.alloc();
     let mut contents = Vec::new(alloc);
-    contents.push(Widget::Solid(Solid::new(5)))?;
-    contents.push(Widget::Board(Board::new(TILE, Point { h: 1, v: 0 })))?;
-    contents.push(Widget::Label(Label::new(Line::of(b"hi")?)?))?;
-    contents.push(Widget::Lines(Lines::new(alloc)?))?;
-    contents.push(Widget::Canvas(Canvas::new(alloc)?))?;
-    contents.push(Widget::Meter(Meter::new(alloc, 2)?))?;
-    contents.push(Widget::Editor(Editor::new(alloc)?))?;
-    Ok(contents)
+    made(rt, contents.push(Widget::Solid(Solid::new(5))));
+    made(
+        rt,
+        contents.push(Widget::Board(Board::new(TILE, Point { h: 1, v: 0 }))),
+    );
+    made(
+        rt,
+        contents.push(Widget::Label(made(rt, Label::new(made(rt, Line::of(b"hi")))))),
+    );
+    made(
+        rt,
+        contents.push(Widget::Lines(made(rt, Lines::new(alloc)))),
+    );
+    made(
+        rt,
+        contents.push(Widget::Canvas(made(rt, Canvas::new(alloc)))),
+    );
+    made(
+        rt,
+        contents.push(Widget::Meter(made(rt, Meter::new(alloc, 2)))),
+    );
+    made(
+        rt,
+        contents.push(Widget::Editor(made(rt, Editor::new(alloc)))),
+    );
+    contents
 }
 
 /// A command for each of them that changes it, in the same order.
-pub fn commands(alloc: Global) -> Result<Vec<WidgetCmd>, NoMemory> {
-    let mut commands = Vec::new(alloc);
-    commands.push(WidgetCmd::Solid(SolidCmd::Tint(7)))?;
-    commands.push(WidgetCmd::Board(BoardCmd::Tile(Tile { rows: [0; 8] })))?;
-    commands.push(WidgetCmd::Label(LabelCmd::Text(Line::of(b"a")?)))?;
-    commands.push(WidgetCmd::Lines(LinesCmd::Line(Line::of(b"a")?)))?;
-    commands.push(WidgetCmd::Canvas(CanvasCmd::Rect {
-        area: Area::edges(0, 9, 0, 9),
-        tint: 3,
-    }))?;
-    commands.push(WidgetCmd::Meter(MeterCmd::Bar {
-        bar: BarNumber::of(1),
-        height: 3,
-    }))?;
-    commands.push(WidgetCmd::Editor(EditorCmd::Insert(Line::of(b"a")?)))?;
-    Ok(commands)
+pub fn commands(rt: &(impl Abort + AllocGlobal)) -> Vec<WidgetCmd> {
+    let mut commands = Vec::new(rt.alloc());
+    made(rt, commands.push(WidgetCmd::Solid(SolidCmd::Tint(7))));
+    made(
+        rt,
+        commands.push(WidgetCmd::Board(BoardCmd::Tile(Tile { rows: [0; 8] }))),
+    );
+    made(
+        rt,
+        commands.push(WidgetCmd::Label(LabelCmd::Text(made(rt, Line::of(b"a"))))),
+    );
+    made(
+        rt,
+        commands.push(WidgetCmd::Lines(LinesCmd::Line(made(rt, Line::of(b"a"))))),
+    );
+    made(
+        rt,
+        commands.push(WidgetCmd::Canvas(CanvasCmd::Rect {
+            area: Area::edges(0, 9, 0, 9),
+            tint: 3,
+        })),
+    );
+    made(
+        rt,
+        commands.push(WidgetCmd::Meter(MeterCmd::Bar {
+            bar: BarNumber::of(1),
+            height: 3,
+        })),
+    );
+    made(
+        rt,
+        commands.push(WidgetCmd::Editor(EditorCmd::Insert(made(rt, Line::of(b"a"))))),
+    );
+    commands
 }
 
 /// Whether a content is changed by the command of its place alone, and is the same as the content there
 /// alone.
 fn hears_its_own<C: Client>(
-    alloc: Global,
+    rt: &(impl Abort + AllocGlobal),
     place: usize,
     content: &C,
     contents: &[C],
     commands: &[C::Cmd],
-) -> Result<bool, NoMemory> {
-    let font = Font::empty(alloc)?;
+) -> bool {
+    let font = made(rt, Font::empty(rt.alloc()));
     let env = Env {
         kind: Kind::Mono,
         font: &font,
     };
     for (i, cmd) in commands.iter().enumerate() {
-        let (next, patch) = content.change(alloc, &env, SQUARE, cmd)?;
+        let (next, patch) = made(rt, content.change(rt.alloc(), &env, SQUARE, cmd));
         if next.same(content) == (i == place) || patch.is_empty() == (i == place) {
-            return Ok(false);
+            return false;
         }
     }
     for (i, other) in contents.iter().enumerate() {
-        if content.copy(alloc)?.same(other) != (i == place) {
-            return Ok(false);
+        if made(rt, content.copy(rt.alloc())).same(other) != (i == place) {
+            return false;
         }
     }
-    Ok(true)
+    true
 }
 
 /// Whether a command is the same as that of its place alone.
 fn is_alone<M: Command>(
-    alloc: Global,
+    rt: &(impl Abort + AllocGlobal),
     place: usize,
     cmd: &M,
     commands: &[M],
-) -> Result<bool, NoMemory> {
+) -> bool {
     for (i, other) in commands.iter().enumerate() {
-        if cmd.copy(alloc)?.same(other) != (i == place) {
-            return Ok(false);
+        if made(rt, cmd.copy(rt.alloc())).same(other) != (i == place) {
+            return false;
         }
     }
-    Ok(true)
+    true
 }
 
 #[test]
 fn a_command_of_another_widget_does_nothing(rt: HostRuntime) -> Result<(), Fail> {
-    let contents = contents(rt.alloc())?;
-    let commands = commands(rt.alloc())?;
+    let contents = contents(&rt);
+    let commands = commands(&rt);
     for (i, content) in contents.iter().enumerate() {
         assert!(rt;
-            hears_its_own(rt.alloc(), i, content, &contents, &commands)?,
+            hears_its_own(&rt, i, content, &contents, &commands),
             "content {i}"
         );
     }
     for (i, cmd) in commands.iter().enumerate() {
-        assert!(rt; is_alone(rt.alloc(), i, cmd, &commands)?, "command {i}");
+        assert!(rt; is_alone(&rt, i, cmd, &commands), "command {i}");
     }
     Ok(())
 }
@@ -113,22 +152,25 @@ fn a_command_of_another_widget_does_nothing(rt: HostRuntime) -> Result<(), Fail>
 /// Whether a command that is prepared for a square of two by two, and fitted anew to a row of three, has this
 /// one tint as its patch.
 fn is_fitted_anew<C: Client>(
-    alloc: Global,
+    rt: &(impl Abort + AllocGlobal),
     content: &C,
     cmd: &C::Cmd,
     want: (Rect, Op),
-) -> Result<bool, NoMemory> {
-    let font = Font::empty(alloc)?;
+) -> bool {
+    let alloc = rt.alloc();
+    let font = made(rt, Font::empty(alloc));
+    let first = made(rt, content.copy(alloc));
     let size = Size { wide: 2, high: 2 };
-    let mut prepared = Prepared::fresh(alloc, content.copy(alloc)?, &font, size, Kind::Map8)?;
-    prepared.add(cmd.copy(alloc)?)?;
+    let mut prepared = made(rt, Prepared::fresh(alloc, first, &font, size, Kind::Map8));
+    made(rt, prepared.add(made(rt, cmd.copy(alloc))));
+    let again = made(rt, content.copy(alloc));
     let row = Size { wide: 3, high: 1 };
-    prepared.refit(content.copy(alloc)?, &font, row, Kind::Map8)?;
+    made(rt, prepared.refit(again, &font, row, Kind::Map8));
     let is_tint = match prepared.batch.paints() {
         [Paint::Tint { clip, op }] => (*clip, *op) == want,
         _ => false,
     };
-    Ok(is_tint && !prepared.to.same(&prepared.from))
+    is_tint && !prepared.to.same(&prepared.from)
 }
 
 #[test]
@@ -136,30 +178,27 @@ fn a_prepared_command_is_fitted_anew(rt: HostRuntime) -> Result<(), Fail> {
     let solid = Widget::Solid(Solid::new(5));
     let cmd = WidgetCmd::Solid(SolidCmd::Tint(7));
     let want = (Rect::edges(0, 3, 0, 1), Op::Set(7));
-    assert!(rt; is_fitted_anew(rt.alloc(), &solid, &cmd, want)?);
+    assert!(rt; is_fitted_anew(&rt, &solid, &cmd, want));
     Ok(())
 }
 
 /// Whether a content has its picture after each of a hundred commands.
-fn has_its_pictures(alloc: Global, first: Widget, draw: &mut Draw) -> Result<bool, NoMemory> {
+fn has_its_pictures(rt: &(impl Abort + AllocGlobal), first: Widget, draw: &mut Draw) -> bool {
     let mut content = first;
-    for cmd in &draw.commands(alloc)? {
-        match shown_after(alloc, &content, cmd, draw)? {
+    for cmd in &draw.commands(rt) {
+        match shown_after(rt, &content, cmd, draw) {
             Some(next) => content = next,
-            None => return Ok(false),
+            None => return false,
         }
     }
-    Ok(true)
+    true
 }
 
 #[test]
 fn each_widget_holds_to_its_picture(rt: HostRuntime) -> Result<(), Fail> {
     let mut draw = Draw::new(1);
-    for (i, content) in contents(rt.alloc())?.into_iter().enumerate() {
-        assert!(rt;
-            has_its_pictures(rt.alloc(), content, &mut draw)?,
-            "content {i}"
-        );
+    for (i, content) in contents(&rt).into_iter().enumerate() {
+        assert!(rt; has_its_pictures(&rt, content, &mut draw), "content {i}");
     }
     Ok(())
 }

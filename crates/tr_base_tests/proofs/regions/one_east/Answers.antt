@@ -33,4 +33,4 @@ in_reach : (e : Edges) → IsInSquare e → AreInReach (shifted e (record { h = 
 in_reach e i = moved (int_lt (e.west +ℤ pos 1) (e.east +ℤ pos 1)) (int_lt (e.north +ℤ pos 0) (e.south +ℤ pos 0)) e i refl refl
 
 pub shift-requires : goal.shift-requires
-shift-requires c = AllByRecursion-weaker IsInSquare (λ e. AreInReach (shifted e (record { h = pos 1; v = pos 0 }))) in_reach c.args.region.now c.requires
+shift-requires g c = AllByRecursion-weaker IsInSquare (λ e. AreInReach (shifted e (record { h = pos 1; v = pos 0 }))) in_reach c.args.region.now c.requires

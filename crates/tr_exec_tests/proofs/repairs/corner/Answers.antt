@@ -12,6 +12,8 @@ screen_around : (p : Point) → between (pos 0) (pos 4) p.h && between (pos 0) (
 screen_around p h = record { west = grind (arith, ints); east = grind (arith, ints); north = grind (arith, ints); south = grind (arith, ints) }
 
 pub returns : goal.returns
-returns c = λ p held.
-    let both = and_parts (holds c.in_ok-all.all p) (not (holds c.in_ok-rest.rest p)) (sym (c.in_ok-corner.ensures.points p) ∙ held) in
-    screen_around p (sym (c.edges.ensures.points p) ∙ (sym (c.in_ok-all.ensures.points p) ∙ both.0))
+returns g c = λ p held.
+    let all = rw c.made-all.ensures at c.of_rect.ensures.points in
+    let corner = rw c.made.ensures at c.minus.ensures.points in
+    let both = and_parts (holds c.made-all.result p) (not (holds c.made-rest.result p)) (sym (corner p) ∙ held) in
+    screen_around p (sym (c.edges.ensures.points p) ∙ (sym (all p) ∙ both.0))

@@ -6,6 +6,7 @@ use Rattle.tr_exec_tests.proofs.repairs.leaves_a_hole.Goals as goal
 
 -- a part of the points that can be moved
 pub move_pixels-requires : goal.move_pixels-requires
-move_pixels-requires c = λ p t.
-    let both = and_parts (holds c.in_ok-movable.field-0 p) (not (holds c.in_ok-hole.hole p)) (sym (c.in_ok-within.ensures.points p) ∙ t) in
-    rw (← c.size.ensures.value) (c.in_ok-movable.ensures p both.0)
+move_pixels-requires g c = λ p t.
+    let within = rw c.made-within.ensures at c.minus.ensures.points in
+    let both = and_parts (holds c.movable-all.result p) (not (holds c.made-hole.result p)) (sym (within p) ∙ t) in
+    rw (← c.size.ensures.value) (c.movable-all.ensures p both.0)

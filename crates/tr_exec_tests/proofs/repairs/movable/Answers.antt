@@ -38,7 +38,7 @@ whole_moves size d wide high west east north south = moved (int_lt (pos 0) (pos 
         (near d.v 0 (omega arith) north south) (near d.v 0 (omega arith) north south)
 
 pub shift-requires : goal.shift-requires
-shift-requires c =
+shift-requires g c =
     rw c.whole-all.ensures.edges
     (whole_moves c.args.size c.args.delta c.requires.wide c.requires.high
     c.requires.west c.requires.east c.requires.north c.requires.south)

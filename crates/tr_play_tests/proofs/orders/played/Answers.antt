@@ -10,6 +10,7 @@ pub play-requires-clause-playable : goal.play-requires-clause-playable
 play-requires-clause-playable g c κs within =
     let P : Script → Type 0 = λ s. All (IsPlayablePart (tree_of s.opening).nodes) s.parts in
     let parts = subst P (sym c.script.view_is) c.in-Ok.ensures.playable.parts in
+    let opening = rw c.made-run.ensures at c.start.ensures.opening in
     let opened = subst (λ (o : List (Item Widget)). All (IsPlayablePart (tree_of o).nodes) c.script.inside.parts.items)
-    (sym c.in_ok-run.ensures.opening) parts in
-    subst (λ ps. All (IsPlayablePart (tree_of c.in_ok-run.run'.stage.opening).nodes) ps) (sym c.deref.ensures.value) opened
+    (sym opening) parts in
+    subst (λ ps. All (IsPlayablePart (tree_of c.made-run.result.stage.opening).nodes) ps) (sym c.deref.ensures.value) opened
