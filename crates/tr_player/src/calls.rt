@@ -27,7 +27,6 @@ use crate::streams::write_all;
 use std::alloc::Global;
 use std::sync::Wait;
 use std::thread::Threads;
-use tr_client::Client;
 use tr_io::{Sink, Source};
 use tr_play::{Gate, Workers};
 use tr_server::Differs;
@@ -56,7 +55,8 @@ impl Outcome {
             stage,
             differs,
         } = self;
-        let_go(stage, differs);
+        // Said, here and below, since the prover takes apart what vanishes unsaid.
+        drop((stage, differs));
         status
     }
 
@@ -70,7 +70,7 @@ impl Outcome {
             stage,
             differs,
         } = self;
-        let_go::<Widget>(None, differs);
+        drop(differs);
         (status, stage)
     }
 }
@@ -393,40 +393,10 @@ fn undone(response: Response, status: Status) -> Outcome
     ensures stage { result.stage ≡ None }
     ensures differs { result.differs ≡ None }
 {
-    let (stage, differs) = response.into_parts();
-    let_go(stage, differs);
+    drop(response);
     Outcome {
         status: status.code(),
         stage: None,
         differs: None,
     }
 }
-
-/// Lets a stage and a difference go, if they are there. Each is dropped in a function of its own, which holds
-/// of any clients, so that no other proof has to know how.
-fn let_go<C: Client>(stage: Option<Stage<C>>, differs: Option<Differs<C>>) {
-    let_stage_go(stage);
-    let_difference_go(differs);
-}
-
-/// Lets a stage go, if it is there.
-fn let_stage_go<C: Client>(stage: Option<Stage<C>>) {
-    match stage {
-        Some(stage) => drop_stage(stage),
-        None => {}
-    }
-}
-
-/// Lets a difference go, if it is there.
-fn let_difference_go<C: Client>(differs: Option<Differs<C>>) {
-    match differs {
-        Some(differs) => drop_difference(differs),
-        None => {}
-    }
-}
-
-/// Drops a stage.
-fn drop_stage<C: Client>(_stage: Stage<C>) {}
-
-/// Drops a difference.
-fn drop_difference<C: Client>(_differs: Differs<C>) {}

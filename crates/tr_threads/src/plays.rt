@@ -8,7 +8,6 @@ use std::alloc::Global;
 use std::sync::Wait;
 use std::thread::Threads;
 use tr_base::NoMemory;
-use tr_client::Client;
 use tr_dump::differs_line;
 use tr_parts::stands;
 use tr_play::{Gate, Workers, play};
@@ -43,7 +42,8 @@ pub fn threads<R: Threads + Wait + Sync, G: Gate + Sync>(
 {
     match play_side_by_side(workers, &script) {
         Ok(end) => {
-            let_go(script);
+            // Said, here and below, since the prover takes apart what vanishes unsaid.
+            drop(script);
             Ok(by_threads(end))
         }
         Err(refused) => play_unless_refused(workers.alloc, script, refused),
@@ -77,7 +77,7 @@ fn play_unless_refused(
     match refused {
         CloseRefused::Differs(differs) => play_again(alloc, script, differs),
         CloseRefused::NoMemory => {
-            let_go(script);
+            drop(script);
             Err(NoMemory)
         }
     }
@@ -111,8 +111,7 @@ fn play_again(alloc: Global, script: Script, differs: Differs<Widget>) -> Result
     match last_lines(alloc, &script, &differs) {
         Ok(last) => ended(play_with(alloc, script, &last), differs),
         Err(refused) => {
-            let_go(script);
-            let_go_of(differs);
+            drop((script, differs));
             Err(refused)
         }
     }
@@ -130,17 +129,11 @@ fn ended(played: Result<Played, NoMemory>, differs: Differs<Widget>) -> Result<T
             differs: Some(differs),
         }),
         Err(refused) => {
-            let_go_of(differs);
+            drop(differs);
             Err(refused)
         }
     }
 }
-
-/// Drops a script. It has a function of its own, so that no other proof has to know how it is dropped.
-fn let_go(_script: Script) {}
-
-/// Drops a difference, likewise.
-fn let_go_of<C: Client>(_differs: Differs<C>) {}
 
 /// Plays a script on one thread, and writes its reports and then these last lines.
 fn play_with(alloc: Global, script: Script, last: &[u8]) -> Result<Played, NoMemory>
@@ -150,7 +143,10 @@ fn play_with(alloc: Global, script: Script, last: &[u8]) -> Result<Played, NoMem
     ensures opening { IfOk result (λ played. played.stage.opening ≡ script.opening) }
 {
     let mut played = serial(alloc, script)?;
-    played.text.extend_from_slice(last)?;
+    let Ok(()) = played.text.extend_from_slice(last) else {
+        drop(played);
+        return Err(NoMemory);
+    };
     Ok(played)
 }
 
