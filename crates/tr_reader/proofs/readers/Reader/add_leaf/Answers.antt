@@ -10,7 +10,8 @@ add_leaf-added-requires-clause-new_leaf c =
 
 pub invariant_of-self-2 : goal.invariant_of-self-2
 invariant_of-self-2 c =
-    rw c.replace.ensures.after (kept_item c.self.inside c.args.self.now c.in-Some.declared c.add_leaf-added.new.self c.args.name.now (items.Leaf c.args.shapes c.args.content)
+    rw c.replace.ensures.after
+    (kept_item c.self.inside c.args.self.now c.in-Some.declared c.add_leaf-added.new.self c.args.name.now (items.Leaf c.args.shapes c.args.content)
     c.self.view_is c.self.invariant
     (record {
       before = sym c.take.ensures.value ∙ c.in-Some.is;
