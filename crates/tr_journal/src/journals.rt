@@ -165,10 +165,19 @@ impl<M: Command> Journal<M> {
         ensures { IfOk result (λ copied. copied.lines ≡ self.now.lines) }
     {
         let alloc = *self.sent.allocator();
+        let entries = copies_of(alloc, &self.entries)?;
+        let Ok(ends) = Vec::from_slice(alloc, &self.ends) else {
+            drop(entries);
+            return Err(NoMemory);
+        };
+        let Ok(sent) = Vec::from_slice(alloc, &self.sent) else {
+            drop((entries, ends));
+            return Err(NoMemory);
+        };
         Ok(Journal {
-            entries: copies_of(alloc, &self.entries)?,
-            ends: Vec::from_slice(alloc, &self.ends)?,
-            sent: Vec::from_slice(alloc, &self.sent)?,
+            entries,
+            ends,
+            sent,
         })
     }
 }

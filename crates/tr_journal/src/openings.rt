@@ -176,11 +176,24 @@ impl<C: Client> Opening<C> {
     pub fn copy(&self) -> Result<Opening<C>, NoMemory>
         ensures { IfOk result (λ o. o ≡ self.now) }
     {
+        let items = copies_of(&self.items)?;
+        let Ok(tree) = self.tree.copy() else {
+            drop(items);
+            return Err(NoMemory);
+        };
+        let Ok(font) = self.font.copy() else {
+            drop((items, tree));
+            return Err(NoMemory);
+        };
+        let Ok(leaves) = Vec::from_slice(*self.leaves.allocator(), &self.leaves) else {
+            drop((items, tree, font));
+            return Err(NoMemory);
+        };
         Ok(Opening {
-            items: copies_of(&self.items)?,
-            tree: self.tree.copy()?,
-            font: self.font.copy()?,
-            leaves: Vec::from_slice(*self.leaves.allocator(), &self.leaves)?,
+            items,
+            tree,
+            font,
+            leaves,
         })
     }
 

@@ -84,10 +84,19 @@ impl Layout {
     pub(crate) fn copy(&self) -> Result<Layout, NoMemory>
         ensures { IfOk result (λ l. HaveSamePlaces self.now l) }
     {
+        let shapes = Vec::from_slice(*self.shapes.allocator(), &self.shapes)?;
+        let Ok(domains) = Vec::from_slice(*self.domains.allocator(), &self.domains) else {
+            drop(shapes);
+            return Err(NoMemory);
+        };
+        let Ok(room) = self.room.copy() else {
+            drop((shapes, domains));
+            return Err(NoMemory);
+        };
         Ok(Layout {
-            shapes: Vec::from_slice(*self.shapes.allocator(), &self.shapes)?,
-            domains: Vec::from_slice(*self.domains.allocator(), &self.domains)?,
-            room: self.room.copy()?,
+            shapes,
+            domains,
+            room,
         })
     }
 }

@@ -15,9 +15,11 @@ impl Room {
         ensures shapes { IfOk result (λ r. r.shapes.items ≡ self.now.shapes.items) }
         ensures places { IfOk result (λ r. r.places.items ≡ self.now.places.items) }
     {
-        Ok(Room {
-            shapes: Vec::from_slice(*self.shapes.allocator(), &self.shapes)?,
-            places: Vec::from_slice(*self.places.allocator(), &self.places)?,
-        })
+        let shapes = Vec::from_slice(*self.shapes.allocator(), &self.shapes)?;
+        let Ok(places) = Vec::from_slice(*self.places.allocator(), &self.places) else {
+            drop(shapes);
+            return Err(NoMemory);
+        };
+        Ok(Room { shapes, places })
     }
 }

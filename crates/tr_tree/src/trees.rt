@@ -235,11 +235,16 @@ impl Tree {
     pub fn copy(&self) -> Result<Tree, NoMemory>
         ensures { IfOk result (λ t. t ≡ self.now) }
     {
+        let forest = self.forest.copy()?;
+        let Ok(layout) = self.layout.copy() else {
+            drop(forest);
+            return Err(NoMemory);
+        };
         Ok(Tree {
-            forest: self.forest.copy()?,
+            forest,
             size: self.size,
             kind: self.kind,
-            layout: self.layout.copy()?,
+            layout,
         })
     }
 
