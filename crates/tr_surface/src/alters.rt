@@ -47,26 +47,54 @@ impl Surface {
     {
         // Called for what it tells the prover: that the nodes are a forest.
         let _ = self.tree.count();
-        if let Some(fault) = self.tree.refusal(edit) {
-            return Err(EditRefused::Fault(fault));
-        }
-        let mut is = self.tree.copy()?;
-        is.edit(edit)?;
+        let is = self.edited(edit)?;
         if let Edit::Tint { node, .. } = edit {
             // No node moves: the regions stay.
-            let bad = self.bad_tinted(&is, *node)?;
+            let Ok(bad) = self.bad_tinted(&is, *node) else {
+                drop(is);
+                return Err(EditRefused::NoMemory);
+            };
             self.bad = bad;
             return Ok(mem::replace(&mut self.tree, is));
         }
         let moved = moved_child(&self.tree, edit);
-        let after = self.regions_after(&is, edit)?;
-        let known = self.known(&is, &after, moved, keeper)?;
+        let Ok(after) = self.regions_after(&is, edit) else {
+            drop(is);
+            return Err(EditRefused::NoMemory);
+        };
+        let Ok(known) = self.known(&is, &after, moved, keeper) else {
+            drop((is, after));
+            return Err(EditRefused::NoMemory);
+        };
         let way = way_of_moved(&self.tree, &is, moved);
-        fit_screen(&mut self.screen, &is)?;
+        let Ok(()) = fit_screen(&mut self.screen, &is) else {
+            drop((is, after, known));
+            return Err(EditRefused::NoMemory);
+        };
         move_pixels(&mut self.screen, &known.follows, way);
         self.regions = after;
         self.bad = known.bad;
         Ok(mem::replace(&mut self.tree, is))
+    }
+
+    /// The tree as the edit makes it.
+    fn edited(&self, edit: &Edit) -> Result<Tree, EditRefused>
+        requires { IsEdit self.now.tree.nodes edit.now }
+        ensures tree { IfOk result (λ is. is ≡ edited_tree self.now.tree edit.now) }
+        ensures allowed { OnOk result (refusal self.now.tree.nodes edit.now ≡ None) }
+        ensures cause { IfErr result (λ e. IsCause (refusal self.now.tree.nodes edit.now) e) }
+    {
+        if let Some(fault) = self.tree.refusal(edit) {
+            return Err(EditRefused::Fault(fault));
+        }
+        let mut is = self.tree.copy()?;
+        match is.edit(edit) {
+            Ok(()) => Ok(is),
+            Err(e) => {
+                drop(is);
+                Err(e)
+            }
+        }
     }
 
     /// The regions of the nodes once the tree is what the edit makes of it. On a screen of the same size

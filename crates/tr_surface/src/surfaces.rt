@@ -46,9 +46,18 @@ impl Surface {
     {
         // Called for what it tells the prover: that the nodes are a forest, and the screen has a size.
         let _ = tree.count();
-        let regions = regions(alloc, &tree)?;
-        let screen = Screen::blank(alloc, tree.size(), tree.kind())?;
-        let bad = Region::of_rect(alloc, whole(tree.size()))?;
+        let Ok(regions) = regions(alloc, &tree) else {
+            drop(tree);
+            return Err(NoMemory);
+        };
+        let Ok(screen) = Screen::blank(alloc, tree.size(), tree.kind()) else {
+            drop((tree, regions));
+            return Err(NoMemory);
+        };
+        let Ok(bad) = Region::of_rect(alloc, whole(tree.size())) else {
+            drop((tree, regions, screen));
+            return Err(NoMemory);
+        };
         Ok(Surface {
             alloc,
             tree,
