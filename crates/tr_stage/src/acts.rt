@@ -29,14 +29,20 @@ impl<C: Client> Stage<C> {
             (Step.Act leaf cmd) result }
         ensures screen { self.new.screen ≡ self.old.screen }
     {
-        self.journal.reserve(1)?;
+        let Ok(()) = self.journal.reserve(1) else {
+            drop(cmd);
+            return Err(NoMemory);
+        };
         let tree = self.surface.tree();
         let env = Env {
             kind: tree.kind(),
             font: self.opening.font(),
         };
         let size = leaf_size(tree, leaf);
-        self.windows.act(leaf, &env, size, &cmd)?;
+        let Ok(()) = self.windows.act(leaf, &env, size, &cmd) else {
+            drop(cmd);
+            return Err(NoMemory);
+        };
         let entry = by.entry(Step::Act { leaf, cmd }, Answer::Done, 0);
         Ok(write(&mut self.journal, entry, &[]))
     }

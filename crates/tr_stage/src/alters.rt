@@ -36,6 +36,7 @@ impl<C: Client> Stage<C> {
                 is.domains_are_small();
                 self.windows.refit(&was, is);
                 let sent = self.mail.edited(&was, is);
+                drop(was);
                 let entry = by.entry(Step::Alter { edit }, Answer::Done, sent.len());
                 Ok(write(&mut self.journal, entry, sent.as_slice()))
             }

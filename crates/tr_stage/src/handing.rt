@@ -43,9 +43,18 @@ impl<C: Client> Stage<C> {
         let _ = self.surface.tree();
         let entries = entries_of(self.alloc, leaf, &prepared.commands, levels)?;
         // Room is taken first, so that nothing can fail once the window has changed.
-        self.journal.reserve_silent(entries.len())?;
-        let content = prepared.to.copy(self.alloc)?;
-        self.windows.take_over(leaf, content, &prepared.batch)?;
+        let Ok(()) = self.journal.reserve_silent(entries.len()) else {
+            drop(entries);
+            return Err(NoMemory);
+        };
+        let Ok(content) = prepared.to.copy(self.alloc) else {
+            drop(entries);
+            return Err(NoMemory);
+        };
+        let Ok(()) = self.windows.take_over(leaf, content, &prepared.batch) else {
+            drop(entries);
+            return Err(NoMemory);
+        };
         self.journal.extend(entries).unwrap();
         Ok(())
     }

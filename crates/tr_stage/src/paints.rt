@@ -42,7 +42,9 @@ impl<C: Client> Stage<C> {
         let font = self.opening.font();
         let painting = flushing(&self.surface, &self.windows, font, leaf)?;
         let batch = either(&painting, self.windows.batch(leaf));
-        self.surface.execute(font, leaf, batch)?;
+        let executed = self.surface.execute(font, leaf, batch);
+        drop(painting);
+        executed?;
         let _ = self.surface.tree();
         self.windows.clear(leaf);
         let entry = by.entry(Step::Flush { leaf }, Answer::Done, 0);

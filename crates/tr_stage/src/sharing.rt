@@ -141,7 +141,7 @@ impl<C: Client> Stage<C> {
         let content = self.windows.content(leaf);
         let painting = content.paint(self.alloc, &env, size, whole(size))?;
         let mut unknown = Region::empty(self.alloc);
-        execute(
+        let executed = execute(
             self.alloc,
             &painting,
             &env,
@@ -149,7 +149,9 @@ impl<C: Client> Stage<C> {
             part,
             wanted,
             &mut unknown,
-        )?;
+        );
+        drop((painting, unknown));
+        executed?;
         Ok(())
     }
 

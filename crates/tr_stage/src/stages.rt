@@ -70,11 +70,15 @@ impl<C: Client> Stage<C> {
             return Err(opening);
         };
         let Ok(windows) = Windows::new(alloc, &opening) else {
+            drop(surface);
             return Err(opening);
         };
         let Ok(mail) = Mail::new(alloc, opening.tree().leaves()) else {
+            drop((surface, windows));
             return Err(opening);
         };
+        // Called for what it tells the prover: that the surface is one.
+        let _ = surface.tree();
         let journal = Journal::new(alloc);
         Ok(Stage {
             alloc,

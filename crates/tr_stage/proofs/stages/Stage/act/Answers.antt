@@ -11,7 +11,7 @@ act-requires-clause-leaf g c κs within =
 pub invariant_of-self-2 : goal.invariant_of-self-2
 invariant_of-self-2 g c =
     let made = seen_for (sym c.self.view_is) c.requires.allowed in
-    rw (c.write.ensures.lines, c.in_ok-reserve.ensures.lines, c.entry-entry.ensures)
+    rw (c.write.ensures.lines, c.in-Ok.ensures.lines, c.entry-entry.ensures)
     (acts g.C.Client c.self.invariant made c.tree-tree.ensures.invariant.forest
     (env_at c.tree-tree.ensures.value c.kind.ensures c.font.ensures c.leaf_size-size.ensures.value)
-    (record { made = c.in_ok-act.ensures.ok; law = c.act.ensures.patch }))
+    (record { made = c.in-Ok-act.ensures.ok; law = c.act.ensures.patch }))

@@ -42,6 +42,6 @@ returns-clause-painted g c =
     } in
     subst (λ v. let m = state g.C.Client v in (p : Point) → is_visible m leaf p ≡ true →
     holds c.args.part.now (placed c.args.origin (in_leaf m.tree leaf p)) ≡ true →
-    pixel_of c.execute.new.screen (placed c.args.origin (in_leaf m.tree leaf p)) ≡ want g.C.Client m p) c.self.view_is
-    (painted_window g.C.Client c.args.origin c.args.part.now c.empty-unknown.result c.args.wanted.now c.execute.new.screen
-    (subst (λ t. IsForest t.nodes) c.self.invariant.kept.tree c.tree-tree.ensures.invariant.forest) plan c.in_ok-execute.ensures.known)
+    pixel_of c.execute-executed.new.screen (placed c.args.origin (in_leaf m.tree leaf p)) ≡ want g.C.Client m p) c.self.view_is
+    (painted_window g.C.Client c.args.origin c.args.part.now c.empty-unknown.result c.args.wanted.now c.execute-executed.new.screen
+    (subst (λ t. IsForest t.nodes) c.self.invariant.kept.tree c.tree-tree.ensures.invariant.forest) plan c.in_ok-executed.ensures.known)

@@ -1,7 +1,6 @@
-use Rattle.std.proofs.Common.{ap, subst, ◌∙◌}
+use Rattle.std.proofs.Common.{ap, ◌∙◌}
 use Rattle.tr_forest.specs.Nodes.{leaf_count}
 use Rattle.tr_tree.specs.Trees.{Seen}
-use Rattle.tr_surface.specs.Surfaces.{IsShown}
 use Rattle.tr_mail.specs.Mails.{no_mail}
 use Rattle.tr_stage.proofs.StartLemmas.{starts}
 use Rattle.tr_stage.proofs.stages.Stage.start.Goals as goal
@@ -10,5 +9,5 @@ pub invariant_of-result : goal.invariant_of-result
 invariant_of-result g c =
     rw c.new-journal.ensures
     (starts g.C.Client c.tree.ensures.invariant
-    (record { shown = subst IsShown c.surface.view_is c.surface.invariant.shown; tree = c.in-Ok.ensures.tree; bad = c.in-Ok.ensures.bad })
+    (record { shown = c.tree-2.ensures.invariant; tree = c.in-Ok.ensures.tree; bad = c.in-Ok.ensures.bad })
     c.in-Ok-new.ensures (c.in-Ok-new-2.ensures ∙ ap no_mail (c.leaves.ensures ∙ ap (λ (t : Seen). leaf_count t.nodes) c.tree.ensures.value)))

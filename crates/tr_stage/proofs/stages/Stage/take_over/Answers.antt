@@ -33,8 +33,8 @@ invariant_of-self-2 g c =
       spare = c.self.inside.journal.spare;
     }) in
     let within = subst (λ (u : StageView _ _). leaf.0 < leaf_count (tree_of u.opening).nodes) back c.requires.leaf in
-    let to = c.in_ok-content.content in
-    let copied : to ≡ p.to = c.in_ok-content.ensures.copy in
+    let to = c.in-Ok-copy.content in
+    let copied : to ≡ p.to = c.in-Ok-copy.ensures.copy in
     let ready = ready_at g.C.Client n leaf p.commands.items p.from to p.batch p.kind p.font p.size
     (subst (λ (u : StageView _ _). content_of g.C.Client (state g.C.Client u) leaf ≡ Some p.from) back c.requires.from)
     (subst (λ (u : StageView _ _). p.kind ≡ (state g.C.Client u).tree.kind) back c.requires.kind)
@@ -52,7 +52,7 @@ invariant_of-self-2 g c =
       ← handed_lines g.C.Client n leaf p.commands.items c.args.levels.now,
     )
     (takes_over g.C.Client p.commands.items c.args.levels.now c.self.invariant (record { within = within }) ready
-    c.requires.levels c.in_ok-take_over.ensures.ok)
+    c.requires.levels c.in-Ok-take_over.ensures.ok)
 
 pub returns-clause-ok : goal.returns-clause-ok
 returns-clause-ok g c =
