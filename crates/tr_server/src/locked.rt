@@ -111,15 +111,21 @@ impl<C: Client, L: Session> Locked<C, L> {
         ensures others { let t = (state C.Client self.old).tree in
             OnOk result (KeepsOthers t step self.old.screen self.new.screen) }
     {
-        let mine = step.copy(*pass.mine.allocator())?;
-        pass.mine.push(mine)?;
+        let Ok(mine) = step.copy(*pass.mine.allocator()) else {
+            drop(step);
+            return Err(NoMemory);
+        };
+        if let Err(refused) = pass.mine.push(mine) {
+            drop((refused, step));
+            return Err(NoMemory);
+        }
         match self.stage.step(pass.actor, level, step) {
             Ok(reply) => {
                 self.counted.add(&mut pass.share, 1);
                 Ok(reply)
             }
             Err(e) => {
-                pass.mine.pop();
+                drop(pass.mine.pop());
                 Err(e)
             }
         }
@@ -155,8 +161,13 @@ impl<C: Client, L: Session> Locked<C, L> {
         fit(self.alloc, &self.stage, leaf, &mut basket.book)?;
         let from = basket.book.prepared().to.copy(self.alloc)?;
         let more = basket.book.waiting() as u64;
-        self.stage
-            .take_over(leaf, basket.book.prepared(), basket.book.levels())?;
+        let taken = self
+            .stage
+            .take_over(leaf, basket.book.prepared(), basket.book.levels());
+        let Ok(()) = taken else {
+            drop(from);
+            return Err(NoMemory);
+        };
         // Called for what it tells the prover: that the entries can be counted.
         let _ = self.stage.journal().len();
         self.counted.add(&mut basket.share, more);
@@ -204,7 +215,10 @@ impl<C: Client, L: Session> Locked<C, L> {
             ⊎ ((self.new.journal ≡ (with_acts C.Client self.old leaf cmds levels).journal)
             × (basket.new.prepared.commands ≡ []) × (basket.new.levels ≡ []))) }
     {
-        self.hand_over(leaf, basket)?;
+        let Ok(()) = self.hand_over(leaf, basket) else {
+            drop(step);
+            return Err(NoMemory);
+        };
         let level = Held::none().with(Level::Mu).with(Level::Win(leaf));
         let is_changed = may_change(&step);
         let reply = self.step(pass, level, step)?;

@@ -68,14 +68,17 @@ impl<C: Client, L: Session> Locked<C, L> {
             self.old.screen self.new.screen) }
     {
         let leaf = painted.leaf;
-        pass.mine.push(Step::Repaint { leaf })?;
+        if let Err(refused) = pass.mine.push(Step::Repaint { leaf }) {
+            drop((refused, painted));
+            return Err(NoMemory);
+        }
         match self.stage.put_painted(painted) {
             Ok(()) => {
                 self.counted.add(&mut pass.share, 1);
                 Ok(())
             }
             Err(e) => {
-                pass.mine.pop();
+                drop(pass.mine.pop());
                 Err(e)
             }
         }

@@ -74,24 +74,14 @@ impl<C: Client, L: Session> Server<C, L> {
         ensures player { IfOk result (λ r. r.1.player ≡ fresh_pass Player) }
         ensures same { IfErr result (λ s. s ≡ stage) }
     {
-        let (counted, mut all) = blank.open::<L>();
-        let Ok(opening) = stage.opening().copy() else {
+        let (counted, all) = blank.open::<L>();
+        let Ok((opening, kept)) = copies_of(&stage) else {
             return Err(stage);
         };
-        let Ok(kept) = stage.journal().copy() else {
-            drop(opening);
-            return Err(stage);
-        };
-        let leaves = stage.opening().tree().leaves();
-        let Ok(windows) = windows_of(alloc, &stage, leaves, &mut all) else {
+        let Ok((windows, passes)) = windows_and_passes(alloc, &stage, all) else {
             drop((opening, kept));
             return Err(stage);
         };
-        let Ok(workers) = workers_of(alloc, leaves, &mut all) else {
-            drop((opening, kept, windows));
-            return Err(stage);
-        };
-        let player = Pass::fresh(alloc, Actor::Player, all);
         let server = Server {
             alloc,
             locked: Mutex::new(Locked::new(alloc, stage, counted)),
@@ -100,7 +90,7 @@ impl<C: Client, L: Session> Server<C, L> {
             kept,
             is_taken: AtomicBool::new(false),
         };
-        Ok((server, Passes { workers, player }))
+        Ok((server, passes))
     }
 
     /// Takes the tree's lock. What is a step by the server's opening is one on the stage.
@@ -160,6 +150,42 @@ impl<C: Client, L: Session> Server<C, L> {
     {
         &self.opening
     }
+}
+
+/// Copies of what a stage began with, and of its journal.
+fn copies_of<C: Client>(stage: &Stage<C>) -> Result<(Opening<C>, Journal<C::Cmd>), NoMemory>
+    ensures opening { IfOk result (λ r. r.0 ≡ stage.now.opening) }
+    ensures kept { IfOk result (λ r. r.1.lines ≡ stage.now.journal) }
+{
+    let opening = stage.opening().copy()?;
+    let Ok(kept) = stage.journal().copy() else {
+        drop(opening);
+        return Err(NoMemory);
+    };
+    Ok((opening, kept))
+}
+
+/// A window for each leaf, in whose book nothing waits, and the passes, with which nothing was made.
+fn windows_and_passes<C: Client, L: Session>(
+    alloc: Global,
+    stage: &Stage<C>,
+    mut all: Share<L>,
+) -> Result<(Vec<Window<C, L>>, Passes<C, L>), NoMemory>
+    requires ids { HasIds L.nodes L.leaves stage.now.opening }
+    requires parts { all.parts ≡ 2 * L.leaves + 3 }
+    requires none { all.amount ≡ 0 }
+    ensures windows { IfOk result (λ r. AreWindows L.leaves r.0.items) }
+    ensures workers { IfOk result (λ r. AreFresh L.leaves r.1.workers.items) }
+    ensures player { IfOk result (λ r. r.1.player ≡ fresh_pass Player) }
+{
+    let leaves = stage.opening().tree().leaves();
+    let windows = windows_of(alloc, stage, leaves, &mut all)?;
+    let Ok(workers) = workers_of(alloc, leaves, &mut all) else {
+        drop(windows);
+        return Err(NoMemory);
+    };
+    let player = Pass::fresh(alloc, Actor::Player, all);
+    Ok((windows, Passes { workers, player }))
 }
 
 /// The windows of so many leaves, in whose books nothing waits.

@@ -1,15 +1,66 @@
-use Rattle.std.proofs.Common.{◌≡◌, [], ◌∷◌, ◌++◌, ap, ap₂, ◌∙◌, length, subst, arith}
+use Rattle.std.proofs.Common.{◌≡◌, [], ◌∷◌, ◌++◌, sym, ap, ap₂, ◌∙◌, length, subst, arith, ℕ, ◌<◌, List, get_or}
+use Rattle.std.specs.Prelude.{All}
 use Rattle.std.proofs.lemmas.Iterator.Adapters.{YieldsList-from_vec}
 use Rattle.std.proofs.lemmas.Iterator.Consumers.{YieldsList-end, YieldsList-turn}
 use Rattle.std.proofs.lemmas.List.{length_push, take_all}
+use Rattle.std.proofs.lemmas.List.Elements.{All-get_or}
+use Rattle.tr_forest.specs.Nodes.{Nodes}
 use Rattle.tr_levels.specs.declared.Level.TheVariants.{Mu}
+use Rattle.tr_journal.specs.declared.steps.Step.{Step}
+use Rattle.tr_journal.specs.Openings.{tree_of}
 use Rattle.tr_machine.specs.Replays.{under}
-use Rattle.tr_stage.specs.Stages.{line}
+use Rattle.tr_stage.specs.Stages.{IsPainters, line}
 use Rattle.tr_stage.proofs.SettleLemmas.{on_err}
 use Rattle.tr_server.specs.Shares.{HasMade}
 use Rattle.tr_server.proofs.MadeLemmas.{made_more, made_one, made_same, under_length}
 use Rattle.tr_server.proofs.ShareLemmas.{map_at}
 use Rattle.tr_server.proofs.locked.Locked.make_all.Goals as goal
+
+-- each of the painter's steps is one of them
+is_painters : {M : Type 0} (t : Nodes) (steps : List (Step M)) (k : ℕ) (step : Step M) → All (IsPainters t) steps →
+    (k < length steps) × (step ≡ get_or steps k step) → IsPainters t step
+is_painters t steps k step all at = subst (λ x. IsPainters t x) (sym at.1) (All-get_or (IsPainters t) steps k step at.0 all)
+
+pub step-requires-clause-may : goal.step-requires-clause-may
+step-requires-clause-may g c κs within =
+    let gives = c.into_iter-step-iterator.ensures.into_iter_gives in
+    let items = YieldsList-from_vec {s = c.into_iter-step-iterator.result} _ gives.0 (gives.1 ∙ c.args.steps.ok.0) in
+    let turn = YieldsList-turn items c.loop-step.yielded c.loop-step.step-iterator c.loop-step.yielded_by c.next.result c.next.new.self
+    c.in-Some.step c.in-Some.is c.next.ensures.steps in
+    let has = c.loop-step.invariant in
+    let is = is_painters (tree_of c.args.self.now.opening).nodes c.args.steps.items (length c.loop-step.yielded) c.in-Some.step c.requires.steps turn in
+    rw (has.actor, c.requires.painter) is.may
+
+pub step-requires-clause-covers : goal.step-requires-clause-covers
+step-requires-clause-covers g c κs within =
+    let gives = c.into_iter-step-iterator.ensures.into_iter_gives in
+    let items = YieldsList-from_vec {s = c.into_iter-step-iterator.result} _ gives.0 (gives.1 ∙ c.args.steps.ok.0) in
+    let turn = YieldsList-turn items c.loop-step.yielded c.loop-step.step-iterator c.loop-step.yielded_by c.next.result c.next.new.self
+    c.in-Some.step c.in-Some.is c.next.ensures.steps in
+    let held : c.with-level.result ≡ Mu ∷ [] = c.with-level.ensures.held ∙ ap (λ ls. ls ++ Mu ∷ []) c.none.ensures in
+    let is = is_painters (tree_of c.args.self.now.opening).nodes c.args.steps.items (length c.loop-step.yielded) c.in-Some.step c.requires.steps turn in
+    rw held is.covers
+
+pub step-requires-clause-levels : goal.step-requires-clause-levels
+step-requires-clause-levels g c κs within =
+    let gives = c.into_iter-step-iterator.ensures.into_iter_gives in
+    let items = YieldsList-from_vec {s = c.into_iter-step-iterator.result} _ gives.0 (gives.1 ∙ c.args.steps.ok.0) in
+    let turn = YieldsList-turn items c.loop-step.yielded c.loop-step.step-iterator c.loop-step.yielded_by c.next.result c.next.new.self
+    c.in-Some.step c.in-Some.is c.next.ensures.steps in
+    let held : c.with-level.result ≡ Mu ∷ [] = c.with-level.ensures.held ∙ ap (λ ls. ls ++ Mu ∷ []) c.none.ensures in
+    let has = c.loop-step.invariant in
+    let is = is_painters (tree_of c.args.self.now.opening).nodes c.args.steps.items (length c.loop-step.yielded) c.in-Some.step c.requires.steps turn in
+    rw (held, has.opening) is.levels
+
+pub step-requires-clause-values : goal.step-requires-clause-values
+step-requires-clause-values g c κs within =
+    let gives = c.into_iter-step-iterator.ensures.into_iter_gives in
+    let items = YieldsList-from_vec {s = c.into_iter-step-iterator.result} _ gives.0 (gives.1 ∙ c.args.steps.ok.0) in
+    let turn = YieldsList-turn items c.loop-step.yielded c.loop-step.step-iterator c.loop-step.yielded_by c.next.result c.next.new.self
+    c.in-Some.step c.in-Some.is c.next.ensures.steps in
+    let has = c.loop-step.invariant in
+    let is = is_painters (tree_of c.args.self.now.opening).nodes c.args.steps.items (length c.loop-step.yielded) c.in-Some.step c.requires.steps turn in
+    rw has.opening is.values
 
 pub loop-step-preserved : goal.loop-step-preserved
 loop-step-preserved g c =
