@@ -55,9 +55,13 @@ pub(crate) fn make_side_by_side<C: Client, R: Threads + Wait + Sync, G: Gate + S
     let blank = Blank::new(2 * u64::from(leaves) + 3);
     // Called, before and after, for what it tells the prover.
     stands(&stage);
-    let stage = session::<C, Brand, R, G>(workers, blank, stage, &lists, steps.len())?;
-    stands(&stage);
-    Ok(stage)
+    match session::<C, Brand, R, G>(workers, blank, stage, &lists, steps.len()) {
+        Ok(stage) => {
+            stands(&stage);
+            Ok(stage)
+        }
+        Err(refused) => Err(refused),
+    }
 }
 
 /// Whether nothing waits for a window, and no point is bad. Where memory is wanted to see that, the painter

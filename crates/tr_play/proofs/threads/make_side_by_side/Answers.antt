@@ -1,5 +1,4 @@
 use Rattle.std.proofs.Common.{◌≡◌, ℕ, subst, sym, ◌∙◌, rules}
-use Rattle.std.proofs.lemmas.Result.{err_from_is_err_and}
 use Rattle.tr_forest.specs.Nodes.{leaf_count}
 use Rattle.tr_journal.specs.declared.steps.Actor.TheVariants.{Player}
 use Rattle.tr_journal.specs.Openings.{tree_of}
@@ -23,24 +22,22 @@ session-requires-clause-ready g c κs within =
     lists_ready (tree_of c.args.stage.opening).nodes c.args.steps.now c.in-Ok.lists
     (subst (λ (n : ℕ). AreListed n c.args.steps.now c.in-Ok.lists) count c.in-Ok.ensures) c.requires
 
-pub returns-in_err-stage-clause-differs : goal.returns-in_err-stage-clause-differs
-returns-in_err-stage-clause-differs g c =
+pub returns-clause-differs : goal.returns-clause-differs
+returns-clause-differs g c =
     let count : c.leaves-leaves.result ≡ leaf_count (tree_of c.args.stage.opening).nodes = search rules in
-    let given = err_from_is_err_and c.from_residual.result c.from_residual.ensures.1 in
-    rw (given.1, given.2)
-    (left_by c.args.stage c.args.steps.now c.in-Ok.lists c.in_err-stage.field-0.0
+    left_by c.args.stage c.args.steps.now c.in-Ok.lists c.in-Err.refused
     (subst (λ (n : ℕ). AreListed n c.args.steps.now c.in-Ok.lists) count c.in-Ok.ensures)
     (c.in-Ok.ensures.steps Player tt ∙ no_player (tree_of c.args.stage.opening).nodes c.args.steps.now c.requires)
-    c.in_err-stage.ensures.differs)
+    c.in-Err.ensures.differs
 
-pub returns-clause-ok : goal.returns-clause-ok
-returns-clause-ok g c =
+pub returns-in-Ok-session-clause-ok : goal.returns-in-Ok-session-clause-ok
+returns-in-Ok-session-clause-ok g c =
     let count : c.leaves-leaves.result ≡ leaf_count (tree_of c.args.stage.opening).nodes = search rules in
-    has_run g.C.Client c.args.stage c.in_ok-stage.stage c.args.steps.now c.in-Ok.lists
+    has_run g.C.Client c.args.stage c.in-Ok-session.stage c.args.steps.now c.in-Ok.lists
     (record {
       before = c.stands.ensures.legal;
-      after = c.stands-2.ensures.legal;
-      matches = c.in_ok-stage.ensures.ok;
+      after = c.stands-in-Ok-session.ensures.legal;
+      matches = c.in-Ok-session.ensures.ok;
       are_listed = subst (λ (n : ℕ). AreListed n c.args.steps.now c.in-Ok.lists) count c.in-Ok.ensures;
       player = c.in-Ok.ensures.steps Player tt ∙ no_player (tree_of c.args.stage.opening).nodes c.args.steps.now c.requires;
       made = c.requires;
