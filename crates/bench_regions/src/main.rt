@@ -9,7 +9,7 @@ mod operations;
 mod workloads;
 
 use crate::operations::Operation;
-use crate::workloads::{Draws, Workload};
+use crate::workloads::{Operands, Workload};
 use std::io::ErrorKind;
 use std::rt::{Clock, Env};
 use std::time::{Duration, Instant};
@@ -46,26 +46,55 @@ fn compare<R: Print + Clock + AllocGlobal>(
     n: u16,
     timed: bool,
 ) -> io::Result<()> {
-    let mut draws = Draws::new();
-    let a = workload
-        .region(rt.alloc(), &mut draws, n, 0)
-        .map_err(out_of_memory)?;
-    let b = workload
-        .region(rt.alloc(), &mut draws, n, 3)
-        .map_err(out_of_memory)?;
+    let operands = Operands::of(rt.alloc(), workload, n).map_err(out_of_memory)?;
+    lines(rt, &operands, timed)
+}
+
+fn lines<R: Print + Clock + AllocGlobal>(
+    rt: &R,
+    operands: &Operands,
+    timed: bool,
+) -> io::Result<()> {
     for operation in [Operation::Union, Operation::Meet, Operation::Minus] {
-        let out = operation.apply(&a, &b).map_err(out_of_memory)?;
-        let (rects_a, rects_b, rects_out) = (a.rects().len(), b.rects().len(), out.rects().len());
-        print!(rt;
-            "{operation} {workload} n={n} rects_a={rects_a} rects_b={rects_b} rects_out={rects_out}"
-        )?;
-        if timed {
-            let per_second = speed(rt, operation, &a, &b)?;
-            print!(rt; " ops_per_s={per_second}")?;
-        }
-        println!(rt; "")?;
+        line(rt, operation, operands, timed)?;
     }
     Ok(())
+}
+
+/// Prints a line for an operation.
+fn line<R: Print + Clock + AllocGlobal>(
+    rt: &R,
+    operation: Operation,
+    operands: &Operands,
+    timed: bool,
+) -> io::Result<()> {
+    let (a, b) = (&operands.a, &operands.b);
+    let rects_out = length_of(operation, a, b)?;
+    print_lengths(rt, operation, operands, rects_out)?;
+    if timed {
+        let per_second = speed(rt, operation, a, b)?;
+        print!(rt; " ops_per_s={per_second}")?;
+    }
+    println!(rt; "")
+}
+
+/// How many rectangles the operation's region has.
+fn length_of(operation: Operation, a: &Region, b: &Region) -> io::Result<usize> {
+    let out = operation.apply(a, b).map_err(out_of_memory)?;
+    Ok(out.rects().len())
+}
+
+fn print_lengths<R: Print + AllocGlobal>(
+    rt: &R,
+    operation: Operation,
+    operands: &Operands,
+    rects_out: usize,
+) -> io::Result<()> {
+    let (workload, n) = (operands.workload, operands.n);
+    let (rects_a, rects_b) = (operands.a.rects().len(), operands.b.rects().len());
+    print!(rt;
+        "{operation} {workload} n={n} rects_a={rects_a} rects_b={rects_b} rects_out={rects_out}"
+    )
 }
 
 /// How often in a second the operation is done.

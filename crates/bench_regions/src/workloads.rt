@@ -5,15 +5,34 @@ use std::fmt;
 use tr_base::{NoMemory, Rect};
 use tr_region::Region;
 
+/// What the operations are applied to: two regions of a workload.
+#[derive(Drop)]
+pub struct Operands {
+    pub workload: Workload,
+    /// How many rectangles each region was made of.
+    pub n: u16,
+    pub a: Region,
+    pub b: Region,
+}
+
+impl Operands {
+    pub fn of(alloc: Global, workload: Workload, n: u16) -> Result<Operands, NoMemory> {
+        let mut draws = Draws::new();
+        let a = workload.region(alloc, &mut draws, n, 0)?;
+        let b = workload.region(alloc, &mut draws, n, 3)?;
+        Ok(Operands { workload, n, a, b })
+    }
+}
+
 /// Numbers of a linear congruential generator with the multiplier 1664525 and the increment
 /// 1013904223, of which the high half is used.
 #[derive(Drop)]
-pub struct Draws {
+struct Draws {
     state: u32,
 }
 
 impl Draws {
-    pub fn new() -> Draws {
+    fn new() -> Draws {
         Draws { state: 1 }
     }
 
@@ -41,7 +60,7 @@ pub enum Workload {
 
 impl Workload {
     /// The union of `n` rectangles, one after another.
-    pub fn region(
+    fn region(
         self,
         alloc: Global,
         draws: &mut Draws,
