@@ -11,7 +11,8 @@ mod speeds;
 
 use crate::kernels::{Kernel, Rows};
 use crate::scrolls::{copy, scroll};
-use crate::speeds::speed;
+use crate::speeds::{print_speed, speed};
+use std::alloc::Global;
 use std::rt::{Clock, Env};
 use std::{env, io};
 use tr_base::{Op, Point};
@@ -21,6 +22,18 @@ const WIDTHS: [usize; 2] = [1024, 67];
 
 fn main(rt: HostRuntime) -> io::Result<()> {
     let timed = has_word(&rt)?;
+    lines(&rt, timed)
+}
+
+fn lines<R: Print + Clock + AllocGlobal>(rt: &R, timed: bool) -> io::Result<()> {
+    row_lines(rt, timed)?;
+    mask_lines(rt, timed)?;
+    copy(rt, timed)?;
+    scroll_lines(rt, timed)
+}
+
+/// Prints a line for each kernel without operations.
+fn row_lines<R: Print + Clock + AllocGlobal>(rt: &R, timed: bool) -> io::Result<()> {
     for kernel in [
         Kernel::StdFill,
         Kernel::FillRow,
@@ -33,20 +46,29 @@ fn main(rt: HostRuntime) -> io::Result<()> {
         Kernel::LastDifference,
         Kernel::CountRow,
     ] {
-        line(&rt, kernel, Op::Transparent, Op::Transparent, timed)?;
+        line(rt, kernel, Op::Transparent, Op::Transparent, timed)?;
     }
+    Ok(())
+}
+
+/// Prints a line for each kernel with operations, for three pairs of these.
+fn mask_lines<R: Print + Clock + AllocGlobal>(rt: &R, timed: bool) -> io::Result<()> {
     for kernel in [Kernel::MaskRow, Kernel::MaskCells] {
-        line(&rt, kernel, Op::Set(9), Op::Bg, timed)?;
-        line(&rt, kernel, Op::Fg, Op::Transparent, timed)?;
-        line(&rt, kernel, Op::Exchange(7, 1), Op::Transparent, timed)?;
+        line(rt, kernel, Op::Set(9), Op::Bg, timed)?;
+        line(rt, kernel, Op::Fg, Op::Transparent, timed)?;
+        line(rt, kernel, Op::Exchange(7, 1), Op::Transparent, timed)?;
     }
-    copy(&rt, timed)?;
-    scroll(&rt, 0, Point { h: 0, v: 8 }, timed)?;
-    scroll(&rt, 0, Point { h: 0, v: -8 }, timed)?;
-    scroll(&rt, 1, Point { h: 0, v: 8 }, timed)?;
-    scroll(&rt, 1, Point { h: 0, v: -8 }, timed)?;
-    scroll(&rt, 0, Point { h: 8, v: 0 }, timed)?;
-    scroll(&rt, 0, Point { h: -8, v: 0 }, timed)
+    Ok(())
+}
+
+/// Prints a line for each scroll.
+fn scroll_lines<R: Print + Clock + AllocGlobal>(rt: &R, timed: bool) -> io::Result<()> {
+    scroll(rt, 0, Point { h: 0, v: 8 }, timed)?;
+    scroll(rt, 0, Point { h: 0, v: -8 }, timed)?;
+    scroll(rt, 1, Point { h: 0, v: 8 }, timed)?;
+    scroll(rt, 1, Point { h: 0, v: -8 }, timed)?;
+    scroll(rt, 0, Point { h: 8, v: 0 }, timed)?;
+    scroll(rt, 0, Point { h: -8, v: 0 }, timed)
 }
 
 /// Whether the first word is `time`.
@@ -65,15 +87,34 @@ fn line<R: Print + Clock + AllocGlobal>(
 ) -> io::Result<()> {
     print!(rt; "{kernel} {one:?} {zero:?}")?;
     for width in WIDTHS {
-        let mut rows = Rows::mixed(rt.alloc(), width)?;
-        let answer = kernel.run(&mut rows, 0x9c, one, zero);
-        let sum = rows.sum();
-        print!(rt; " {width}: {answer} {sum}")?;
+        print_answer(rt, kernel, width, one, zero)?;
         if timed {
-            let mut plain = Rows::plain(rt.alloc(), width)?;
-            let hundredths = speed(rt, kernel, &mut plain, one, zero)?;
-            print!(rt; " {}.{:02} GB/s", hundredths / 100, hundredths % 100)?;
+            print_speed(rt, speed(rt, kernel, width, one, zero)?)?;
         }
     }
     println!(rt; "")
+}
+
+fn print_answer<R: Print + AllocGlobal>(
+    rt: &R,
+    kernel: Kernel,
+    width: usize,
+    one: Op,
+    zero: Op,
+) -> io::Result<()> {
+    let (answer, sum) = answer(rt.alloc(), kernel, width, one, zero)?;
+    print!(rt; " {width}: {answer} {sum}")
+}
+
+/// What a kernel answers, and the sum of the row that it leaves.
+fn answer(
+    alloc: Global,
+    kernel: Kernel,
+    width: usize,
+    one: Op,
+    zero: Op,
+) -> io::Result<(usize, u64)> {
+    let mut rows = Rows::mixed(alloc, width)?;
+    let answer = kernel.run(&mut rows, 0x9c, one, zero);
+    Ok((answer, rows.sum()))
 }

@@ -2,6 +2,7 @@ ghost use Rattle.std.specs.Prelude.{◌≡◌, ◌≤◌, ◌≤ℤ◌, neg_ℤ,
 ghost use Rattle.tr_region.specs.Points.{holds};
 ghost use Rattle.tr_repair.specs.Moves.{MovesOn};
 
+use crate::speeds::print_speed;
 use std::alloc::Global;
 use std::hint::black_box;
 use std::io;
@@ -19,6 +20,44 @@ const SPANS: u32 = 40;
 /// How often a screen is scrolled in a span.
 const ROUND: u64 = 32;
 
+/// The size of each screen.
+const SIZE: Size = Size {
+    wide: 1024,
+    high: 768,
+};
+
+/// A screen whose columns from `west` on are scrolled.
+#[derive(Drop)]
+struct Scrolled {
+    screen: Screen,
+    west: u16,
+    delta: Point,
+    /// The points whose pixels can come from `delta` before them.
+    within: Region,
+}
+
+impl Scrolled {
+    fn new(alloc: Global, west: u16, delta: Point) -> Result<Scrolled, NoMemory>
+        requires west { neg_ℤ (pos 64) ≤ℤ delta.h }
+        requires east { delta.h ≤ℤ pos 64 }
+        requires north { neg_ℤ (pos 64) ≤ℤ delta.v }
+        requires south { delta.v ≤ℤ pos 64 }
+        ensures { IfOk result (λ s. MovesOn s.screen.size s.delta (holds s.within)) }
+    {
+        let within = movable(alloc, SIZE, west, delta)?;
+        let Ok(screen) = mixed(alloc, SIZE) else {
+            drop(within);
+            return Err(NoMemory);
+        };
+        Ok(Scrolled {
+            screen,
+            west,
+            delta,
+            within,
+        })
+    }
+}
+
 /// Prints a line for a scroll of all columns of a screen from `west` on.
 pub fn scroll<R: Print + Clock + AllocGlobal>(
     rt: &R,
@@ -31,41 +70,49 @@ pub fn scroll<R: Print + Clock + AllocGlobal>(
     requires north { neg_ℤ (pos 64) ≤ℤ delta.v }
     requires south { delta.v ≤ℤ pos 64 }
 {
-    let size = Size {
-        wide: 1024,
-        high: 768,
-    };
-    let mut screen = mixed(rt.alloc(), size).map_err(out_of_memory)?;
-    let within = movable(rt.alloc(), screen.size(), west, delta).map_err(out_of_memory)?;
-    move_pixels(&mut screen, &within, delta);
-    let sum = sum_of(&screen);
-    print!(rt; "move_pixels from {west} by {} {}: {sum}", delta.h, delta.v)?;
+    let mut scrolled = Scrolled::new(rt.alloc(), west, delta).map_err(out_of_memory)?;
+    line(rt, &mut scrolled, timed)
+}
+
+/// Scrolls once, and prints the line.
+fn line<R: Print + Clock + AllocGlobal>(
+    rt: &R,
+    scrolled: &mut Scrolled,
+    timed: bool,
+) -> io::Result<()>
+    requires { MovesOn scrolled.old.screen.size scrolled.old.delta (holds scrolled.old.within) }
+{
+    move_pixels(&mut scrolled.screen, &scrolled.within, scrolled.delta);
+    print_sum(rt, scrolled)?;
     if timed {
-        let within = movable(rt.alloc(), screen.size(), west, delta).map_err(out_of_memory)?;
-        let nanos = best_scroll(rt, &mut screen, &within, delta)?;
-        print_speed(rt, nanos, bytes_in(&within))?;
+        let nanos = best_scroll(rt, &mut scrolled.screen, &scrolled.within, scrolled.delta)?;
+        print_speed(rt, hundredths(nanos, bytes_in(&scrolled.within)))?;
     }
     println!(rt; "")
+}
+
+fn print_sum<R: Print + AllocGlobal>(rt: &R, scrolled: &Scrolled) -> io::Result<()> {
+    let (west, delta, sum) = (scrolled.west, scrolled.delta, sum_of(&scrolled.screen));
+    print!(rt; "move_pixels from {west} by {} {}: {sum}", delta.h, delta.v)
 }
 
 /// Prints a line for a copy of as many bytes as a screen has without 8 rows, in one call of std.
 pub fn copy<R: Print + Clock + AllocGlobal>(rt: &R, timed: bool) -> io::Result<()> {
-    let mut bytes = zeros(rt.alloc(), 786_432)?;
     print!(rt; "std copy_within of 768 rows")?;
     if timed {
-        let nanos = best_copy(rt, &mut bytes)?;
-        print_speed(rt, nanos, 778_240)?;
+        let nanos = best_copy(rt)?;
+        print_speed(rt, hundredths(nanos, 778_240))?;
     }
     println!(rt; "")
 }
 
-fn zeros(alloc: Global, count: usize) -> io::Result<Vec<u8>> {
-    vec![in alloc; 0; count].map_err(|_| io::Error::from(ErrorKind::OutOfMemory))
+/// How many hundredths of a billion bytes a second that is, for so many bytes.
+fn hundredths(nanos: u64, bytes: u64) -> u64 {
+    bytes.wrapping_mul(ROUND * 100) / nanos.max(1)
 }
 
-fn print_speed<R: Print + AllocGlobal>(rt: &R, nanos: u64, bytes: u64) -> io::Result<()> {
-    let hundredths = bytes.wrapping_mul(ROUND * 100) / nanos.max(1);
-    print!(rt; " {}.{:02} GB/s", hundredths / 100, hundredths % 100)
+fn zeros(alloc: Global, count: usize) -> io::Result<Vec<u8>> {
+    vec![in alloc; 0; count].map_err(|_| io::Error::from(ErrorKind::OutOfMemory))
 }
 
 /// A screen whose rows differ from one another.
@@ -73,17 +120,19 @@ fn mixed(alloc: Global, size: Size) -> Result<Screen, NoMemory>
     requires { size ≡ record { wide = 1024; high = 768 } }
     ensures { IfOk result (λ s. s.size ≡ size) }
 {
-    let mut pixels = vec![in alloc; 0u8; 2048]?;
-    for (i, pixel) in pixels.iter_mut().enumerate() {
-        *pixel = (i * i / 7 % 251) as u8;
-    }
     let mut screen = Screen::blank(alloc, size, Kind::Map8)?;
     for v in 0..size.high {
-        let row = screen.row_mut(v);
-        let start = usize::from(v);
-        row.copy_from_slice(&pixels[start..start + 1024]);
+        mix(screen.row_mut(v), usize::from(v));
     }
     Ok(screen)
+}
+
+/// Writes the colours from `start` on.
+fn mix(row: &mut [u8], start: usize) {
+    for (h, pixel) in row.iter_mut().enumerate() {
+        let i = start.wrapping_add(h);
+        *pixel = (i.wrapping_mul(i) / 7 % 251) as u8;
+    }
 }
 
 /// The points of a screen from a column on whose pixels can come from `delta` before them.
@@ -152,7 +201,12 @@ fn repeat(screen: &mut Screen, within: &Region, delta: Point)
     }
 }
 
-fn best_copy<R: Clock>(rt: &R, bytes: &mut [u8]) -> io::Result<u64> {
+fn best_copy<R: Clock + AllocGlobal>(rt: &R) -> io::Result<u64> {
+    let mut bytes = zeros(rt.alloc(), 786_432)?;
+    best_copy_of(rt, &mut bytes)
+}
+
+fn best_copy_of<R: Clock>(rt: &R, bytes: &mut [u8]) -> io::Result<u64> {
     let mut best = u64::MAX;
     for _ in 0..SPANS {
         let start = Instant::now(rt)?;

@@ -11,8 +11,19 @@ const SPANS: u32 = 300;
 /// How often a kernel runs in a span.
 const ROUND: u64 = 512;
 
-/// How many hundredths of a billion bytes a second the kernel does, at best.
-pub fn speed<R: Clock>(
+/// How many hundredths of a billion bytes a second the kernel does on plain rows, at best.
+pub fn speed<R: Clock + AllocGlobal>(
+    rt: &R,
+    kernel: Kernel,
+    width: usize,
+    one: Op,
+    zero: Op,
+) -> io::Result<u64> {
+    let mut rows = Rows::plain(rt.alloc(), width)?;
+    speed_on(rt, kernel, &mut rows, one, zero)
+}
+
+fn speed_on<R: Clock>(
     rt: &R,
     kernel: Kernel,
     rows: &mut Rows,
@@ -30,4 +41,9 @@ pub fn speed<R: Clock>(
         best = best.min(u64::try_from(nanos).unwrap_or(u64::MAX));
     }
     Ok((rows.width() as u64).wrapping_mul(ROUND * 100) / best.max(1))
+}
+
+/// Prints hundredths of a billion bytes a second.
+pub fn print_speed<R: Print + AllocGlobal>(rt: &R, hundredths: u64) -> io::Result<()> {
+    print!(rt; " {}.{:02} GB/s", hundredths / 100, hundredths % 100)
 }
