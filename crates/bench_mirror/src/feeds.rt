@@ -1,8 +1,8 @@
 ghost use Rattle.std.specs.Prelude.{◌≡◌, ◌+◌, ◌<◌, ◌≤◌, length};
 ghost use Rattle.tr_mirror.specs.Readings.{at_first, longest_stream};
 
-use crate::out_of_memory;
 use crate::updates::PIXELS;
+use crate::{out_of_memory, print_speed};
 use std::alloc::Global;
 use std::hint::black_box;
 use std::io;
@@ -38,8 +38,7 @@ fn line<R: Print + AllocGlobal>(
 ) -> io::Result<()> {
     print!(rt; "{name}: {count} bytes")?;
     if let Some(nanos) = nanos {
-        let hundredths = (PIXELS as u64).wrapping_mul(100) / nanos.max(1);
-        print!(rt; " {}.{:02} GB/s", hundredths / 100, hundredths % 100)?;
+        print_speed(rt, (PIXELS as u64).wrapping_mul(100) / nanos.max(1))?;
     }
     println!(rt; "")
 }
@@ -84,15 +83,29 @@ fn best_feed<R: Clock>(
     let spans = if timed { SPANS } else { 1 };
     let mut best = u64::MAX;
     for _ in 0..spans {
-        let mut mirror = Mirror::new(alloc).map_err(out_of_memory)?;
-        let start = Instant::now(rt)?;
-        if !is_fed(&mut mirror, stream, step) {
-            return Err(io::Error::from(ErrorKind::InvalidData));
-        }
-        let nanos = start.elapsed(rt)?.as_nanos();
-        best = best.min(u64::try_from(nanos).unwrap_or(u64::MAX));
+        best = best.min(feed_new(rt, alloc, stream, step)?);
     }
     Ok(timed.then_some(best))
+}
+
+/// The nanoseconds that a new mirror takes.
+fn feed_new<R: Clock>(rt: &R, alloc: Global, stream: &[u8], step: usize) -> io::Result<u64> {
+    let mut mirror = Mirror::new(alloc).map_err(out_of_memory)?;
+    let nanos = span(rt, &mut mirror, stream, step);
+    drop(mirror);
+    nanos
+}
+
+/// The nanoseconds that a mirror takes which was fed nothing.
+fn span<R: Clock>(rt: &R, mirror: &mut Mirror, stream: &[u8], step: usize) -> io::Result<u64>
+    requires { mirror.old ≡ at_first }
+{
+    let start = Instant::now(rt)?;
+    if !is_fed(mirror, stream, step) {
+        return Err(io::Error::from(ErrorKind::InvalidData));
+    }
+    let nanos = start.elapsed(rt)?.as_nanos();
+    Ok(u64::try_from(nanos).unwrap_or(u64::MAX))
 }
 
 /// Feeds a stream to a mirror that was fed nothing. Whether it has no fault, and a cut.

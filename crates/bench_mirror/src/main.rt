@@ -46,10 +46,14 @@ fn line<R: Print + Clock + AllocGlobal>(
     let count = work.run(bench).map_err(out_of_memory)?;
     print!(rt; "{work}: {count} bytes")?;
     if timed {
-        let hundredths = speed(rt, bench, work)?;
-        print!(rt; " {}.{:02} GB/s", hundredths / 100, hundredths % 100)?;
+        print_speed(rt, speed(rt, bench, work)?)?;
     }
     println!(rt; "")
+}
+
+/// Prints hundredths of a billion bytes a second.
+pub(crate) fn print_speed<R: Print + AllocGlobal>(rt: &R, hundredths: u64) -> io::Result<()> {
+    print!(rt; " {}.{:02} GB/s", hundredths / 100, hundredths % 100)
 }
 
 pub(crate) fn out_of_memory(_error: NoMemory) -> io::Error {
