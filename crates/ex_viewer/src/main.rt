@@ -35,13 +35,12 @@ fn main(rt: HostRuntime) -> ExitCode {
 
 /// Prints the changes of the stream that a source has, to its end.
 fn view<R: Print + AllocGlobal, S: Source>(rt: &R, source: &mut S) -> Result<(), Stopped> {
-    let mut viewer = Viewer::new(rt.alloc())?;
     let mut piece = vec![in rt.alloc(); 0u8; PIECE]?;
-    view_pieces(rt, source, &mut viewer, &mut piece)?;
-    viewer.end()
+    let mut viewer = Viewer::new(rt.alloc())?;
+    view_pieces(rt, source, &mut viewer, &mut piece)
 }
 
-/// Prints the changes of what a source has. It comes by way of `piece`.
+/// Prints the changes of what a source has, to its end. It comes by way of `piece`.
 fn view_pieces<R: Print + AllocGlobal, S: Source>(
     rt: &R,
     source: &mut S,
@@ -62,7 +61,7 @@ fn view_pieces<R: Print + AllocGlobal, S: Source>(
         print_changes(rt, viewer, &piece[..count])?;
         room -= count as u64;
     }
-    Ok(())
+    viewer.end()
 }
 
 /// Prints a line for each cut that the piece ends.
