@@ -18,6 +18,11 @@ use tr_base::NoMemory;
 fn main(rt: HostRuntime) -> io::Result<()> {
     let timed = has_word(&rt)?;
     let mut bench = Bench::new(rt.alloc()).map_err(out_of_memory)?;
+    lines(&rt, &mut bench, timed)
+}
+
+/// Prints all lines.
+fn lines<R: Print + Clock + AllocGlobal>(rt: &R, bench: &mut Bench, timed: bool) -> io::Result<()> {
     for work in [
         Work::TwoComparisons,
         Work::SameScreen,
@@ -25,9 +30,9 @@ fn main(rt: HostRuntime) -> io::Result<()> {
         Work::CopyRows,
         Work::OtherScreen,
     ] {
-        line(&rt, &mut bench, work, timed)?;
+        line(rt, bench, work, timed)?;
     }
-    feeds(&rt, bench.stream(), timed)
+    feeds(rt, bench.stream(), timed)
 }
 
 /// Whether the first word is `time`.
