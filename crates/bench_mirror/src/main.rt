@@ -18,7 +18,9 @@ use tr_base::NoMemory;
 fn main(rt: HostRuntime) -> io::Result<()> {
     let timed = has_word(&rt)?;
     let mut bench = Bench::new(rt.alloc()).map_err(out_of_memory)?;
-    lines(&rt, &mut bench, timed)
+    let lined = lines(&rt, &mut bench, timed);
+    drop(bench);
+    lined
 }
 
 /// Prints all lines.
