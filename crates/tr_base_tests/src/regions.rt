@@ -4,7 +4,6 @@ ghost use Rattle.std.specs.List.{AllByRecursion};
 ghost use Rattle.tr_region.specs.Points.{IsInSquare};
 
 use super::ends::made;
-use std::alloc::AllocGlobal;
 use std::collections::BTreeSet;
 use std::process::Abort;
 use std::test::Fail;

@@ -1,6 +1,5 @@
 //! The rows and bands of regions.
 use super::ends::made;
-use std::alloc::AllocGlobal;
 use std::process::Abort;
 use std::test::Fail;
 use tr_base::Rect;

@@ -2,7 +2,6 @@
 ghost use Rattle.std.specs.Prelude.{◌≡◌, ◌≤◌};
 
 use super::ends::made;
-use std::alloc::AllocGlobal;
 use std::process::Abort;
 use std::test::Fail;
 use tr_base::{Kind, Point, Size};

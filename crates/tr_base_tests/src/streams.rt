@@ -1,6 +1,5 @@
 //! Sources and sinks of bytes, of which some calls fail.
 use super::ends::made;
-use std::alloc::AllocGlobal;
 use std::process::Abort;
 use std::test::Fail;
 use tr_io::{

@@ -1,6 +1,5 @@
 //! Books of commands that wait.
 use super::ends::made;
-use std::alloc::AllocGlobal;
 use std::process::Abort;
 use std::test::Fail;
 use tr_base::{Font, Kind, Size};

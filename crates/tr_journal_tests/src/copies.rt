@@ -3,7 +3,6 @@ use super::digits::Digit;
 use super::ends::made;
 use super::journals::entry;
 use super::steps::steps;
-use std::alloc::AllocGlobal;
 use std::process::Abort;
 use std::test::Fail;
 use tr_base::{Event, Line};

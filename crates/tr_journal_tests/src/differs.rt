@@ -2,7 +2,6 @@
 use super::ends::made;
 use super::names::TwoNames;
 use super::steps::A;
-use std::alloc::AllocGlobal;
 use std::process::Abort;
 use std::test::Fail;
 use tr_dump::differs_line;

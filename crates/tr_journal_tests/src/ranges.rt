@@ -2,7 +2,6 @@
 use super::digits::Digit;
 use super::ends::made;
 use super::steps::{A, steps};
-use std::alloc::AllocGlobal;
 use std::process::Abort;
 use std::test::Fail;
 use tr_base::{Kind, LeafId, NodeId, Point, Rect, Selection, Shape, Shapes, Size};

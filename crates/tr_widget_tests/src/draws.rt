@@ -5,7 +5,6 @@ ghost use Rattle.w_plain.specs.Shifts.{IsShift};
 ghost use Rattle.w_canvas.specs.Areas.{IsFigureEdge};
 
 use super::ends::made;
-use std::alloc::AllocGlobal;
 use std::process::Abort;
 use tr_base::{Font, Kind, Line, Point, Rect, Size, Tile};
 use tr_testing::Numbers;

@@ -1,7 +1,6 @@
 //! The laws of clients, each called once at each widget: they are proved in general, and here of the widgets.
 use super::ends::made;
 use super::widgets::{SQUARE, TILE, commands, contents};
-use std::alloc::AllocGlobal;
 use std::process::Abort;
 use std::test::Fail;
 use tr_base::{Env, Event, Font, Kind, Line, Point, Size, Tile};

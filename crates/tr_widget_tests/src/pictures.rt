@@ -1,7 +1,6 @@
 //! What a widget paints, held against its picture point by point.
 use super::draws::Draw;
 use super::ends::made;
-use std::alloc::AllocGlobal;
 use std::process::Abort;
 use tr_base::{Env, Font, Kind, Line, Op, Point, Rect, Size, eff, tile_bit};
 use tr_testing::{Grid, painted, patched, text_bit};

@@ -2,7 +2,6 @@
 use super::draws::Draw;
 use super::ends::made;
 use super::pictures::shown_after;
-use std::alloc::AllocGlobal;
 use std::process::Abort;
 use std::test::Fail;
 use tr_base::{Command, Env, Font, Kind, Line, Op, Point, Rect, Size, Tile};
