@@ -84,10 +84,27 @@ fn ends(rt: &(impl Abort + AllocGlobal), call: &Call, want: &End) -> bool {
     is_due && sink.written() == want.text && source.left().len() == want.left
 }
 
+/// A call of one word: the script, the reads and the writes that fail, its status and what is written.
+type Row<'a> = (&'a str, &'a [u8], &'a [u64], &'a [u64], u8, &'a [u8]);
+
+/// Whether a call ends as its row says. Nothing is read where the word is unknown or the first read fails.
+fn comes_out(rt: &(impl Abort + AllocGlobal), row: &Row) -> bool {
+    let (word, script, reads, writes, status, text) = *row;
+    let is_read = word != "paint" && reads != [1].as_slice();
+    let left = if is_read { 0 } else { script.len() };
+    let call = Call {
+        texts: &[word],
+        script,
+        reads,
+        writes,
+    };
+    ends(rt, &call, &End { status, text, left })
+}
+
 #[test]
 fn causes_are_looked_at_in_their_order(rt: HostRuntime) {
     let none = [].as_slice();
-    for (place, (word, script, reads, writes, status, text)) in [
+    for (place, row) in [
         // The usage before a read fault, with nothing read.
         ("paint", PIXEL, [1].as_slice(), none, 2, USAGE),
         ("paint", PIXEL, none, [14].as_slice(), 2, USAGE),
@@ -112,20 +129,7 @@ fn causes_are_looked_at_in_their_order(rt: HostRuntime) {
     .iter()
     .enumerate()
     {
-        let is_read = *word != "paint" && *reads != [1].as_slice();
-        let left = if is_read { 0 } else { PIXEL.len() };
-        let call = Call {
-            texts: &[*word],
-            script,
-            reads,
-            writes,
-        };
-        let end = End {
-            status: *status,
-            text,
-            left,
-        };
-        assert!(rt; ends(&rt, &call, &end), "at {place}");
+        assert!(rt; comes_out(&rt, row), "at {place}");
     }
 }
 
