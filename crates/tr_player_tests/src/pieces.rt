@@ -49,10 +49,25 @@ fn each_read_fails(rt: HostRuntime) {
     assert!(rt; ends(&rt, &fails_at_read(77), 0, DUMP), "none");
 }
 
+/// A call: its words, the script, the read and the write that fail, its status and what is written.
+type Row<'a> = (&'a [&'a str], &'a [u8], u64, u64, u8, &'a [u8]);
+
+/// Whether a call ends as its row says.
+fn comes_out(rt: &(impl Abort + AllocGlobal), row: &Row) -> bool {
+    let (texts, script, read, write, status, text) = *row;
+    let call = Call {
+        texts,
+        script,
+        read,
+        write,
+    };
+    ends(rt, &call, status, text)
+}
+
 #[test]
 fn each_write_fails_and_the_script_is_cut(rt: HostRuntime) {
     let serial = ["serial"].as_slice();
-    for (place, (texts, script, read, write, status, text)) in [
+    for (place, row) in [
         (serial, PIXEL, 0, 1, 5, b"".as_slice()),
         (serial, PIXEL, 0, 2, 5, b"dump"),
         (serial, PIXEL, 0, 3, 5, b"dump 1 1"),
@@ -74,12 +89,6 @@ fn each_write_fails_and_the_script_is_cut(rt: HostRuntime) {
     .iter()
     .enumerate()
     {
-        let call = Call {
-            texts,
-            script,
-            read: *read,
-            write: *write,
-        };
-        assert!(rt; ends(&rt, &call, *status, text), "at {place}");
+        assert!(rt; comes_out(&rt, row), "at {place}");
     }
 }
