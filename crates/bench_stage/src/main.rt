@@ -72,16 +72,23 @@ fn line<R: Print + Clock + AllocGlobal>(
     workload: Workload,
     extent: Extent,
 ) -> io::Result<()> {
-    let plan = workload
-        .plan(rt.alloc())
-        .map_err(Stopped::from)
-        .map_err(error_of)?;
-    let measured = measure(rt, &plan, extent).map_err(error_of)?;
+    let measured = measure_workload(rt, workload, extent).map_err(error_of)?;
     print_counts(rt, workload, extent.history, &measured)?;
     if extent.timed {
         print_times(rt, &measured)?;
     }
     println!(rt; "")
+}
+
+fn measure_workload<R: Clock + AllocGlobal>(
+    rt: &R,
+    workload: Workload,
+    extent: Extent,
+) -> Result<Measured, Stopped> {
+    let plan = workload.plan(rt.alloc())?;
+    let measured = measure(rt, &plan, extent);
+    drop(plan);
+    measured
 }
 
 fn print_counts<R: Print + AllocGlobal>(

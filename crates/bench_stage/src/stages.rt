@@ -62,8 +62,13 @@ impl From<io::Error> for Stopped {
 /// A stage whose windows lie on a Z, each in front of those before it, and a bit further south-east.
 pub fn stage_of<C: Client>(alloc: Global, contents: &[C]) -> Result<Stage<C>, Stopped> {
     let mut opening = Opening::new(alloc, SCREEN, Kind::Map8)?;
-    fill(alloc, &mut opening, contents)?;
-    start(alloc, opening)
+    match fill(alloc, &mut opening, contents) {
+        Ok(()) => start(alloc, opening),
+        Err(stopped) => {
+            drop(opening);
+            Err(stopped)
+        }
+    }
 }
 
 /// Puts the glyphs, the root and the windows into an opening that has nothing.
@@ -120,11 +125,15 @@ fn put<C: Client>(opening: &mut Opening<C>, child: NodeId, at: Point) -> Result<
 /// The stage of an opening with a root.
 fn start<C: Client>(alloc: Global, opening: Opening<C>) -> Result<Stage<C>, Stopped> {
     if !opening.is_ready() {
+        drop(opening);
         return Err(Stopped::Refused);
     }
     match Stage::start(alloc, opening) {
         Ok(stage) => Ok(stage),
-        Err(_opening) => Err(Stopped::NoMemory),
+        Err(opening) => {
+            drop(opening);
+            Err(Stopped::NoMemory)
+        }
     }
 }
 
@@ -180,13 +189,16 @@ pub fn make_copies<C: Client>(
 pub fn make<C: Client>(stage: &mut Stage<C>, step: Step<C::Cmd>) -> Result<(), Stopped> {
     let actor = maker_of(&step);
     let level = stated(&step);
-    if is_allowed(stage, actor, level, &step) {
-        let reply = stage.step(actor, level, step)?;
-        if reply.answer.same(&Answer::Done) {
-            return Ok(());
-        }
+    if !is_allowed(stage, actor, level, &step) {
+        drop(step);
+        return Err(Stopped::Refused);
     }
-    Err(Stopped::Refused)
+    let reply = stage.step(actor, level, step)?;
+    if reply.answer.same(&Answer::Done) {
+        Ok(())
+    } else {
+        Err(Stopped::Refused)
+    }
 }
 
 /// Who makes the step.

@@ -48,57 +48,55 @@ pub enum Workload {
 impl Workload {
     /// How it is measured.
     pub fn plan(self, alloc: Global) -> Result<Plan<Widget>, NoMemory> {
+        let mut plan = self.windows(alloc)?;
+        match self.add_steps(&mut plan) {
+            Ok(()) => Ok(plan),
+            Err(NoMemory) => {
+                drop(plan);
+                Err(NoMemory)
+            }
+        }
+    }
+
+    /// Its windows, and no step.
+    fn windows(self, alloc: Global) -> Result<Plan<Widget>, NoMemory> {
         match self {
-            Workload::ActOnSolid => solid_plan(alloc),
-            Workload::ActOnLines => lines_plan(alloc),
-            Workload::ActOnCanvas => canvas_plan(alloc),
-            Workload::Flush(count) => flush_plan(alloc, count),
-            Workload::Move(count) => move_plan(alloc, count),
-            Workload::Motion(count) => motion_plan(alloc, count),
+            Workload::ActOnLines => Plan::of(alloc, &Widget::Lines(Lines::new(alloc)?), 1),
+            Workload::ActOnCanvas => Plan::of(alloc, &Widget::Canvas(Canvas::new(alloc)?), 1),
+            Workload::Move(count) | Workload::Motion(count) => Plan::of(alloc, &SOLID, count),
+            Workload::ActOnSolid | Workload::Flush(_) => Plan::of(alloc, &SOLID, 1),
+        }
+    }
+
+    /// Adds its steps.
+    fn add_steps(self, plan: &mut Plan<Widget>) -> Result<(), NoMemory> {
+        match self {
+            Workload::ActOnSolid => act_on_solid(plan),
+            Workload::ActOnLines => act_on_lines(plan),
+            Workload::ActOnCanvas => act_on_canvas(plan),
+            Workload::Flush(count) => plan.flush(&[OTHER_TINT], count),
+            Workload::Move(_) => plan.move_windows(),
+            Workload::Motion(_) => plan.move_cursor(),
         }
     }
 }
 
-fn solid_plan(alloc: Global) -> Result<Plan<Widget>, NoMemory> {
-    let mut plan = Plan::of(alloc, &SOLID, 1)?;
+fn act_on_solid(plan: &mut Plan<Widget>) -> Result<(), NoMemory> {
     plan.prepare(&[TINT])?;
-    plan.act(&[OTHER_TINT], ROUND)?;
-    Ok(plan)
+    plan.act(&[OTHER_TINT], ROUND)
 }
 
-fn lines_plan(alloc: Global) -> Result<Plan<Widget>, NoMemory> {
+fn act_on_lines(plan: &mut Plan<Widget>) -> Result<(), NoMemory> {
     let cmds = [line(Line::of(b"trestle> dump the screen")?)];
-    let mut plan = Plan::of(alloc, &Widget::Lines(Lines::new(alloc)?), 1)?;
     plan.fill(&cmds, LINES)?;
     plan.prepare(&[line(Line::of(b"dumped")?)])?;
-    plan.act(&cmds, ROUND)?;
-    Ok(plan)
+    plan.act(&cmds, ROUND)
 }
 
-fn canvas_plan(alloc: Global) -> Result<Plan<Widget>, NoMemory> {
-    let mut plan = Plan::of(alloc, &Widget::Canvas(Canvas::new(alloc)?), 1)?;
+fn act_on_canvas(plan: &mut Plan<Widget>) -> Result<(), NoMemory> {
     plan.fill(&[figure(9)], FIGURES)?;
     plan.prepare(&[UNDO, figure(200)])?;
-    plan.act(&[UNDO, figure(9)], ROUND)?;
-    Ok(plan)
-}
-
-fn flush_plan(alloc: Global, count: u8) -> Result<Plan<Widget>, NoMemory> {
-    let mut plan = Plan::of(alloc, &SOLID, 1)?;
-    plan.flush(&[OTHER_TINT], count)?;
-    Ok(plan)
-}
-
-fn move_plan(alloc: Global, count: u8) -> Result<Plan<Widget>, NoMemory> {
-    let mut plan = Plan::of(alloc, &SOLID, count)?;
-    plan.move_windows()?;
-    Ok(plan)
-}
-
-fn motion_plan(alloc: Global, count: u8) -> Result<Plan<Widget>, NoMemory> {
-    let mut plan = Plan::of(alloc, &SOLID, count)?;
-    plan.move_cursor()?;
-    Ok(plan)
+    plan.act(&[UNDO, figure(9)], ROUND)
 }
 
 /// The typescript gets a line.
