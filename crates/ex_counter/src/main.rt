@@ -112,8 +112,13 @@ fn text_of<C: Client>(run: Run<'static, C, Names>) -> Vec<u8> {
 
 fn opening<C: Client>(alloc: Global, west: C, east: C) -> Result<Opening<C>, Stopped> {
     let mut opening = Opening::new(alloc, SCREEN, Kind::Map8)?;
-    fill(&mut opening, west, east)?;
-    Ok(opening)
+    match fill(&mut opening, west, east) {
+        Ok(()) => Ok(opening),
+        Err(stopped) => {
+            drop(opening);
+            Err(stopped)
+        }
+    }
 }
 
 /// Adds all nodes. For the prover a function of its own: whatever may return early is slow to prove where
@@ -179,6 +184,7 @@ fn set_root<C: Client>(opening: &mut Opening<C>, node: NodeId) -> Result<(), Sto
 fn start<C: Client>(alloc: Global, opening: Opening<C>) -> Result<Run<'static, C, Names>, Stopped> {
     let tree = opening.tree();
     if tree.count() != 4 || tree.leaves() != 2 || tree.root().is_none() {
+        drop(opening);
         return Err(Stopped::Refused);
     }
     Ok(Run::start(alloc, opening, &Names, Mode::Serial)?)
