@@ -60,11 +60,26 @@ impl Workload {
 
     /// Its windows, and no step.
     fn windows(self, alloc: Global) -> Result<Plan<Widget>, NoMemory> {
+        let content = self.content(alloc)?;
+        let plan = Plan::of(alloc, &content, self.count());
+        drop(content);
+        plan
+    }
+
+    /// The content of each window.
+    fn content(self, alloc: Global) -> Result<Widget, NoMemory> {
         match self {
-            Workload::ActOnLines => Plan::of(alloc, &Widget::Lines(Lines::new(alloc)?), 1),
-            Workload::ActOnCanvas => Plan::of(alloc, &Widget::Canvas(Canvas::new(alloc)?), 1),
-            Workload::Move(count) | Workload::Motion(count) => Plan::of(alloc, &SOLID, count),
-            Workload::ActOnSolid | Workload::Flush(_) => Plan::of(alloc, &SOLID, 1),
+            Workload::ActOnLines => Ok(Widget::Lines(Lines::new(alloc)?)),
+            Workload::ActOnCanvas => Ok(Widget::Canvas(Canvas::new(alloc)?)),
+            _ => Ok(SOLID),
+        }
+    }
+
+    /// How many windows there are.
+    fn count(self) -> u8 {
+        match self {
+            Workload::Move(count) | Workload::Motion(count) => count,
+            _ => 1,
         }
     }
 
