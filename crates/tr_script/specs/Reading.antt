@@ -1,19 +1,25 @@
 -- What the readers of lines answer. Contracts of the crate's own functions alone cite this file.
-use Rattle.std.specs.Prelude.{◌≡◌, ℕ, List, [], ◌∷◌, ◌++◌, Bool, true, false, not, ◌||◌, if◌then◌else◌, codes, Option, Some, None, Result, Ok, Err, ⊤}
+use Rattle.std.specs.Prelude.{◌≡◌, ℕ, List, [], ◌∷◌, ◌++◌, Bool, true, false, not, is_none, is_some, is_err, ◌||◌, if◌then◌else◌, codes, Option, Some, None, Result, Ok, Err, ⊤}
 use Rattle.tr_grammar.specs.declared.Code.{Code}
 use Rattle.tr_grammar.specs.declared.Code.TheVariants.{B1, B2, B3, B4, B5}
 use Rattle.tr_grammar.specs.declared.LineRefused.{LineRefused}
 use Rattle.tr_grammar.specs.declared.LineRefused.TheVariants as refused
 use Rattle.tr_grammar.specs.declared.Meaning.{Meaning}
 use Rattle.tr_grammar.specs.declared.Meaning.TheVariants as meanings
-use Rattle.tr_grammar.specs.Words.{word_at, nat_of, int_of, is_name, is_shape, is_signed}
+use Rattle.tr_grammar.specs.Words.{word_at, nat_of, int_of, is_name, is_number, is_shape, is_signed}
 use Rattle.tr_grammar.specs.Forms.{Form, Version, Screen, Glyph, Put, PutAt, Root, Begin, Mouse, Motion, Key, Attach, AttachAt, Detach, Tint, Widen, Offset, Fix, Move, Lift, Show, Turn, Reshape, Resize, Rescreen, Sync, Dump, Peek, Journal, Where, Inbox, End, SetTint, SetTile, SetShift, SetText, AddLine, Clear, AddRect, AddSwap, AddExchange, Undo, SetBar, InsertText, EraseByte, SplitLine, GoTo, CopyText, PasteClip, among}
 use Rattle.tr_grammar.specs.Meanings.{meaning_of}
 use Rattle.tr_grammar.specs.States.{SoFar}
-use Rattle.tr_grammar.specs.Faults.{first_of, word_faults}
+use Rattle.tr_grammar.specs.Names.{number_of, numbered}
+use Rattle.tr_grammar.specs.Faults.{Sort, opening_line, step_line, allows, first_of, nodes_so_far, word_faults}
+use Rattle.tr_forest.specs.Nodes.{IsNode}
+use Rattle.tr_journal.specs.Steps.{IsLeaf}
 use Rattle.tr_journal.specs.declared.Actor.{Actor}
 use Rattle.tr_journal.specs.declared.Step.{Step}
 use Rattle.tr_widget.specs.declared.WidgetCmd.{WidgetCmd}
+use Rattle.tr_base.specs.declared.LeafId.{LeafId}
+use Rattle.tr_base.specs.declared.NodeId.{NodeId}
+use Rattle.tr_base.specs.declared.Point.{Point}
 use Rattle.tr_base.specs.declared.Shapes.{Shapes}
 use Rattle.tr_base.specs.Shapes.{Lengths}
 use Rattle.tr_base.specs.Rects.{Edges, rect_of}
@@ -120,6 +126,11 @@ leaf_line h widget values =
 abbrev pub edges_of : EdgeWords → Edges
 edges_of ws = rect_of (int_of ws.west.now) (int_of ws.east.now) (int_of ws.north.now) (int_of ws.south.now)
 
+-- the words of two shapes
+abbrev pub shape_words : ShapeWords → ShapeWords → List (List ℕ)
+shape_words across down =
+    across.lo.now ∷ across.pref.now ∷ across.hi.now ∷ down.lo.now ∷ down.pref.now ∷ down.hi.now ∷ []
+
 -- the words of the edges, and those behind them
 abbrev pub edge_words : EdgeWords → List (List ℕ) → List (List ℕ)
 edge_words ws rest = ws.west.now ∷ ws.east.now ∷ ws.north.now ∷ ws.south.now ∷ rest
@@ -127,6 +138,10 @@ edge_words ws rest = ws.west.now ∷ ws.east.now ∷ ws.north.now ∷ ws.south.n
 -- the word is no edge of a rectangle that a client names
 abbrev pub is_no_edge : List ℕ → Bool
 is_no_edge w = not (is_signed 8192 8192 w)
+
+-- one of the words is no edge, or something is so that is told of what comes behind them
+abbrev pub any_edge : EdgeWords → Bool → Bool
+any_edge ws rest = is_no_edge ws.west.now || (is_no_edge ws.east.now || (is_no_edge ws.north.now || (is_no_edge ws.south.now || rest)))
 
 -- a value with this property where all words are edges, and else B2, whatever values come behind them
 abbrev pub ReadsEdges : {X : Type 0} → EdgeWords → (X → Type 0) → Result X Code → Type 0
@@ -137,6 +152,73 @@ ReadsEdges ws P (Err e) =
     ((rest : Bool) →
     is_no_edge ws.west.now || (is_no_edge ws.east.now || (is_no_edge ws.north.now || (is_no_edge ws.south.now || rest))) ≡ true)
     × (e ≡ B2)
+
+-- the faults that the words of a line can show which stands in one of the places of this sort: where it may not stand there, where its
+-- values are misspelled, where a name is declared again, and where one wasn't declared
+abbrev pub faults_at : SoFar → Sort → Bool → Bool → Bool → List (Code × Bool)
+faults_at c sort misspelled again undeclared =
+    (B5, not (allows c.place sort)) ∷ (B2, misspelled) ∷ (B4, again) ∷ (B3, undeclared) ∷ []
+
+-- the faults of a line that declares a leaf, where its values are misspelled or not
+abbrev pub leaf_faults : SoFar → LeafWords → Bool → List (Code × Bool)
+leaf_faults c h misspelled =
+    faults_at c opening_line (any_or (head_faults h) misspelled) (is_some (number_of c.names.nodes h.name.now) || false) false
+
+-- the shapes of a leaf whose name is new, and the value of its line, or the first of these faults
+abbrev pub ReadsHead : {V : Type 0} → SoFar → LeafWords → Result V Code → Result (Shapes × V) Code → Type 0
+ReadsHead c h value (Ok (s, v)) =
+    (first_of (leaf_faults c h (is_err value)) ≡ None) × (allows c.place opening_line ≡ true)
+    × (number_of c.names.nodes h.name.now ≡ None) × (s ≡ shapes_in h) × (value ≡ Ok v)
+ReadsHead c h value (Err e) = first_of (leaf_faults c h (is_err value)) ≡ Some e
+
+-- the leaf of a step's line, and the value of the line, or its first fault
+abbrev pub ReadsLeaf : {V : Type 0} → SoFar → List ℕ → Result V Code → Result (LeafId × V) Code → Type 0
+ReadsLeaf c w value (Ok (l, v)) =
+    (first_of (faults_at c step_line (is_err value) false (is_none (number_of c.names.leaves w) || false)) ≡ None)
+    × (allows c.place step_line ≡ true) × IsLeaf (nodes_so_far c) l × (l ≡ record { 0 = numbered c.names.leaves w }) × (value ≡ Ok v)
+ReadsLeaf c w value (Err e) =
+    first_of (faults_at c step_line (is_err value) false (is_none (number_of c.names.leaves w) || false)) ≡ Some e
+
+-- the node of an edit's line, and the value of the line, or its first fault
+abbrev pub ReadsNode : {V : Type 0} → SoFar → List ℕ → Result V Code → Result (NodeId × V) Code → Type 0
+ReadsNode c w value (Ok (n, v)) =
+    (first_of (faults_at c step_line (is_err value) false (is_none (number_of c.names.nodes w) || false)) ≡ None)
+    × (allows c.place step_line ≡ true) × IsNode (nodes_so_far c) n × (n ≡ record { 0 = numbered c.names.nodes w }) × (value ≡ Ok v)
+ReadsNode c w value (Err e) =
+    first_of (faults_at c step_line (is_err value) false (is_none (number_of c.names.nodes w) || false)) ≡ Some e
+
+-- the value of a desk's line without names, or its first fault
+abbrev pub ReadsPlain : {V : Type 0} → SoFar → Result V Code → Result V Code → Type 0
+ReadsPlain c value (Ok v) =
+    (first_of (faults_at c step_line (is_err value) false false) ≡ None) × (allows c.place step_line ≡ true) × (value ≡ Ok v)
+ReadsPlain c value (Err e) = first_of (faults_at c step_line (is_err value) false false) ≡ Some e
+
+-- the faults of a line's point and of the names of a child and its parent, where the point is misspelled or not
+abbrev pub hanging_faults : SoFar → List ℕ → List ℕ → Bool → List (Code × Bool)
+hanging_faults c child parent misspelled =
+    (B2, misspelled) ∷ (B4, false)
+    ∷ (B3, is_none (number_of c.names.nodes child) || (is_none (number_of c.names.nodes parent) || false)) ∷ []
+
+-- the child, its parent, and where it stands, or the first of these faults
+abbrev pub ReadsHanging : SoFar → List ℕ → List ℕ → Result Point Code → Result (NodeId × NodeId × Point) Code → Type 0
+ReadsHanging c child parent at (Ok (n, m, p)) =
+    (first_of (hanging_faults c child parent (is_err at)) ≡ None)
+    × (n ≡ record { 0 = numbered c.names.nodes child }) × (m ≡ record { 0 = numbered c.names.nodes parent })
+    × IsNode (nodes_so_far c) n × IsNode (nodes_so_far c) m × (at ≡ Ok p)
+ReadsHanging c child parent at (Err e) = first_of (hanging_faults c child parent (is_err at)) ≡ Some e
+
+-- the faults of a line that declares a node other than a leaf, by its name and its tint, where its values are misspelled or not
+abbrev pub node_faults : SoFar → List ℕ → List ℕ → Bool → List (Code × Bool)
+node_faults c new tint misspelled =
+    faults_at c opening_line (not (is_name new) || (not (is_number 0 255 tint) || misspelled))
+    (is_some (number_of c.names.nodes new) || false) false
+
+-- the tint of a node whose name is new, and the value of its line, or the first of these faults
+abbrev pub ReadsTint : {V : Type 0} → SoFar → List ℕ → List ℕ → Result V Code → Result (ℕ × V) Code → Type 0
+ReadsTint c new tint value (Ok (n, v)) =
+    (first_of (node_faults c new tint (is_err value)) ≡ None) × (allows c.place opening_line ≡ true)
+    × (number_of c.names.nodes new ≡ None) × (n ≡ nat_of tint) × (value ≡ Ok v)
+ReadsTint c new tint value (Err e) = first_of (node_faults c new tint (is_err value)) ≡ Some e
 
 -- what is said makes a step, which comes behind those before it; or it makes none, and they are as before
 abbrev pub SaysStep : Meaning → List (Actor × Step WidgetCmd) → List (Actor × Step WidgetCmd) → Bool → Type 0

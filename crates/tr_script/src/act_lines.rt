@@ -1,17 +1,18 @@
 //! The readers of the steps of leaves' actors, but for the commands of their widgets. Each tests for its
 //! faults in the order of their codes.
-ghost use Rattle.std.specs.Prelude.{◌≡◌, [], ◌∷◌, true, ◌||◌, codes, is_none, not, Some, IfOk};
+ghost use Rattle.std.specs.Prelude.{◌≡◌, [], ◌∷◌, true, false, ◌||◌, codes, is_none, not, Some, IfErr, IfOk};
 ghost use Rattle.std.specs.List.{AllPass};
 ghost use Rattle.tr_base.specs.Lines.{is_printable};
 ghost use Rattle.tr_journal.specs.Steps.{IsClip, IsLeaf};
+ghost use Rattle.tr_grammar.specs.declared.Code.TheVariants.{B2};
 ghost use Rattle.tr_grammar.specs.Words.{words_of, is_one_of};
 ghost use Rattle.tr_grammar.specs.Forms.{act_forms, selection_words, cage_words};
 ghost use Rattle.tr_grammar.specs.Forms.{Mark, Flush, Force, Take, Enclose, Free, Own, Disown, Read};
 ghost use Rattle.tr_grammar.specs.Names.{number_of, numbered};
 ghost use Rattle.tr_grammar.specs.Faults.{allows, nodes_so_far, step_line};
 ghost use Rattle.tr_grammar.specs.Meanings.{selection_of, may_be_here, may_be_gone};
-ghost use Rattle.tr_words.specs.Answers.{Chooses, texts};
-ghost use Rattle.tr_script.specs.Reading.{BeginsPlain, Reads, ReadsAs, ReadsEdges, act_line, edges_of, edge_words};
+ghost use Rattle.tr_words.specs.Answers.{Answers, Chooses, texts};
+ghost use Rattle.tr_script.specs.Reading.{BeginsPlain, Reads, ReadsAs, ReadsLeaf, act_line, any_edge, edges_of, edge_words};
 
 use crate::names::leaf_of;
 use crate::refusals::NO_FORM;
@@ -76,7 +77,7 @@ pub struct EdgeWords<'a> {
 
 /// The rectangle of its edges.
 fn clip_of(words: &EdgeWords) -> Result<Rect, Code>
-    ensures value { ReadsEdges words.now (λ e. e ≡ edges_of words.now) result }
+    ensures value { Answers (any_edge words.now false) B2 (λ e. e ≡ edges_of words.now) result }
     ensures range { IfOk result IsClip }
 {
     let west = edge(words.west)?;
@@ -143,6 +144,21 @@ pub fn leaf_in_steps(reader: &Reader, leaf: &str) -> Result<LeafId, Code>
     Ok(leaf)
 }
 
+/// The leaf that a step's line names, and the value of its words, of a line that may stand there.
+pub fn leaf_with<V: Copy>(
+    reader: &Reader,
+    leaf: &str,
+    value: Result<V, Code>,
+) -> Result<(LeafId, V), Code>
+    requires { IfErr value (λ e. e ≡ B2) }
+    ensures { ReadsLeaf reader.now leaf.now value result }
+{
+    reader.in_steps()?;
+    let value = value?;
+    let leaf = leaf_of(reader, leaf)?;
+    Ok((leaf, value))
+}
+
 fn read_mark(reader: &Reader, leaf: &str, values: &[&str]) -> Result<Meaning, LineRefused>
     ensures { Reads reader.now (Mark ∷ [])
         ((64 ∷ leaf.now) ∷ codes "mark" ∷ texts values.now) result }
@@ -150,14 +166,21 @@ fn read_mark(reader: &Reader, leaf: &str, values: &[&str]) -> Result<Meaning, Li
     let [west, east, north, south] = values else {
         return Err(NO_FORM);
     };
-    reader.in_steps()?;
-    let clip = clip_of(&EdgeWords {
+    let edges = EdgeWords {
         west,
         east,
         north,
         south,
-    })?;
-    let leaf = leaf_of(reader, leaf)?;
+    };
+    mark(reader, leaf, &edges)
+}
+
+/// The values of a mark's line.
+fn mark(reader: &Reader, leaf: &str, edges: &EdgeWords) -> Result<Meaning, LineRefused>
+    ensures { ReadsAs reader.now (Some Mark)
+        ((64 ∷ leaf.now) ∷ codes "mark" ∷ edge_words edges.now []) result }
+{
+    let (leaf, clip) = leaf_with(reader, leaf, clip_of(edges))?;
     Ok(by_leaf(leaf, Step::Mark { leaf, clip }))
 }
 
@@ -223,11 +246,9 @@ fn enclose(
     ensures { ReadsAs reader.now (Some Enclose)
         ((64 ∷ leaf.now) ∷ codes "cage" ∷ edge_words edges.now (holders.now ∷ [])) result }
 {
-    reader.in_steps()?;
-    let rect = clip_of(edges)?;
+    let (leaf, rect) = leaf_with(reader, leaf, clip_of(edges))?;
     let (here, gone) = holders_of(holders);
     let cage = Cage::Only { rect, here, gone };
-    let leaf = leaf_of(reader, leaf)?;
     Ok(by_leaf(leaf, Step::SetCage { leaf, cage }))
 }
 
@@ -253,9 +274,7 @@ fn read_own(reader: &Reader, leaf: &str, values: &[&str]) -> Result<Meaning, Lin
     let Some(selection) = selection_of(selection) else {
         return Err(NO_FORM);
     };
-    reader.in_steps()?;
-    let time = time(at)?;
-    let leaf = leaf_of(reader, leaf)?;
+    let (leaf, time) = leaf_with(reader, leaf, time(at))?;
     Ok(by_leaf(
         leaf,
         Step::Own {

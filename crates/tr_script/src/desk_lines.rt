@@ -1,21 +1,24 @@
 //! The readers of the desk's steps. Each tests for its faults in the order of their codes.
-ghost use Rattle.std.specs.Prelude.{◌≡◌, [], ◌∷◌, bytes_eq, codes};
+ghost use Rattle.std.specs.Prelude.{◌≡◌, [], ◌∷◌, ◌||◌, bytes_eq, codes, false, not, IfErr, IfOk, Some};
+ghost use Rattle.tr_journal.specs.Steps.{IsButton, IsPosition, IsTime};
+ghost use Rattle.tr_grammar.specs.declared.Code.TheVariants.{B2};
+ghost use Rattle.tr_grammar.specs.Words.{int_of, is_number, is_signed, nat_of};
 ghost use Rattle.tr_grammar.specs.Forms.{button_words, Mouse, Motion, Key, Attach, AttachAt, Detach};
 ghost use Rattle.tr_grammar.specs.Forms.{Tint, Widen, Offset, Fix, Move, Lift, Show, Turn, Reshape, Resize};
 ghost use Rattle.tr_grammar.specs.Forms.{Rescreen};
-ghost use Rattle.tr_words.specs.Answers.{Chooses, texts};
-ghost use Rattle.tr_script.specs.Reading.{Reads, desk_forms};
+ghost use Rattle.tr_words.specs.Answers.{Answers, Chooses, texts};
+ghost use Rattle.tr_script.specs.Reading.{Reads, ReadsAs, ReadsNode, ReadsPlain, desk_forms, is_no_shape, lengths_in, shape_words};
 
 use crate::names::node_of;
-use crate::opening_lines::ORIGIN;
+use crate::opening_lines::{ORIGIN, hanging_of, offset_of, size_of};
 use crate::refusals::NO_FORM;
-use tr_base::{Point, Shapes, Size};
+use tr_base::{NodeId, Point, Shapes, Size};
 use tr_forest::Edit;
-use tr_grammar::{LineRefused, Meaning};
+use tr_grammar::{Code, LineRefused, Meaning};
 use tr_journal::{Actor, Step};
 use tr_reader::Reader;
 use tr_widget::WidgetCmd;
-use tr_words::{ShapeWords, byte, extent, offset, place, shape, side, small, time};
+use tr_words::{ShapeWords, byte, place, shape, side, small, time};
 
 /// A step of the desk.
 fn on_desk(step: Step<WidgetCmd>) -> Meaning
@@ -43,6 +46,70 @@ fn is_down(word: &str) -> Option<bool>
         "up" => Some(false),
         _ => None,
     }
+}
+
+/// The node that an edit's line names, and the value of its words, of a line that may stand there.
+fn node_with<V: Copy>(
+    reader: &Reader,
+    node: &str,
+    value: Result<V, Code>,
+) -> Result<(NodeId, V), Code>
+    requires { IfErr value (λ e. e ≡ B2) }
+    ensures { ReadsNode reader.now node.now value result }
+{
+    reader.in_steps()?;
+    let value = value?;
+    let node = node_of(reader, node)?;
+    Ok((node, value))
+}
+
+/// The value of words without a name, of a line that may stand there.
+fn plain<V: Copy>(reader: &Reader, value: Result<V, Code>) -> Result<V, Code>
+    requires { IfErr value (λ e. e ≡ B2) }
+    ensures { ReadsPlain reader.now value result }
+{
+    reader.in_steps()?;
+    let value = value?;
+    Ok(value)
+}
+
+/// A time and a button, by their words.
+fn press_of(at: &str, button: &str) -> Result<(u32, u8), Code>
+    ensures value { Answers
+        (not (is_number 1 4294967295 at.now) || (not (is_number 1 5 button.now) || false)) B2
+        (λ p. p ≡ (nat_of at.now, nat_of button.now)) result }
+    ensures time { IfOk result (λ p. IsTime p.0) }
+    ensures button { IfOk result (λ p. IsButton p.1) }
+{
+    let time = time(at)?;
+    let button = small(button, 1, 5)?;
+    Ok((time, button))
+}
+
+/// A time and a place of the cursor, by their words.
+fn motion_of(at: &str, h: &str, v: &str) -> Result<(u32, Point), Code>
+    ensures value { Answers (not (is_number 1 4294967295 at.now)
+        || (not (is_signed 8192 8191 h.now) || (not (is_signed 8192 8191 v.now) || false))) B2
+        (λ m. m ≡ (nat_of at.now, record { h = int_of h.now; v = int_of v.now })) result }
+    ensures time { IfOk result (λ m. IsTime m.0) }
+    ensures place { IfOk result (λ m. IsPosition m.1) }
+{
+    let time = time(at)?;
+    let h = place(h)?;
+    let v = place(v)?;
+    Ok((time, Point { h, v }))
+}
+
+/// A time and a key, by their words.
+fn key_of(at: &str, code: &str) -> Result<(u32, u8), Code>
+    ensures value { Answers
+        (not (is_number 1 4294967295 at.now) || (not (is_number 0 255 code.now) || false)) B2
+        (λ k. k ≡ (nat_of at.now, nat_of code.now)) result }
+    ensures time { IfOk result (λ k. IsTime k.0) }
+{
+    let time = time(at)?;
+    let code = byte(code)?;
+    Ok((time, code))
 }
 
 /// What words say that are those of a desk's step, by the first one, or the first fault that they show.
@@ -79,9 +146,7 @@ fn read_mouse(reader: &Reader, words: &[&str]) -> Result<Meaning, LineRefused>
     let Some(down) = is_down(way) else {
         return Err(NO_FORM);
     };
-    reader.in_steps()?;
-    let time = time(at)?;
-    let button = small(button, 1, 5)?;
+    let (time, button) = plain(reader, press_of(at, button))?;
     Ok(on_desk(Step::Mouse { time, button, down }))
 }
 
@@ -91,11 +156,7 @@ fn read_motion(reader: &Reader, words: &[&str]) -> Result<Meaning, LineRefused>
     let [at, h, v] = words else {
         return Err(NO_FORM);
     };
-    reader.in_steps()?;
-    let time = time(at)?;
-    let h = place(h)?;
-    let v = place(v)?;
-    let at = Point { h, v };
+    let (time, at) = plain(reader, motion_of(at, h, v))?;
     Ok(on_desk(Step::Motion { time, at }))
 }
 
@@ -105,9 +166,7 @@ fn read_key(reader: &Reader, words: &[&str]) -> Result<Meaning, LineRefused>
     let [at, code] = words else {
         return Err(NO_FORM);
     };
-    reader.in_steps()?;
-    let time = time(at)?;
-    let code = byte(code)?;
+    let (time, code) = plain(reader, key_of(at, code))?;
     Ok(on_desk(Step::Key { time, code }))
 }
 
@@ -139,11 +198,7 @@ fn read_attach_at(reader: &Reader, words: &[&str]) -> Result<Meaning, LineRefuse
         return Err(NO_FORM);
     };
     reader.in_steps()?;
-    let h = offset(h)?;
-    let v = offset(v)?;
-    let child = node_of(reader, child)?;
-    let parent = node_of(reader, parent)?;
-    let at = Point { h, v };
+    let (child, parent, at) = hanging_of(reader, child, parent, offset_of(h, v))?;
     Ok(altering(Edit::Attach { child, parent, at }))
 }
 
@@ -164,9 +219,7 @@ fn read_tint(reader: &Reader, words: &[&str]) -> Result<Meaning, LineRefused>
     let [node, tint] = words else {
         return Err(NO_FORM);
     };
-    reader.in_steps()?;
-    let tint = byte(tint)?;
-    let node = node_of(reader, node)?;
+    let (node, tint) = node_with(reader, node, byte(tint))?;
     Ok(altering(Edit::Tint { node, tint }))
 }
 
@@ -176,9 +229,7 @@ fn read_widen(reader: &Reader, words: &[&str]) -> Result<Meaning, LineRefused>
     let [node, width] = words else {
         return Err(NO_FORM);
     };
-    reader.in_steps()?;
-    let width = byte(width)?;
-    let node = node_of(reader, node)?;
+    let (node, width) = node_with(reader, node, byte(width))?;
     Ok(altering(Edit::Border { node, width }))
 }
 
@@ -188,11 +239,7 @@ fn read_offset(reader: &Reader, words: &[&str]) -> Result<Meaning, LineRefused>
     let [node, h, v] = words else {
         return Err(NO_FORM);
     };
-    reader.in_steps()?;
-    let h = offset(h)?;
-    let v = offset(v)?;
-    let node = node_of(reader, node)?;
-    let by = Point { h, v };
+    let (node, by) = node_with(reader, node, offset_of(h, v))?;
     Ok(altering(Edit::Offset { node, by }))
 }
 
@@ -202,11 +249,7 @@ fn read_fix(reader: &Reader, words: &[&str]) -> Result<Meaning, LineRefused>
     let [node, wide, high] = words else {
         return Err(NO_FORM);
     };
-    reader.in_steps()?;
-    let wide = extent(wide)?;
-    let high = extent(high)?;
-    let node = node_of(reader, node)?;
-    let size = Size { wide, high };
+    let (node, size) = node_with(reader, node, size_of(wide, high))?;
     Ok(altering(Edit::Fix { node, size }))
 }
 
@@ -216,11 +259,7 @@ fn read_move(reader: &Reader, words: &[&str]) -> Result<Meaning, LineRefused>
     let [child, h, v] = words else {
         return Err(NO_FORM);
     };
-    reader.in_steps()?;
-    let h = offset(h)?;
-    let v = offset(v)?;
-    let child = node_of(reader, child)?;
-    let at = Point { h, v };
+    let (child, at) = node_with(reader, child, offset_of(h, v))?;
     Ok(altering(Edit::Move { child, at }))
 }
 
@@ -253,10 +292,32 @@ fn read_turn(reader: &Reader, words: &[&str]) -> Result<Meaning, LineRefused>
     let [node, page] = words else {
         return Err(NO_FORM);
     };
-    reader.in_steps()?;
-    let page = byte(page)?;
-    let node = node_of(reader, node)?;
+    let (node, page) = node_with(reader, node, byte(page))?;
     Ok(altering(Edit::Turn { node, page }))
+}
+
+/// The shapes of a node, by their words.
+fn shapes_of(across: &ShapeWords, down: &ShapeWords) -> Result<Shapes, Code>
+    ensures { Answers (is_no_shape across.now || (is_no_shape down.now || false)) B2
+        (λ s. s ≡ record { across = lengths_in across.now; down = lengths_in down.now }) result }
+{
+    let across = shape(across)?;
+    let down = shape(down)?;
+    Ok(Shapes { across, down })
+}
+
+/// The values of a line with the shapes of a node.
+fn reshape(
+    reader: &Reader,
+    node: &str,
+    across: &ShapeWords,
+    down: &ShapeWords,
+) -> Result<Meaning, LineRefused>
+    ensures { ReadsAs reader.now (Some Reshape)
+        (codes "shapes" ∷ node.now ∷ shape_words across.now down.now) result }
+{
+    let (node, shapes) = node_with(reader, node, shapes_of(across, down))?;
+    Ok(altering(Edit::Shapes { node, shapes }))
 }
 
 fn read_reshape(reader: &Reader, words: &[&str]) -> Result<Meaning, LineRefused>
@@ -265,16 +326,13 @@ fn read_reshape(reader: &Reader, words: &[&str]) -> Result<Meaning, LineRefused>
     let [node, lo, pref, hi, lo_down, pref_down, hi_down] = words else {
         return Err(NO_FORM);
     };
-    reader.in_steps()?;
-    let across = shape(&ShapeWords { lo, pref, hi })?;
-    let down = shape(&ShapeWords {
+    let across = ShapeWords { lo, pref, hi };
+    let down = ShapeWords {
         lo: lo_down,
         pref: pref_down,
         hi: hi_down,
-    })?;
-    let node = node_of(reader, node)?;
-    let shapes = Shapes { across, down };
-    Ok(altering(Edit::Shapes { node, shapes }))
+    };
+    reshape(reader, node, &across, &down)
 }
 
 fn read_resize(reader: &Reader, words: &[&str]) -> Result<Meaning, LineRefused>

@@ -1,21 +1,22 @@
 //! The readers of commands for editors, which version 2 alone has. Each tests for its faults in the order
 //! of their codes.
-ghost use Rattle.std.specs.Prelude.{◌≡◌, [], ◌∷◌, codes, true};
+ghost use Rattle.std.specs.Prelude.{◌≡◌, [], ◌∷◌, ◌||◌, codes, true, false, not};
 ghost use Rattle.std.specs.List.{AllPass};
 ghost use Rattle.tr_base.specs.Lines.{is_printable};
 ghost use Rattle.tr_journal.specs.declared.Actor.TheVariants as actors;
-ghost use Rattle.tr_grammar.specs.Words.{words_of};
+ghost use Rattle.tr_grammar.specs.declared.Code.TheVariants.{B2};
+ghost use Rattle.tr_grammar.specs.Words.{words_of, is_number, nat_of};
 ghost use Rattle.tr_grammar.specs.Forms.{is_second, InsertText, EraseByte, SplitLine, GoTo, CopyText};
 ghost use Rattle.tr_grammar.specs.Forms.{PasteClip};
-ghost use Rattle.tr_words.specs.Answers.{texts};
+ghost use Rattle.tr_words.specs.Answers.{Answers, texts};
 ghost use Rattle.tr_script.specs.Reading.{Reads, act_line, editor_forms};
 
-use crate::act_lines::{ActLine, leaf_in_steps};
+use crate::act_lines::{ActLine, leaf_in_steps, leaf_with};
 use crate::names::leaf_of;
 use crate::refusals::NO_FORM;
 use crate::widget_lines::{WORDS_BEFORE_TEXT, acting};
 use tr_base::LeafId;
-use tr_grammar::{LineRefused, Meaning};
+use tr_grammar::{Code, LineRefused, Meaning};
 use tr_journal::Step;
 use tr_reader::Reader;
 use tr_widget::WidgetCmd;
@@ -109,6 +110,26 @@ fn read_paste(reader: &Reader, leaf: &str, values: &[&str]) -> Result<Meaning, L
     Ok(editing(leaf, EditorCmd::Paste))
 }
 
+/// A row and a column, by their words.
+fn spot_of(row: &str, column: &str) -> Result<(RowNumber, ColumnNumber), Code>
+    ensures { Answers (not (is_number 0 199 row.now) || (not (is_number 0 80 column.now) || false)) B2
+        (λ s. s ≡ (nat_of row.now, nat_of column.now)) result }
+{
+    let row = RowNumber::of(small(row, 0, LAST_ROW)?);
+    let column = ColumnNumber::of(small(column, 0, LAST_COLUMN)?);
+    Ok((row, column))
+}
+
+/// Two columns, by their words.
+fn columns_of(from: &str, to: &str) -> Result<(ColumnNumber, ColumnNumber), Code>
+    ensures { Answers (not (is_number 0 80 from.now) || (not (is_number 0 80 to.now) || false)) B2
+        (λ s. s ≡ (nat_of from.now, nat_of to.now)) result }
+{
+    let from = ColumnNumber::of(small(from, 0, LAST_COLUMN)?);
+    let to = ColumnNumber::of(small(to, 0, LAST_COLUMN)?);
+    Ok((from, to))
+}
+
 fn read_goto(reader: &Reader, leaf: &str, values: &[&str]) -> Result<Meaning, LineRefused>
     requires { is_second reader.now.version ≡ true }
     ensures { Reads reader.now (GoTo ∷ [])
@@ -117,10 +138,7 @@ fn read_goto(reader: &Reader, leaf: &str, values: &[&str]) -> Result<Meaning, Li
     let [row, column] = values else {
         return Err(NO_FORM);
     };
-    reader.in_steps()?;
-    let row = RowNumber::of(small(row, 0, LAST_ROW)?);
-    let column = ColumnNumber::of(small(column, 0, LAST_COLUMN)?);
-    let leaf = leaf_of(reader, leaf)?;
+    let (leaf, (row, column)) = leaf_with(reader, leaf, spot_of(row, column))?;
     Ok(editing(leaf, EditorCmd::Goto { row, column }))
 }
 
@@ -132,9 +150,6 @@ fn read_copy(reader: &Reader, leaf: &str, values: &[&str]) -> Result<Meaning, Li
     let [from, to] = values else {
         return Err(NO_FORM);
     };
-    reader.in_steps()?;
-    let from = ColumnNumber::of(small(from, 0, LAST_COLUMN)?);
-    let to = ColumnNumber::of(small(to, 0, LAST_COLUMN)?);
-    let leaf = leaf_of(reader, leaf)?;
+    let (leaf, (from, to)) = leaf_with(reader, leaf, columns_of(from, to))?;
     Ok(editing(leaf, EditorCmd::Copy { from, to }))
 }

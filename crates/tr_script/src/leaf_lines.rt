@@ -1,13 +1,14 @@
 //! The readers of the lines that declare leaves. Each tests for its faults in the order of their codes.
-ghost use Rattle.std.specs.Prelude.{◌≡◌, [], ◌∷◌, codes, not};
+ghost use Rattle.std.specs.Prelude.{◌≡◌, [], ◌∷◌, ◌||◌, codes, false, not, IfErr};
 ghost use Rattle.std.specs.List.{AllPass};
 ghost use Rattle.tr_base.specs.Lines.{is_printable};
-ghost use Rattle.tr_grammar.specs.Words.{words_of};
+ghost use Rattle.tr_grammar.specs.declared.Code.TheVariants.{B2};
+ghost use Rattle.tr_grammar.specs.Words.{words_of, hex_of, int_of, is_hex, is_signed};
 ghost use Rattle.tr_grammar.specs.Forms.{leaf_forms};
 ghost use Rattle.tr_grammar.specs.Forms as form;
 ghost use Rattle.tr_grammar.specs.Faults.{allows, opening_line};
-ghost use Rattle.tr_words.specs.Answers.{texts};
-ghost use Rattle.tr_script.specs.Reading.{Begins, Reads, head_faults, leaf_line, shapes_in};
+ghost use Rattle.tr_words.specs.Answers.{Answers, texts};
+ghost use Rattle.tr_script.specs.Reading.{Begins, Reads, ReadsHead, head_faults, leaf_line, shapes_in};
 
 use crate::refusals::NO_FORM;
 use std::alloc::Global;
@@ -113,6 +114,44 @@ fn shapes_of(reader: &Reader, head: &LeafWords) -> Result<Shapes, Code>
     Ok(Shapes { across, down })
 }
 
+/// The same of a leaf whose name is new, and the value that its words spell behind the widget's.
+fn head_of<V: Copy>(
+    reader: &Reader,
+    head: &LeafWords,
+    value: Result<V, Code>,
+) -> Result<(Shapes, V), Code>
+    requires { IfErr value (λ e. e ≡ B2) }
+    ensures { ReadsHead reader.now head.now value result }
+{
+    let shapes = shapes_of(reader, head)?;
+    let value = value?;
+    reader.is_new(head.name)?;
+    Ok((shapes, value))
+}
+
+/// A leaf with this content.
+fn leaf(shapes: Shapes, content: Widget) -> Meaning
+    ensures { result ≡ Meaning.Item (Item.Leaf shapes content) }
+{
+    Meaning::Item(Item::Leaf { shapes, content })
+}
+
+/// A Board, by its words.
+fn board_of(tile: &str, h: &str, v: &str) -> Result<Board, Code>
+    ensures { Answers (not (is_hex 8 tile.now)
+        || (not (is_signed 4096 4096 h.now) || (not (is_signed 4096 4096 v.now) || false))) B2
+        (λ b. b ≡ record {
+          tile = record { rows = hex_of 8 tile.now };
+          shift = record { h = int_of h.now; v = int_of v.now };
+        })
+        result }
+{
+    let tile = Tile { rows: rows(tile)? };
+    let h = shift(h)?;
+    let v = shift(v)?;
+    Ok(Board::new(tile, Point { h, v }))
+}
+
 fn read_solid(reader: &Reader, head: &LeafWords, values: &[&str]) -> Result<Meaning, LineRefused>
     ensures { Reads reader.now (form.Solid ∷ []) (leaf_line head.now
         (codes "solid") (texts values.now)) result }
@@ -120,11 +159,8 @@ fn read_solid(reader: &Reader, head: &LeafWords, values: &[&str]) -> Result<Mean
     let [tint] = values else {
         return Err(NO_FORM);
     };
-    let shapes = shapes_of(reader, head)?;
-    let tint = byte(tint)?;
-    reader.is_new(head.name)?;
-    let content = Widget::Solid(Solid::new(tint));
-    Ok(Meaning::Item(Item::Leaf { shapes, content }))
+    let (shapes, tint) = head_of(reader, head, byte(tint))?;
+    Ok(leaf(shapes, Widget::Solid(Solid::new(tint))))
 }
 
 fn read_board(reader: &Reader, head: &LeafWords, values: &[&str]) -> Result<Meaning, LineRefused>
@@ -134,13 +170,8 @@ fn read_board(reader: &Reader, head: &LeafWords, values: &[&str]) -> Result<Mean
     let [tile, h, v] = values else {
         return Err(NO_FORM);
     };
-    let shapes = shapes_of(reader, head)?;
-    let tile = Tile { rows: rows(tile)? };
-    let h = shift(h)?;
-    let v = shift(v)?;
-    reader.is_new(head.name)?;
-    let content = Widget::Board(Board::new(tile, Point { h, v }));
-    Ok(Meaning::Item(Item::Leaf { shapes, content }))
+    let (shapes, board) = head_of(reader, head, board_of(tile, h, v))?;
+    Ok(leaf(shapes, Widget::Board(board)))
 }
 
 fn read_label(
@@ -157,8 +188,7 @@ fn read_label(
     let shapes = shapes_of(reader, head)?;
     let text = text(rest_after(line, WORDS_BEFORE_TEXT))?;
     reader.is_new(head.name)?;
-    let content = Widget::Label(Label::new(text)?);
-    Ok(Meaning::Item(Item::Leaf { shapes, content }))
+    Ok(leaf(shapes, Widget::Label(Label::new(text)?)))
 }
 
 fn read_typescript(
@@ -173,10 +203,8 @@ fn read_typescript(
     let [] = values else {
         return Err(NO_FORM);
     };
-    let shapes = shapes_of(reader, head)?;
-    reader.is_new(head.name)?;
-    let content = Widget::Lines(Lines::new(alloc)?);
-    Ok(Meaning::Item(Item::Leaf { shapes, content }))
+    let (shapes, ()) = head_of(reader, head, Ok(()))?;
+    Ok(leaf(shapes, Widget::Lines(Lines::new(alloc)?)))
 }
 
 fn read_canvas(
@@ -191,10 +219,8 @@ fn read_canvas(
     let [] = values else {
         return Err(NO_FORM);
     };
-    let shapes = shapes_of(reader, head)?;
-    reader.is_new(head.name)?;
-    let content = Widget::Canvas(Canvas::new(alloc)?);
-    Ok(Meaning::Item(Item::Leaf { shapes, content }))
+    let (shapes, ()) = head_of(reader, head, Ok(()))?;
+    Ok(leaf(shapes, Widget::Canvas(Canvas::new(alloc)?)))
 }
 
 fn read_meter(
@@ -209,11 +235,8 @@ fn read_meter(
     let [bars] = values else {
         return Err(NO_FORM);
     };
-    let shapes = shapes_of(reader, head)?;
-    let bars = small(bars, 1, 32)?;
-    reader.is_new(head.name)?;
-    let content = Widget::Meter(Meter::new(alloc, bars)?);
-    Ok(Meaning::Item(Item::Leaf { shapes, content }))
+    let (shapes, bars) = head_of(reader, head, small(bars, 1, 32))?;
+    Ok(leaf(shapes, Widget::Meter(Meter::new(alloc, bars)?)))
 }
 
 fn read_editor(
@@ -231,8 +254,6 @@ fn read_editor(
     if !reader.is_second() {
         return Err(NO_FORM);
     }
-    let shapes = shapes_of(reader, head)?;
-    reader.is_new(head.name)?;
-    let content = Widget::Editor(Editor::new(alloc)?);
-    Ok(Meaning::Item(Item::Leaf { shapes, content }))
+    let (shapes, ()) = head_of(reader, head, Ok(()))?;
+    Ok(leaf(shapes, Widget::Editor(Editor::new(alloc)?)))
 }

@@ -1,16 +1,19 @@
 //! The readers of the lines of the opening. Each tests for its faults in the order of their codes.
-ghost use Rattle.std.specs.Prelude.{◌≡◌, [], ◌∷◌, bytes_eq, codes, not};
-ghost use Rattle.tr_grammar.specs.Words.{is_name, is_number, nat_of};
+ghost use Rattle.std.specs.Prelude.{◌≡◌, [], ◌∷◌, ◌||◌, bytes_eq, codes, false, not, IfErr, IfOk};
+ghost use Rattle.tr_base.specs.Layouts.{farthest, IsOffset};
+ghost use Rattle.tr_forest.specs.Nodes.{IsSize};
+ghost use Rattle.tr_grammar.specs.declared.Code.TheVariants.{B2};
+ghost use Rattle.tr_grammar.specs.Words.{int_of, is_name, is_number, is_signed, nat_of};
 ghost use Rattle.tr_grammar.specs.Forms.{node_forms, split_words, way_words, Version, Screen, Glyph};
 ghost use Rattle.tr_grammar.specs.Forms.{Split, Page, Border, Rigid, Translate, Pack, Put, PutAt, Root, Begin};
 ghost use Rattle.tr_grammar.specs.Meanings.{split_of};
 ghost use Rattle.tr_grammar.specs.Faults.{allows, opening_line};
-ghost use Rattle.tr_words.specs.Answers.{Chooses, texts};
-ghost use Rattle.tr_script.specs.Reading.{Begins, Reads};
+ghost use Rattle.tr_words.specs.Answers.{Answers, Chooses, texts};
+ghost use Rattle.tr_script.specs.Reading.{Begins, Reads, ReadsHanging, ReadsTint};
 
 use crate::names::node_of;
 use crate::refusals::NO_FORM;
-use tr_base::{Point, Size};
+use tr_base::{NodeId, Point, Size};
 use tr_forest::NodeKind;
 use tr_grammar::{Code, LineRefused, Meaning};
 use tr_journal::Item;
@@ -109,6 +112,51 @@ fn tint_of(reader: &Reader, new: &str, tint: &str) -> Result<u8, Code>
     Ok(tint)
 }
 
+/// The same of a node whose name is new, and the value of the words behind its tint.
+fn tint_with<V: Copy>(
+    reader: &Reader,
+    new: &str,
+    tint: &str,
+    value: Result<V, Code>,
+) -> Result<(u8, V), Code>
+    requires { IfErr value (λ e. e ≡ B2) }
+    ensures { ReadsTint reader.now new.now tint.now value result }
+{
+    let tint = tint_of(reader, new, tint)?;
+    let value = value?;
+    reader.is_new(new)?;
+    Ok((tint, value))
+}
+
+/// A node that isn't a leaf.
+fn node(kind: NodeKind, tint: u8) -> Meaning
+    ensures { result ≡ Meaning.Item (Item.Node kind tint) }
+{
+    Meaning::Item(Item::Node { kind, tint })
+}
+
+/// Where a child of a Z stands or how far a Translate moves, by its words.
+pub fn offset_of(h: &str, v: &str) -> Result<Point, Code>
+    ensures value { Answers (not (is_signed 2048 2048 h.now) || (not (is_signed 2048 2048 v.now) || false)) B2
+        (λ p. p ≡ record { h = int_of h.now; v = int_of v.now }) result }
+    ensures range { IfOk result (IsOffset farthest) }
+{
+    let h = offset(h)?;
+    let v = offset(v)?;
+    Ok(Point { h, v })
+}
+
+/// The lengths of a window, by their words.
+pub fn size_of(wide: &str, high: &str) -> Result<Size, Code>
+    ensures value { Answers (not (is_number 0 4096 wide.now) || (not (is_number 0 4096 high.now) || false)) B2
+        (λ s. s ≡ record { wide = nat_of wide.now; high = nat_of high.now }) result }
+    ensures range { IfOk result IsSize }
+{
+    let wide = extent(wide)?;
+    let high = extent(high)?;
+    Ok(Size { wide, high })
+}
+
 fn read_split(
     reader: &Reader,
     new: &str,
@@ -124,9 +172,8 @@ fn read_split(
     let Some(kind) = split_of(kind) else {
         return Err(NO_FORM);
     };
-    let tint = tint_of(reader, new, tint)?;
-    reader.is_new(new)?;
-    Ok(Meaning::Item(Item::Node { kind, tint }))
+    let (tint, ()) = tint_with(reader, new, tint, Ok(()))?;
+    Ok(node(kind, tint))
 }
 
 fn read_page(reader: &Reader, new: &str, values: &[&str]) -> Result<Meaning, LineRefused>
@@ -136,11 +183,8 @@ fn read_page(reader: &Reader, new: &str, values: &[&str]) -> Result<Meaning, Lin
     let [tint, per] = values else {
         return Err(NO_FORM);
     };
-    let tint = tint_of(reader, new, tint)?;
-    let per = small(per, 1, 16)?;
-    reader.is_new(new)?;
-    let kind = NodeKind::Page { per, page: 0 };
-    Ok(Meaning::Item(Item::Node { kind, tint }))
+    let (tint, per) = tint_with(reader, new, tint, small(per, 1, 16))?;
+    Ok(node(NodeKind::Page { per, page: 0 }, tint))
 }
 
 fn read_border(reader: &Reader, new: &str, values: &[&str]) -> Result<Meaning, LineRefused>
@@ -150,11 +194,8 @@ fn read_border(reader: &Reader, new: &str, values: &[&str]) -> Result<Meaning, L
     let [tint, width] = values else {
         return Err(NO_FORM);
     };
-    let tint = tint_of(reader, new, tint)?;
-    let width = byte(width)?;
-    reader.is_new(new)?;
-    let kind = NodeKind::Border { width };
-    Ok(Meaning::Item(Item::Node { kind, tint }))
+    let (tint, width) = tint_with(reader, new, tint, byte(width))?;
+    Ok(node(NodeKind::Border { width }, tint))
 }
 
 fn read_rigid(reader: &Reader, new: &str, values: &[&str]) -> Result<Meaning, LineRefused>
@@ -164,14 +205,8 @@ fn read_rigid(reader: &Reader, new: &str, values: &[&str]) -> Result<Meaning, Li
     let [tint, wide, high] = values else {
         return Err(NO_FORM);
     };
-    let tint = tint_of(reader, new, tint)?;
-    let wide = extent(wide)?;
-    let high = extent(high)?;
-    reader.is_new(new)?;
-    let kind = NodeKind::Rigid {
-        size: Size { wide, high },
-    };
-    Ok(Meaning::Item(Item::Node { kind, tint }))
+    let (tint, size) = tint_with(reader, new, tint, size_of(wide, high))?;
+    Ok(node(NodeKind::Rigid { size }, tint))
 }
 
 fn read_translate(reader: &Reader, new: &str, values: &[&str]) -> Result<Meaning, LineRefused>
@@ -181,12 +216,8 @@ fn read_translate(reader: &Reader, new: &str, values: &[&str]) -> Result<Meaning
     let [tint, h, v] = values else {
         return Err(NO_FORM);
     };
-    let tint = tint_of(reader, new, tint)?;
-    let h = offset(h)?;
-    let v = offset(v)?;
-    reader.is_new(new)?;
-    let kind = NodeKind::Translate { by: Point { h, v } };
-    Ok(Meaning::Item(Item::Node { kind, tint }))
+    let (tint, by) = tint_with(reader, new, tint, offset_of(h, v))?;
+    Ok(node(NodeKind::Translate { by }, tint))
 }
 
 fn read_pack(reader: &Reader, new: &str, values: &[&str]) -> Result<Meaning, LineRefused>
@@ -202,11 +233,24 @@ fn read_pack(reader: &Reader, new: &str, values: &[&str]) -> Result<Meaning, Lin
     if !reader.is_second() {
         return Err(NO_FORM);
     }
-    let tint = tint_of(reader, new, tint)?;
-    let gap = small(gap, 0, 64)?;
-    reader.is_new(new)?;
-    let kind = NodeKind::Pack { down, gap };
-    Ok(Meaning::Item(Item::Node { kind, tint }))
+    let (tint, gap) = tint_with(reader, new, tint, small(gap, 0, 64))?;
+    Ok(node(NodeKind::Pack { down, gap }, tint))
+}
+
+/// A child, its parent and where it stands, by the words of both.
+pub fn hanging_of(
+    reader: &Reader,
+    child: &str,
+    parent: &str,
+    at: Result<Point, Code>,
+) -> Result<(NodeId, NodeId, Point), Code>
+    requires { IfErr at (λ e. e ≡ B2) }
+    ensures { ReadsHanging reader.now child.now parent.now at result }
+{
+    let at = at?;
+    let child = node_of(reader, child)?;
+    let parent = node_of(reader, parent)?;
+    Ok((child, parent, at))
 }
 
 pub fn read_put(reader: &Reader, words: &[&str]) -> Result<Meaning, LineRefused>
@@ -235,11 +279,7 @@ fn read_put_at(reader: &Reader, words: &[&str]) -> Result<Meaning, LineRefused>
         return Err(NO_FORM);
     };
     reader.in_opening()?;
-    let h = offset(h)?;
-    let v = offset(v)?;
-    let child = node_of(reader, child)?;
-    let parent = node_of(reader, parent)?;
-    let at = Point { h, v };
+    let (child, parent, at) = hanging_of(reader, child, parent, offset_of(h, v))?;
     Ok(Meaning::Item(Item::Put { child, parent, at }))
 }
 

@@ -1,15 +1,16 @@
 //! The readers of commands for leaves' widgets. Each tests for its faults in the order of their codes.
-ghost use Rattle.std.specs.Prelude.{◌≡◌, [], ◌∷◌, codes, Some};
+ghost use Rattle.std.specs.Prelude.{◌≡◌, [], ◌∷◌, ◌||◌, codes, false, not, Some};
 ghost use Rattle.std.specs.List.{AllPass};
 ghost use Rattle.tr_base.specs.Lines.{is_printable};
 ghost use Rattle.tr_journal.specs.declared.Actor.TheVariants as actors;
-ghost use Rattle.tr_grammar.specs.Words.{words_of};
+ghost use Rattle.tr_grammar.specs.declared.Code.TheVariants.{B2};
+ghost use Rattle.tr_grammar.specs.Words.{words_of, int_of, is_number, is_signed, nat_of};
 ghost use Rattle.tr_grammar.specs.Forms.{SetTint, SetTile, SetShift, SetText, AddLine, Clear};
 ghost use Rattle.tr_grammar.specs.Forms.{AddRect, AddSwap, AddExchange, Undo, SetBar};
-ghost use Rattle.tr_words.specs.Answers.{texts};
-ghost use Rattle.tr_script.specs.Reading.{Reads, ReadsAs, ReadsEdges, act_line, command_forms, edges_of, edge_words};
+ghost use Rattle.tr_words.specs.Answers.{Answers, texts};
+ghost use Rattle.tr_script.specs.Reading.{Reads, ReadsAs, ReadsEdges, act_line, any_edge, command_forms, edges_of, edge_words};
 
-use crate::act_lines::{ActLine, EdgeWords, by_leaf, leaf_in_steps};
+use crate::act_lines::{ActLine, EdgeWords, by_leaf, leaf_in_steps, leaf_with};
 use crate::editor_lines::read_editing;
 use crate::names::leaf_of;
 use crate::refusals::NO_FORM;
@@ -74,9 +75,7 @@ fn read_set_tint(reader: &Reader, leaf: &str, values: &[&str]) -> Result<Meaning
     let [tint] = values else {
         return Err(NO_FORM);
     };
-    reader.in_steps()?;
-    let tint = byte(tint)?;
-    let leaf = leaf_of(reader, leaf)?;
+    let (leaf, tint) = leaf_with(reader, leaf, byte(tint))?;
     Ok(acting(leaf, WidgetCmd::Solid(SolidCmd::Tint(tint))))
 }
 
@@ -87,10 +86,19 @@ fn read_tile(reader: &Reader, leaf: &str, values: &[&str]) -> Result<Meaning, Li
     let [tile] = values else {
         return Err(NO_FORM);
     };
-    reader.in_steps()?;
-    let tile = Tile { rows: rows(tile)? };
-    let leaf = leaf_of(reader, leaf)?;
+    let (leaf, rows) = leaf_with(reader, leaf, rows(tile))?;
+    let tile = Tile { rows };
     Ok(acting(leaf, WidgetCmd::Board(BoardCmd::Tile(tile))))
+}
+
+/// How far a tile moves, by its words.
+fn shift_of(h: &str, v: &str) -> Result<Shift, Code>
+    ensures { Answers (not (is_signed 4096 4096 h.now) || (not (is_signed 4096 4096 v.now) || false)) B2
+        (λ p. p ≡ record { h = int_of h.now; v = int_of v.now }) result }
+{
+    let h = shift(h)?;
+    let v = shift(v)?;
+    Ok(Shift::by(Point { h, v }))
 }
 
 fn read_shift(reader: &Reader, leaf: &str, values: &[&str]) -> Result<Meaning, LineRefused>
@@ -100,11 +108,7 @@ fn read_shift(reader: &Reader, leaf: &str, values: &[&str]) -> Result<Meaning, L
     let [h, v] = values else {
         return Err(NO_FORM);
     };
-    reader.in_steps()?;
-    let h = shift(h)?;
-    let v = shift(v)?;
-    let by = Shift::by(Point { h, v });
-    let leaf = leaf_of(reader, leaf)?;
+    let (leaf, by) = leaf_with(reader, leaf, shift_of(h, v))?;
     Ok(acting(leaf, WidgetCmd::Board(BoardCmd::Shift(by))))
 }
 
@@ -153,6 +157,25 @@ fn read_clear(reader: &Reader, leaf: &str, values: &[&str]) -> Result<Meaning, L
     Ok(acting(leaf, WidgetCmd::Lines(LinesCmd::Clear)))
 }
 
+/// The rectangle of a figure's edges and its colour, by their words.
+fn rect_of(edges: &EdgeWords, tint: &str) -> Result<(Area, u8), Code>
+    ensures { Answers (any_edge edges.now (not (is_number 0 255 tint.now) || false)) B2
+        (λ r. r ≡ (edges_of edges.now, nat_of tint.now)) result }
+{
+    let area = area_of(edges)?;
+    let tint = byte(tint)?;
+    Ok((area, tint))
+}
+
+/// The values of a rectangle's line.
+fn rect(reader: &Reader, leaf: &str, edges: &EdgeWords, tint: &str) -> Result<Meaning, LineRefused>
+    ensures { ReadsAs reader.now (Some AddRect)
+        ((64 ∷ leaf.now) ∷ codes "rect" ∷ edge_words edges.now (tint.now ∷ [])) result }
+{
+    let (leaf, (area, tint)) = leaf_with(reader, leaf, rect_of(edges, tint))?;
+    Ok(acting(leaf, WidgetCmd::Canvas(CanvasCmd::Rect { area, tint })))
+}
+
 fn read_rect(reader: &Reader, leaf: &str, values: &[&str]) -> Result<Meaning, LineRefused>
     ensures { Reads reader.now (AddRect ∷ [])
         ((64 ∷ leaf.now) ∷ codes "rect" ∷ texts values.now) result }
@@ -160,16 +183,13 @@ fn read_rect(reader: &Reader, leaf: &str, values: &[&str]) -> Result<Meaning, Li
     let [west, east, north, south, tint] = values else {
         return Err(NO_FORM);
     };
-    reader.in_steps()?;
-    let area = area_of(&EdgeWords {
+    let edges = EdgeWords {
         west,
         east,
         north,
         south,
-    })?;
-    let tint = byte(tint)?;
-    let leaf = leaf_of(reader, leaf)?;
-    Ok(acting(leaf, WidgetCmd::Canvas(CanvasCmd::Rect { area, tint })))
+    };
+    rect(reader, leaf, &edges, tint)
 }
 
 fn read_swap(reader: &Reader, leaf: &str, values: &[&str]) -> Result<Meaning, LineRefused>
@@ -179,13 +199,22 @@ fn read_swap(reader: &Reader, leaf: &str, values: &[&str]) -> Result<Meaning, Li
     let [west, east, north, south] = values else {
         return Err(NO_FORM);
     };
-    reader.in_steps()?;
-    let area = area_of(&EdgeWords {
+    let edges = EdgeWords {
         west,
         east,
         north,
         south,
-    })?;
+    };
+    swap(reader, leaf, &edges)
+}
+
+/// The values of a swap's line.
+fn swap(reader: &Reader, leaf: &str, edges: &EdgeWords) -> Result<Meaning, LineRefused>
+    ensures { ReadsAs reader.now (Some AddSwap)
+        ((64 ∷ leaf.now) ∷ codes "swap" ∷ edge_words edges.now []) result }
+{
+    reader.in_steps()?;
+    let area = area_of(edges)?;
     let leaf = leaf_of(reader, leaf)?;
     Ok(acting(
         leaf,
@@ -212,6 +241,18 @@ fn read_exchange(reader: &Reader, leaf: &str, values: &[&str]) -> Result<Meaning
     exchange(reader, leaf, &edges, a, b)
 }
 
+/// The rectangle of a figure's edges and two colours, by their words.
+fn colours_of(edges: &EdgeWords, a: &str, b: &str) -> Result<(Area, u8, u8), Code>
+    ensures { Answers
+        (any_edge edges.now (not (is_number 0 255 a.now) || (not (is_number 0 255 b.now) || false))) B2
+        (λ r. r ≡ (edges_of edges.now, nat_of a.now, nat_of b.now)) result }
+{
+    let area = area_of(edges)?;
+    let a = byte(a)?;
+    let b = byte(b)?;
+    Ok((area, a, b))
+}
+
 /// The values of an exchange's line.
 fn exchange(
     reader: &Reader,
@@ -223,11 +264,7 @@ fn exchange(
     ensures { ReadsAs reader.now (Some AddExchange)
         ((64 ∷ leaf.now) ∷ codes "exchange" ∷ edge_words edges.now (a.now ∷ b.now ∷ [])) result }
 {
-    reader.in_steps()?;
-    let area = area_of(edges)?;
-    let a = byte(a)?;
-    let b = byte(b)?;
-    let leaf = leaf_of(reader, leaf)?;
+    let (leaf, (area, a, b)) = leaf_with(reader, leaf, colours_of(edges, a, b))?;
     Ok(acting(leaf, WidgetCmd::Canvas(CanvasCmd::Exchange { area, a, b })))
 }
 
@@ -242,6 +279,16 @@ fn read_undo(reader: &Reader, leaf: &str, values: &[&str]) -> Result<Meaning, Li
     Ok(acting(leaf, WidgetCmd::Canvas(CanvasCmd::Undo)))
 }
 
+/// A bar and its height, by their words.
+fn bar_of(bar: &str, height: &str) -> Result<(BarNumber, u8), Code>
+    ensures { Answers (not (is_number 0 31 bar.now) || (not (is_number 0 255 height.now) || false)) B2
+        (λ b. b ≡ (nat_of bar.now, nat_of height.now)) result }
+{
+    let bar = BarNumber::of(small(bar, 0, 31)?);
+    let height = byte(height)?;
+    Ok((bar, height))
+}
+
 fn read_bar(reader: &Reader, leaf: &str, values: &[&str]) -> Result<Meaning, LineRefused>
     ensures { Reads reader.now (SetBar ∷ [])
         ((64 ∷ leaf.now) ∷ codes "bar" ∷ texts values.now) result }
@@ -249,9 +296,6 @@ fn read_bar(reader: &Reader, leaf: &str, values: &[&str]) -> Result<Meaning, Lin
     let [bar, height] = values else {
         return Err(NO_FORM);
     };
-    reader.in_steps()?;
-    let bar = BarNumber::of(small(bar, 0, 31)?);
-    let height = byte(height)?;
-    let leaf = leaf_of(reader, leaf)?;
+    let (leaf, (bar, height)) = leaf_with(reader, leaf, bar_of(bar, height))?;
     Ok(acting(leaf, WidgetCmd::Meter(MeterCmd::Bar { bar, height })))
 }

@@ -1,0 +1,19 @@
+use Rattle.std.proofs.Common.{ℕ, List, [], rules}
+use Rattle.std.specs.Borrow.{Bor}
+use Rattle.tr_script.proofs.FormLemmas.{just_four}
+use Rattle.tr_script.proofs.desk_lines.read_attach_at.Goals as goal
+
+no_word : Bor (List ℕ)
+no_word = record { ref_ptr = (0, 0); now = [] }
+
+pub returns-in_err-in_steps : goal.returns-in_err-in_steps
+unfolding no_word
+returns-in_err-in_steps c = rw (just_four c.args.words.now no_word c.in-len4.len_at_least c.in-len4.len_below) (search rules)
+
+pub returns-in_err-child : goal.returns-in_err-child
+unfolding no_word
+returns-in_err-child c = rw (just_four c.args.words.now no_word c.in-len4.len_at_least c.in-len4.len_below) (search rules)
+
+pub returns : goal.returns
+unfolding no_word
+returns c = rw (just_four c.args.words.now no_word c.in-len4.len_at_least c.in-len4.len_below) (search rules)

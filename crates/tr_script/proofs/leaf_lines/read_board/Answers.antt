@@ -1,0 +1,15 @@
+use Rattle.std.proofs.Common.{ℕ, List, [], rules}
+use Rattle.std.specs.Borrow.{Bor}
+use Rattle.tr_script.proofs.FormLemmas.{just_three}
+use Rattle.tr_script.proofs.leaf_lines.read_board.Goals as goal
+
+no_word : Bor (List ℕ)
+no_word = record { ref_ptr = (0, 0); now = [] }
+
+pub returns-in_err-shapes : goal.returns-in_err-shapes
+unfolding no_word
+returns-in_err-shapes c = rw (just_three c.args.values.now no_word c.in-len3.len_at_least c.in-len3.len_below) (search rules)
+
+pub returns : goal.returns
+unfolding no_word
+returns c = rw (just_three c.args.values.now no_word c.in-len3.len_at_least c.in-len3.len_below) (search rules)
