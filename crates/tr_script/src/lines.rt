@@ -131,6 +131,7 @@ fn take_said(
     ensures err { OnErr result (steps.new ≡ steps.old) }
 {
     if reader.is_foreign(&meaning) {
+        drop(meaning);
         return Ok(false);
     }
     push_said(steps, meaning)
@@ -186,9 +187,11 @@ fn take_meaning<'a>(
         ⊎ ((MOST_LINES < number) × (reader.new ≡ after reader.old name.now meaning))) }
 {
     if reader.is_foreign(&meaning) {
+        drop(meaning);
         return Err(LineRefused::Fault(Code::B10));
     }
     if reader.is_one_too_many(&meaning) {
+        drop(meaning);
         return Err(LineRefused::Fault(Code::B7));
     }
     reader.add(name, meaning)?;
