@@ -1,8 +1,9 @@
 //! Calls of a session, each behind the conditions that it asks for: where one doesn't hold, the test ends.
+use super::ends::made;
 use super::openings::Coloured;
 use std::process::Abort;
 use std::sync::Wait;
-use tr_base::{LeafId, NoMemory};
+use tr_base::LeafId;
 use tr_client::Client;
 use tr_journal::{Actor, Step, is_step, may};
 use tr_levels::Ladder;
@@ -23,12 +24,12 @@ pub fn post<C: Coloured, L: Session, R: Wait + Abort>(
     window: &Window<C, L>,
     pass: &mut Pass<C, L>,
     tint: u8,
-) -> Result<(), NoMemory> {
+) {
     assert!(rt; pass.actor() == Actor::Leaf(window.leaf()) && pass.posted() < 64);
     let ladder = Ladder::ground();
     let posted = window.act(rt, &ladder, pass, C::tint(tint));
     ladder.end();
-    posted
+    made(rt, posted);
 }
 
 /// The window's client makes this command under the tree's lock.
@@ -37,13 +38,13 @@ pub fn act_under<C: Coloured, L: Session, R: Wait + Abort>(
     server: &Server<C, L>,
     pass: &mut Pass<C, L>,
     tint: u8,
-) -> Result<(), NoMemory> {
+) {
     let window = window(rt, server);
     assert!(rt; pass.actor() == Actor::Leaf(window.leaf()));
     let mut mu = server.enter(rt, Ladder::ground());
     let acted = window.act_under(rt, &mut mu, pass, C::tint(tint));
     mu.leave().end();
-    acted
+    made(rt, acted);
 }
 
 /// The window's client makes another step under it.
@@ -52,15 +53,14 @@ pub fn client_step<C: Coloured, L: Session, R: Wait + Abort>(
     server: &Server<C, L>,
     pass: &mut Pass<C, L>,
     step: Step<C::Cmd>,
-) -> Result<(), NoMemory> {
+) {
     let window = window(rt, server);
     assert!(rt; pass.actor() == Actor::Leaf(window.leaf()) && may(pass.actor(), &step));
     assert!(rt; is_step(server.opening().tree(), &step));
     let mut mu = server.enter(rt, Ladder::ground());
-    let made = mu.client_step(rt, window, pass, step);
+    let stepped = mu.client_step(rt, window, pass, step);
     mu.leave().end();
-    made?;
-    Ok(())
+    made(rt, stepped);
 }
 
 /// An actor that is no client makes a step.
@@ -69,9 +69,8 @@ pub fn step<C: Coloured, L: Session>(
     mu: &mut Mu<'_, C, L>,
     pass: &mut Pass<C, L>,
     step: Step<C::Cmd>,
-) -> Result<(), NoMemory> {
+) {
     assert!(rt; may(pass.actor(), &step) && is_step(mu.stage().opening().tree(), &step));
     assert!(rt; !matches!(pass.actor(), Actor::Leaf(_)));
-    mu.step(pass, step)?;
-    Ok(())
+    made(rt, mu.step(pass, step));
 }

@@ -6,6 +6,8 @@ mod beside;
 #[cfg(test)]
 mod calls;
 #[cfg(test)]
+mod ends;
+#[cfg(test)]
 mod lines;
 #[cfg(test)]
 mod openings;

@@ -1,11 +1,10 @@
 //! The stage of one window, and what tests ask of its client.
 ghost use Rattle.std.specs.Prelude.{◌≤◌};
 
-use std::alloc::Global;
+use super::ends::made;
 use std::process::Abort;
-use tr_base::{Kind, NoMemory, NodeId, Shape, Shapes, Size};
+use tr_base::{Kind, NodeId, Shape, Shapes, Size};
 use tr_client::Client;
-use tr_forest::EditRefused;
 use tr_journal::Opening;
 use tr_stage::Stage;
 use w_plain::{Solid, SolidCmd};
@@ -42,42 +41,33 @@ pub fn exactly(length: u16) -> Shape
 }
 
 /// Adds a leaf of two by two points.
-fn add_leaf<C: Client>(
-    rt: &impl Abort,
-    opening: &mut Opening<C>,
-    content: C,
-) -> Result<(), NoMemory> {
+fn add_leaf<C: Client>(rt: &impl Abort, opening: &mut Opening<C>, content: C) {
     assert!(rt; opening.tree().count() < 256 && opening.tree().leaves() < 32);
     let shapes = Shapes {
         across: exactly(2),
         down: exactly(2),
     };
-    opening.leaf(shapes, content)?;
-    Ok(())
+    made(rt, opening.leaf(shapes, content));
 }
 
 /// Makes the first node the root.
-fn set_root<C: Client>(rt: &impl Abort, opening: &mut Opening<C>) -> Result<(), EditRefused> {
+fn set_root<C: Client>(rt: &impl Abort, opening: &mut Opening<C>) {
     assert!(rt; 0 < opening.tree().count());
-    opening.root(NodeId(0))
+    made(rt, opening.root(NodeId(0)));
 }
 
 /// One window of the colour 1, that fills a screen of two by two points.
-fn one_window<C: Coloured>(alloc: Global, rt: &impl Abort) -> Result<Opening<C>, EditRefused> {
-    let mut opening = Opening::new(alloc, Size { wide: 2, high: 2 }, Kind::Map8)?;
-    add_leaf(rt, &mut opening, C::of(1))?;
-    set_root(rt, &mut opening)?;
-    Ok(opening)
+fn one_window<C: Coloured>(rt: &(impl Abort + AllocGlobal)) -> Opening<C> {
+    let size = Size { wide: 2, high: 2 };
+    let mut opening = made(rt, Opening::new(rt.alloc(), size, Kind::Map8));
+    add_leaf(rt, &mut opening, C::of(1));
+    set_root(rt, &mut opening);
+    opening
 }
 
 /// The stage of that.
-pub fn stage_of_one<C: Coloured>(rt: &(impl Abort + AllocGlobal)) -> Result<Stage<C>, NoMemory> {
-    let Ok(opening) = one_window(rt.alloc(), rt) else {
-        return Err(NoMemory);
-    };
+pub fn stage_of_one<C: Coloured>(rt: &(impl Abort + AllocGlobal)) -> Stage<C> {
+    let opening = one_window(rt);
     assert!(rt; opening.is_ready());
-    match Stage::start(rt.alloc(), opening) {
-        Ok(stage) => Ok(stage),
-        Err(_opening) => Err(NoMemory),
-    }
+    made(rt, Stage::start(rt.alloc(), opening))
 }

@@ -1,14 +1,13 @@
 //! Rows of calls, each with what the journal has in the end.
 use super::calls::{act_under, client_step, post, step, window};
+use super::ends::made;
 use super::lines::{Line, has_lines};
 use super::openings::Coloured;
 use super::sessions::{Trial, played};
-use std::alloc::Global;
 use std::process::Abort;
 use std::sync::Wait;
-use std::test::Fail;
 use std::thread::Threads;
-use tr_base::{LeafId, NoMemory, Op, Rect, Size, whole};
+use tr_base::{LeafId, Op, Rect, Size, whole};
 use tr_forest::Edit;
 use tr_journal::Step;
 use tr_levels::Ladder;
@@ -22,18 +21,17 @@ pub fn hand_over_later<C: Coloured, L: Session, R: Wait + Abort>(
     rt: &R,
     server: &Server<C, L>,
     workers: &mut [Pass<C, L>],
-) -> Result<(), NoMemory> {
+) {
     assert!(rt; workers.len() == 3);
     let window = window(rt, server);
-    post(rt, window, &mut workers[0], 7)?;
+    post(rt, window, &mut workers[0], 7);
     let size = Size { wide: 3, high: 1 };
     let edit = Edit::Resize { size };
     let mut mu = server.enter(rt, Ladder::ground());
-    let made = step(rt, &mut mu, &mut workers[1], Step::Alter { edit });
+    step(rt, &mut mu, &mut workers[1], Step::Alter { edit });
     let handed = mu.hand_over(rt, window);
     mu.leave().end();
-    made?;
-    handed
+    made(rt, handed);
 }
 
 /// Whether one paint command waits: the whole window of this size, in a colour.
@@ -58,15 +56,16 @@ fn is_prepared_anew<C: Coloured>(stage: &Stage<C>) -> bool {
 }
 
 /// Whether that is so once it was handed over.
-fn prepares_anew<R: Threads + Wait + Sync + Abort + AllocGlobal>(rt: &R) -> Result<bool, NoMemory> {
-    let stage = played::<Solid, R>(rt, Trial::HandedLater)?;
-    Ok(is_prepared_anew(&stage))
+fn prepares_anew<R: Threads + Wait + Sync + Abort + AllocGlobal>(rt: &R) -> bool {
+    let stage = played::<Solid, R>(rt, Trial::HandedLater);
+    let is_prepared = is_prepared_anew(&stage);
+    drop(stage);
+    is_prepared
 }
 
 #[test]
-fn what_was_posted_is_prepared_anew_for_another_size(rt: HostRuntime) -> Result<(), Fail> {
-    assert!(rt; prepares_anew(&rt)?);
-    Ok(())
+fn what_was_posted_is_prepared_anew_for_another_size(rt: HostRuntime) {
+    assert!(rt; prepares_anew(&rt));
 }
 
 /// Whether the journal of one window's stage has these entries, and no others, after a trial.
@@ -74,9 +73,11 @@ pub fn leaves_lines<R: Threads + Wait + Sync + Abort + AllocGlobal>(
     rt: &R,
     trial: Trial,
     lines: &[Line],
-) -> Result<bool, NoMemory> {
-    let stage = played::<Solid, R>(rt, trial)?;
-    Ok(has_lines(&stage, lines))
+) -> bool {
+    let stage = played::<Solid, R>(rt, trial);
+    let has_lines = has_lines(&stage, lines);
+    drop(stage);
+    has_lines
 }
 
 /// Posts the commands for the colours from 0 to 63, as many as may be.
@@ -84,13 +85,12 @@ fn fill<C: Coloured, L: Session, R: Wait + Abort>(
     rt: &R,
     server: &Server<C, L>,
     pass: &mut Pass<C, L>,
-) -> Result<(), NoMemory> {
+) {
     let window = window(rt, server);
     for tint in 0..64u8 {
-        post(rt, window, pass, tint)?;
+        post(rt, window, pass, tint);
     }
     assert!(rt; pass.posted() == 64, "all are posted");
-    Ok(())
 }
 
 /// Fills a pass, and makes one command more under the tree's lock.
@@ -98,11 +98,10 @@ pub fn fill_and_act<C: Coloured, L: Session, R: Wait + Abort>(
     rt: &R,
     server: &Server<C, L>,
     pass: &mut Pass<C, L>,
-) -> Result<(), NoMemory> {
-    fill(rt, server, pass)?;
-    act_under(rt, server, pass, 64)?;
+) {
+    fill(rt, server, pass);
+    act_under(rt, server, pass, 64);
     assert!(rt; pass.posted() == 0, "none is posted");
-    Ok(())
 }
 
 /// The same, and then fills it again.
@@ -110,42 +109,40 @@ pub fn fill_again<C: Coloured, L: Session, R: Wait + Abort>(
     rt: &R,
     server: &Server<C, L>,
     pass: &mut Pass<C, L>,
-) -> Result<(), NoMemory> {
-    fill_and_act(rt, server, pass)?;
-    fill(rt, server, pass)
+) {
+    fill_and_act(rt, server, pass);
+    fill(rt, server, pass);
 }
 
 /// The entries that a pass makes which is filled, and one more.
-fn lines_of_full(alloc: Global) -> Result<Vec<Line>, NoMemory> {
-    let mut lines = Vec::new(alloc);
+fn lines_of_full(rt: &(impl Abort + AllocGlobal)) -> Vec<Line> {
+    let mut lines = Vec::new(rt.alloc());
     for tint in 0..64u8 {
-        lines.push(Line::Posted(tint))?;
+        made(rt, lines.push(Line::Posted(tint)));
     }
-    lines.push(Line::Acted(64))?;
-    Ok(lines)
+    made(rt, lines.push(Line::Acted(64)));
+    lines
 }
 
 #[test]
-fn a_full_pass_acts_under_the_lock(rt: HostRuntime) -> Result<(), Fail> {
-    let lines = lines_of_full(rt.alloc())?;
-    assert!(rt; leaves_lines(&rt, Trial::Full, &lines)?);
-    Ok(())
+fn a_full_pass_acts_under_the_lock(rt: HostRuntime) {
+    let lines = lines_of_full(&rt);
+    assert!(rt; leaves_lines(&rt, Trial::Full, &lines));
 }
 
 /// These, and those of the pass filled again.
-fn lines_of_both(alloc: Global) -> Result<Vec<Line>, NoMemory> {
-    let mut lines = lines_of_full(alloc)?;
+fn lines_of_both(rt: &(impl Abort + AllocGlobal)) -> Vec<Line> {
+    let mut lines = lines_of_full(rt);
     for tint in 0..64u8 {
-        lines.push(Line::Posted(tint))?;
+        made(rt, lines.push(Line::Posted(tint)));
     }
-    Ok(lines)
+    lines
 }
 
 #[test]
-fn a_pass_can_be_filled_again(rt: HostRuntime) -> Result<(), Fail> {
-    let lines = lines_of_both(rt.alloc())?;
-    assert!(rt; leaves_lines(&rt, Trial::FullAgain, &lines)?);
-    Ok(())
+fn a_pass_can_be_filled_again(rt: HostRuntime) {
+    let lines = lines_of_both(&rt);
+    assert!(rt; leaves_lines(&rt, Trial::FullAgain, &lines));
 }
 
 /// Two commands are posted, and then a part of the window is marked.
@@ -153,18 +150,17 @@ pub fn post_and_mark<C: Coloured, L: Session, R: Wait + Abort>(
     rt: &R,
     server: &Server<C, L>,
     pass: &mut Pass<C, L>,
-) -> Result<(), NoMemory> {
+) {
     let window = window(rt, server);
-    post(rt, window, pass, 7)?;
-    post(rt, window, pass, 8)?;
+    post(rt, window, pass, 7);
+    post(rt, window, pass, 8);
     let leaf = LeafId(0);
     let clip = Rect::edges(0, 1, 0, 1);
-    client_step(rt, server, pass, Step::Mark { leaf, clip })
+    client_step(rt, server, pass, Step::Mark { leaf, clip });
 }
 
 #[test]
-fn what_waits_comes_before_a_step_of_its_client(rt: HostRuntime) -> Result<(), Fail> {
+fn what_waits_comes_before_a_step_of_its_client(rt: HostRuntime) {
     let lines = [Line::Posted(7), Line::Posted(8), Line::Mark];
-    assert!(rt; leaves_lines(&rt, Trial::Marked, &lines)?);
-    Ok(())
+    assert!(rt; leaves_lines(&rt, Trial::Marked, &lines));
 }

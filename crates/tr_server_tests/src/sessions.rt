@@ -3,6 +3,7 @@ ghost use Rattle.std.specs.Prelude.{◌≡◌, ◌+◌, ◌*◌, length, vec_len
 ghost use Rattle.tr_server.specs.Sessions.{HasIds};
 
 use super::beside::act_beside;
+use super::ends::made;
 use super::openings::{Coloured, stage_of_one};
 use super::rows::{fill_again, fill_and_act, hand_over_later, post_and_mark};
 use super::shares::{give_back, paint_share, repaint_twice};
@@ -11,7 +12,6 @@ use std::process::Abort;
 use std::sync::Wait;
 use std::sync::ledger::Blank;
 use std::thread::Threads;
-use tr_base::NoMemory;
 use tr_client::Client;
 use tr_server::{CloseRefused, Pass, Passes, Server, Session};
 use tr_stage::Stage;
@@ -43,7 +43,7 @@ fn make<C: Coloured, L: Session, R: Threads + Wait + Sync + Abort>(
     trial: Trial,
     server: &Server<C, L>,
     workers: &mut [Pass<C, L>],
-) -> Result<(), NoMemory> {
+) {
     assert!(rt; 3 <= workers.len());
     match trial {
         Trial::HandedLater => hand_over_later(rt, server, workers),
@@ -61,8 +61,8 @@ fn make<C: Coloured, L: Session, R: Threads + Wait + Sync + Abort>(
 pub fn played<C: Coloured, R: Threads + Wait + Sync + Abort + AllocGlobal>(
     rt: &R,
     trial: Trial,
-) -> Result<Stage<C>, NoMemory> {
-    Ok(played_on(rt, trial, stage_of_one::<C>(rt)?))
+) -> Stage<C> {
+    played_on(rt, trial, stage_of_one::<C>(rt))
 }
 
 /// A stage after a session.
@@ -88,10 +88,8 @@ fn session<C: Coloured, L: Session, R: Threads + Wait + Sync + Abort + AllocGlob
     requires ids { HasIds L.nodes L.leaves stage.opening }
     requires entries { length stage.journal ≡ L.entries }
 {
-    match Server::<C, L>::start(rt.alloc(), blank, stage) {
-        Ok((server, passes)) => make_and_close(rt, trial, server, passes),
-        Err(_stage) => panic!(rt; "no memory for a session"),
-    }
+    let (server, passes) = made(rt, Server::<C, L>::start(rt.alloc(), blank, stage));
+    make_and_close(rt, trial, server, passes)
 }
 
 /// Makes the calls of a trial, and closes the session, which has all its passes.
@@ -103,19 +101,21 @@ fn make_and_close<C: Coloured, L: Session, R: Threads + Wait + Sync + Abort>(
 ) -> Stage<C>
     requires { vec_len passes.workers ≡ L.leaves + 2 }
 {
-    let made = make(rt, trial, &server, passes.workers.as_mut_slice());
-    assert!(rt; made.is_ok(), "no memory for a call");
+    make(rt, trial, &server, passes.workers.as_mut_slice());
     stage_of_closed(rt, server.close(rt, passes))
 }
 
-/// The stage of a session that was closed. Each function from which a stage or a refusal vanishes costs the
-/// prover a minute, so where it isn't closed the test ends here.
+/// The stage of a session that was closed. Where it isn't closed the test ends here. The refusal is dropped
+/// by a call, since the prover takes a minute for one that vanishes.
 fn stage_of_closed<C: Client>(
     rt: &impl Abort,
     closed: Result<Stage<C>, CloseRefused<C>>,
 ) -> Stage<C> {
     match closed {
         Ok(stage) => stage,
-        Err(_refused) => panic!(rt; "the session isn't closed"),
+        Err(refused) => {
+            drop(refused);
+            panic!(rt; "the session isn't closed")
+        }
     }
 }

@@ -8,5 +8,7 @@ pub returns : goal.returns
 returns g c =
     let s = c.args.mu.now in
     let m = state g.C.Client s in
-    painted_last g.C.Client s (ready_leaves g.C.Client (length m.windows) m) c.pop.new.self.items c.in-Some.share c.in_ok-paint-in-Some.field-0
-    (sym c.in_ok-shares.ensures ∙ c.in-Some.ensures.items) c.in_ok-paint-in-Some.ensures
+    let shares = rw c.made-shares.ensures at c.shares.ensures in
+    let painted = rw c.made.ensures at c.paint.ensures in
+    painted_last g.C.Client s (ready_leaves g.C.Client (length m.windows) m) c.pop.new.self.items c.in-Some.share c.made.result
+    (sym shares ∙ c.in-Some.ensures.items) painted
