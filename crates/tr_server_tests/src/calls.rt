@@ -55,8 +55,11 @@ pub fn client_step<C: Coloured, L: Session, R: Wait + Abort>(
     step: Step<C::Cmd>,
 ) {
     let window = window(rt, server);
-    assert!(rt; pass.actor() == Actor::Leaf(window.leaf()) && may(pass.actor(), &step));
-    assert!(rt; is_step(server.opening().tree(), &step));
+    assert!(rt;
+        pass.actor() == Actor::Leaf(window.leaf())
+            && may(pass.actor(), &step)
+            && is_step(server.opening().tree(), &step)
+    );
     let mut mu = server.enter(rt, Ladder::ground());
     let stepped = mu.client_step(rt, window, pass, step);
     mu.leave().end();
@@ -70,7 +73,10 @@ pub fn step<C: Coloured, L: Session>(
     pass: &mut Pass<C, L>,
     step: Step<C::Cmd>,
 ) {
-    assert!(rt; may(pass.actor(), &step) && is_step(mu.stage().opening().tree(), &step));
-    assert!(rt; !matches!(pass.actor(), Actor::Leaf(_)));
+    assert!(rt;
+        may(pass.actor(), &step)
+            && is_step(mu.stage().opening().tree(), &step)
+            && !matches!(pass.actor(), Actor::Leaf(_))
+    );
     made(rt, mu.step(pass, step));
 }

@@ -251,9 +251,11 @@ fn put_last<C: Client, L: Session>(rt: &impl Abort, mu: &mut Mu<'_, C, L>, pass:
         return;
     };
     let leaf = painted.leaf;
-    assert!(rt; pass.actor() == Actor::Painter);
-    assert!(rt; leaf.0 < mu.stage().opening().tree().leaves());
-    assert!(rt; mu.stage().batch(leaf).is_empty());
+    assert!(rt;
+        pass.actor() == Actor::Painter
+            && leaf.0 < mu.stage().opening().tree().leaves()
+            && mu.stage().batch(leaf).is_empty()
+    );
     made(rt, mu.put_painted(pass, painted));
 }
 
