@@ -195,7 +195,10 @@ anew_more k was is before after forests sides moved bad n inside p =
     (λ h. new_on was is before after forests sides n inside p h) (λ h. node_good k was is before after forests sides moved bad n inside p h)
     ∙ sym (ap (λ b. bad_so_far (is_on is p) b (good_by k (change was is moved bad) p) (bad p)) (first_more n.0 after p))
 
--- the good points of a node of which all survive, or a part
+-- the good points of a node of which none survives, or all, or a part
+pub good_none : (a b c x : Bool) → x ≡ false → false ≡ (c && (a && b && x))
+good_none a b c x h = rw (h, and_false (a && b), and_false c) refl
+
 pub good_all : (a b c x : Bool) → x ≡ true → ((a && b) && c) ≡ (c && (a && b && x))
 good_all a b c x h = rw h (by_tests a b c)
   where

@@ -68,7 +68,8 @@ impl Surface {
         };
         let way = way_of_moved(&self.tree, &is, moved);
         let Ok(()) = fit_screen(&mut self.screen, &is) else {
-            drop((is, after, known));
+            drop((is, after));
+            drop(known);
             return Err(EditRefused::NoMemory);
         };
         move_pixels(&mut self.screen, &known.follows, way);
@@ -114,7 +115,9 @@ impl Surface {
             return regions(self.alloc, is);
         }
         let changed = changed_points(self.alloc, &self.tree, is, placed_child(edit))?;
-        regions_within(self.alloc, is, &changed, &self.regions)
+        let after = regions_within(self.alloc, is, &changed, &self.regions);
+        drop(changed);
+        after
     }
 
     /// The bad points once the frame of a node has the tint of another tree.

@@ -35,7 +35,7 @@ impl Surface {
         ensures none { IfOk result (λ b. IsTrue (not b) → (p : Point) →
             is_in_leaf leaf (spot self.now.tree p) ≡ true → holds self.now.bad p ≡ false) }
     {
-        Ok(holds_some(&self.bad_of(leaf)?))
+        Ok(holds_some(self.bad_of(leaf)?))
     }
 
     /// Whether a point of a frame is bad.
@@ -47,7 +47,7 @@ impl Surface {
     {
         let count = self.tree().count();
         for n in 0..count {
-            if holds_some(&self.bad_frame(NodeId(n as u16))?) {
+            if holds_some(self.bad_frame(NodeId(n as u16))?) {
                 return Ok(true);
             }
         }
@@ -66,9 +66,14 @@ impl Surface {
         // that the list of a region is canonical.
         let _ = self.tree().count();
         let origin = origin_of(&self.tree, leaf);
-        let bad = shifted(&self.bad_of(leaf)?, opposite(origin))?;
+        let here = self.bad_of(leaf)?;
+        let bad = shifted(&here, opposite(origin));
+        drop(here);
+        let bad = bad?;
         let _ = bad.rects();
-        Ok(bad.extents())
+        let extents = bad.extents();
+        drop(bad);
+        Ok(extents)
     }
 
     /// The bad visible points of a leaf.
@@ -81,10 +86,10 @@ impl Surface {
     }
 }
 
-/// Whether a region holds a point.
-fn holds_some(region: &Region) -> bool
-    ensures some { IsTrue result → (p : Point) × (holds region.now p ≡ true) }
-    ensures none { IsTrue (not result) → (p : Point) → holds region.now p ≡ false }
+/// Whether a region holds a point. It is taken for the prover, so that its callers let nothing go.
+fn holds_some(region: Region) -> bool
+    ensures some { IsTrue result → (p : Point) × (holds region p ≡ true) }
+    ensures none { IsTrue (not result) → (p : Point) → holds region p ≡ false }
 {
     // Called for what it tells the prover: that the list is canonical.
     let _ = region.rects();

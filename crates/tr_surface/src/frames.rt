@@ -36,8 +36,12 @@ impl Surface {
         ensures err { OnErr result (self.new ≡ self.old) }
     {
         let frames = self.bad_frames()?;
-        let rest = without(&self.bad, &frames)?;
+        let Ok(rest) = without(&self.bad, &frames) else {
+            drop(frames);
+            return Err(NoMemory);
+        };
         paint_frames(&mut self.screen, &self.tree, &frames);
+        drop(frames);
         self.bad = rest;
         Ok(())
     }
@@ -49,7 +53,14 @@ impl Surface {
         let count = self.tree.count();
         let mut frames = Vec::with_capacity(self.alloc, count)?;
         for n in 0..count {
-            frames.push(self.bad_frame(NodeId(n as u16))?)?;
+            let Ok(bad) = self.bad_frame(NodeId(n as u16)) else {
+                drop(frames);
+                return Err(NoMemory);
+            };
+            let Ok(()) = frames.push(bad) else {
+                drop(frames);
+                return Err(NoMemory);
+            };
         }
         Ok(frames)
     }
@@ -86,7 +97,9 @@ fn less(region: Region, other: &Region) -> Result<Region, NoMemory>
     if other.is_empty() {
         return Ok(region);
     }
-    region.minus(other)
+    let rest = region.minus(other);
+    drop(region);
+    rest
 }
 
 /// Gives the points of each region, which are on the frame of its node, the frame's colour.

@@ -1,4 +1,4 @@
-ghost use Rattle.std.specs.Prelude.{◌≡◌, ◌↔◌, ◌<◌, ◌+◌, ◌&&◌, ℕ, not, true, length, IfOk, IfSome, IsTrue};
+ghost use Rattle.std.specs.Prelude.{◌≡◌, ◌↔◌, ◌<◌, ◌+◌, ◌&&◌, ◌||◌, ℕ, not, true, length, IfOk, IfSome, IsTrue};
 ghost use Rattle.tr_base.specs.declared.Point.{Point};
 ghost use Rattle.tr_base.specs.Rects.{InReach, before_shift, has_point};
 ghost use Rattle.tr_base.specs.Layouts.{IsDomain};
@@ -90,7 +90,13 @@ impl TreeChange<'_> {
             Survivors::All => self.known_points(n, by),
             Survivors::Kept { leaf, from, to } => {
                 let kept = self.kept_points(keeper, n, leaf, from, to)?;
-                self.known_points(n, by)?.meet(&kept)
+                let Ok(known) = self.known_points(n, by) else {
+                    drop(kept);
+                    return Err(NoMemory);
+                };
+                let good = known.meet(&kept);
+                drop((known, kept));
+                good
             }
         }
     }
@@ -112,8 +118,9 @@ impl TreeChange<'_> {
     {
         let rect = keeper.keeps(leaf, from, to);
         let left = untouched(self.alloc, rect, keeper.batch(leaf))?;
-        let kept = shifted(&left, self.is.domain(n).corner())?;
-        Ok(kept)
+        let kept = shifted(&left, self.is.domain(n).corner());
+        drop(left);
+        kept
     }
 
     /// The points of a node that were points of it before it moved, and good.
@@ -128,7 +135,12 @@ impl TreeChange<'_> {
         let _ = self.was.count();
         let _ = self.is.count();
         let good = self.region_before(n).minus(self.bad)?;
-        shifted(&good, by)?.meet(self.region_after(n))
+        let came = shifted(&good, by);
+        drop(good);
+        let came = came?;
+        let known = came.meet(self.region_after(n));
+        drop(came);
+        known
     }
 
     /// The bad points once node n is seen to, by those before.
@@ -148,11 +160,31 @@ impl TreeChange<'_> {
         if self.is_alike(n, by, survivors) {
             return Ok(bad);
         }
-        let good = self.good_points(keeper, n, by, survivors)?;
-        let lost = self.region_after(n).minus(&good)?;
-        let others = bad.minus(self.region_after(n))?;
-        let bad = others.union(&lost)?;
-        Ok(bad)
+        let Ok(good) = self.good_points(keeper, n, by, survivors) else {
+            drop(bad);
+            return Err(NoMemory);
+        };
+        let anew = self.seen_to(&bad, n, &good);
+        drop((bad, good));
+        anew
+    }
+
+    /// The bad points where those of node n are all but its good ones.
+    fn seen_to(&self, bad: &Region, n: NodeId, good: &Region) -> Result<Region, NoMemory>
+        requires { IsNode self.now.is.now.nodes n }
+        ensures { let held = holds (region_of self.now.after.now n) in
+            IfOk result (λ r. (p : Point) →
+            holds r p ≡ ((holds bad.now p && not (held p)) || (held p && not (holds good.now p)))) }
+    {
+        let region = self.region_after(n);
+        let lost = region.minus(good)?;
+        let Ok(others) = bad.minus(region) else {
+            drop(lost);
+            return Err(NoMemory);
+        };
+        let bad = others.union(&lost);
+        drop((others, lost));
+        bad
     }
 
     /// Whether a node moves nowhere, keeps all that it shows, and has the same points.
@@ -171,7 +203,9 @@ impl TreeChange<'_> {
             holds r p ≡ bad_by (K.keeping keeper.now) (change_of self.now) p) }
     {
         let screen = Region::of_rect(self.alloc, whole(self.is.size()))?;
-        let mut bad = self.bad.meet(&screen)?;
+        let old = self.bad.meet(&screen);
+        drop(screen);
+        let mut bad = old?;
         for i in 0..self.is.count() {
             bad = self.with_node(keeper, bad, NodeId(i as u16))?;
         }
@@ -187,8 +221,16 @@ impl TreeChange<'_> {
             holds r.follows p ≡ follows_by (K.keeping keeper.now) (change_of self.now) p) }
     {
         let bad = self.bad_after(keeper)?;
-        let carried = self.carried_points()?;
-        let follows = carried.minus(&bad)?;
+        let Ok(carried) = self.carried_points() else {
+            drop(bad);
+            return Err(NoMemory);
+        };
+        let follows = carried.minus(&bad);
+        drop(carried);
+        let Ok(follows) = follows else {
+            drop(bad);
+            return Err(NoMemory);
+        };
         Ok(Known { bad, follows })
     }
 
@@ -216,8 +258,9 @@ impl TreeChange<'_> {
             holds r p ≡ in_moved (n.0 + 1) s.is.now.nodes child s.after.now p) }
     {
         if self.is.is_under(child, n) {
-            let more = points.union(self.region_after(n))?;
-            Ok(more)
+            let more = points.union(self.region_after(n));
+            drop(points);
+            more
         } else {
             Ok(points)
         }
@@ -279,8 +322,13 @@ fn untouched(alloc: Global, rect: Rect, batch: &Batch) -> Result<Region, NoMemor
 {
     let mut left = Region::of_rect(alloc, rect)?;
     for paint in batch.paints() {
-        let area = Region::of_rect(alloc, paint.area())?;
-        left = left.minus(&area)?;
+        let Ok(area) = Region::of_rect(alloc, paint.area()) else {
+            drop(left);
+            return Err(NoMemory);
+        };
+        let rest = left.minus(&area);
+        drop((left, area));
+        left = rest?;
     }
     Ok(left)
 }

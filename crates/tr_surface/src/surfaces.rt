@@ -55,7 +55,8 @@ impl Surface {
             return Err(NoMemory);
         };
         let Ok(bad) = Region::of_rect(alloc, whole(tree.size())) else {
-            drop((tree, regions, screen));
+            drop((tree, regions));
+            drop(screen);
             return Err(NoMemory);
         };
         Ok(Surface {

@@ -4,7 +4,7 @@ ghost use Rattle.tr_surface.specs.declared.survivors.Survivors.TheVariants as va
 use tr_base::{LeafId, Size};
 
 /// Which of a node's points show after an edit what they showed before it.
-#[derive(Clone, Copy, Debug, PartialEq, Eq)]
+#[derive(Clone, Copy)]
 pub(crate) enum Survivors {
     Nothing,
     All,

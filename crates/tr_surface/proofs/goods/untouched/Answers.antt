@@ -18,12 +18,12 @@ loop-paint-preserved c = λ q.
     let i = c.loop-paint.paint-index in
     let d = c.paint-item.result in
     let rect = has_point c.args.rect q in
-    let item : holds c.in_ok-area.area q ≡ has_point (area (get_or xs i d)) q =
-    c.in_ok-area.ensures.points q ∙ ap (λ (e : Edges). has_point e q) c.area.ensures.value ∙ ap (λ (p : Paint). has_point (area p) q) c.paint-item.is in
+    let item : holds c.in-Ok.area q ≡ has_point (area (get_or xs i d)) q =
+    c.in-Ok.ensures.points q ∙ ap (λ (e : Edges). has_point e q) c.area.ensures.value ∙ ap (λ (p : Paint). has_point (area p) q) c.paint-item.is in
     let more : touches (take (i + 1) xs) q ≡ (touches (take i xs) q || has_point (area (get_or xs i d)) q) =
     list_any_more (λ p. has_point (area p) q) xs i d (omega arith) in
     c.in_ok-left-2.ensures.points q
-    ∙ ap (λ b. b && not (holds c.in_ok-area.area q)) (c.loop-paint.invariant q)
+    ∙ ap (λ b. b && not (holds c.in-Ok.area q)) (c.loop-paint.invariant q)
     ∙ ap (λ b. (rect && not (touches (take i xs) q)) && not b) item
     ∙ one_more rect (touches (take i xs) q) (has_point (area (get_or xs i d)) q)
     ∙ ap (λ b. rect && not b) (sym more)

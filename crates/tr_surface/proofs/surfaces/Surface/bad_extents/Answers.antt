@@ -27,10 +27,10 @@ back_and_there q corner =
     let point : ℤ → ℤ → Point = λ h v. record { h = h; v = v } in
     ap (λ h. point h ((q.v -ℤ neg_ℤ corner.v) -ℤ corner.v)) across ∙ ap (λ v. point q.h v) down
 
-pub shifted-requires-clause-points : goal.shifted-requires-clause-points
-shifted-requires-clause-points c p h =
+pub shifted-bad-requires-clause-points : goal.shifted-bad-requires-clause-points
+shifted-bad-requires-clause-points c p h =
     let t = c.args.self.now.tree in
-    let bad = (both_hold (holds c.args.self.now.bad p) (is_in_leaf c.args.leaf (spot t p)) (sym (c.in_ok-bad_of.ensures p) ∙ h)).0 in
+    let bad = (both_hold (holds c.args.self.now.bad p) (is_in_leaf c.args.leaf (spot t p)) (sym (c.in_ok-here.ensures p) ∙ h)).0 in
     let is = c.count.ensures.size in
     let size = rw c.tree.ensures.value at is in
     around_whole t.size (omega (arith, size.wide)) (omega (arith, size.high)) p (c.tree.ensures.invariant.bad p bad)
@@ -38,13 +38,13 @@ shifted-requires-clause-points c p h =
 pub returns-clause-all : goal.returns-clause-all
 returns-clause-all c p seen bad =
     let corner = leaf_corner c.args.self.now.tree c.args.leaf in
-    let here : holds c.in_ok-bad_of.field-0 p ≡ true = c.in_ok-bad_of.ensures p ∙ rw (bad, seen) refl in
+    let here : holds c.in_ok-here.here p ≡ true = c.in_ok-here.ensures p ∙ rw (bad, seen) refl in
     let way : c.opposite.result ≡ back_from corner = c.opposite.ensures.value ∙ ap back_from c.origin_of-origin.ensures.value
     ∙ ap (λ (s : Shown). back_from (leaf_corner s.tree c.args.leaf)) c.self.view_is in
     let back : before_shift (before_shift p corner) c.opposite.result ≡ p =
     ap (before_shift (before_shift p corner)) way ∙ there_and_back p corner in
-    c.extents.ensures.points (before_shift p corner)
-    (c.in_ok-bad.ensures (before_shift p corner) ∙ ap (holds c.in_ok-bad_of.field-0) back ∙ here)
+    c.extents-extents.ensures.points (before_shift p corner)
+    (c.in_ok-bad.ensures (before_shift p corner) ∙ ap (holds c.in_ok-here.here) back ∙ here)
 
 pub returns-clause-least : goal.returns-clause-least
 returns-clause-least c outer all =
@@ -56,7 +56,7 @@ returns-clause-least c outer all =
     let within : (q : Point) → holds bad q ≡ true → has_point outer q ≡ true = λ q h.
     let p : Point = before_shift q c.opposite.result in
     let both = both_hold (holds s.bad p) (is_in_leaf c.args.leaf (spot s.tree p))
-    (sym (c.in_ok-bad_of.ensures p) ∙ sym (c.in_ok-bad.ensures q) ∙ h) in
+    (sym (c.in_ok-here.ensures p) ∙ sym (c.in_ok-bad.ensures q) ∙ h) in
     let back : before_shift p corner ≡ q = ap (λ (d : Point). before_shift (before_shift q d) corner) way ∙ back_and_there q corner in
     sym (ap (has_point outer) back) ∙ all p both.1 both.0 in
-    rw c.extents.ensures.value (extents_least bad (AreInOrder-canonical bad c.rects.ensures.invariant) outer within)
+    rw c.extents-extents.ensures.value (extents_least bad (AreInOrder-canonical bad c.rects.ensures.invariant) outer within)

@@ -3,7 +3,7 @@ use Rattle.tr_surface.proofs.surfaces.Surface.bad_frames.Goals as goal
 
 pub loop-n-preserved : goal.loop-n-preserved
 loop-n-preserved c = record {
-  count = count_push c.loop-n.frames.items c.push.new.self.items c.loop-n.n c.in_ok-bad_frame.field-0 c.loop-n.invariant.count c.in_ok-push.ensures.items;
-  points = frames_push c.args.self.now c.loop-n.frames.items c.push.new.self.items c.loop-n.n c.in_ok-bad_frame.field-0 c.loop-n.invariant.count
-      c.in_ok-push.ensures.items c.loop-n.invariant.points c.in_ok-bad_frame.ensures;
+  count = count_push c.loop-n.frames.items c.push.new.self.items c.loop-n.n c.in-Ok.bad c.loop-n.invariant.count c.in-Ok-push.ensures.items;
+  points = frames_push c.args.self.now c.loop-n.frames.items c.push.new.self.items c.loop-n.n c.in-Ok.bad c.loop-n.invariant.count
+      c.in-Ok-push.ensures.items c.loop-n.invariant.points c.in-Ok.ensures;
 }

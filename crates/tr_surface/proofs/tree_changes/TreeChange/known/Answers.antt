@@ -13,7 +13,7 @@ returns-clause-follows g c = λ p.
     let on = is_on s.is.now p in
     let carried = is_below_moved s.is.now s.moved p in
     let good = good_by k (change_of s) p in
-    c.in_ok-follows.ensures.points p
-    ∙ ap (λ b. b && not (holds c.in_ok-bad.bad p)) (c.in_ok-carried.ensures p)
+    c.in-Ok-follows.ensures.points p
+    ∙ ap (λ b. b && not (holds c.in_ok-bad.bad p)) (c.in-Ok.ensures p)
     ∙ ap (λ b. (on && carried) && not b) (c.in_ok-bad.ensures p)
     ∙ carried_good on carried good (λ h. (good_parts k s.was.now s.is.now s.moved (holds s.bad.now) p h).on)

@@ -1,4 +1,5 @@
 use Rattle.std.proofs.Common.{◌≡◌, Bool, true, false, ◌&&◌, ◌||◌, List, refl, sym, ap, ◌∙◌}
+use Rattle.std.proofs.lemmas.Result.{IfOk-weaker}
 use Rattle.tr_base.specs.Rects.{Edges}
 use Rattle.tr_region.specs.Points.{holds}
 use Rattle.tr_forest.specs.Families.{is_under}
@@ -11,19 +12,19 @@ or_none : (b : Bool) → (b || false) ≡ b
 or_none true = refl
 or_none false = refl
 
-pub returns-in_ok-more : goal.returns-in_ok-more
-returns-in_ok-more c = λ p.
+pub returns-then-is_under : goal.returns-then-is_under
+returns-then-is_under c = IfOk-weaker c.union-more.result _ _ (λ r h p.
     let s = c.args.self.now in
     let t = s.is.now.nodes in
     let child = c.args.child in
     let n = c.args.n in
     let before = in_moved n.0 t child s.after.now p in
     let under : is_under t child n ≡ true = sym c.is_under.ensures ∙ c.if-is_under.true in
-    c.in_ok-more.ensures.points p
+    h p
     ∙ ap (λ b. b || holds c.region_after.result.now p) (c.requires.points p)
     ∙ ap (λ (r : List Edges). before || holds r p) c.region_after.ensures
     ∙ sym (ap (λ b. before || (b && holds (region_of s.after.now n) p)) under)
-    ∙ sym (moved_more n t child s.after.now p)
+    ∙ sym (moved_more n t child s.after.now p)) c.union-more.ensures.points
 
 pub returns-else-is_under : goal.returns-else-is_under
 returns-else-is_under c = λ p.

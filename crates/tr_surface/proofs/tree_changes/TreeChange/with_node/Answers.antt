@@ -1,6 +1,6 @@
-use Rattle.std.proofs.Common.{◌≡◌, Bool, ◌&&◌, ◌||◌, not, List, ap, ◌∙◌}
+use Rattle.std.proofs.Common.{◌≡◌, Bool, ◌&&◌, ◌||◌, not, ap, ◌∙◌}
+use Rattle.std.proofs.lemmas.Result.{IfOk-weaker}
 use Rattle.tr_base.specs.declared.Point.{Point}
-use Rattle.tr_base.specs.Rects.{Edges}
 use Rattle.tr_region.specs.Points.{holds}
 use Rattle.tr_spot.specs.Spots.{region_of}
 use Rattle.tr_surface.specs.Survivors.{IsAlike, bad_below, survivors_from, stays_good, way_from}
@@ -22,24 +22,17 @@ returns-then-is_alike g c = λ p.
     c.survivors-survivors.result its alike p
 
 pub returns : goal.returns
-returns g c = λ p.
+returns g c = IfOk-weaker c.seen_to-anew.result _ _ (λ r h p.
     let s = c.args.self.now in
     let n = c.args.n in
     let k = g.K.Keeper.keeping c.args.keeper.now in
     let held = holds (region_of s.after.now n) p in
     let done = bad_below k (change_of s) s.after.now n.0 p in
     let stays : Point → Bool = λ d. stays_good k (change_of s) (region_of s.before.now n) n d p in
-    let good : holds c.in_ok-good.good p ≡ (held && stays (way_from s.was.now s.is.now s.moved n)) =
-    c.in_ok-good.ensures p ∙ ap (λ (d : Point). held && stays d) c.way-by.ensures.value in
-    let lost : holds c.in_ok-lost.lost p ≡ (held && not (held && stays (way_from s.was.now s.is.now s.moved n))) =
-    c.in_ok-lost.ensures.points p
-    ∙ ap (λ (r : List Edges). holds r p && not (holds c.in_ok-good.good p)) c.region_after.ensures
-    ∙ ap (λ b. held && not b) good in
-    let others : holds c.in_ok-others.others p ≡ (done && not held) =
-    c.in_ok-others.ensures.points p
-    ∙ ap (λ (r : List Edges). holds c.args.bad p && not (holds r p)) c.region_after-2.ensures
-    ∙ ap (λ b. b && not held) (c.requires.bad p) in
-    c.in_ok-bad.ensures.points p ∙ ap (λ b. b || holds c.in_ok-lost.lost p) others ∙ ap (λ b. (done && not held) || b) lost
+    let good : holds c.in-Ok.good p ≡ (held && stays (way_from s.was.now s.is.now s.moved n)) =
+    c.in-Ok.ensures p ∙ ap (λ (d : Point). held && stays d) c.way-by.ensures.value in
+    h p ∙ ap (λ b. (b && not held) || (held && not (holds c.in-Ok.good p))) (c.requires.bad p)
+    ∙ ap (λ b. (done && not held) || (held && not b)) good
     ∙ anew_more k s.was.now s.is.now s.before.now s.after.now
     (record { before = c.count.ensures.invariant; after = c.count-2.ensures.invariant })
-    s.sides s.moved (holds s.bad.now) n c.requires.node p
+    s.sides s.moved (holds s.bad.now) n c.requires.node p) c.seen_to-anew.ensures
