@@ -12,8 +12,9 @@ use Rattle.tr_forest.specs.declared.Edit.TheVariants as edits
 use Rattle.tr_forest.specs.Nodes.{Nodes, Entry, IsNode, fresh, node}
 use Rattle.tr_forest.specs.Edits.{IsEdit, edited, is_root}
 use Rattle.tr_forest.proofs.FamilyLemmas.{by_id}
+use Rattle.tr_forest.proofs.Editing.{count_edited}
 use Rattle.tr_tree.specs.declared.layouts.Layout.{Layout}
-use Rattle.tr_tree.specs.Trees.{Seen, size_after}
+use Rattle.tr_tree.specs.Trees.{Seen, size_after, kind_after, edited_tree}
 use Rattle.tr_tree.specs.Wishes.{shape}
 use Rattle.tr_tree.specs.Places.{index_of, places_of, child_places, place_below, domain, domain_within}
 use Rattle.tr_tree.specs.Laying.{on_screen, laid}
@@ -112,6 +113,27 @@ laid_out_tinted t u edit n tint before after l is fits new size laid =
     let same : after ≡ before = size ∙ ap (λ (e : Edit). size_after e before) is in
     subst (λ (w : Nodes). IsLaidOut w after l) (sym nodes) (subst (λ (s : Size). IsLaidOut (edited t (edits.Tint n tint)) s l) (sym same)
     (laid_out_alike t (edited t (edits.Tint n tint)) before l (tinted_alike t n tint inside) laid))
+
+-- a new kind of the screen costs none either
+pub laid_out_rescreened : (t u : Nodes) (edit : Edit) (kind : Kind) (before after : Size) (l : Layout) → edit ≡ edits.Rescreen kind →
+    u ≡ edited t edit → after ≡ size_after edit before → IsLaidOut t before l → IsLaidOut u after l
+laid_out_rescreened t u edit kind before after l is new size laid =
+    subst (λ (w : Nodes). IsLaidOut w after l) (sym (new ∙ ap (edited t) is))
+    (subst (λ (s : Size). IsLaidOut t s l) (sym (size ∙ ap (λ (e : Edit). size_after e before) is)) laid)
+
+-- an edit leaves as many places
+pub places_edited : (t u : Nodes) (edit : Edit) (l : Layout) → u ≡ edited t edit → HavePlaces (length t.entries) l → HavePlaces (length u.entries) l
+places_edited t u edit l new places =
+    subst (λ (k : ℕ). HavePlaces k l) (sym (ap (λ (w : Nodes). length w.entries) new ∙ count_edited t edit)) places
+
+-- a new size of the screen leaves the shapes
+pub shapes_resized : (t u : Nodes) (edit : Edit) (size : Size) (l : Layout) → edit ≡ edits.Resize size → u ≡ edited t edit → HasShapes t l → HasShapes u l
+shapes_resized t u edit size l is new shapes = subst (λ (w : Nodes). HasShapes w l) (sym (new ∙ ap (edited t) is)) shapes
+
+-- what is seen of an edited tree, and of its edit
+pub seen_edited : (was seen : Seen) (nodes : Nodes) (size : Size) (kind : Kind) (edit : Edit) → was ≡ seen → nodes ≡ edited was.nodes edit →
+    size ≡ size_after edit was.size → kind ≡ kind_after edit was.kind → on_screen nodes size kind ≡ edited_tree seen edit
+seen_edited was seen nodes size kind edit same is_nodes is_size is_kind = rw (is_nodes, is_size, is_kind, ← same) refl
 
 pub places_same : (a b : Layout) (count : ℕ) → HaveSamePlaces a b → HavePlaces count a → HavePlaces count b
 places_same a b count same places = record {

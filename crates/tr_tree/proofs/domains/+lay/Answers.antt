@@ -1,11 +1,13 @@
-use Rattle.std.proofs.Common.{◌≡◌, ◌+◌, List, length, get_or, subst, sym, ap, ◌∙◌, true, arith}
-use Rattle.std.proofs.lemmas.List.{get_or_default}
+use Rattle.std.proofs.Common.{◌≡◌, ◌≢◌, AllPairs, ◌+◌, List, length, get_or, take, subst, sym, ap, ◌∙◌, true, arith}
+use Rattle.std.proofs.lemmas.List.{get_or_default, length-map}
 use Rattle.tr_base.specs.declared.NodeId.{NodeId}
+use Rattle.tr_base.specs.declared.Shapes.{Shapes}
 use Rattle.tr_base.specs.Layouts.{IsDomain}
 use Rattle.tr_forest.specs.Nodes.{node}
 use Rattle.tr_forest.specs.Families.{depth, is_among}
 use Rattle.tr_forest.proofs.FamilyLemmas.{among_at, depth_child}
 use Rattle.tr_tree.specs.Places.{domain}
+use Rattle.tr_tree.specs.Tables.{shape_in}
 use Rattle.tr_tree.specs.Laying.{laid, IsOwn}
 use Rattle.tr_tree.proofs.KinLemmas.{few_children}
 use Rattle.tr_tree.proofs.FitLemmas.{at_is_domain}
@@ -110,3 +112,29 @@ pub returns-clause-lays : goal.returns-clause-lays
 returns-clause-lays t c =
     laying_end (laid c.args.plan.now.forest.now c.args.plan.now.size) c.requires.forest c.args.n c.children-children.result.now c.loop-child.child-index
     c.args.domains.now.items c.loop-child.domains.items c.children-children.ensures (omega arith) c.loop-child.invariant.laying
+
+pub spread-requires-clause-once : goal.spread-requires-clause-once
+spread-requires-clause-once t c =
+    subst (λ (cs : List NodeId). AllPairs (λ (a b : NodeId). a.0 ≢ b.0) cs) (sym c.children-children.ensures) (c.requires.forest.once c.args.n)
+
+pub spread-requires-clause-room : goal.spread-requires-clause-room
+spread-requires-clause-room t c =
+    omega (
+      arith,
+      ap length c.children-children.ensures,
+      few_children c.args.plan.now.forest.now c.requires.forest c.args.n c.requires.node,
+      c.place_first.ensures.count,
+      c.requires.room.places,
+    )
+
+pub slice_bounds-parent-end : goal.slice_bounds-parent-end
+slice_bounds-parent-end t c =
+    let cs = c.children-children.result.now in
+    sym (ap (λ (l : List Shapes). length (take (length cs) l)) c.deref.ensures.value ∙ ap length c.gather.ensures.shapes
+    ∙ length-map cs (shape_in c.args.plan.now.shapes.now))
+
+pub returns-clause-room : goal.returns-clause-room
+returns-clause-room t c = c.loop-child.invariant.room
+
+pub returns-clause-count : goal.returns-clause-count
+returns-clause-count t c = c.loop-child.invariant.count

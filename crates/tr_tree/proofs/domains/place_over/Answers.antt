@@ -1,5 +1,5 @@
-use Rattle.std.proofs.Common.{length, ap, ◌∙◌, arith}
-use Rattle.std.proofs.lemmas.List.{take_more_set}
+use Rattle.std.proofs.Common.{length, sym, ap, ◌∙◌, arith}
+use Rattle.std.proofs.lemmas.List.{take_all, take_more_set}
 use Rattle.std.proofs.lemmas.List.Elements.{All-push, All-same}
 use Rattle.std.proofs.Math.ListN.{length-set}
 use Rattle.tr_base.specs.Rects.{Edges}
@@ -35,3 +35,12 @@ returns-clause-places c =
     taken_all (z_places p.rect (offsets_of p.forest.now p.n) p.shapes.now) c.loop-i.places c.loop-i.i
     (omega (arith, c.requires.room, ap length c.children-children.ensures))
     (omega (arith, over_count p.forest.now p.n p.rect p.shapes.now c.requires.parent, ap length c.children-children.ensures)) c.loop-i.invariant.so_far
+
+pub bounds-places-i : goal.bounds-places-i
+bounds-places-i c = omega (arith, c.requires.room, ap length c.children-children.ensures, c.loop-i.invariant.count)
+
+pub returns-clause-near : goal.returns-clause-near
+returns-clause-near c =
+    let p = c.args.parent.now in
+    All-same (λ (child : Edges). IsNear farthest child p.rect) _ _
+    (sym (take_all c.loop-i.i c.loop-i.places (omega (arith, c.requires.room, ap length c.children-children.ensures)))) c.loop-i.invariant.near
