@@ -1,4 +1,5 @@
 use Rattle.std.proofs.Common.{subst, sym, ◌∙◌, arith}
+use Rattle.std.proofs.Math.ListN.{length-set}
 use Rattle.tr_base.specs.Layouts.{IsDomain}
 use Rattle.tr_forest.specs.Nodes.{IsNode}
 use Rattle.tr_tree.specs.Places.{domain}
@@ -38,3 +39,16 @@ returns-in_default-clause-domains c = λ kind n.
     let all = laid_none (laid c.args.plan.now.forest.now c.args.plan.now.size) c.count.ensures.invariant c.clear.new.domains.items
     (sym c.root.ensures ∙ c.in_default.is) c.clear.ensures.empty n in
     all.right ∙ any_kind c.args.plan.now.forest.now c.args.plan.now.size kind n
+
+pub clear-requires : goal.clear-requires
+clear-requires c = c.count.ensures.count ∙ sym c.requires.count
+
+pub lay-requires-clause-node : goal.lay-requires-clause-node
+lay-requires-clause-node c = c.count.ensures.invariant.root c.in-Some.root (sym c.root.ensures ∙ c.in-Some.is)
+
+pub lay-requires-clause-count : goal.lay-requires-clause-count
+lay-requires-clause-count c =
+    length-set c.clear.new.domains.items c.from.result c.whole.result ∙ c.clear.ensures.count ∙ c.requires.count
+
+pub returns-in-Some-clause-count : goal.returns-in-Some-clause-count
+returns-in-Some-clause-count c = c.lay.ensures.count

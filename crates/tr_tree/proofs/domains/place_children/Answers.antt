@@ -128,3 +128,43 @@ returns-in-Leaf c =
     placed_by p.forest.now p.n p.rect p.shapes.now k _ c.requires.parent is
     (none_placed c.args.places.now (node p.forest.now p.n).children c.requires.room (no_children p.forest.now c.requires.parent.forest p.n k is refl))
     (fits_none p.rect)
+
+pub place_into-requires-clause-domain : goal.place_into-requires-clause-domain
+place_into-requires-clause-domain c = c.requires.parent.small
+
+pub place_into-requires-in-V-clause-domain : goal.place_into-requires-in-V-clause-domain
+place_into-requires-in-V-clause-domain c = c.requires.parent.small
+
+pub place_pages-requires-clause-domain : goal.place_pages-requires-clause-domain
+place_pages-requires-clause-domain c = c.requires.parent.small
+
+pub border_place-requires : goal.border_place-requires
+border_place-requires c = c.requires.parent.small
+
+pub place_moved-requires-clause-domain : goal.place_moved-requires-clause-domain
+place_moved-requires-clause-domain c = c.requires.parent.small
+
+pub pack_place_into-requires-clause-domain : goal.pack_place_into-requires-clause-domain
+pack_place_into-requires-clause-domain c = c.requires.parent.small
+
+pub place_into-requires-clause-room : goal.place_into-requires-clause-room
+place_into-requires-clause-room c =
+    c.requires.room ∙ sym (same_count c.args.parent.now.forest.now c.args.parent.now.n c.args.parent.now.rect c.args.parent.now.shapes.now c.requires.parent)
+
+pub place_into-requires-in-V-clause-room : goal.place_into-requires-in-V-clause-room
+place_into-requires-in-V-clause-room c =
+    c.requires.room ∙ sym (same_count c.args.parent.now.forest.now c.args.parent.now.n c.args.parent.now.rect c.args.parent.now.shapes.now c.requires.parent)
+
+pub place_moved-requires-clause-room : goal.place_moved-requires-clause-room
+place_moved-requires-clause-room c =
+    c.requires.room ∙ sym (same_count c.args.parent.now.forest.now c.args.parent.now.n c.args.parent.now.rect c.args.parent.now.shapes.now c.requires.parent)
+
+pub pack_place_into-requires-clause-room : goal.pack_place_into-requires-clause-room
+pack_place_into-requires-clause-room c =
+    c.requires.room ∙ sym (same_count c.args.parent.now.forest.now c.args.parent.now.n c.args.parent.now.rect c.args.parent.now.shapes.now c.requires.parent)
+
+pub place_over-requires : goal.place_over-requires
+place_over-requires c = c.requires
+
+pub index_shown-requires : goal.index_shown-requires
+index_shown-requires c = c.requires.parent.is_node

@@ -1,4 +1,5 @@
 use Rattle.std.proofs.Common.{◌≡◌, ◌+◌, ◌<◌, ◌≤◌, length, get_or, sym, subst, ap, ◌∙◌, true, List, rules, arith}
+use Rattle.std.proofs.Math.ListN.{length-set}
 use Rattle.tr_base.specs.declared.NodeId.{NodeId}
 use Rattle.tr_base.specs.declared.Shapes.{Shapes}
 use Rattle.tr_forest.specs.Nodes.{IsNode, node}
@@ -61,3 +62,15 @@ returns-clause-fills t c =
     c.args.shapes.now.items c.loop-c.shapes.items c.shape_above.result
     (omega arith) c.loop-c.invariant.filling
     (omega (arith, c.requires.node.within, c.loop-c.invariant.count, c.requires.count)) c.shape_above.ensures.shapes)
+
+pub shape_above-requires-clause-room : goal.shape_above-requires-clause-room
+shape_above-requires-clause-room t c = c.loop-c.invariant.room ∙ c.requires.room
+
+pub shape_above-requires-clause-count : goal.shape_above-requires-clause-count
+shape_above-requires-clause-count t c = ap length c.deref.ensures.value ∙ c.loop-c.invariant.count ∙ c.requires.count
+
+pub returns-clause-room : goal.returns-clause-room
+returns-clause-room t c = c.shape_above.ensures.room ∙ c.loop-c.invariant.room
+
+pub returns-clause-count : goal.returns-clause-count
+returns-clause-count t c = length-set c.loop-c.shapes.items c.from.result c.shape_above.result ∙ c.loop-c.invariant.count

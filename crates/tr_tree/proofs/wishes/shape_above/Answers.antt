@@ -1,6 +1,7 @@
-use Rattle.std.proofs.Common.{◌≡◌, length, take, map, ap, ◌∙◌, arith}
+use Rattle.std.proofs.Common.{◌≡◌, List, length, take, map, sym, ap, subst, ◌∙◌, arith}
 use Rattle.std.proofs.lemmas.List.{length-map}
-use Rattle.tr_forest.specs.Nodes.{node}
+use Rattle.tr_base.specs.declared.Shapes.{Shapes}
+use Rattle.tr_forest.specs.Nodes.{IsNodeKind, node}
 use Rattle.tr_forest.specs.declared.NodeKind.{NodeKind}
 use Rattle.tr_tree.specs.Wishes.{shape_of}
 use Rattle.tr_tree.specs.Tables.{shape_in}
@@ -31,3 +32,15 @@ returns-clause-shapes c =
     c.shape_of.ensures ∙ ap (λ (k : NodeKind). shape_of k (take (length c.children-children.result.now) c.deref.result.now)) c.kind_of.ensures
     ∙ shape_above_is c.args.forest.now c.requires.forest c.args.n c.args.table.now
     (take (length c.children-children.result.now) c.deref.result.now) c.requires.children gathered
+
+pub shape_of-requires-clause-kind : goal.shape_of-requires-clause-kind
+shape_of-requires-clause-kind c = subst IsNodeKind (sym c.kind_of.ensures) (c.requires.forest.kinds c.args.n)
+
+pub slice_bounds-shape_of-end : goal.slice_bounds-shape_of-end
+slice_bounds-shape_of-end c =
+    let cs = c.children-children.result.now in
+    sym (ap (λ (l : List Shapes). length (take (length cs) l)) c.deref.ensures.value ∙ ap length c.gather.ensures.shapes
+    ∙ length-map cs (shape_in c.args.table.now))
+
+pub returns-clause-room : goal.returns-clause-room
+returns-clause-room c = c.gather.ensures.count
