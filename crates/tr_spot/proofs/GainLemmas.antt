@@ -1,5 +1,5 @@
 -- What the walk over all nodes adds to their regions, child after child, and what they have at the end.
-use Rattle.std.proofs.Common.{◌≡◌, ℕ, zero, suc, ◌+◌, ◌<◌, ◌≤◌, Bool, true, false, cond, ◌&&◌, ◌||◌, ◌==◌, not, set, subst, drop, ◌≢◌, List, [], ◌∷◌, Option, Some, None, length, get_or, get_or-set_same, get_or-set_other, inl, inr, refl, sym, ap, ◌∙◌, arith}
+use Rattle.std.proofs.Common.{◌≡◌, ℕ, zero, suc, ◌+◌, ◌<◌, ◌≤◌, Bool, true, false, cond, ◌&&◌, ◌||◌, ◌==◌, not, set, subst, drop, ◌≢◌, List, [], ◌∷◌, ◌++◌, Option, Some, None, length, get_or, get_or-set_same, get_or-set_other, inl, inr, refl, sym, ap, ◌∙◌, arith}
 use Rattle.std.proofs.lemmas.Bool.{cases_lt, cases_eq}
 use Rattle.std.proofs.lemmas.List.{drop_all, get_or_past, get_or_read_under}
 use Rattle.tr_base.specs.declared.Point.{Point}
@@ -54,17 +54,15 @@ rest_step t n c cs all old now new clip left part rest r same is_part is_rest ga
 
 -- one child of a list of children, as the code goes over it
 pub rest_next : (t : Seen) (n : NodeId) (i : ℕ) (cs : List NodeId) (all : Point → NodeId)
-    (old now new : List (List Edges)) (clip left part rest rects : List Edges) →
+    (old now new : List (List Edges)) (clip left part rest : List Edges) →
     Rest old clip all now left (owner_among t n (drop i cs)) → i < length cs → length now ≡ length old →
-    ((p : Point) → holds rects p ≡ has_point (domain t (get_or cs i zero_node)) p) →
-    ((p : Point) → holds part p ≡ (holds left p && holds rects p)) →
-    ((p : Point) → holds rest p ≡ (holds left p && not (holds rects p))) →
+    ((p : Point) → holds part p ≡ (holds left p && has_point (domain t (get_or cs i zero_node)) p)) →
+    ((p : Point) → holds rest p ≡ (holds left p && not (has_point (domain t (get_or cs i zero_node)) p))) →
     Gains part (owner t (get_or cs i zero_node)) now new →
     Rest old clip all new rest (owner_among t n (drop (i + 1) cs))
-rest_next t n i cs all old now new clip left part rest rects r lt same has is_part is_rest gains =
+rest_next t n i cs all old now new clip left part rest r lt same is_part is_rest gains =
     rest_step t n (get_or cs i zero_node) (drop (i + 1) cs) all old now new clip left part rest
-    (subst (λ (ks : List NodeId). Rest old clip all now left (owner_among t n ks)) (drop_next cs i lt) r) same
-    (λ p. is_part p ∙ ap (λ b. holds left p && b) (has p)) (λ p. is_rest p ∙ ap (λ b. holds left p && not b) (has p)) gains
+    (subst (λ (ks : List NodeId). Rest old clip all now left (owner_among t n ks)) (drop_next cs i lt) r) same is_part is_rest gains
 
 -- nothing is gained of a part with no point
 pub gains_none : (part : List Edges) (who : Point → NodeId) (now : List (List Edges)) → ((p : Point) → holds part p ≡ false) → Gains part who now now
@@ -77,21 +75,10 @@ gains_none part who now none = record {
     by_test false = refl
 
 -- what has no point of a child is left as it is
-kept_apart : (l a : Bool) → (l && a) ≡ false → l ≡ (l && not a)
+pub kept_apart : (l a : Bool) → (l && a) ≡ false → l ≡ (l && not a)
 kept_apart true true h = h
 kept_apart true false h = refl
 kept_apart false a h = refl
-
--- a child that has no point of what is left, as the code goes past it
-pub rest_past : (t : Seen) (n : NodeId) (i : ℕ) (cs : List NodeId) (all : Point → NodeId) (old now : List (List Edges)) (clip left part rects : List Edges) →
-    Rest old clip all now left (owner_among t n (drop i cs)) → i < length cs → length now ≡ length old →
-    ((p : Point) → holds rects p ≡ has_point (domain t (get_or cs i zero_node)) p) →
-    ((p : Point) → holds part p ≡ (holds left p && holds rects p)) → ((p : Point) → holds part p ≡ false) →
-    Rest old clip all now left (owner_among t n (drop (i + 1) cs))
-rest_past t n i cs all old now clip left part rects r lt same has is_part none =
-    rest_next t n i cs all old now now clip left part left rects r lt same has is_part
-    (λ p. kept_apart (holds left p) (holds rects p) (sym (is_part p) ∙ none p))
-    (gains_none part (owner t (get_or cs i zero_node)) now none)
 
 -- no child is left
 pub rest_last : (t : Seen) → IsForest t.nodes → (n : NodeId) (i : ℕ) (cs : List NodeId) (old now new : List (List Edges)) (clip left : List Edges) →
@@ -139,6 +126,16 @@ gains_set old n i part sum is lt union = record { points = λ m p h. elim (cases
         let apart : m.0 ≢ i = omega arith in
         ap (λ (r : List Edges). holds r p) (get_or-set_other old i m.0 sum [] apart)
         ∙ or_none (holds (region_of old m) p) (holds part p) ∙ ap (λ b. holds (region_of old m) p || (holds part p && b)) (sym (other_test n.0 m.0 other))
+
+-- one more region without points
+none_at : (rs : List (List Edges)) (i : ℕ) → get_or rs i [] ≡ [] → get_or (rs ++ [] ∷ []) i [] ≡ []
+none_at [] zero h = refl
+none_at [] (suc i) h = refl
+none_at (r ∷ rs) zero h = h
+none_at (r ∷ rs) (suc i) h = none_at rs i h
+
+pub none_more : (rs new : List (List Edges)) (r : List Edges) (n : NodeId) → new ≡ rs ++ r ∷ [] → r ≡ [] → region_of rs n ≡ [] → region_of new n ≡ []
+none_more rs new r n is empty h = rw (is, empty) (none_at rs n.0 h)
 
 -- ---- at the end
 

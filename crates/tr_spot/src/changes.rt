@@ -31,8 +31,14 @@ pub fn changed_points(
         if follows_parent(was, is, n) {
             continue;
         }
-        let points = both_domains(alloc, was, is, n)?;
-        changed = changed.union(&points)?;
+        let Ok(points) = both_domains(alloc, was, is, n) else {
+            drop(changed);
+            return Err(NoMemory);
+        };
+        let sum = changed.union(&points);
+        drop(points);
+        drop(changed);
+        changed = sum?;
     }
     Ok(changed)
 }

@@ -91,14 +91,23 @@ fn passed_on(
         ≡ holds part.now p && is_it child (front tree.now p (node tree.now.nodes parent).children)) }
 {
     let domain = domain_of(alloc, tree, child)?;
-    let mut left = part.meet(&domain)?;
+    let met = part.meet(&domain);
+    drop(domain);
+    let mut left = met?;
     for sibling in tree.children(parent) {
         if sibling.0 == child.0 {
             return Ok(left);
         }
-        let in_front = domain_of(alloc, tree, *sibling)?;
-        left = left.minus(&in_front)?;
+        let Ok(in_front) = domain_of(alloc, tree, *sibling) else {
+            drop(left);
+            return Err(NoMemory);
+        };
+        let rest = left.minus(&in_front);
+        drop(in_front);
+        drop(left);
+        left = rest?;
     }
+    drop(left);
     Ok(Region::empty(alloc))
 }
 

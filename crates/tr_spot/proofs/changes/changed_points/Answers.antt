@@ -20,7 +20,7 @@ loop-i-preserved-then-follows_parent c =
 pub loop-i-preserved : goal.loop-i-preserved
 loop-i-preserved c =
     seen_moving c.args.child c.args.was.now c.args.is.now _ c.loop-i.i
-    c.loop-i.changed c.in_ok-points.points c.in_ok-changed-2.changed c.loop-i.invariant
+    c.loop-i.changed c.in-Ok.points c.in_ok-changed-2.changed c.loop-i.invariant
     (omega (arith, c.count-i-end.ensures.count, c.count-i-end.ensures.invariant.count))
     (λ h. both_ways _ c.if-follows_parent.false (c.follows_parent.ensures.1 h))
-    c.in_ok-points.ensures c.in_ok-changed-2.ensures.points
+    c.in-Ok.ensures c.in_ok-changed-2.ensures.points

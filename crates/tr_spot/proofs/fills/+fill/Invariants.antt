@@ -11,5 +11,5 @@ abbrev pub invariant-loop-child : goal.invariant-loop-child
 invariant-loop-child l = record {
   count : length l.regions.items ≡ length l.tree.nodes.entries;
   rest : Rest l.fn.regions.items l.fn.part (owner_among l.tree l.n l.child-items)
-      l.regions.items l.left (owner_among l.tree l.n (drop l.child-index l.child-items));
+      l.regions.items l.part (owner_among l.tree l.n (drop l.child-index l.child-items));
 }

@@ -28,7 +28,7 @@ loop-sibling-preserved c = record {
   rest = λ p.
       passed_next c.args.tree.now p c.loop-sibling.sibling-index c.children-sibling-items.result.now c.args.child
       (holds c.loop-sibling.left p) (holds c.in_ok-left-2.left p)
-      (omega arith) c.if-sibling-child.false (c.in_ok-left-2.ensures.points p ∙ ap (λ b. holds c.loop-sibling.left p && not b) (c.in_ok-in_front.ensures p))
+      (omega arith) c.if-sibling-child.false (c.in_ok-left-2.ensures.points p ∙ ap (λ b. holds c.loop-sibling.left p && not b) (c.in-Ok.ensures p))
       ∙ c.loop-sibling.invariant.rest p;
 }
 
