@@ -112,6 +112,7 @@ impl<C: Client> Window<C> {
     {
         let painting = self.painting(alloc, env, exposure)?;
         if is_cheaper(&self.batch, &painting, exposure) {
+            drop(painting);
             let waiting = self.batch.copy()?;
             return Ok(waiting);
         }
@@ -135,6 +136,7 @@ impl<C: Client> Window<C> {
         }
         let painting = self.painting(alloc, env, exposure)?;
         if cost(&self.batch) <= cost(&painting) {
+            drop(painting);
             return Ok(None);
         }
         Ok(Some(painting))

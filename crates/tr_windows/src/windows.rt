@@ -215,8 +215,14 @@ fn idle_windows<C: Client>(alloc: Global, opening: &Opening<C>) -> Result<Vec<Wi
     let _ = tree.count();
     let mut windows = Vec::with_capacity(alloc, usize::from(tree.leaves()))?;
     for n in 0..tree.leaves() {
-        let content = opening.content(LeafId(n)).copy(alloc)?;
-        windows.push(Window::new(alloc, content))?;
+        let Ok(content) = opening.content(LeafId(n)).copy(alloc) else {
+            drop(windows);
+            return Err(NoMemory);
+        };
+        let Ok(()) = windows.push(Window::new(alloc, content)) else {
+            drop(windows);
+            return Err(NoMemory);
+        };
     }
     Ok(windows)
 }

@@ -10,7 +10,7 @@ use Rattle.tr_windows.proofs.windows.idle_windows.Goals as goal
 pub loop-n-preserved : goal.loop-n-preserved
 loop-n-preserved g c =
     let more = idle_more (contents_of c.args.opening.now) c.loop-n.n c.content.result.now c.content.ensures.content in
-    rw (c.in_ok-push.ensures.items, c.new.ensures, c.in_ok-content.ensures.copy, c.loop-n.invariant) (sym more)
+    rw (c.in-Ok-push.ensures.items, c.new.ensures, c.in-Ok.ensures.copy, c.loop-n.invariant) (sym more)
 
 pub returns-clause-invariant : goal.returns-clause-invariant
 returns-clause-invariant g c =
