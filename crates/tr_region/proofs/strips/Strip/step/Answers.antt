@@ -65,4 +65,5 @@ pub returns-else-second_edge-first_edge-clause-passes : goal.returns-else-second
 returns-else-second_edge-first_edge-clause-passes c =
     let edges = are_edges c.args.walk.now c.args.inside _ _ _ _ c.requires.inside c.has_first.ensures c.has_second.ensures
     c.edge-first_edge.ensures c.edge-second_edge.ensures c.edge-first_edge.type_inv c.edge-second_edge.type_inv in
-    passes_next _ _ _ _ _ _ _ (next_both c.args.walk.now _ _ edges c.if-first_edge-second_edge.false c.if-second_edge-first_edge.false c.requires.left) c.pass-else-second_edge-first_edge.ensures.passes
+    passes_next _ _ _ _ _ _ _ (next_both c.args.walk.now _ _ edges c.if-first_edge-second_edge.false c.if-second_edge-first_edge.false c.requires.left)
+    c.pass-else-second_edge-first_edge.ensures.passes
