@@ -1,5 +1,5 @@
 //! The kernels of rows against plain loops.
-ghost use Rattle.std.specs.Prelude.{◌<◌, ◌≤◌};
+ghost use Rattle.std.specs.Prelude.{◌+◌, ◌<◌, ◌≤◌};
 
 use tr_base::{Kind, Op, Pair, eff, exchanged};
 use tr_kernel::{
@@ -36,23 +36,31 @@ fn are_masked() -> bool {
     row == [0, 0, 7, 0, 7, 7, 0, 7, 0, 0] && short == [15, 3, 4, 15]
 }
 
-#[test]
-fn rows_are_masked_filled_and_copied(rt: HostRuntime) {
-    assert!(rt; are_masked());
+/// Whether a row is filled, and then copied.
+fn is_filled_and_copied() -> bool {
     let mut row = [0; 5];
     fill_row(&mut row, 9);
-    assert!(rt; row == [9; 5]);
+    let is_filled = row == [9; 5];
     copy_row(&mut row, &[1, 2, 3, 4, 5]);
-    assert!(rt; row == [1, 2, 3, 4, 5]);
-    for (from, to, count, want) in [
-        (0, 2, 3, [1, 2, 1, 2, 3]),
-        (2, 0, 3, [3, 4, 5, 4, 5]),
-        (3, 1, 2, [1, 4, 5, 4, 5]),
-    ] {
-        let mut row = [1, 2, 3, 4, 5];
-        copy_rows_within(&mut row, from, to, count);
-        assert!(rt; row == want, "{from} to {to}");
-    }
+    is_filled && row == [1, 2, 3, 4, 5]
+}
+
+/// Whether so many pixels of a row are copied from one place to another, and the row is this then.
+fn is_copied_within(from: usize, to: usize, count: usize, want: [u8; 5]) -> bool
+    requires from { from + count ≤ 5 }
+    requires to { to + count ≤ 5 }
+{
+    let mut row = [1, 2, 3, 4, 5];
+    copy_rows_within(&mut row, from, to, count);
+    row == want
+}
+
+#[test]
+fn rows_are_masked_filled_and_copied(rt: HostRuntime) {
+    assert!(rt; are_masked() && is_filled_and_copied());
+    assert!(rt; is_copied_within(0, 2, 3, [1, 2, 1, 2, 3]));
+    assert!(rt; is_copied_within(2, 0, 3, [3, 4, 5, 4, 5]));
+    assert!(rt; is_copied_within(3, 1, 2, [1, 4, 5, 4, 5]));
     assert!(rt; first_difference(&[], &[]).is_none());
 }
 

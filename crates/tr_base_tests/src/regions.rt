@@ -6,7 +6,6 @@ ghost use Rattle.tr_region.specs.Points.{IsInSquare};
 use super::ends::made;
 use std::collections::BTreeSet;
 use std::process::Abort;
-use std::test::Fail;
 use tr_base::{Point, Rect};
 use tr_region::Region;
 
@@ -33,6 +32,11 @@ fn rect(west: i8, east: i8, north: i8, south: i8) -> Rect {
     )
 }
 
+/// The region of a rectangle.
+pub fn region_of(rt: &(impl Abort + AllocGlobal), rect: Rect) -> Region {
+    made(rt, Region::of_rect(rt.alloc(), rect))
+}
+
 fn is_in(rect: &Rect) -> bool
     ensures { IsTrue result → IsInSquare rect.now }
 {
@@ -57,50 +61,43 @@ fn has_rects(region: &Region, want: &[Rect]) -> bool {
 
 /// Whether rectangles are cut, and joined where they touch.
 fn are_cut_and_joined(rt: &(impl Abort + AllocGlobal)) -> bool {
-    let square = made(rt, Region::of_rect(rt.alloc(), rect(0, 2, 0, 2)));
-    let corner = made(rt, Region::of_rect(rt.alloc(), rect(0, 1, 0, 1)));
+    let square = region_of(rt, rect(0, 2, 0, 2));
+    let corner = region_of(rt, rect(0, 1, 0, 1));
     let rest = made(rt, square.minus(&corner));
+    let is_cut = has_rects(&rest, &[rect(1, 2, 0, 1), rect(0, 2, 1, 2)]);
+    let is_copied = made(rt, rest.copy()).same(&rest);
+    let is_common = is_met(rt, &rest);
     let all = made(rt, rest.union(&corner));
-    let common = made(
-        rt,
-        rest.meet(&made(rt, Region::of_rect(rt.alloc(), rect(1, 3, 0, 1)))),
-    );
-    has_rects(&rest, &[rect(1, 2, 0, 1), rect(0, 2, 1, 2)])
-        && has_rects(&all, &[rect(0, 2, 0, 2)])
-        && has_rects(&common, &[rect(1, 2, 0, 1)])
-        && common.has(Point { h: 1, v: 0 })
-        && !common.has(Point { h: 2, v: 0 })
-        && all.same(&square)
-        && !all.same(&rest)
-        && made(rt, rest.copy()).same(&rest)
+    let is_joined = has_rects(&all, &[rect(0, 2, 0, 2)]) && all.same(&square);
+    is_cut && is_copied && is_common && is_joined && !all.same(&rest)
+}
+
+/// Whether a square without its first point has one point in its first row.
+fn is_met(rt: &(impl Abort + AllocGlobal), rest: &Region) -> bool {
+    let common = made(rt, rest.meet(&region_of(rt, rect(1, 3, 0, 1))));
+    let has_point = common.has(Point { h: 1, v: 0 }) && !common.has(Point { h: 2, v: 0 });
+    has_point && has_rects(&common, &[rect(1, 2, 0, 1)])
+}
+
+/// A region with a rectangle.
+fn with(rt: &(impl Abort + AllocGlobal), region: &Region, rect: Rect) -> Region {
+    made(rt, region.union(&region_of(rt, rect)))
 }
 
 /// Whether bands of rows are joined where they have the same rectangles.
 fn are_bands_joined(rt: &(impl Abort + AllocGlobal)) -> bool {
-    let west = made(rt, Region::of_rect(rt.alloc(), rect(0, 1, 0, 1)));
-    let two = made(
-        rt,
-        west.union(&made(rt, Region::of_rect(rt.alloc(), rect(1, 2, 1, 2)))),
-    );
-    let three = made(
-        rt,
-        two.union(&made(rt, Region::of_rect(rt.alloc(), rect(1, 2, 0, 1)))),
-    );
-    let four = made(
-        rt,
-        three.union(&made(rt, Region::of_rect(rt.alloc(), rect(0, 1, 1, 2)))),
-    );
+    let west = region_of(rt, rect(0, 1, 0, 1));
+    let two = with(rt, &west, rect(1, 2, 1, 2));
+    let three = with(rt, &two, rect(1, 2, 0, 1));
+    let four = with(rt, &three, rect(0, 1, 1, 2));
     let diagonal = [rect(0, 1, 0, 1), rect(1, 2, 1, 2)];
     has_rects(&two, &diagonal) && has_rects(&four, &[rect(0, 2, 0, 2)])
 }
 
 /// A square without the square in its middle.
 fn ring(rt: &(impl Abort + AllocGlobal)) -> Region {
-    let outer = made(rt, Region::of_rect(rt.alloc(), rect(0, 4, 0, 4)));
-    made(
-        rt,
-        outer.minus(&made(rt, Region::of_rect(rt.alloc(), rect(1, 3, 1, 3)))),
-    )
+    let outer = region_of(rt, rect(0, 4, 0, 4));
+    made(rt, outer.minus(&region_of(rt, rect(1, 3, 1, 3))))
 }
 
 /// A region moved by one point; none where it reaches beyond the square.
@@ -150,19 +147,22 @@ fn is_ring_moved(rt: &(impl Abort + AllocGlobal)) -> bool {
 /// Whether no rectangle is no point.
 fn is_none_empty(rt: &(impl Abort + AllocGlobal)) -> bool {
     let none = Region::empty(rt.alloc());
-    let flat = made(rt, Region::of_rect(rt.alloc(), rect(3, 3, 0, 9)));
-    let some = made(rt, Region::of_rect(rt.alloc(), rect(3, 4, 0, 9)));
     let is_counted = none.is_empty() && count_of(&none) == Some(0);
-    is_counted && flat.same(&none) && !some.is_empty() && made(rt, some.minus(&some)).is_empty()
+    is_counted && region_of(rt, rect(3, 3, 0, 9)).same(&none) && is_minus_itself_empty(rt)
+}
+
+/// Whether a region without its points is empty.
+fn is_minus_itself_empty(rt: &(impl Abort + AllocGlobal)) -> bool {
+    let some = region_of(rt, rect(3, 4, 0, 9));
+    !some.is_empty() && made(rt, some.minus(&some)).is_empty()
 }
 
 #[test]
-fn regions_are_lists_of_rectangles(rt: HostRuntime) -> Result<(), Fail> {
+fn regions_are_lists_of_rectangles(rt: HostRuntime) {
     assert!(rt; are_cut_and_joined(&rt), "cut and joined");
     assert!(rt; are_bands_joined(&rt), "bands");
     assert!(rt; is_ring_moved(&rt), "a ring");
     assert!(rt; is_none_empty(&rt), "no rectangle");
-    Ok(())
 }
 
 fn place(cell: u8) -> Point {
@@ -189,7 +189,7 @@ fn built(rt: &(impl Abort + AllocGlobal)) -> Vec<Region> {
     made(rt, regions.push(Region::empty(rt.alloc())));
     for v in 0..4i8 {
         for h in 0..4i8 {
-            let point = made(rt, Region::of_rect(rt.alloc(), rect(h, h + 1, v, v + 1)));
+            let point = region_of(rt, rect(h, h + 1, v, v + 1));
             double(rt, &mut regions, &point);
         }
     }
@@ -212,10 +212,7 @@ fn rect_points(rt: &(impl Abort + AllocGlobal)) -> Vec<u16> {
     made(rt, points.push(0));
     for (west, east) in SIDES {
         for (north, south) in SIDES {
-            let region = made(
-                rt,
-                Region::of_rect(rt.alloc(), rect(west, east, north, south)),
-            );
+            let region = region_of(rt, rect(west, east, north, south));
             made(rt, points.push(points_of(&region)));
         }
     }
@@ -283,30 +280,38 @@ fn half_agrees(rt: &(impl Abort + AllocGlobal), start: usize) -> bool {
     let ones = rect_points(rt);
     let twos = unions(rt, &ones, &ones);
     let threes = unions(rt, &twos, &ones);
-    for (i, first) in twos.iter().enumerate() {
-        if i % 2 == start && !agrees_with_all(rt, &regions, *first, &threes) {
+    let are_all = twos.len() == 2_126 && threes.len() == 14_712;
+    are_all && half_of_all_agree(rt, &regions, (&twos, &threes), start)
+}
+
+/// Whether each second region of the first, from this one on, agrees with all of the others.
+fn half_of_all_agree(
+    rt: &impl Abort,
+    regions: &[Region],
+    (firsts, others): (&[u16], &[u16]),
+    start: usize,
+) -> bool {
+    for (i, first) in firsts.iter().enumerate() {
+        if i % 2 == start && !agrees_with_all(rt, regions, *first, others) {
             return false;
         }
     }
-    twos.len() == 2_126 && threes.len() == 14_712
+    true
 }
 
 #[test]
-fn regions_have_the_points_of_their_places(rt: HostRuntime) -> Result<(), Fail> {
+fn regions_have_the_points_of_their_places(rt: HostRuntime) {
     let regions = built(&rt);
     assert!(rt; regions.len() == 65_536 && have_their_points(&regions));
-    Ok(())
 }
 
 // (two halves, since a test has a minute, and a slow machine takes half of that for all)
 #[test]
-fn answers_are_those_of_the_points(rt: HostRuntime) -> Result<(), Fail> {
+fn answers_are_those_of_the_points(rt: HostRuntime) {
     assert!(rt; half_agrees(&rt, 0));
-    Ok(())
 }
 
 #[test]
-fn answers_are_those_of_the_points_in_the_other_half(rt: HostRuntime) -> Result<(), Fail> {
+fn answers_are_those_of_the_points_in_the_other_half(rt: HostRuntime) {
     assert!(rt; half_agrees(&rt, 1));
-    Ok(())
 }

@@ -3,7 +3,6 @@ ghost use Rattle.std.specs.Prelude.{◌≡◌, ◌≤◌};
 
 use super::ends::made;
 use std::process::Abort;
-use std::test::Fail;
 use tr_base::{Kind, Point, Size};
 use tr_screen::Screen;
 
@@ -64,13 +63,15 @@ fn are_kept(rt: &(impl Abort + AllocGlobal)) -> bool {
     let wider = made(rt, screen.resized(Size { wide: 3, high: 1 }, Kind::Map8));
     let mut higher = made(rt, wider.resized(Size { wide: 3, high: 2 }, Kind::Map8));
     higher.row_mut(1).copy_from_slice(&[6, 7, 8]);
+    let are_first = shows(&screen, 2, 1, &[5, 0]) && shows(&wider, 3, 1, &[5, 0, 0]);
+    are_first && shows(&higher, 3, 2, &[5, 0, 0, 6, 7, 8]) && are_cut(rt, &higher)
+}
+
+/// Whether a screen of three columns and two rows is cut to fewer columns.
+fn are_cut(rt: &impl Abort, higher: &Screen) -> bool {
     let narrow = made(rt, higher.resized(Size { wide: 2, high: 3 }, Kind::Map8));
     let least = made(rt, higher.resized(Size { wide: 1, high: 1 }, Kind::Map8));
-    shows(&screen, 2, 1, &[5, 0])
-        && shows(&wider, 3, 1, &[5, 0, 0])
-        && shows(&higher, 3, 2, &[5, 0, 0, 6, 7, 8])
-        && shows(&narrow, 2, 3, &[5, 0, 6, 7, 0, 0])
-        && shows(&least, 1, 1, &[5])
+    shows(&narrow, 2, 3, &[5, 0, 6, 7, 0, 0]) && shows(&least, 1, 1, &[5])
 }
 
 /// Whether a filled screen of one kind has these pixels as one of another kind.
@@ -83,7 +84,7 @@ fn becomes(rt: &(impl Abort + AllocGlobal), from: Kind, to: Kind, want: &[u8]) -
 }
 
 #[test]
-fn screens_have_their_pixels(rt: HostRuntime) -> Result<(), Fail> {
+fn screens_have_their_pixels(rt: HostRuntime) {
     assert!(rt; are_read(&rt), "read");
     assert!(rt; is_filled(&rt), "filled");
     assert!(rt; are_kept(&rt), "kept");
@@ -97,5 +98,4 @@ fn screens_have_their_pixels(rt: HostRuntime) -> Result<(), Fail> {
     ] {
         assert!(rt; becomes(&rt, from, to, &[pixel; 2]), "{from:?} to {to:?}");
     }
-    Ok(())
 }

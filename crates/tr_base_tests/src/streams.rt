@@ -1,7 +1,6 @@
 //! Sources and sinks of bytes, of which some calls fail.
 use super::ends::made;
 use std::process::Abort;
-use std::test::Fail;
 use tr_io::{
     Failed, MemorySink, MemorySource, Sink, Source, StdSink, StdSource, SteadySink, SteadySource,
 };
@@ -22,13 +21,23 @@ fn answers<K: Sink>(
     sink.write(piece) == want
 }
 
+/// What a read answers, and what is read and left then.
+type Read<'a> = (Result<usize, Failed>, &'a [u8], &'a [u8]);
+
+/// Whether one read answers this.
+fn reads(source: &mut MemorySource, buf: &mut [u8], want: &Read) -> bool {
+    let (answer, read, left) = *want;
+    read_piece(source, buf) == answer && *buf == *read && source.left() == left
+}
+
 /// Whether a source fails at the reads that it is to fail at, and loses nothing then.
 fn fails_at_planned_reads(rt: &(impl Abort + AllocGlobal)) -> bool {
     let bytes = made(rt, Vec::from_slice(rt.alloc(), b"abcdefg"));
     let fails = made(rt, Vec::from_slice(rt.alloc(), &[2, 5]));
     let mut source = MemorySource::new(bytes, fails);
     let mut buf = [0u8; 3];
-    for (want, read, left) in [
+    let mut is_well = true;
+    for want in &[
         (Ok(3), b"abc".as_slice(), b"defg".as_slice()),
         (Err(Failed), b"abc", b"defg"),
         (Ok(3), b"def", b"g"),
@@ -36,21 +45,26 @@ fn fails_at_planned_reads(rt: &(impl Abort + AllocGlobal)) -> bool {
         (Err(Failed), b"gef", b""),
         (Ok(0), b"gef", b""),
     ] {
-        if read_piece(&mut source, &mut buf) != want
-            || buf.as_slice() != read
-            || source.left() != left
-        {
-            return false;
-        }
+        is_well = reads(&mut source, &mut buf, want) && is_well;
     }
-    source.faults() == 2
+    is_well && source.faults() == 2
+}
+
+/// A piece, what its write answers, and what is written then.
+type Written<'a> = (&'a [u8], Result<usize, Failed>, &'a [u8]);
+
+/// Whether one write answers this.
+fn writes(rt: &impl Abort, sink: &mut MemorySink, want: &Written) -> bool {
+    let (piece, answer, written) = *want;
+    answers(rt, sink, piece, answer) && sink.written() == written
 }
 
 /// Whether a sink fails at the writes that it is to fail at, and takes two bytes at most in another one.
 fn fails_at_planned_writes(rt: &(impl Abort + AllocGlobal)) -> bool {
     let fails = made(rt, Vec::from_slice(rt.alloc(), &[1, 3]));
     let mut sink = MemorySink::new(rt.alloc(), 2, fails);
-    for (piece, want, written) in [
+    let mut is_well = true;
+    for want in &[
         (b"hello".as_slice(), Err(Failed), b"".as_slice()),
         (b"hello", Ok(2), b"he"),
         (b"llo", Err(Failed), b"he"),
@@ -58,11 +72,9 @@ fn fails_at_planned_writes(rt: &(impl Abort + AllocGlobal)) -> bool {
         (b"o", Ok(1), b"hello"),
         (b"", Ok(0), b"hello"),
     ] {
-        if !answers(rt, &mut sink, piece, want) || sink.written() != written {
-            return false;
-        }
+        is_well = writes(rt, &mut sink, want) && is_well;
     }
-    sink.faults() == 2
+    is_well && sink.faults() == 2
 }
 
 /// Whether streams that never fail give and take all.
@@ -78,21 +90,20 @@ fn are_steady(rt: &(impl Abort + AllocGlobal)) -> bool {
         && sink.written() == b"abc".as_slice()
 }
 
-#[test]
-fn streams_in_memory_fail_as_planned(rt: HostRuntime) -> Result<(), Fail> {
-    assert!(rt; fails_at_planned_reads(&rt));
-    assert!(rt; fails_at_planned_writes(&rt));
-    assert!(rt; are_steady(&rt));
-    let text = made(&rt, format!(in rt.alloc(); "{Failed}"));
-    assert!(rt; text.as_str() == "a read or a write failed");
-    Ok(())
+/// Whether a fault says what it is.
+fn is_told(rt: &(impl Abort + AllocGlobal)) -> bool {
+    made(rt, format!(in rt.alloc(); "{Failed}")).as_str() == "a read or a write failed"
 }
 
 #[test]
-fn standard_streams_take_an_empty_piece(rt: HostRuntime) -> Result<(), Fail> {
-    let mut source = StdSource::new(rt.stdin());
-    assert!(rt; source.read(&mut []) == Ok(0));
-    let mut sink = StdSink::new(rt.stdout());
-    assert!(rt; answers(&rt, &mut sink, b"", Ok(0)));
-    Ok(())
+fn streams_in_memory_fail_as_planned(rt: HostRuntime) {
+    assert!(rt; fails_at_planned_reads(&rt));
+    assert!(rt; fails_at_planned_writes(&rt));
+    assert!(rt; are_steady(&rt) && is_told(&rt));
+}
+
+#[test]
+fn standard_streams_take_an_empty_piece(rt: HostRuntime) {
+    let is_read = read_piece(&mut StdSource::new(rt.stdin()), &mut []) == Ok(0);
+    assert!(rt; is_read && answers(&rt, &mut StdSink::new(rt.stdout()), b"", Ok(0)));
 }

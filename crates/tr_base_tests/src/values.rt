@@ -6,7 +6,6 @@ ghost use Rattle.tr_base.specs.Lines.{is_printable};
 use super::ends::made;
 use std::alloc::Global;
 use std::process::Abort;
-use std::test::Fail;
 use tr_base::{
     Command, Font, Kind, LINE, Line, NoMemory, Op, Pixmap, Point, REACH, Rect, Size, Tile, eff,
     is_set, place_of, tile_bit, whole,
@@ -96,6 +95,9 @@ fn tiles_repeat_in_all_directions(rt: HostRuntime) {
     assert!(rt; is_set(0x81, 0) && !is_set(0x81, 1) && is_set(0x81, 7));
 }
 
+/// The glyph of a byte that was given none.
+const BOXED: [u8; 8] = [255, 129, 129, 129, 129, 129, 129, 255];
+
 /// Whether all bytes of a table have this glyph.
 fn have_glyph(font: &Font, bytes: &[u8], glyph: [u8; 8]) -> bool {
     for byte in bytes {
@@ -108,17 +110,20 @@ fn have_glyph(font: &Font, bytes: &[u8], glyph: [u8; 8]) -> bool {
 
 /// Whether a font keeps the glyph that it is given, and no other one.
 fn keeps_its_glyph(rt: &(impl Abort + AllocGlobal)) -> bool {
-    let boxed = [255, 129, 129, 129, 129, 129, 129, 255];
     let glyph = [1, 2, 3, 4, 5, 6, 7, 8];
     let mut font = made(rt, Font::empty(rt.alloc()));
     let empty = made(rt, font.copy());
-    let is_empty = have_glyph(&font, &[0, 31, 32, 65, 126, 127, 255], boxed);
+    let is_empty = have_glyph(&font, &[0, 31, 32, 65, 126, 127, 255], BOXED);
     font.set(65, glyph);
-    let copy = made(rt, font.copy());
-    let is_kept = have_glyph(&font, &[65], glyph) && have_glyph(&font, &[66], boxed);
-    let is_new = font.same(&copy) && !font.same(&empty);
-    font.set(65, boxed);
+    let is_kept = have_glyph(&font, &[65], glyph) && have_glyph(&font, &[66], BOXED);
+    let is_new = is_copied(rt, &font) && !font.same(&empty);
+    font.set(65, BOXED);
     is_empty && is_kept && is_new && font.same(&empty)
+}
+
+/// Whether a font's copy is the same.
+fn is_copied(rt: &impl Abort, font: &Font) -> bool {
+    font.same(&made(rt, font.copy()))
 }
 
 /// Whether a pixmap has the pixels that it is given, row after row.
@@ -147,12 +152,11 @@ fn has_its_bytes(rt: &impl Abort, bytes: &[u8]) -> bool
 }
 
 #[test]
-fn fonts_pixmaps_and_lines_keep_what_they_were_given(rt: HostRuntime) -> Result<(), Fail> {
+fn fonts_pixmaps_and_lines_keep_what_they_were_given(rt: HostRuntime) {
     assert!(rt; keeps_its_glyph(&rt));
     assert!(rt; has_its_pixels(&rt));
     assert!(rt; has_its_bytes(&rt, b"") && has_its_bytes(&rt, b" ~"));
     assert!(rt; has_its_bytes(&rt, &[126; 79]) && has_its_bytes(&rt, &[126; LINE]));
-    Ok(())
 }
 
 /// A command with a number below 10.
@@ -190,7 +194,6 @@ fn is_printed<M: Command>(rt: &(impl Abort + AllocGlobal), command: &M, words: &
 }
 
 #[test]
-fn commands_are_copied_compared_and_printed(rt: HostRuntime) -> Result<(), Fail> {
+fn commands_are_copied_compared_and_printed(rt: HostRuntime) {
     assert!(rt; is_printed(&rt, &Digit(7), &[7]));
-    Ok(())
 }
