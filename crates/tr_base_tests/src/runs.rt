@@ -7,36 +7,53 @@ use std::process::Abort;
 use tr_base::{Kind, Point, Size};
 use tr_screen::{Run, Screen};
 
+/// Three pixels in the east of a row, in the west of it, and in the east of the row south of it.
+const EAST: Run = Run {
+    v: 1,
+    west: 1,
+    east: 4,
+};
+
+const WEST: Run = Run {
+    v: 1,
+    west: 0,
+    east: 3,
+};
+
+const SOUTH: Run = Run {
+    v: 2,
+    west: 1,
+    east: 4,
+};
+
+/// Whether a run of a blank screen is lent, and moved.
+fn is_lent_and_moved(screen: &mut Screen) -> bool
+    requires { screen.old.size ≡ record { wide = 4; high = 3 } }
+    ensures { screen.new.size ≡ record { wide = 4; high = 3 } }
+{
+    screen.run_mut(EAST).copy_from_slice(&[1, 2, 3]);
+    let is_lent = shows(screen, 4, 3, &[0, 0, 0, 0, 0, 1, 2, 3, 0, 0, 0, 0]);
+    screen.move_run(WEST, Point { h: -1, v: 0 });
+    is_lent && shows(screen, 4, 3, &[0, 0, 0, 0, 1, 2, 3, 3, 0, 0, 0, 0])
+}
+
+/// Whether runs are moved through a spare row, and then one to the south.
+fn are_moved_through(screen: &mut Screen) -> bool
+    requires { screen.old.size ≡ record { wide = 4; high = 3 } }
+{
+    let mut spare = [0; 5];
+    screen.move_run_through(EAST, Point { h: 1, v: 0 }, &mut spare);
+    let is_east = shows(screen, 4, 3, &[0, 0, 0, 0, 1, 1, 2, 3, 0, 0, 0, 0]);
+    screen.move_run_through(WEST, Point { h: -1, v: 0 }, &mut spare);
+    screen.move_run(SOUTH, Point { h: 1, v: 1 });
+    is_east && shows(screen, 4, 3, &[0, 0, 0, 0, 1, 2, 3, 3, 0, 1, 2, 3])
+}
+
 /// Whether runs are lent and moved, also through a spare row.
 fn are_moved(rt: &(impl Abort + AllocGlobal)) -> bool {
     let size = Size { wide: 4, high: 3 };
     let mut screen = made(rt, Screen::blank(rt.alloc(), size, Kind::Map8));
-    let east = Run {
-        v: 1,
-        west: 1,
-        east: 4,
-    };
-    let west = Run {
-        v: 1,
-        west: 0,
-        east: 3,
-    };
-    let south = Run {
-        v: 2,
-        west: 1,
-        east: 4,
-    };
-    screen.run_mut(east).copy_from_slice(&[1, 2, 3]);
-    let is_lent = shows(&screen, 4, 3, &[0, 0, 0, 0, 0, 1, 2, 3, 0, 0, 0, 0]);
-    screen.move_run(west, Point { h: -1, v: 0 });
-    let is_west = shows(&screen, 4, 3, &[0, 0, 0, 0, 1, 2, 3, 3, 0, 0, 0, 0]);
-    let mut spare = [0; 5];
-    screen.move_run_through(east, Point { h: 1, v: 0 }, &mut spare);
-    let is_east = shows(&screen, 4, 3, &[0, 0, 0, 0, 1, 1, 2, 3, 0, 0, 0, 0]);
-    screen.move_run_through(west, Point { h: -1, v: 0 }, &mut spare);
-    screen.move_run(south, Point { h: 1, v: 1 });
-    let is_south = shows(&screen, 4, 3, &[0, 0, 0, 0, 1, 2, 3, 3, 0, 1, 2, 3]);
-    is_lent && is_west && is_east && is_south
+    is_lent_and_moved(&mut screen) && are_moved_through(&mut screen)
 }
 
 /// A screen of seven rows, each of pixels that are its number.
