@@ -44,6 +44,10 @@ is_at ws leaf w low at =
     let is : slice_get ws leaf.0 ≡ Some w = slice_get_read ws (length ws) leaf.0 w refl low at in
     record { is = is; content = ap (λ o. option_map (λ v. v.content) o) is; batch = ap batch_in is }
 
+-- what was read is the window at the place
+pub read_is : {A : Type 0} (ws : List A) (i n : ℕ) (v w : A) → v ≡ get_or ws i v → i ≡ n → slice_get ws n ≡ Some w → v ≡ w
+read_is ws i n v w is at some = is ∙ ap (λ k. get_or ws k v) at ∙ get_or_from_slice_get ws n w v some
+
 -- one content more
 pub idle_more : {C : Type 0} (xs : List C) (n : ℕ) (x : C) → slice_get xs n ≡ Some x →
     map idle (take (n + 1) xs) ≡ map idle (take n xs) ++ idle x ∷ []

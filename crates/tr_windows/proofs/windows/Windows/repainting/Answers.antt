@@ -1,14 +1,10 @@
-use Rattle.std.proofs.Common.{◌≡◌, ℕ, List, Some, Result, Ok, Err, get_or, subst, ap, ◌∙◌}
+use Rattle.std.proofs.Common.{◌≡◌, ℕ, List, Some, Result, Ok, Err, subst, ap, ◌∙◌}
 use Rattle.std.specs.Prelude.{IfOk, slice_get}
-use Rattle.std.proofs.lemmas.Option.{get_or_from_slice_get}
 use Rattle.tr_paint.specs.Traces.{look_of}
 use Rattle.tr_windows.specs.Presents.{Present}
 use Rattle.tr_windows.specs.Promises.{Repaints}
+use Rattle.tr_windows.proofs.HeldLemmas.{read_is}
 use Rattle.tr_windows.proofs.windows.Windows.repainting.Goals as goal
-
--- what was read is the window at the place
-read_is : {A : Type 0} (ws : List A) (i n : ℕ) (v w : A) → v ≡ get_or ws i v → i ≡ n → slice_get ws n ≡ Some w → v ≡ w
-read_is ws i n v w is at some = is ∙ ap (λ k. get_or ws k v) at ∙ get_or_from_slice_get ws n w v some
 
 -- so what repaints the one repaints the other
 of_window : {A B E : Type 0} (made : Result B E) (repaints : A → B → Type 0) (v : A) (ws : List A) (n : ℕ) →
