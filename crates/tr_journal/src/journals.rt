@@ -61,11 +61,21 @@ impl<M: Drop> Journal<M> {
         ensures silent_room { 0 < self.old.silent_spare → length sent.now ≡ 0 → IsOk result }
         ensures silent_spare { self.old.silent_spare ≤ self.new.silent_spare + 1 }
     {
-        self.entries.reserve(1)?;
-        self.ends.reserve(1)?;
-        self.sent.extend_from_slice(sent)?;
-        self.ends.push(self.sent.len())?;
-        Ok(self.entries.push(entry)?)
+        let Ok(()) = self.entries.reserve(1) else {
+            drop(entry);
+            return Err(NoMemory);
+        };
+        let Ok(()) = self.ends.reserve(1) else {
+            drop(entry);
+            return Err(NoMemory);
+        };
+        let Ok(()) = self.sent.extend_from_slice(sent) else {
+            drop(entry);
+            return Err(NoMemory);
+        };
+        self.ends.push_reserved(self.sent.len());
+        self.entries.push_reserved(entry);
+        Ok(())
     }
 
     /// Makes room for `n` entries more, with at most 32 deliveries each.
@@ -110,7 +120,10 @@ impl<M: Drop> Journal<M> {
         ensures err { OnErr result (self.new.lines ≡ self.old.lines) }
         ensures room { vec_len entries ≤ self.old.silent_spare → IsOk result }
     {
-        self.reserve_silent(entries.len())?;
+        let Ok(()) = self.reserve_silent(entries.len()) else {
+            drop(entries);
+            return Err(NoMemory);
+        };
         for entry in entries {
             self.push_silent(entry);
         }
@@ -187,10 +200,25 @@ fn copies_of<M: Command>(alloc: Global, entries: &[Entry<M>]) -> Result<Vec<Entr
     ensures { IfOk result (λ copies. copies.items ≡ entries.now) }
 {
     let mut copies = Vec::with_capacity(alloc, entries.len())?;
+    let Ok(()) = append_copies(alloc, entries, &mut copies) else {
+        drop(copies);
+        return Err(NoMemory);
+    };
+    Ok(copies)
+}
+
+/// Appends the same entries.
+fn append_copies<M: Command>(
+    alloc: Global,
+    entries: &[Entry<M>],
+    copies: &mut Vec<Entry<M>>,
+) -> Result<(), NoMemory>
+    ensures { OnOk result (copies.new.items ≡ copies.old.items ++ entries.now) }
+{
     for entry in entries {
         copies.push(entry.copy(alloc)?)?;
     }
-    Ok(copies)
+    Ok(())
 }
 
 /// What the entry behind `k` others sent, out of what all of them sent.

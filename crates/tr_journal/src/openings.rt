@@ -47,8 +47,14 @@ impl<C: Client> Opening<C> {
         ensures { IfOk result (λ o. o ≡ Item.Screen size kind ∷ []) }
     {
         let mut items = Vec::with_capacity(alloc, ROOM)?;
-        let tree = Tree::new(alloc, size, kind)?;
-        let font = Font::empty(alloc)?;
+        let Ok(tree) = Tree::new(alloc, size, kind) else {
+            drop(items);
+            return Err(NoMemory);
+        };
+        let Ok(font) = Font::empty(alloc) else {
+            drop((items, tree));
+            return Err(NoMemory);
+        };
         items.push_reserved(Item::Screen { size, kind });
         Ok(Opening {
             items,
