@@ -2,10 +2,9 @@
 ghost use Rattle.std.specs.Prelude.{◌+◌, ◌<◌, ◌≤◌, length};
 ghost use Rattle.tr_mirror.specs.Readings.{longest_stream};
 
-use crate::plain_readings::read_plainly;
-use std::alloc::Global;
-use std::test::Fail;
-use tr_base::NoMemory;
+use crate::ends::made;
+use crate::plain_readings::{PlainReading, read_plainly};
+use std::process::Abort;
 use tr_mirror::{Mirror, MirrorFault};
 use tr_screen::Screen;
 
@@ -33,32 +32,34 @@ fn feed_all(mirror: &mut Mirror, stream: &[u8], step: usize) -> Option<MirrorFau
 }
 
 /// Whether a mirror reads a stream in such pieces as it is read plainly.
-fn is_read(alloc: Global, stream: &[u8], step: usize) -> Result<bool, NoMemory> {
+fn is_read(rt: &(impl Abort + AllocGlobal), stream: &[u8], step: usize) -> bool {
     if step == 0 || stream.len() > 1_000 {
-        return Ok(false);
+        return false;
     }
-    let mut mirror = Mirror::new(alloc)?;
+    let mut mirror = made(rt, Mirror::new(rt.alloc()));
     let fault = feed_all(&mut mirror, stream, step);
-    let plain = read_plainly(alloc, stream)?;
+    let plain = made(rt, read_plainly(rt.alloc(), stream));
+    fault == plain.fault && has_read(rt, &mirror, &plain)
+}
+
+/// Whether a mirror has read as much as was read plainly, and stands where that does.
+fn has_read(rt: &impl Abort, mirror: &Mirror, plain: &PlainReading) -> bool {
     let is_between = !plain.standing.is_within() && plain.begun.is_empty();
-    Ok(
-        fault == plain.fault
-            && mirror.fed() == plain.fed
-            && mirror.cuts() == plain.standing.cuts()
-            && mirror.is_between() == is_between
-            && has_screen(&mirror, plain.standing.screen())?,
-    )
+    mirror.fed() == plain.fed
+        && mirror.cuts() == plain.standing.cuts()
+        && mirror.is_between() == is_between
+        && has_screen(rt, mirror, plain.standing.screen())
 }
 
 /// Whether a mirror has this screen, or none.
-fn has_screen(mirror: &Mirror, wanted: Option<&Screen>) -> Result<bool, NoMemory> {
+fn has_screen(rt: &impl Abort, mirror: &Mirror, wanted: Option<&Screen>) -> bool {
     let Some(wanted) = wanted else {
-        return Ok(!mirror.has_screen());
+        return !mirror.has_screen();
     };
     if !mirror.has_screen() {
-        return Ok(false);
+        return false;
     }
-    Ok(are_alike(&mirror.screen()?, wanted))
+    are_alike(&made(rt, mirror.screen()), wanted)
 }
 
 /// Whether two screens have one size, one kind and the same pixels.
@@ -76,53 +77,56 @@ fn are_alike(a: &Screen, b: &Screen) -> bool {
 }
 
 /// Whether a stream is read in pieces of any size, wherever it ends.
-fn is_read_to_each_place(alloc: Global, stream: &[u8]) -> Result<bool, NoMemory> {
+fn is_read_to_each_place(rt: &(impl Abort + AllocGlobal), stream: &[u8]) -> bool {
     for end in 0..stream.len() {
         let (front, _) = stream.split_at(end);
         for step in [1, 2, 3, 7, 1_000] {
-            if !is_read(alloc, front, step)? {
-                return Ok(false);
+            if !is_read(rt, front, step) {
+                return false;
             }
         }
     }
-    is_read(alloc, stream, 1)
+    is_read(rt, stream, 1)
 }
 
 /// Whether a stream is read, whatever one of its bytes is.
-fn is_read_with_each_byte(alloc: Global, stream: &[u8]) -> Result<bool, NoMemory> {
-    let mut changed = Vec::from_slice(alloc, stream)?;
+fn is_read_with_each_byte(rt: &(impl Abort + AllocGlobal), stream: &[u8]) -> bool {
+    let mut changed = made(rt, Vec::from_slice(rt.alloc(), stream));
+    let mut is_well = true;
     for (place, byte) in stream.iter().enumerate() {
-        for other in 0..=255 {
-            if let Some(it) = changed.get_mut(place) {
-                *it = other;
-            }
-            if !is_read(alloc, &changed, 4)? {
-                return Ok(false);
-            }
-        }
+        is_well = is_well && is_read_with_any(rt, &mut changed, place);
         if let Some(it) = changed.get_mut(place) {
             *it = *byte;
         }
     }
-    Ok(true)
+    is_well
+}
+
+/// Whether a stream is read, whatever the byte at a place is. Another one is left there.
+fn is_read_with_any(rt: &(impl Abort + AllocGlobal), stream: &mut [u8], place: usize) -> bool {
+    for other in 0..=255 {
+        if let Some(it) = stream.get_mut(place) {
+            *it = other;
+        }
+        if !is_read(rt, stream, 4) {
+            return false;
+        }
+    }
+    true
 }
 
 /// Whether a mirror reads as much as so many cuts of a screen.
-fn has_cuts(alloc: Global, cuts: u8) -> Result<bool, NoMemory> {
-    let mut stream = Vec::from_slice(alloc, &[1, 0, 1, 0, 1, 0])?;
+fn has_cuts(rt: &(impl Abort + AllocGlobal), cuts: u8) -> bool {
+    let mut stream = made(rt, Vec::from_slice(rt.alloc(), &[1, 0, 1, 0, 1, 0]));
     for number in 1..=cuts {
-        stream.extend_from_slice(&[4, 0, 0, 0, number])?;
+        made(rt, stream.extend_from_slice(&[4, 0, 0, 0, number]));
     }
-    is_read(alloc, &stream, 7)
+    is_read(rt, &stream, 7)
 }
 
 #[test]
-fn a_stream_is_read_as_it_is_plainly(rt: HostRuntime) -> Result<(), Fail> {
-    assert!(rt; is_read_to_each_place(rt.alloc(), &STREAM)?, "cut");
-    assert!(rt; is_read_with_each_byte(rt.alloc(), &STREAM)?, "changed");
-    assert!(rt;
-        has_cuts(rt.alloc(), 64)? && has_cuts(rt.alloc(), 65)?,
-        "cuts"
-    );
-    Ok(())
+fn a_stream_is_read_as_it_is_plainly(rt: HostRuntime) {
+    assert!(rt; is_read_to_each_place(&rt, &STREAM), "cut");
+    assert!(rt; is_read_with_each_byte(&rt, &STREAM), "changed");
+    assert!(rt; has_cuts(&rt, 64) && has_cuts(&rt, 65), "cuts");
 }
