@@ -83,7 +83,9 @@ impl<C: Client> Stage<C> {
             font: self.opening.font(),
         };
         let size = leaf_size(tree, leaf);
-        obey(&mut self.windows, leaf, &env, size, &asked)?;
+        let obeyed = obey(&mut self.windows, leaf, &env, size, &asked);
+        drop(asked);
+        obeyed?;
         let _taken = self.mail.take(leaf);
         let entry = by.entry(Step::Take { leaf }, Answer::Taken(event), 0);
         Ok(write(&mut self.journal, entry, &[]))

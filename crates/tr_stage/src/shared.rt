@@ -103,13 +103,26 @@ impl<C: Client> Stage<C> {
             IfOk result (λ all. ArePainted C.Client m (all_bad_leaves m) all.items) }
     {
         let mut all = Vec::new(self.alloc);
+        let Ok(()) = self.add_each_bad(&mut all) else {
+            drop(all);
+            return Err(NoMemory);
+        };
+        Ok(all)
+    }
+
+    /// Puts them into an empty list, which is lent so that nothing vanishes here.
+    fn add_each_bad(&self, all: &mut Vec<Painted>) -> Result<(), NoMemory>
+        requires { all.old.items ≡ [] }
+        ensures { let m = state C.Client self.now in
+            OnOk result (ArePainted C.Client m (all_bad_leaves m) all.new.items) }
+    {
         for n in 0..self.windows.count() {
             let leaf = LeafId(n);
             if self.has_bad(leaf)? {
                 all.push(self.paint_bad(leaf)?)?;
             }
         }
-        Ok(all)
+        Ok(())
     }
 
     /// Puts the bad points of all leaves onto the screen, leaf by leaf. For want of memory those put so far

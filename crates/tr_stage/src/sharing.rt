@@ -52,7 +52,10 @@ impl<C: Client> Stage<C> {
             IsPaintedOf C.Client (state C.Client self.now) leaf painted.part painted.pixels.items) }
     {
         let part = self.surface.bad_of(leaf)?;
-        let pixels = self.paint_apart(leaf, &part)?;
+        let Ok(pixels) = self.paint_apart(leaf, &part) else {
+            drop(part);
+            return Err(NoMemory);
+        };
         Ok(Painted { leaf, part, pixels })
     }
 
@@ -81,9 +84,17 @@ impl<C: Client> Stage<C> {
         let by = from_corner(&area, Point { h: 0, v: 0 });
         let origin = from_corner(&area, corner);
         let here = part.shift(by)?;
-        let mut wanted = Screen::blank(self.alloc, size_of(&area), tree.kind())?;
-        self.paint_window(leaf, origin, &here, &mut wanted)?;
-        pixels_at(&wanted, &here)
+        let Ok(mut wanted) = Screen::blank(self.alloc, size_of(&area), tree.kind()) else {
+            drop(here);
+            return Err(NoMemory);
+        };
+        let Ok(()) = self.paint_window(leaf, origin, &here, &mut wanted) else {
+            drop((here, wanted));
+            return Err(NoMemory);
+        };
+        let pixels = pixels_at(&wanted, &here);
+        drop((here, wanted));
+        pixels
     }
 
     /// Gives visible points of a leaf the colour that they are to have.

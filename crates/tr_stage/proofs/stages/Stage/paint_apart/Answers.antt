@@ -94,10 +94,10 @@ paint_window-requires-clause-part g c κs within =
       way = c.from_corner-by.ensures;
       points = c.in_ok-here.ensures.points;
     } in
-    moved_on c.in_ok-wanted.wanted.size (ap (λ w. w.size) c.in_ok-wanted.ensures ∙ c.size_of.ensures) moved
+    moved_on c.in-Ok.wanted.size (ap (λ w. w.size) c.in-Ok.ensures ∙ c.size_of.ensures) moved
 
-pub pixels_at-requires : goal.pixels_at-requires
-pixels_at-requires g c =
+pub pixels_at-pixels-requires : goal.pixels_at-pixels-requires
+pixels_at-pixels-requires g c =
     let are : AreSeen g.C.Client c.args.self.now c.tree-tree.result.now c.args.leaf c.args.part.now = record {
       stands = c.stands.ensures.invariant;
       tree = c.tree-tree.ensures.value ∙ c.self.invariant.kept.tree ∙ ap (λ v. (state g.C.Client v).tree) c.self.view_is;
@@ -116,15 +116,15 @@ pixels_at-requires g c =
     } in
     record {
       on = moved_on c.paint_window.new.wanted.size
-          (c.in_ok-paint_window.ensures.size ∙ ap (λ w. w.size) c.in_ok-wanted.ensures ∙ c.size_of.ensures) moved;
+          (c.in-Ok-paint_window.ensures.size ∙ ap (λ w. w.size) c.in-Ok.ensures ∙ c.size_of.ensures) moved;
     }
 
 pub returns-clause-many : goal.returns-clause-many
 returns-clause-many g c =
-    subst (λ n. IfOk c.pixels_at.result (λ v. length v.items ≡ n))
+    subst (λ n. IfOk c.pixels_at-pixels.result (λ v. length v.items ≡ n))
     (ap total_area c.in_ok-here.ensures.rects
     ∙ total_area-moved c.from_corner-by.result c.args.part.now (AreInOrder-canonical c.args.part.now c.rects.ensures.invariant))
-    c.pixels_at.ensures.many
+    c.pixels_at-pixels.ensures.many
 
 pub returns-clause-colours : goal.returns-clause-colours
 returns-clause-colours g c =
@@ -148,9 +148,9 @@ returns-clause-colours g c =
     ∙ ap (place_in part) (back p) in
     let lies : (p : Point) → holds part p ≡ true → holds c.in_ok-here.here (there p) ≡ true = λ p held.
     c.in_ok-here.ensures.points (there p) ∙ ap (holds part) (back p) ∙ held in
-    IfOk-weaker c.pixels_at.result _ _
+    IfOk-weaker c.pixels_at-pixels.result _ _
     (λ v pixels p held.
     ap (λ n. slice_index v.items n) (sym (place p))
     ∙ pixels (there p) (lies p held)
-    ∙ c.in_ok-paint_window.ensures.painted p (c.requires.part p held) (lies p held))
-    c.pixels_at.ensures.pixels
+    ∙ c.in-Ok-paint_window.ensures.painted p (c.requires.part p held) (lies p held))
+    c.pixels_at-pixels.ensures.pixels

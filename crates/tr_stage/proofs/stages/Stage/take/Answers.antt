@@ -15,8 +15,8 @@ content-requires-after_bounds g c κs within =
     let made = seen_for (sym c.self.view_is) c.requires.allowed in
     has_window g.C.Client c.self.invariant made.values.within
 
-pub obey-requires-clause-leaf : goal.obey-requires-clause-leaf
-obey-requires-clause-leaf g c κs within =
+pub obey-obeyed-requires-clause-leaf : goal.obey-obeyed-requires-clause-leaf
+obey-obeyed-requires-clause-leaf g c κs within =
     let made = seen_for (sym c.self.view_is) c.requires.allowed in
     has_window g.C.Client c.self.invariant made.values.within
 
@@ -27,4 +27,4 @@ invariant_of-self-2 g c =
     rw (c.write-2.ensures.lines, c.in_ok-reserve.ensures.lines, c.entry-entry-2.ensures, c.take-taken.ensures.taken)
     (takes g.C.Client c.self.invariant made c.tree-tree.ensures.invariant.forest (sym c.in-Some.ensures) asked
     (env_at c.tree-tree.ensures.value c.kind.ensures c.font.ensures c.leaf_size-size.ensures.value)
-    (record { none = c.obey.ensures.none; some = c.in_ok-obey.ensures.ok; law = c.obey.ensures.patch }))
+    (record { none = c.obey-obeyed.ensures.none; some = c.in_ok-obeyed.ensures.ok; law = c.obey-obeyed.ensures.patch }))

@@ -2,8 +2,8 @@ use Rattle.std.proofs.Common.{◌≡◌, length, sym, ◌∙◌, arith}
 use Rattle.tr_stage.specs.Stages.{state}
 use Rattle.tr_stage.proofs.SettleLemmas.{windows_of}
 use Rattle.tr_stage.proofs.SharedLemmas.{painted_done, painted_less, painted_more}
-use Rattle.tr_stage.proofs.stages.Stage.paint_each_bad.Goals.{then-branch+in_ok-paint_bad+in_ok-push, else-branch}
-use Rattle.tr_stage.proofs.stages.Stage.paint_each_bad.Goals as goal
+use Rattle.tr_stage.proofs.stages.Stage.add_each_bad.Goals.{then-branch+in_ok-paint_bad+in_ok-push, else-branch}
+use Rattle.tr_stage.proofs.stages.Stage.add_each_bad.Goals as goal
 
 pub has_bad-requires-after_bounds : goal.has_bad-requires-after_bounds
 has_bad-requires-after_bounds g c κs within =
