@@ -68,7 +68,9 @@ impl<C: Client> Stage<C> {
             font: self.opening.font(),
         };
         let batch = self.windows.repainting(leaf, &env, &exposure)?;
-        self.surface.execute(env.font, leaf, &batch)?;
+        let executed = self.surface.execute(env.font, leaf, &batch);
+        drop(batch);
+        executed?;
         // Called for what it tells the prover: that the surface is still one.
         let _ = self.surface.tree();
         self.windows.clear(leaf);

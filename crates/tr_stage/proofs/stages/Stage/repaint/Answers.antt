@@ -47,12 +47,12 @@ invariant_of-self-2 g c =
       same = ap (λ v. v.opening) c.self.view_is;
       allowed = c.requires.allowed;
     } in
-    let new : Parts g.row.C.Denot = record { surface = c.execute.new.self; windows = c.clear.new.self; mail = s.mail } in
-    let done = c.in_ok-execute.ensures in
+    let new : Parts g.row.C.Denot = record { surface = c.execute-executed.new.self; windows = c.clear.new.self; mail = s.mail } in
+    let done = c.in_ok-executed.ensures in
     rw (c.write.ensures.lines, c.entry-entry.ensures, c.reserve.ensures.lines)
     (repaint_made g.C.Client b c.args.leaf new m (record {
       shown = c.tree-2.ensures.invariant;
-      tree = c.execute.ensures.tree;
+      tree = c.execute-executed.ensures.tree;
       font = c.font.result.now;
       font_is = c.font.ensures;
       batch = c.in_ok-batch.batch;
@@ -68,5 +68,5 @@ invariant_of-self-2 g c =
 
 pub returns-clause-others : goal.returns-clause-others
 returns-clause-others g c =
-    kept_others g.C.Client (Repaint c.args.leaf) c.execute.new.self.screen c.self.view_is c.self.invariant
-    c.in_ok-execute.ensures.pixels
+    kept_others g.C.Client (Repaint c.args.leaf) c.execute-executed.new.self.screen c.self.view_is c.self.invariant
+    c.in_ok-executed.ensures.pixels
