@@ -7,7 +7,7 @@
 # Each time is the best of ROUNDS (3 if left out), and each round plays both. PROGRAM is a built trestle; where it is left out,
 # the launcher proves and builds it. The scripts are those of bench/workloads.sh, and that of gen 1.
 #
-# The plain program stands in bench/plain: Rust as one writes it for speed, with std alone, no unsafe code, no threads and no
+# The plain program stands in judges/plain: Rust as one writes it for speed, with std alone, no unsafe code, no threads and no
 # locks. It plays `serial`, `check` and `gen N` with all that they print and refuse. What is written goes out as it comes,
 # where trestle keeps it until the end.
 #
@@ -21,7 +21,7 @@ trap 'rm -rf "$folder"' EXIT
 PATH=${HOME-}/.cargo/bin:$PATH
 command -v rustc >/dev/null || { echo "against_plain: rustc is not installed, so that nothing is measured"; exit 0; }
 plain=$folder/plain
-rustc --edition 2024 -O "$top/bench/plain/main.rs" -o "$plain"
+rustc --edition 2024 -O "$top/judges/plain/main.rs" -o "$plain"
 if [ -z "$program" ]; then
     "$top/trestle" serial <"$top/demos/one_pixel.txt" >/dev/null
     program=$top/.build/trestle

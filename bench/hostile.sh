@@ -27,7 +27,7 @@ failed=0
 try() {
     name=$1
     shift
-    python3 "$top/tools/hostile/$name.py" "$program" "$@" || failed=1
+    python3 "$top/judges/model/$name.py" "$program" "$@" || failed=1
 }
 
 try limits

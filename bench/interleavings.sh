@@ -4,7 +4,7 @@
 #     bench/interleavings.sh [COUNT] [PROGRAM] [SEED]
 #
 # COUNT is 2,000 if left out, and SEED is 1: the number of the first script. PROGRAM is a built trestle; where it is left out, the launcher
-# proves and builds it. How each is judged is told in tools/hostile/threads.py.
+# proves and builds it. How each is judged is told in judges/model/threads.py.
 set -eu
 top=$(CDPATH= cd -P -- "$(dirname -- "$0")/.." && pwd)
 program=${2:-}
@@ -13,4 +13,4 @@ if [ -z "$program" ]; then
     program=$top/.build/trestle
 fi
 export PYTHONDONTWRITEBYTECODE=1
-exec python3 "$top/tools/interleavings.py" "$program" "${1:-2000}" ${3:+"$3"}
+exec python3 "$top/judges/interleavings.py" "$program" "${1:-2000}" ${3:+"$3"}

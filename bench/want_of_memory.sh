@@ -5,7 +5,7 @@
 #     bench/want_of_memory.sh tests [PROGRAM]
 #     bench/want_of_memory.sh steps [FIRST [LAST]]
 #
-# program   The calls of the program trestle that tools/hostile/growths.py names, or those whose first word is one of
+# program   The calls of the program trestle that judges/model/growths.py names, or those whose first word is one of
 #           WORD.. : each run ends with status 6 and nothing written, or it writes what is due. PROGRAM is a built
 #           trestle; where it is left out, the launcher proves and builds it.
 # tests     Each test of the stage (crates/tr_stage_tests). A test makes a step once more that wanted memory, and then
@@ -38,7 +38,7 @@ program() {
     fi
     program=$1
     shift
-    python3 "$top/tools/hostile/growths.py" "$program" "$folder/nth.so" "$@"
+    python3 "$top/judges/model/growths.py" "$program" "$folder/nth.so" "$@"
 }
 
 # run TEST NUMBER: its status in $status, what it wrote in $folder/out. No allocation has the number 0.

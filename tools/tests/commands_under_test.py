@@ -20,6 +20,6 @@ def call(command: str, words: List[str], folder: Path = HERE, given: bytes = b""
     """Calls a command in a folder."""
     environment = {**os.environ, "PYTHONDONTWRITEBYTECODE": "1"}
     ran = subprocess.run(
-        [str(TOP / command), *words], input=given, cwd=folder, env=environment, capture_output=True, check=False
+        [str(TOP / "bin" / command), *words], input=given, cwd=folder, env=environment, capture_output=True, check=False
     )
     return Ended(ran.returncode, (ran.stdout + ran.stderr).decode("utf-8"))

@@ -103,7 +103,7 @@ class Snap(Folder):
 
     def test_nothing_is_stored(self) -> None:
         ended = call("snap", ["lamp.txt"], self.folder)
-        says = "lamp.txt: no output is stored; ./snap --update lamp.txt stores it as lamp.serial\n"
+        says = "lamp.txt: no output is stored; bin/snap --update lamp.txt stores it as lamp.serial\n"
         self.assertEqual((1, says + "snap: 1 not as stored, of 1 output of 1 script\n"), ended)
 
     def test_storing_and_comparing(self) -> None:
@@ -122,7 +122,7 @@ class Snap(Folder):
         self.change("tint 46", "tnit 46")
         ended = call("snap", ["--update", "lamp.txt"], self.folder)
         self.assertEqual(1, ended.status)
-        refusal = "ends with status 3 (refused: line 8 B1; ./why says why), where 0 is stored: not stored"
+        refusal = "ends with status 3 (refused: line 8 B1; bin/why says why), where 0 is stored: not stored"
         self.assertIn(refusal, ended.text)
         self.assertEqual(before, (self.folder / "lamp.serial").read_bytes())
         self.assertEqual(1, call("snap", ["--update", "--status", "2", "lamp.txt"], self.folder).status)
@@ -160,7 +160,7 @@ class Help(unittest.TestCase):
         for command in ("look", "why", "lint", "snap"):
             ended = call(command, ["--help"])
             self.assertEqual(0, ended.status)
-            self.assertIn("for example:\n  ./", ended.text)
+            self.assertRegex(ended.text, r"for example:\n  (\./|bin/)\w")
 
 
 if __name__ == "__main__":

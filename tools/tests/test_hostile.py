@@ -1,4 +1,4 @@
-"""That the second reader and the model of tools/hostile agree with what is stored of the program, and that what is drawn
+"""That the second reader and the model of judges/model agree with what is stored of the program, and that what is drawn
 is what it says. bench/hostile.sh compares them with the program itself."""
 
 import signal
@@ -8,15 +8,15 @@ from pathlib import Path
 from typing import Iterator, Optional, Tuple
 
 TOP = Path(__file__).resolve().parents[2]
-sys.path.insert(0, str(TOP / "tools"))
+sys.path[:0] = [str(TOP / "judges"), str(TOP / "tools")]
 
-from hostile.drawing import draw  # noqa: E402
-from hostile.limits import cases  # noqa: E402
-from hostile.model import output_of  # noqa: E402
-from hostile.outputs import wrong_check, wrong_output  # noqa: E402
-from hostile.program import Limits, Ran, Runner  # noqa: E402
-from hostile.reader import Refusal, refusal_of  # noqa: E402
-from hostile.worst import SCRIPTS, script  # noqa: E402
+from model.drawing import draw  # noqa: E402
+from model.limits import cases  # noqa: E402
+from model.outputs import wrong_check, wrong_output  # noqa: E402
+from model.printing import output_of  # noqa: E402
+from model.program import Limits, Ran, Runner  # noqa: E402
+from model.reader import Refusal, refusal_of  # noqa: E402
+from model.worst import SCRIPTS, script  # noqa: E402
 
 # What stands behind the scripts of a folder.
 STORED = {"demos": ".serial", "docs/examples": ".out"}
@@ -32,23 +32,23 @@ def stored() -> Iterator[Tuple[Path, bytes, bytes]]:
 
 
 def opening() -> str:
-    """The opening that .ci/faults puts before its lines."""
-    text = (TOP / ".ci" / "faults").read_text()
+    """The opening that tests/faults puts before its lines."""
+    text = (TOP / "tests" / "faults").read_text()
     return next(line for line in text.splitlines() if line.startswith("opening=")).split("'")[1]
 
 
 def bytes_of(row: str) -> bytes:
-    """A text as .ci/faults writes it."""
+    """A text as tests/faults writes it."""
     return row.replace(";", "\n").replace("\\0177", "\x7f").replace("\\t", "\t").replace("\\r", "\r").encode("ascii")
 
 
 def rows() -> Iterator[Tuple[str, Optional[Refusal]]]:
-    """The texts of .ci/faults, and why each of them is refused."""
+    """The texts of tests/faults, and why each of them is refused."""
     for part, head, line in (("opening", opening(), 13), ("part", opening() + "begin;", 14)):
-        for row in (TOP / ".ci" / f"faults.{part}").read_text().splitlines():
+        for row in (TOP / "tests" / f"faults.{part}").read_text().splitlines():
             code, text = row.split("|", 1)
             yield head + text, Refusal(line, int(code)) if code != "0" else Refusal(line + 1, 8)
-    for row in (TOP / ".ci" / "faults.whole").read_text().splitlines():
+    for row in (TOP / "tests" / "faults.whole").read_text().splitlines():
         (line, code), text = row.split("|", 1)[0].split(" "), row.split("|", 1)[1]
         yield text, None if code == "0" else Refusal(int(line), int(code))
 
@@ -82,7 +82,7 @@ class Readers(unittest.TestCase):
                         self.assertIn(output_of(text, "check"), (checked.read_bytes(), None))
 
     def test_faults(self) -> None:
-        """Each text of .ci/faults has the fault that stands there."""
+        """Each text of tests/faults has the fault that stands there."""
         for text, refusal in rows():
             with self.subTest(text=text[-60:]):
                 self.assertEqual(refusal_of(bytes_of(text)), refusal)

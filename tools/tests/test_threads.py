@@ -1,4 +1,4 @@
-"""What `play` does with whole scripts; and that tools/hostile/threads.py finds what is wrong of one."""
+"""What `play` does with whole scripts; and that judges/model/threads.py finds what is wrong of one."""
 
 import sys
 import unittest
@@ -7,9 +7,9 @@ from typing import Iterator, List
 
 from commands_under_test import TOP
 
-sys.path.insert(0, str(TOP / "tools"))
+sys.path[:0] = [str(TOP / "judges"), str(TOP / "tools")]
 
-from hostile.threads import LAST, Ended, cut_of, judge, text_of, written_of  # noqa: E402
+from model.threads import LAST, Ended, cut_of, judge, text_of, written_of  # noqa: E402
 from trestle_tools.program import REFUSED, play  # noqa: E402
 
 # The scripts in which steps of one actor hang on those of another one in the same part, so that the order in which they come

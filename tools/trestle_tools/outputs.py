@@ -73,13 +73,13 @@ def wrong_texts(lines: List[str]) -> Iterator[Fault]:
     elif first.startswith("refused: byte "):
         yield Fault(1, f"the stream was {first}; docs/SCRIPT.md says what the codes mean")
     elif first.startswith("refused: "):
-        yield Fault(1, f"the script was {first}; ./why FILE says why")
+        yield Fault(1, f"the script was {first}; bin/why FILE says why")
     elif first.startswith("usage: "):
         yield Fault(1, "the program was called with other words than its own; it takes serial, play, check or show")
     elif first == "read fault":
         yield Fault(1, "the program could not read its script")
     elif re.match(r"trestle [0-9]", first):
-        yield Fault(1, "this is a script and no output: ./trestle serial < FILE | ./look")
+        yield Fault(1, "this is a script and no output: ./trestle serial < FILE | bin/look")
 
 
 def part_at(lines: List[str], at: int) -> Tuple[Part, int, Optional[Fault]]:

@@ -18,8 +18,8 @@ A comment that begins with `# meant` says that the line below it is meant: that 
 It ends with 1 where it names anything."""
 
 EXAMPLE = """\
-./lint button.txt
-./lint --steps button.txt               # first the script, with what `check` says after each step"""
+bin/lint button.txt
+bin/lint --steps button.txt               # first the script, with what `check` says after each step"""
 
 
 def words() -> Parser:
@@ -38,7 +38,7 @@ def main(arguments: List[str]) -> int:
     script = read_bytes(asked.file)
     played = play(script)
     if played.status == REFUSED:
-        raise Trouble(f"{asked.file} is {played.text().strip()}; ./why {asked.file} says why")
+        raise Trouble(f"{asked.file} is {played.text().strip()}; bin/why {asked.file} says why")
     if played.status != PLAYED:
         raise Trouble(f"the program ended with status {played.status}: {played.text().strip() or 'nothing written'}")
     lines = lines_of(script)

@@ -21,10 +21,10 @@ are shown one after another in the same place.
 It ends with 2 where the input isn't whole: a refusal, a dump that is cut off, a row that isn't hex."""
 
 EXAMPLE = """\
-./trestle serial < demos/desktop.txt | ./look
-./trestle serial < demos/desktop.txt | ./look -o desktop.png --scale 8
-./trestle mirror < demos/desktop.txt | ./trestle show | ./look --play
-./look --diff demos/desktop.serial today.serial"""
+./trestle serial < demos/desktop.txt | bin/look
+./trestle serial < demos/desktop.txt | bin/look -o desktop.png --scale 8
+./trestle mirror < demos/desktop.txt | ./trestle show | bin/look --play
+bin/look --diff demos/desktop.serial today.serial"""
 
 GREATEST_SCALE = 64
 

@@ -19,10 +19,10 @@ The status that belongs to an output is 3 for a refusal, else 0. What differs is
 It ends with 1 where something differs, or nothing is stored."""
 
 EXAMPLE = """\
-./snap demos/*.txt                      # compares
-./snap --update button.txt              # stores what it writes, as button.serial
-./snap --update --check button.txt      # and button.check too; so --play and --mirror
-./snap --update --status 3 wrong.txt    # stores a refusal, which is never done without --status"""
+bin/snap demos/*.txt                      # compares
+bin/snap --update button.txt              # stores what it writes, as button.serial
+bin/snap --update --check button.txt      # and button.check too; so --play and --mirror
+bin/snap --update --status 3 wrong.txt    # stores a refusal, which is never done without --status"""
 
 SERIAL_ENDINGS = (".serial", ".dump", ".out")
 STREAM_ENDING, SHOW_ENDING = ".hex", ".show"
@@ -144,7 +144,7 @@ def settled(script: Path, stored: Stored, asked: argparse.Namespace) -> bool:
     if asked.update:
         return updated(script, stored, played, asked)
     if before is None:
-        write(f"{script}: no output is stored; ./snap --update {script} stores it as {stored.path}")
+        write(f"{script}: no output is stored; bin/snap --update {script} stores it as {stored.path}")
         return False
     if played.status != due_status(before):
         write(f"{script}: {stored.word} {ending(played)}, and {stored.path} has status {due_status(before)}")
@@ -159,7 +159,7 @@ def settled(script: Path, stored: Stored, asked: argparse.Namespace) -> bool:
 def ending(played: Played) -> str:
     """How a script ended, and where to look further."""
     first = played.text().split("\n")[0] if played.status != PLAYED else ""
-    further = {REFUSED: "; ./why says why"}.get(played.status, "")
+    further = {REFUSED: "; bin/why says why"}.get(played.status, "")
     return f"ends with status {played.status}" + (f" ({first}{further})" if first else "")
 
 

@@ -16,8 +16,8 @@ code says, and the likely cause with what to do, where one is found. A script th
 It ends with 1 where the script is refused."""
 
 EXAMPLE = """\
-./why button.txt
-./why --check demos/lag.txt             # as `check` plays it, which has limits of its own"""
+bin/why button.txt
+bin/why --check demos/lag.txt             # as `check` plays it, which has limits of its own"""
 
 
 def words() -> Parser:

@@ -1,7 +1,7 @@
 #!/usr/bin/env python3
 """Plays scripts again and again, each time with another growth of the memory refused.
 
-    tools/hostile/growths.py PROGRAM LIBRARY [WORD..]
+    judges/model/growths.py PROGRAM LIBRARY [WORD..]
 
 PROGRAM is a linked trestle, and LIBRARY bench/nth_allocation.c, compiled for LD_PRELOAD. Each run ends with status 6 and
 nothing written, or it writes all that is written where nothing is refused, with the same status. WORD is the first word
@@ -14,12 +14,12 @@ import sys
 from pathlib import Path
 from typing import Iterator, List, NamedTuple, Tuple
 
-sys.path.insert(0, str(Path(__file__).resolve().parents[1]))
-
-from hostile.desktop import script as desktop  # noqa: E402
-from hostile.program import NO_MEMORY, Limits, Ran, Runner  # noqa: E402
-
 TOP = Path(__file__).resolve().parents[2]
+sys.path[:0] = [str(TOP / "judges"), str(TOP / "tools")]
+
+from model.desktop import script as desktop  # noqa: E402
+from model.program import NO_MEMORY, Limits, Ran, Runner  # noqa: E402
+
 ALLOCATIONS = re.compile(rb"allocations (\d+)\n")
 LIMITS = Limits(seconds=20)
 
@@ -46,7 +46,7 @@ def demos() -> Iterator[str]:
     return (file.stem for file in sorted((TOP / "demos").glob("*.txt")))
 
 
-# What is called: the words, and what is read, which is a demo, `LINES`, `DESKTOP` of hostile.desktop, what `mirror` writes of
+# What is called: the words, and what is read, which is a demo, `LINES`, `DESKTOP` of model.desktop, what `mirror` writes of
 # a demo, or nothing. What `play` plays here doesn't hang on the order of its threads.
 CALLS: List[Tuple[str, str]] = [
     ("serial", "LINES"),

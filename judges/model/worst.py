@@ -1,8 +1,8 @@
 #!/usr/bin/env python3
 """Plays scripts that are as dear as a script may be, at a part of their size and at twice that size.
 
-    tools/hostile/worst.py PROGRAM [PART [NAME..]]
-    tools/hostile/worst.py --write NAME PART
+    judges/model/worst.py PROGRAM [PART [NAME..]]
+    judges/model/worst.py --write NAME PART
 
 PROGRAM is a linked trestle, PART the part of the size that the limits of a script allow, as 0.01 (which is taken where it
 is left out) or 1; NAME is that of a script, and all are played where there is none. For each a line tells the processor
@@ -13,9 +13,10 @@ import sys
 from pathlib import Path
 from typing import Callable, Dict, List, NamedTuple
 
-sys.path.insert(0, str(Path(__file__).resolve().parents[1]))
+TOP = Path(__file__).resolve().parents[2]
+sys.path[:0] = [str(TOP / "judges"), str(TOP / "tools")]
 
-from hostile.program import Limits, Ran, Runner  # noqa: E402
+from model.program import Limits, Ran, Runner  # noqa: E402
 
 SIDE = 1024
 WHOLE = f"0 {SIDE} 0 {SIDE}"

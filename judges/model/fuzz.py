@@ -1,8 +1,8 @@
 #!/usr/bin/env python3
 """Plays scripts that are drawn at random, cut, joined and bent, and compares what comes with what a second reader says.
 
-    tools/hostile/fuzz.py PROGRAM [COUNT] [SEED] [--workers N] [--seconds N] [--megabytes N] [--checked N]
-                          [--mirrored N] [--threaded N] [--modelled N] [--from N] [--show]
+    judges/model/fuzz.py PROGRAM [COUNT] [SEED] [--workers N] [--seconds N] [--megabytes N] [--checked N]
+                           [--mirrored N] [--threaded N] [--modelled N] [--from N] [--show]
 
 PROGRAM is a linked trestle. Of each script are compared: the status, 0 or 3; the text of a refusal, exactly; the form of
 what is printed, by the script's reports; and standard error, which is empty. Of one among so many scripts, a number that
@@ -25,16 +25,16 @@ from itertools import zip_longest
 from pathlib import Path
 from typing import Iterator, List, NamedTuple, Optional, Tuple
 
-sys.path.insert(0, str(Path(__file__).resolve().parents[1]))
-
-from hostile.drawing import bend_byte, draw  # noqa: E402
-from hostile.model import output_of  # noqa: E402
-from hostile.outputs import check_refusal, dumps_of, wrong_check, wrong_output, wrong_show  # noqa: E402
-from hostile.program import PLAYED, REFUSED, Limits, Ran, Runner  # noqa: E402
-from hostile.reader import Refusal, refusal_of  # noqa: E402
-from hostile.threads import Ended, judge  # noqa: E402
-
 TOP = Path(__file__).resolve().parents[2]
+sys.path[:0] = [str(TOP / "judges"), str(TOP / "tools")]
+
+from model.drawing import bend_byte, draw  # noqa: E402
+from model.outputs import check_refusal, dumps_of, wrong_check, wrong_output, wrong_show  # noqa: E402
+from model.printing import output_of  # noqa: E402
+from model.program import PLAYED, REFUSED, Limits, Ran, Runner  # noqa: E402
+from model.reader import Refusal, refusal_of  # noqa: E402
+from model.threads import Ended, judge  # noqa: E402
+
 MEGABYTE = 1 << 20
 CHUNK = 250
 # So many seconds of the clock a run by threads may take.

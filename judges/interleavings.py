@@ -1,12 +1,12 @@
 #!/usr/bin/env python3
 """Plays random scripts by `play`, several at once, and judges each by `serial`.
 
-    tools/interleavings.py PROGRAM [COUNT [SEED]]
-    tools/interleavings.py --write NUMBER
+    judges/interleavings.py PROGRAM [COUNT [SEED]]
+    judges/interleavings.py --write NUMBER
 
 PROGRAM is a linked trestle. The scripts have the numbers from SEED on, 1 if it is left out, and there are COUNT of them, 2,000
 if it is left out; `--write` prints the script of a number. Each gets a journal at its end, and how that judges it stands in
-tools/hostile/threads.py.
+judges/model/threads.py.
 
 It prints how many scripts were played, how many of them by threads to their end, and how many in another order than the
 script's. The status is 1 where one is judged wrong, which is left in a file beside what was written; and where there are
@@ -21,11 +21,12 @@ import tempfile
 from pathlib import Path
 from typing import Dict, List, Tuple
 
-sys.path.insert(0, str(Path(__file__).resolve().parent))
+TOP = Path(__file__).resolve().parents[1]
+sys.path[:0] = [str(TOP / "judges"), str(TOP / "tools")]
 
-from hostile.drawing import Pen  # noqa: E402
-from hostile.reader import refusal_of  # noqa: E402
-from hostile.threads import Cut, Ended, Judged, Part, judge, text_of  # noqa: E402
+from model.drawing import Pen  # noqa: E402
+from model.reader import refusal_of  # noqa: E402
+from model.threads import Cut, Ended, Judged, Part, judge, text_of  # noqa: E402
 
 # So many seconds a run may take, on a busy machine too. A run that waits for ever shows by this alone.
 PATIENCE = 120
@@ -118,7 +119,7 @@ class Scene:
 
 
 def drawn(number: int) -> bytes:
-    """The script of a number: every other one is drawn as those of tools/hostile are, with short parts and much to hear of."""
+    """The script of a number: every other one is drawn as those of judges/model are, with short parts and much to hear of."""
     script = Pen(random.Random(number)).script() if number % 2 else b""
     return script if script and refusal_of(script) is None else long_script(Scene(random.Random(number)))
 

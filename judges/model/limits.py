@@ -1,7 +1,7 @@
 #!/usr/bin/env python3
 """Plays scripts at each limit: the last value that passes, and the first one that is refused or changes nothing.
 
-    tools/hostile/limits.py PROGRAM
+    judges/model/limits.py PROGRAM
 
 PROGRAM is a linked trestle. Where nothing is refused, what is looked at is the end of what the script prints."""
 
@@ -9,10 +9,11 @@ import sys
 from pathlib import Path
 from typing import Iterator, List, NamedTuple, Optional
 
-sys.path.insert(0, str(Path(__file__).resolve().parents[1]))
+TOP = Path(__file__).resolve().parents[2]
+sys.path[:0] = [str(TOP / "judges"), str(TOP / "tools")]
 
-from hostile.program import PLAYED, REFUSED, Limits, Runner  # noqa: E402
-from hostile.reader import Refusal, refusal_of  # noqa: E402
+from model.program import PLAYED, REFUSED, Limits, Runner  # noqa: E402
+from model.reader import Refusal, refusal_of  # noqa: E402
 from trestle_tools.scripts import CHECK_STEPS, DEPTH, LEAVES, LINE_BYTES, LINES, NAME_BYTES, REPORTS, STR_BYTES  # noqa: E402
 from trestle_tools.scripts import SYNCS, TEXT_BYTES, WINDOWS  # noqa: E402
 

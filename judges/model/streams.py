@@ -2,7 +2,7 @@
 """Runs the program as a shell would that treats it badly: its streams are slow, cut, full, or closed; it is stopped and
 goes on; memory is scarce; and many run at once. What is written is right or a prefix of it, and the status says which.
 
-    tools/hostile/streams.py PROGRAM [TRIAL..]
+    judges/model/streams.py PROGRAM [TRIAL..]
 
 PROGRAM is a linked trestle; TRIAL is the name of one of the trials below, as given_by_bytes, and all are made where there
 is none."""
@@ -21,11 +21,12 @@ from concurrent.futures import ThreadPoolExecutor
 from pathlib import Path
 from typing import Callable, Iterator, List, Optional, Tuple
 
-sys.path.insert(0, str(Path(__file__).resolve().parents[1]))
+TOP = Path(__file__).resolve().parents[2]
+sys.path[:0] = [str(TOP / "judges"), str(TOP / "tools")]
 
-from hostile.program import NO_MEMORY, PLAYED, READ_FAULT, REFUSED, WRITE_FAULT  # noqa: E402
-from hostile.reader import refusal_of  # noqa: E402
-from hostile.threads import LAST  # noqa: E402
+from model.program import NO_MEMORY, PLAYED, READ_FAULT, REFUSED, WRITE_FAULT  # noqa: E402
+from model.reader import refusal_of  # noqa: E402
+from model.threads import LAST  # noqa: E402
 
 HERE = Path(__file__).resolve().parent
 MEGABYTE = 1 << 20

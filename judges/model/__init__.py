@@ -1,7 +1,7 @@
 """What tries the program with hostile scripts; bench/hostile.sh and bench/want_of_memory.sh call it.
 
     reader    which line of a text is refused, and with which code: a second reader, by the tables of docs/SCRIPT.md
-    model     what a script prints, by a plain and slow model, with `widgets`
+    printing  what a script prints, by a plain and slow model, with `widgets`
     outputs   whether what is printed has the form of the script's reports
     drawing   scripts that are drawn at random, cut, joined and bent
     fuzz      plays such scripts, many a second, and compares what comes with what the reader says
