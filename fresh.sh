@@ -1,11 +1,16 @@
-# Read by ./trestle and ./build: whether the program in .build/ was made of the files as they are
+# Read by ./trestle and ./build: whether a program in .build/ was made of the files as they are
 # now. It starts two processes and no more, since each call of the program pays for them.
 #
-# .build/trestle   the program
-# .build/made_of   three lines: the rt that built it, the folder of that rt's toolchain, and the
-#                  folders of the crates that it is made of
-# .build/looks     how its files looked when they were read
+# .build/             the proved program
+# .build/unproved/    the unproved one
+#
+# In each of them:
+# trestle   the program
+# made_of   three lines: the rt that built it, the folder of that rt's toolchain, and the folders
+#           of the crates that it is made of
+# looks     how its files looked when they were read
 set -f
+place=.build
 
 # What can be seen of all that the program is made of without reading it: for each file its size,
 # its inode, when it was last written and when it was last changed in any way, which no call sets
@@ -33,12 +38,12 @@ find_rt() {
     IFS=$before
 }
 
-# Whether the program in the folder $top was made of files that look as they do now, by the rt that
-# is found. Where none is found, as in a shell that doesn't know the toolchain, the one that built
+# Whether the program in the folder $top/$place was made of files that look as they do now, by the rt
+# that is found. Where none is found, as in a shell that doesn't know the toolchain, the one that built
 # it is looked at.
 is_fresh() {
-    [ -x "$top/.build/trestle" ] && [ -f "$top/.build/made_of" ] || return 1
-    { read -r rt && read -r kit && read -r crates; } <"$top/.build/made_of" || return 1
+    [ -x "$top/$place/trestle" ] && [ -f "$top/$place/made_of" ] || return 1
+    { read -r rt && read -r kit && read -r crates; } <"$top/$place/made_of" || return 1
     [ -z "$found" ] || [ "$found" = "$rt" ] || return 1
-    { cd -P -- "$top/" && looks 2>/dev/null; } | cmp -s - "$top/.build/looks"
+    { cd -P -- "$top/" && looks 2>/dev/null; } | cmp -s - "$top/$place/looks"
 }
