@@ -1,7 +1,11 @@
-"""Runs the program trestle on a script: ./trestle, or the program that TRESTLE names in the environment."""
+"""Runs the program trestle on a script: the program that TRESTLE names in the environment; or else the proved program, where
+it is built; or else the unproved one, where that is built, which is told on standard error; or else ./trestle, which proves
+and builds it."""
 
+import functools
 import os
 import subprocess
+import sys
 from pathlib import Path
 from typing import NamedTuple
 
@@ -26,9 +30,23 @@ class Played(NamedTuple):
         return self.output.decode("latin-1")
 
 
+@functools.lru_cache(maxsize=None)
+def built() -> str:
+    """The path of the program that is built for the files as they are, or of what builds it."""
+    try:
+        ran = subprocess.run([str(TOP / "build"), "--fresh"], stdin=subprocess.DEVNULL, stdout=subprocess.PIPE, check=False)
+    except OSError:
+        # (an installed program stands there, and nothing that builds it)
+        return str(TOP / "trestle")
+    path = os.fsdecode(ran.stdout).rstrip("\n")
+    if path == str(TOP / ".build" / "unproved" / "trestle"):
+        print(f"{Path(sys.argv[0]).name}: by the unproved program, since the proved one isn't built", file=sys.stderr)
+    return path or str(TOP / "trestle")
+
+
 def program() -> str:
     """The path of the program."""
-    return os.environ.get("TRESTLE") or str(TOP / "trestle")
+    return os.environ.get("TRESTLE") or built()
 
 
 # So many seconds threads may take: they could wait for ever.
