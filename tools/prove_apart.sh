@@ -58,14 +58,23 @@ tell() {
     /^rt: .* NOT PROVED/ { print "build: " substr($0, 5); fflush() }' >&2
 }
 
+# What rt said of each crate that it did not prove, and at its end.
+complaints() {
+    awk '
+    /^== / { text = "" }
+    { text = text $0 "\n" }
+    /^rt: [a-z0-9_]+ (proved|is kept: .*)$/ { text = "" }
+    /^rt: .* NOT PROVED/ { printf "%s", text; text = "" }
+    END { printf "%s", text }' "$folder/said"
+}
+
 folder=$(mktemp -d) || exit 1
 trap 'rm -rf "$folder"' EXIT
 trap 'exit 1' HUP INT TERM
 mkdir "$folder/repository" && copy && sizes >"$folder/sizes" || { echo 'prove_apart: the crates cannot be copied' >&2; exit 1; }
 { (cd "$folder/repository" && "$rt" ci $anew 2>&1); echo $? >"$folder/status"; } | tee "$folder/said" | tell
 if [ "$(cat "$folder/status")" -ne 0 ]; then
-    echo 'build: what rt said last:' >&2
-    tail -n 60 "$folder/said" >&2
+    complaints >&2
     exit 1
 fi
 cp "$folder/repository/crates/trestle/out/trestle" "$program"
