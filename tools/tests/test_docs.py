@@ -1,5 +1,5 @@
-"""That the documents say what is so: the excerpts of docs/TESTING.md, the streams of docs/SCRIPT.md, the palette, the
-font and its use."""
+"""That the documents say what is so: the excerpts of the README, docs/TESTING.md and docs/SCRIPT.md, the refusals and the
+streams of docs/SCRIPT.md, the palette, the font and its use."""
 
 import re
 import sys
@@ -27,6 +27,12 @@ def excerpts() -> Iterator[Tuple[str, List[str]]]:
             yield f"docs/examples/{example[1]}", block.split("\n")
 
 
+def blocks_of(name: str) -> Iterator[List[str]]:
+    """The blocks of a page that name no language."""
+    text = (TOP / name).read_text("utf-8")
+    return (block.split("\n") for block in re.findall(r"^```\n(.*?)\n```$", text, re.S | re.M))
+
+
 def stand_in_order(wanted: List[str], lines: List[str]) -> bool:
     """Whether lines stand among others in their order."""
     rest = iter(lines)
@@ -47,10 +53,28 @@ class Docs(unittest.TestCase):
                 script, output = lines_of(example + ".txt"), lines_of(example + ".out")
                 self.assertTrue(stand_in_order(block, script) or stand_in_order(block, output))
 
+    def test_blocks_are_of_some_example(self) -> None:
+        paths = [path for folder in ("demos", "docs/examples") for path in sorted((TOP / folder).iterdir()) if path.is_file()]
+        files = [path.read_bytes().decode("latin-1").split("\n") for path in paths]
+        for page in ("README.md", "docs/SCRIPT.md"):
+            for block in blocks_of(page):
+                with self.subTest(f"{page}: {block[0]}"):
+                    self.assertTrue(any(stand_in_order(block, lines) for lines in files))
+
     def test_examples_of_tests_are_meant(self) -> None:
         for script in sorted((TOP / "docs/examples").glob("testing_*.txt")):
             with self.subTest(script.stem):
                 self.assertEqual((0, ""), call("lint", [str(script)]))
+
+    def test_refused_lines(self) -> None:
+        text = "\n".join(lines_of("docs/SCRIPT.md"))
+        rows = re.findall(r"^- `((b[0-9]+)_\w+)`, ([0-9]+): ", text, re.M)
+        rows += re.findall(r"[(. ]`((b[0-9]+)_\w+)`, ([0-9]+)[):]", text)
+        examples = {path.stem for path in (TOP / "docs/examples").glob("b[0-9]*_*.out")}
+        self.assertEqual(examples, {"b8_empty", *(name for name, _, _ in rows)})
+        for name, code, line in rows:
+            with self.subTest(name):
+                self.assertEqual([f"refused: line {line} {code.upper()}"], lines_of(f"docs/examples/{name}.out"))
 
     def test_refused_streams(self) -> None:
         rows = re.findall(r"^\| `(m[1-5]_\w+)` \| `([0-9a-f ]*)` \| `(.*)` \|$", "\n".join(lines_of("docs/SCRIPT.md")), re.M)
