@@ -7,6 +7,7 @@ Python 3.8 and its standard library. Each module begins with what it is for:
     pictures     dumps in colours: in the terminal, as .png and as .ppm files
     comparison   what differs between two outputs
     scripts      takes a script apart: lines, words, and where each word stands
+    include      expands `# include FILE`
     grammar      the lines that a script may have, with the ranges of their values
     windows      the names, the tree and the widgets of a script, as far as its lines say
     contents     what a widget holds, as far as is needed to see that a command changes nothing

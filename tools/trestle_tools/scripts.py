@@ -17,10 +17,21 @@ class Word(NamedTuple):
 
 
 class Line(NamedTuple):
-    """A line of a script without its line feed, by its number from 1. A byte is a character of the same number."""
+    """A line of a script without its line feed, by its number from 1. A byte is a character of the same number.
+    A line that was included has the name of its file, and its number there."""
 
     number: int
     text: str
+    file: str = ""
+    place: int = 0
+
+    def at(self) -> str:
+        """Where it stands, as a person looks for it."""
+        return f"line {self.place} of {self.file}" if self.file else f"line {self.place or self.number}"
+
+    def address(self, script: str) -> str:
+        """The name of its file and its number there, as compilers and editors write them."""
+        return f"{self.file or script}:{self.place or self.number}"
 
     def is_empty(self) -> bool:
         """Whether it is blank or a comment."""
@@ -43,12 +54,17 @@ class Line(NamedTuple):
         return self.text[word.column :]
 
 
-def lines_of(script: bytes) -> List[Line]:
-    """The lines of a script. The last one may lack its line feed."""
+def texts_of(script: bytes) -> List[str]:
+    """The texts of a script's lines. The last one may lack its line feed."""
     pieces = script.decode("latin-1").split("\n")
     if pieces[-1] == "":
         pieces.pop()
-    return [Line(number, text) for number, text in enumerate(pieces, 1)]
+    return pieces
+
+
+def lines_of(script: bytes) -> List[Line]:
+    """The lines of a script."""
+    return [Line(number, text) for number, text in enumerate(texts_of(script), 1)]
 
 
 def shown(text: str) -> str:
