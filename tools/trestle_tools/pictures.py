@@ -41,6 +41,10 @@ class Picture(NamedTuple):
         rows = tuple(row[west:east] for row in self.rows[north:south])
         return Picture(east - west, south - north, rows)
 
+    def flags(self, west: int, east: int, north: int, south: int) -> List[List[bool]]:
+        """Which points of a rectangle are marked."""
+        return [[colour == MARKED for colour in row[west:east]] for row in self.rows[north:south]]
+
 
 def picture_of(dump: Dump) -> Picture:
     """A dump in colours: black and white where it is mono, else the colour of each pixel's number."""
@@ -113,6 +117,16 @@ def lines_beside(pictures: Sequence[Picture], titles: Sequence[str]) -> List[str
             there = row < len(column)
             cells.append((column[row] if there else "") + " " * (width - (picture.width if there else 0)))
         lines.append("  ".join(cells).rstrip())
+    return lines
+
+
+def beside_in_columns(columns: Sequence[Sequence[str]], titles: Sequence[str]) -> List[str]:
+    """Columns of texts side by side, each below its title."""
+    widths = [max(len(line) for line in (title, *column)) for title, column in zip(titles, columns)]
+    lines = ["  ".join(title.ljust(width) for title, width in zip(titles, widths)).rstrip()]
+    for row in range(max(len(column) for column in columns)):
+        cells = [column[row] if row < len(column) else "" for column in columns]
+        lines.append("  ".join(cell.ljust(width) for cell, width in zip(cells, widths)).rstrip())
     return lines
 
 
