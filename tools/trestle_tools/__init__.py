@@ -12,11 +12,15 @@ Python 3.8 and its standard library. Each module begins with what it is for:
     scripts      takes a script apart: lines, words, and where each word stands
     include      expands `# include FILE`
     grammar      the lines that a script may have, with the ranges of their values
+    places       where each window is, by the rules of the layouts
+    visible      what is seen of the windows, and why nothing of one is
     windows      the names, the tree and the widgets of a script, as far as its lines say
     contents     what a widget holds, as far as is needed to see that a command changes nothing
     causes       why a line is refused
     instruments  copies of a script that play as it does, with reports of their own
     answers      what an answer of the journal means, and what to do
+    looks        what dumps show, and what nobody sees
+    orders       steps whose order may show where threads play a script
     findings     what is legal in a script and yet hardly meant
     commands     one module for each command in bin
 """

@@ -54,6 +54,14 @@ class Line(NamedTuple):
         return self.text[word.column :]
 
 
+def places_of(lines: List[Line]) -> str:
+    """Where some lines stand: `line 3`, or `lines 3, 5 and line 2 of font.txt`."""
+    own = [str(line.place or line.number) for line in lines if not line.file]
+    others = [line.at() for line in lines if line.file]
+    said = [f"line{'s' * (len(own) > 1)} " + ", ".join(own)] * bool(own) + others
+    return " and ".join([", ".join(said[:-1]), said[-1]] if len(said) > 1 else said)
+
+
 def texts_of(script: bytes) -> List[str]:
     """The texts of a script's lines. The last one may lack its line feed."""
     pieces = script.decode("latin-1").split("\n")

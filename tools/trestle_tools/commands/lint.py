@@ -1,18 +1,22 @@
 """lint: names what is legal in a script and yet hardly meant."""
 
+import sys
 from typing import Dict, List, Tuple
 
 from . import FINE, FOUND, Parser, write
 from ..findings import findings_of
+from ..include import pack
 from ..instruments import Body, body_of, is_step, lags, peeks
-from ..program import PLAYED, REFUSED, Trouble, play, read_bytes
-from ..scripts import Line, lines_of
+from ..program import PLAYED, REFUSED, Trouble, play
+from ..scripts import Line
 
 WHAT = """\
 Plays copies of a script with reports of their own, and names, line by line, what is legal and yet hardly meant:
 steps that are answered with N1 to N12 or `empty`, events that are dropped or go to nobody, presses of which no
-output tells, windows that were never put below the root, steps that change nothing, buttons that are down at
-the end, and dumps before which something waits or is stale.
+output tells, windows that were never put below the root or that no dump shows, letters without a glyph, texts that
+are wider than their window, steps that change nothing or are undone before anybody looks, cages without a point,
+dumps that must be alike, buttons that are down at the end, dumps before which something waits or is stale, scripts
+without a report, and steps whose order may show where `play` makes them side by side.
 
 A comment that begins with `# meant` says that the line below it is meant: that one isn't named.
 It ends with 1 where it names anything."""
@@ -35,21 +39,24 @@ def words() -> Parser:
 def main(arguments: List[str]) -> int:
     """Names what is hardly meant."""
     asked = words().parse_args(arguments)
-    script = read_bytes(asked.file)
-    played = play(script)
+    packed = pack(asked.file)
+    played = play(packed.script)
     if played.status == REFUSED:
         raise Trouble(f"{asked.file} is {played.text().strip()}; bin/why {asked.file} says why")
     if played.status != PLAYED:
         raise Trouble(f"the program ended with status {played.status}: {played.text().strip() or 'nothing written'}")
-    lines = lines_of(script)
+    lines = packed.lines
     body = body_of(lines)
     if asked.steps:
         for line in steps_table(lines, body):
             write(line)
-    found = findings_of(lines, body)
+    found, untried = findings_of(lines, body)
     for finding in found:
-        write(f"{asked.file}:{finding.line.number}: {finding.line.text}")
+        write(f"{finding.line.address(asked.file)}: {finding.line.text}")
         write(f"    {finding.says}")
+    sys.stdout.flush()
+    for note in untried:
+        print(f"lint: {note}", file=sys.stderr)
     return FOUND if found else FINE
 
 
