@@ -18,6 +18,8 @@ Python 3.8 and its standard library. Each module begins with what it is for:
     contents     what a widget holds, as far as is needed to see that a command changes nothing
     causes       why a line is refused
     instruments  copies of a script that play as it does, with reports of their own
+    bad          which points of the screen are bad
+    steps        what is bad, waits and is stale after each step, and why
     answers      what an answer of the journal means, and what to do
     looks        what dumps show, and what nobody sees
     orders       steps whose order may show where threads play a script

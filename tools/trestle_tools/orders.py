@@ -7,13 +7,13 @@ always differ by `play`, so they aren't compared."""
 
 from typing import Iterator, List, NamedTuple, Tuple
 
+from .grammar import DEVICES
 from .instruments import Body, is_step
 from .looks import Finding
 from .outputs import Dump, Entry, take_apart
 from .program import PLAYED, play
 from .scripts import Line
 
-DEVICES = ("mouse", "motion", "key")
 OWNERS = ("own", "disown")
 # So many orders are played at most, and so many steps on either side of a step are tried.
 TRIED, NEAR = 120, 12

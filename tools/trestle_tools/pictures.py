@@ -9,9 +9,11 @@ import zlib
 from typing import Iterator, List, NamedTuple, Sequence, Tuple
 
 from .outputs import Dump
+from .places import Rect
 
 GROUND, BLACK, WHITE = 0, 16, 231
 MARKED, UNMARKED = 201, 236
+STALE, UNKNOWN = 226, 51
 GAP = 4
 
 SIXTEEN = (
@@ -61,6 +63,26 @@ def marks(first: Dump, second: Dump) -> Picture:
     for h, v in different_points(first, second):
         rows[v][h] = MARKED
     return Picture(width, height, tuple(bytes(row) for row in rows))
+
+
+def marked_in(dump: Dump, marked: Sequence[Tuple[int, Sequence[Rect]]]) -> Picture:
+    """A dump in colours, with the points of some rectangles in a colour of their own."""
+    rows = [bytearray(row) for row in picture_of(dump).rows]
+    for colour, rects in marked:
+        for west, east, north, south in rects:
+            for row in rows[north:south]:
+                row[west:east] = bytes([colour]) * (east - west)
+    return Picture(dump.width, dump.height, tuple(bytes(row) for row in rows))
+
+
+def digits_of(dump: Dump, marked: Sequence[Tuple[str, Sequence[Rect]]]) -> List[str]:
+    """A dump in hex digits, with a sign in place of the digits at the points of some rectangles."""
+    rows = [[f"{pixel:02x}" for pixel in row] for row in dump.rows]
+    for sign, rects in marked:
+        for west, east, north, south in rects:
+            for row in rows[north:south]:
+                row[west:east] = [sign] * (east - west)
+    return ["".join(row) for row in rows]
 
 
 def different_points(first: Dump, second: Dump) -> Iterator[Tuple[int, int]]:

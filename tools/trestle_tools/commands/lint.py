@@ -1,14 +1,14 @@
 """lint: names what is legal in a script and yet hardly meant."""
 
 import sys
-from typing import Dict, List, Tuple
+from typing import List
 
 from . import FINE, FOUND, Parser, write
 from ..findings import findings_of
 from ..include import pack
-from ..instruments import Body, body_of, is_step, lags, peeks
+from ..instruments import answers, body_of
 from ..program import PLAYED, REFUSED, Trouble, play
-from ..scripts import Line
+from ..steps import Steps, table
 
 WHAT = """\
 Plays copies of a script with reports of their own, and names, line by line, what is legal and yet hardly meant:
@@ -23,7 +23,7 @@ It ends with 1 where it names anything."""
 
 EXAMPLE = """\
 bin/lint button.txt
-bin/lint --steps button.txt               # first the script, with what `check` says after each step"""
+bin/lint --steps button.txt               # first the script, with what is bad, waits and is stale after each step"""
 
 
 def words() -> Parser:
@@ -31,7 +31,9 @@ def words() -> Parser:
     taken = Parser("lint", WHAT, EXAMPLE)
     taken.add_argument("file", metavar="FILE", help="a script; - is standard input")
     taken.add_argument(
-        "--steps", action="store_true", help="print each line with the bad points, waiting commands and stale points"
+        "--steps",
+        action="store_true",
+        help="print each line with the bad points, waiting commands and stale points after it, and whose points became bad",
     )
     return taken
 
@@ -47,36 +49,17 @@ def main(arguments: List[str]) -> int:
         raise Trouble(f"the program ended with status {played.status}: {played.text().strip() or 'nothing written'}")
     lines = packed.lines
     body = body_of(lines)
+    notes: List[str] = []
     if asked.steps:
-        for line in steps_table(lines, body):
+        steps = Steps(body, answers(body))
+        for line in table(lines, steps):
             write(line)
+        notes += [steps.note] * bool(steps.note)
     found, untried = findings_of(lines, body)
     for finding in found:
         write(f"{finding.line.address(asked.file)}: {finding.line.text}")
         write(f"    {finding.says}")
     sys.stdout.flush()
-    for note in untried:
+    for note in [*notes, *untried]:
         print(f"lint: {note}", file=sys.stderr)
     return FOUND if found else FINE
-
-
-def steps_table(lines: List[Line], body: Body) -> List[str]:
-    """The lines of a script, each step and dump with what is bad, waits and is stale after it."""
-    numbers = numbers_after(body)
-    table = [f"{'bad':>8}{'waiting':>8}{'stale':>8}"]
-    for line in lines:
-        columns = "".join(f"{it:>8}" for it in numbers[line.number]) if line.number in numbers else " " * 24
-        table.append(f"{columns}{line.number:>7}  {line.text}")
-    return table
-
-
-def numbers_after(body: Body) -> Dict[int, Tuple[int, int, int]]:
-    """What is bad, waits and is stale after each step and dump, by its line. `check` tells no waiting commands,
-    and a peek does."""
-    items = body.steps_and_dumps()
-    after = lags(body)
-    waiting = peeks(body, {place + 1 for place, line in enumerate(items) if is_step(line)})
-    return {
-        line.number: (bad, waiting[place + 1].waiting if place + 1 in waiting else 0, stale)
-        for place, (line, (bad, stale)) in enumerate(zip(items, after))
-    }

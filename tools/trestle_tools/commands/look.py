@@ -5,16 +5,35 @@ import sys
 import time
 from itertools import islice
 from pathlib import Path
-from typing import List, Sequence
+from typing import List, Optional, Sequence
 
 from . import FINE, FOUND, TROUBLE, Parser, write, write_file
+from ..bad import Points, Prober, place_of
 from ..comparison import differing_dumps, panels, report
+from ..include import pack
+from ..instruments import Body, answers, body_of
 from ..kinds import is_stream, kind_of, strange_byte
 from ..outputs import Dump, Output, take_apart
-from ..pictures import FORMATS, Picture, beside, cleared, picture_of, scaled, terminal_lines
-from ..program import Trouble, read_bytes
-from ..scripts import shown_byte
+from ..pictures import (
+    FORMATS,
+    MARKED,
+    STALE,
+    UNKNOWN,
+    Picture,
+    beside,
+    cleared,
+    digits_of,
+    marked_in,
+    picture_of,
+    scaled,
+    terminal_lines,
+)
+from ..places import Rect
+from ..program import PLAYED, Trouble, read_bytes
+from ..program import play as play_script
+from ..scripts import Line, shown_byte
 from ..terminal import View, add_color, columns, is_coloured
+from ..visible import area
 
 WHAT = """\
 Shows the dumps of an output as pictures in the terminal, two rows of points in a line of half blocks, and
@@ -29,9 +48,14 @@ EXAMPLE = """\
 ./trestle serial < demos/desktop.txt | bin/look
 ./trestle serial < demos/desktop.txt | bin/look -o desktop.png --scale 8
 ./trestle mirror < demos/desktop.txt | ./trestle show | bin/look --play
-bin/look --diff demos/desktop.serial today.serial"""
+bin/look --diff demos/desktop.serial today.serial
+bin/look --bad demos/typescript.txt     # which points are bad at each `peek`"""
 
 GREATEST_SCALE = 64
+
+# What stands for a bad point, a stale one, and one of which it isn't known, where there are no colours.
+SIGNS = ("##", "%%", "??")
+LEGEND = "magenta is bad, yellow is stale; what else is there is good"
 
 # How long a dump is shown before the next one takes its place.
 SECONDS = 0.1
@@ -54,6 +78,13 @@ def words() -> Parser:
     taken.add_argument(
         "--diff", nargs=2, metavar=("A", "B"), help="the dumps of two outputs side by side; ends with 1 if any differ"
     )
+    taken.add_argument(
+        "--bad",
+        metavar="SCRIPT",
+        help="of a script, and not of an output: which points are bad and which are stale at each `peek`, or without any "
+        "before each `dump`, on the picture that is due there",
+    )
+    taken.add_argument("--at", type=int, metavar="LINE", help="with --bad: after this line of the script instead")
     taken.add_argument("--whole", action="store_true", help="with --diff: cut nothing short")
     add_color(taken)
     return taken
@@ -77,6 +108,12 @@ def main(arguments: List[str]) -> int:
     if asked.play and (asked.into or asked.diff):
         taken.error("--play goes with neither -o nor --diff")
     asked.view = View(is_coloured(asked.color), asked.whole)
+    if asked.at is not None and asked.bad is None:
+        taken.error("--at goes with --bad")
+    if asked.bad is not None and (asked.play or asked.diff):
+        taken.error("--bad goes with neither --play nor --diff")
+    if asked.bad is not None:
+        return show_bad(asked)
     if asked.play:
         return play(asked)
     return show_difference(asked) if asked.diff else show(asked)
@@ -134,6 +171,51 @@ def play(asked: argparse.Namespace) -> int:
         shown = 1 + len(lines)
     tell_width(output, asked)
     return TROUBLE if told(output, asked.file) else FINE
+
+
+def show_bad(asked: argparse.Namespace) -> int:
+    """Shows which points are bad, and which are stale, at some places of a script."""
+    packed = pack(asked.bad)
+    played = play_script(packed.script)
+    if played.status != PLAYED:
+        raise Trouble(f"{asked.bad} does not play: {played.text().strip()}; bin/why {asked.bad} says why")
+    body = body_of(packed.lines)
+    prober = Prober(body, answers(body))
+    pictures = []
+    for line in wanted_lines(body, asked.at):
+        place = place_of(body, line.number)
+        dump = prober.picture(place)
+        points = prober.points(place, Rect(0, dump.width, 0, dump.height))
+        write(f"{line.at()}, `{line.text}`: {area(points.bad)} bad, {area(points.stale)} stale" + said_unknown(points))
+        groups = points.bad, points.stale, points.unknown
+        pictures.append(marked_in(dump, list(zip((MARKED, STALE, UNKNOWN), groups))))
+        if not asked.into and asked.view.coloured:
+            lines = terminal_lines(scaled(pictures[-1], asked.scale))
+        else:
+            lines = [] if asked.into else digits_of(dump, list(zip(SIGNS, groups)))
+        for text in lines:
+            write(text)
+    if asked.into:
+        for name in written(asked, pictures):
+            write(name)
+    write(LEGEND if asked.view.coloured or asked.into else f"{SIGNS[0]} is bad, {SIGNS[1]} is stale; what else is there is good")
+    return FINE
+
+
+def said_unknown(points: Points) -> str:
+    """That not all could be told."""
+    return f", and some more of {area(points.unknown)} points, which are in too many pieces" if points.unknown else ""
+
+
+def wanted_lines(body: Body, number: Optional[int]) -> List[Line]:
+    """The lines at which bad points are shown: each `peek`, else each `dump`, or one that is asked for."""
+    lines = [*body.opening[-1:], *body.lines]
+    if number is None:
+        return [it for it in lines if it.text == "peek"] or [it for it in lines if it.text == "dump"] or lines[-1:]
+    found = [it for it in lines if not it.file and (it.place or it.number) == number]
+    if not found:
+        raise Trouble(f"line {number} is none of the script's steps and reports, nor its `begin`")
+    return found
 
 
 def show_difference(asked: argparse.Namespace) -> int:
