@@ -1,6 +1,6 @@
 """Tables of inputs and outputs in files. In the folder of a command is NAME.txt its input, NAME.out what it says,
 standard error last, and NAME.status its status, where that isn't 0. It is called with the input's name, or with
-the words of NAME.args, one a line.
+the words of NAME.args, one a line. look is called with colours, which a pipe has only where they are asked for.
 
     python3 tools/tests/test_tables.py --store     writes .out and .status anew: read what `git diff` shows"""
 
@@ -12,6 +12,7 @@ from typing import Iterator
 from commands_under_test import HERE, Ended, call
 
 COMMANDS = ("look", "why", "lint")
+MORE = {"look": ["--color", "always"]}
 
 
 def cases() -> Iterator[Path]:
@@ -24,7 +25,7 @@ def ended(case: Path) -> Ended:
     """Calls the command of a case."""
     arguments = case.with_suffix(".args")
     words = arguments.read_text().splitlines() if arguments.exists() else [case.name]
-    return call(case.parent.name, words, case.parent)
+    return call(case.parent.name, [*MORE.get(case.parent.name, []), *words], case.parent)
 
 
 def stored(case: Path) -> Ended:

@@ -1,4 +1,4 @@
-"""What look, why, lint and snap share: scripts and the words of their grammar, the program's outputs, pictures.
+"""What the commands in bin share: scripts and the words of their grammar, the program's outputs, pictures.
 
 Python 3.8 and its standard library. Each module begins with what it is for:
 
@@ -6,13 +6,23 @@ Python 3.8 and its standard library. Each module begins with what it is for:
     outputs      takes an output apart: dumps, journals, the lines of check, refusals
     pictures     dumps in colours: in the terminal, as .png and as .ppm files
     comparison   what differs between two outputs
+    results      what came of stored outputs, as a page and as JUnit's XML
+    terminal     whether a terminal gets colours, and how wide it is
+    kinds        what bytes are that are no text
     scripts      takes a script apart: lines, words, and where each word stands
+    include      expands `# include FILE`
     grammar      the lines that a script may have, with the ranges of their values
+    places       where each window is, by the rules of the layouts
+    visible      what is seen of the windows, and why nothing of one is
     windows      the names, the tree and the widgets of a script, as far as its lines say
     contents     what a widget holds, as far as is needed to see that a command changes nothing
     causes       why a line is refused
     instruments  copies of a script that play as it does, with reports of their own
+    bad          which points of the screen are bad
+    steps        what is bad, waits and is stale after each step, and why
     answers      what an answer of the journal means, and what to do
+    looks        what dumps show, and what nobody sees
+    orders       steps whose order may show where threads play a script
     findings     what is legal in a script and yet hardly meant
-    commands     one module for each command at the top of the repository
+    commands     one module for each command in bin
 """

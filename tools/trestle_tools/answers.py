@@ -112,7 +112,7 @@ def nobody_owns(words: List[str], _windows: Windows, _numbers: List[str]) -> str
 
 def none_waits(words: List[str], _windows: Windows, _numbers: List[str]) -> str:
     """A take without an event."""
-    return f"no event waits for {words[0][1:]}: one `take` takes one event, and a `sync` comes before it"
+    return f"no event waits for {words[0][1:]}: one `take` takes one event"
 
 
 TELLERS: Dict[str, Callable[[List[str], Windows, List[str]], str]] = {

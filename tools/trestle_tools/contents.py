@@ -27,6 +27,14 @@ class Content:
         """The command with which a key is answered."""
         return []
 
+    def state(self) -> object:
+        """All that it holds, to be compared."""
+        return tuple(str(it) for it in self.values.items())
+
+    def shown(self, _rows: int) -> List[str]:
+        """The texts that it shows in so many rows."""
+        return []
+
     def set(self, name: str, value: object) -> Optional[str]:
         """Sets one of its values."""
         before = self.values.get(name)
@@ -74,53 +82,75 @@ class Label(Content):
         """Another text."""
         return self.set("text", " ".join(words))
 
+    def shown(self, _rows: int) -> List[str]:
+        return [str(self.values["text"])]
+
     def key(self, code: int) -> List[str]:
         text = str(self.values["text"])
         return ["text", *(text + chr(code)).split(" ")] if code in PRINTABLE and len(text) < TEXT else []
 
 
 class Lines(Content):
-    """Lines, of which the number alone is of interest."""
+    """Lines."""
 
     def __init__(self, initial: List[str]):
-        self.count = 0
+        self.lines: List[str] = []
 
-    def do_line(self, _words: List[str]) -> Optional[str]:
+    def do_line(self, words: List[str]) -> Optional[str]:
         """A line more."""
-        self.count = min(LINES, self.count + 1)
+        self.lines = [*self.lines, " ".join(words)][-LINES:]
         return None
 
     def do_clear(self, _words: List[str]) -> Optional[str]:
         """No line."""
-        before, self.count = self.count, 0
+        before, self.lines = self.lines, []
         return None if before else "there is no line to clear"
+
+    def state(self) -> object:
+        return tuple(self.lines)
+
+    def shown(self, rows: int) -> List[str]:
+        return self.lines[-rows:] if rows else []
 
     def key(self, code: int) -> List[str]:
         return ["line", chr(code)] if code in PRINTABLE else []
 
 
 class Canvas(Content):
-    """Figures, of which the number alone is of interest."""
+    """Figures."""
 
     def __init__(self, initial: List[str]):
-        self.count = 0
+        self.figures: List[str] = []
 
     def do_rect(self, words: List[str]) -> Optional[str]:
         """A figure more."""
-        if self.count == FIGURES:
+        return self.add("rect", words)
+
+    def do_swap(self, words: List[str]) -> Optional[str]:
+        """A figure more."""
+        return self.add("swap", words)
+
+    def do_exchange(self, words: List[str]) -> Optional[str]:
+        """A figure more."""
+        return self.add("exchange", words)
+
+    def add(self, figure: str, words: List[str]) -> Optional[str]:
+        """A figure more."""
+        if len(self.figures) == FIGURES:
             return f"the canvas has its {FIGURES} figures already"
-        self.count += 1
+        self.figures.append(" ".join([figure, *words]))
         west, east, north, south = (int(word) for word in words[:4])
         return None if west < east and north < south else "the figure has no point: W has to be below E, and N below S"
 
-    do_swap = do_exchange = do_rect
-
     def do_undo(self, _words: List[str]) -> Optional[str]:
         """A figure less."""
-        if not self.count:
+        if not self.figures:
             return "there is no figure to take away"
-        self.count -= 1
+        self.figures.pop()
         return None
+
+    def state(self) -> object:
+        return tuple(self.figures)
 
     def answer(self, event: List[str]) -> List[str]:
         if event[0] == "mouse" and event[2] == "firstdown":
@@ -207,6 +237,13 @@ class Edit(Content):
         self.row = min(int(words[0]), len(self.lines) - 1)
         self.column = min(int(words[1]), len(self.lines[self.row]))
         return "the caret is there already" if before == (self.row, self.column) else None
+
+    def state(self) -> object:
+        return (*self.lines, self.row, self.column, self.clip)
+
+    def shown(self, rows: int) -> List[str]:
+        first = max(0, self.row - rows + 1)
+        return self.lines[first : first + rows]
 
     def do_copy(self, words: List[str]) -> Optional[str]:
         """Another clip."""

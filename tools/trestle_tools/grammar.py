@@ -107,6 +107,8 @@ COMMANDS = {
 }
 WIDGET_COMMANDS = {word for words in COMMANDS.values() for word in words}
 REPORTS = ("dump", "peek", "where", "inbox", "journal")
+DEVICES = ("mouse", "motion", "key")
+EDITS = ("attach", "detach", "tint", "border", "offset", "fix", "move", "lift", "show", "turn", "shapes", "resize", "rescreen")
 SORTS = ("new", "name", "leaf", "hh", "hex16", "text")
 
 

@@ -9,9 +9,11 @@ import zlib
 from typing import Iterator, List, NamedTuple, Sequence, Tuple
 
 from .outputs import Dump
+from .places import Rect
 
 GROUND, BLACK, WHITE = 0, 16, 231
 MARKED, UNMARKED = 201, 236
+STALE, UNKNOWN = 226, 51
 GAP = 4
 
 SIXTEEN = (
@@ -41,6 +43,10 @@ class Picture(NamedTuple):
         rows = tuple(row[west:east] for row in self.rows[north:south])
         return Picture(east - west, south - north, rows)
 
+    def flags(self, west: int, east: int, north: int, south: int) -> List[List[bool]]:
+        """Which points of a rectangle are marked."""
+        return [[colour == MARKED for colour in row[west:east]] for row in self.rows[north:south]]
+
 
 def picture_of(dump: Dump) -> Picture:
     """A dump in colours: black and white where it is mono, else the colour of each pixel's number."""
@@ -57,6 +63,26 @@ def marks(first: Dump, second: Dump) -> Picture:
     for h, v in different_points(first, second):
         rows[v][h] = MARKED
     return Picture(width, height, tuple(bytes(row) for row in rows))
+
+
+def marked_in(dump: Dump, marked: Sequence[Tuple[int, Sequence[Rect]]]) -> Picture:
+    """A dump in colours, with the points of some rectangles in a colour of their own."""
+    rows = [bytearray(row) for row in picture_of(dump).rows]
+    for colour, rects in marked:
+        for west, east, north, south in rects:
+            for row in rows[north:south]:
+                row[west:east] = bytes([colour]) * (east - west)
+    return Picture(dump.width, dump.height, tuple(bytes(row) for row in rows))
+
+
+def digits_of(dump: Dump, marked: Sequence[Tuple[str, Sequence[Rect]]]) -> List[str]:
+    """A dump in hex digits, with a sign in place of the digits at the points of some rectangles."""
+    rows = [[f"{pixel:02x}" for pixel in row] for row in dump.rows]
+    for sign, rects in marked:
+        for west, east, north, south in rects:
+            for row in rows[north:south]:
+                row[west:east] = [sign] * (east - west)
+    return ["".join(row) for row in rows]
 
 
 def different_points(first: Dump, second: Dump) -> Iterator[Tuple[int, int]]:
@@ -113,6 +139,16 @@ def lines_beside(pictures: Sequence[Picture], titles: Sequence[str]) -> List[str
             there = row < len(column)
             cells.append((column[row] if there else "") + " " * (width - (picture.width if there else 0)))
         lines.append("  ".join(cells).rstrip())
+    return lines
+
+
+def beside_in_columns(columns: Sequence[Sequence[str]], titles: Sequence[str]) -> List[str]:
+    """Columns of texts side by side, each below its title."""
+    widths = [max(len(line) for line in (title, *column)) for title, column in zip(titles, columns)]
+    lines = ["  ".join(title.ljust(width) for title, width in zip(titles, widths)).rstrip()]
+    for row in range(max(len(column) for column in columns)):
+        cells = [column[row] if row < len(column) else "" for column in columns]
+        lines.append("  ".join(cell.ljust(width) for cell, width in zip(cells, widths)).rstrip())
     return lines
 
 

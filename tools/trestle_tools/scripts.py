@@ -17,10 +17,21 @@ class Word(NamedTuple):
 
 
 class Line(NamedTuple):
-    """A line of a script without its line feed, by its number from 1. A byte is a character of the same number."""
+    """A line of a script without its line feed, by its number from 1. A byte is a character of the same number.
+    A line that was included has the name of its file, and its number there."""
 
     number: int
     text: str
+    file: str = ""
+    place: int = 0
+
+    def at(self) -> str:
+        """Where it stands, as a person looks for it."""
+        return f"line {self.place} of {self.file}" if self.file else f"line {self.place or self.number}"
+
+    def address(self, script: str) -> str:
+        """The name of its file and its number there, as compilers and editors write them."""
+        return f"{self.file or script}:{self.place or self.number}"
 
     def is_empty(self) -> bool:
         """Whether it is blank or a comment."""
@@ -43,12 +54,25 @@ class Line(NamedTuple):
         return self.text[word.column :]
 
 
-def lines_of(script: bytes) -> List[Line]:
-    """The lines of a script. The last one may lack its line feed."""
+def places_of(lines: List[Line]) -> str:
+    """Where some lines stand: `line 3`, or `lines 3, 5 and line 2 of font.txt`."""
+    own = [str(line.place or line.number) for line in lines if not line.file]
+    others = [line.at() for line in lines if line.file]
+    said = [f"line{'s' * (len(own) > 1)} " + ", ".join(own)] * bool(own) + others
+    return " and ".join([", ".join(said[:-1]), said[-1]] if len(said) > 1 else said)
+
+
+def texts_of(script: bytes) -> List[str]:
+    """The texts of a script's lines. The last one may lack its line feed."""
     pieces = script.decode("latin-1").split("\n")
     if pieces[-1] == "":
         pieces.pop()
-    return [Line(number, text) for number, text in enumerate(pieces, 1)]
+    return pieces
+
+
+def lines_of(script: bytes) -> List[Line]:
+    """The lines of a script."""
+    return [Line(number, text) for number, text in enumerate(texts_of(script), 1)]
 
 
 def shown(text: str) -> str:

@@ -4,6 +4,7 @@
 import argparse
 import os
 import sys
+from pathlib import Path
 from typing import Callable, List, NoReturn
 
 from ..program import Trouble
@@ -36,6 +37,14 @@ def stop(message: str) -> NoReturn:
 def write(line: str) -> None:
     """Writes a line as UTF-8, whatever the terminal says that it takes."""
     sys.stdout.buffer.write(line.encode("utf-8", "surrogateescape") + b"\n")
+
+
+def write_file(name: str, data: bytes) -> None:
+    """Writes a file."""
+    try:
+        Path(name).write_bytes(data)
+    except OSError as error:
+        raise Trouble(f"{name} cannot be written: {error.strerror}")
 
 
 def run(name: str, main: Callable[[List[str]], int]) -> None:

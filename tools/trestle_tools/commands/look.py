@@ -5,28 +5,57 @@ import sys
 import time
 from itertools import islice
 from pathlib import Path
-from typing import List, Sequence
+from typing import List, Optional, Sequence
 
-from . import FINE, FOUND, TROUBLE, Parser, write
+from . import FINE, FOUND, TROUBLE, Parser, write, write_file
+from ..bad import Points, Prober, place_of
 from ..comparison import differing_dumps, panels, report
-from ..outputs import Output, take_apart
-from ..pictures import FORMATS, Picture, beside, cleared, picture_of, scaled, terminal_lines
-from ..program import Trouble, read_bytes
+from ..include import pack
+from ..instruments import Body, answers, body_of
+from ..kinds import is_stream, kind_of, strange_byte
+from ..outputs import Dump, Output, take_apart
+from ..pictures import (
+    FORMATS,
+    MARKED,
+    STALE,
+    UNKNOWN,
+    Picture,
+    beside,
+    cleared,
+    digits_of,
+    marked_in,
+    picture_of,
+    scaled,
+    terminal_lines,
+)
+from ..places import Rect
+from ..program import PLAYED, Trouble, read_bytes
+from ..program import play as play_script
+from ..scripts import Line, shown_byte
+from ..terminal import View, add_color, columns, is_coloured
+from ..visible import area
 
 WHAT = """\
 Shows the dumps of an output as pictures in the terminal, two rows of points in a line of half blocks, and
 passes on what is no dump. With -o the pictures go to files, whose names stand in their places. With --play they
-are shown one after another in the same place.
+are shown one after another in the same place. Where there are no colours (in a pipe, where NO_COLOR is set, or by
+--color never) dumps are passed on as they are.
 
-It ends with 2 where the input isn't whole: a refusal, a dump that is cut off, a row that isn't hex."""
+It ends with 2 where the input isn't whole: a refusal, a dump that is cut off, a row that isn't hex, a picture or
+other bytes that are no output."""
 
 EXAMPLE = """\
 ./trestle serial < demos/desktop.txt | bin/look
 ./trestle serial < demos/desktop.txt | bin/look -o desktop.png --scale 8
 ./trestle mirror < demos/desktop.txt | ./trestle show | bin/look --play
-bin/look --diff demos/desktop.serial today.serial"""
+bin/look --diff demos/desktop.serial today.serial
+bin/look --bad demos/typescript.txt     # which points are bad at each `peek`"""
 
 GREATEST_SCALE = 64
+
+# What stands for a bad point, a stale one, and one of which it isn't known, where there are no colours.
+SIGNS = ("##", "%%", "??")
+LEGEND = "magenta is bad, yellow is stale; what else is there is good"
 
 # How long a dump is shown before the next one takes its place.
 SECONDS = 0.1
@@ -49,6 +78,15 @@ def words() -> Parser:
     taken.add_argument(
         "--diff", nargs=2, metavar=("A", "B"), help="the dumps of two outputs side by side; ends with 1 if any differ"
     )
+    taken.add_argument(
+        "--bad",
+        metavar="SCRIPT",
+        help="of a script, and not of an output: which points are bad and which are stale at each `peek`, or without any "
+        "before each `dump`, on the picture that is due there",
+    )
+    taken.add_argument("--at", type=int, metavar="LINE", help="with --bad: after this line of the script instead")
+    taken.add_argument("--whole", action="store_true", help="with --diff: cut nothing short")
+    add_color(taken)
     return taken
 
 
@@ -69,6 +107,13 @@ def main(arguments: List[str]) -> int:
         taken.error("--together goes with -o NAME")
     if asked.play and (asked.into or asked.diff):
         taken.error("--play goes with neither -o nor --diff")
+    asked.view = View(is_coloured(asked.color), asked.whole)
+    if asked.at is not None and asked.bad is None:
+        taken.error("--at goes with --bad")
+    if asked.bad is not None and (asked.play or asked.diff):
+        taken.error("--bad goes with neither --play nor --diff")
+    if asked.bad is not None:
+        return show_bad(asked)
     if asked.play:
         return play(asked)
     return show_difference(asked) if asked.diff else show(asked)
@@ -86,9 +131,29 @@ def show(asked: argparse.Namespace) -> int:
             write(part)
             continue
         write(part.header())
-        for line in islice(names, 1) if asked.into else terminal_lines(scaled(picture_of(part), asked.scale)):
+        for line in islice(names, 1) if asked.into else lines_for(part, asked):
             write(line)
+    if not asked.into:
+        tell_width(output, asked)
     return TROUBLE if told(output, asked.file) else FINE
+
+
+def lines_for(dump: Dump, asked: argparse.Namespace) -> List[str]:
+    """A dump as it is shown below its first line."""
+    if not asked.view.coloured:
+        return [row.hex() for row in dump.rows]
+    return terminal_lines(scaled(picture_of(dump), asked.scale))
+
+
+def tell_width(output: Output, asked: argparse.Namespace) -> None:
+    """Says that a picture is wider than the terminal, which breaks its lines."""
+    room = columns()
+    widest = max((dump.width * asked.scale for dump in output.dumps()), default=0)
+    if asked.view.coloured and room and widest > room:
+        sys.stdout.flush()
+        wider = f"a picture is {widest} columns wide, and the terminal has {room}"
+        remedy = "take a wider terminal, or write it to a file by -o NAME.png"
+        print(f"look: {wider}, so its lines are broken: {remedy}", file=sys.stderr)
 
 
 def play(asked: argparse.Namespace) -> int:
@@ -98,13 +163,59 @@ def play(asked: argparse.Namespace) -> int:
     for dump in output.dumps():
         if shown:
             time.sleep(SECONDS)
-        write(cleared(shown) + dump.header())
-        lines = terminal_lines(scaled(picture_of(dump), asked.scale))
+        write((cleared(shown) if asked.view.coloured else "") + dump.header())
+        lines = lines_for(dump, asked)
         for line in lines:
             write(line)
         sys.stdout.flush()
         shown = 1 + len(lines)
+    tell_width(output, asked)
     return TROUBLE if told(output, asked.file) else FINE
+
+
+def show_bad(asked: argparse.Namespace) -> int:
+    """Shows which points are bad, and which are stale, at some places of a script."""
+    packed = pack(asked.bad)
+    played = play_script(packed.script)
+    if played.status != PLAYED:
+        raise Trouble(f"{asked.bad} does not play: {played.text().strip()}; bin/why {asked.bad} says why")
+    body = body_of(packed.lines)
+    prober = Prober(body, answers(body))
+    pictures = []
+    for line in wanted_lines(body, asked.at):
+        place = place_of(body, line.number)
+        dump = prober.picture(place)
+        points = prober.points(place, Rect(0, dump.width, 0, dump.height))
+        write(f"{line.at()}, `{line.text}`: {area(points.bad)} bad, {area(points.stale)} stale" + said_unknown(points))
+        groups = points.bad, points.stale, points.unknown
+        pictures.append(marked_in(dump, list(zip((MARKED, STALE, UNKNOWN), groups))))
+        if not asked.into and asked.view.coloured:
+            lines = terminal_lines(scaled(pictures[-1], asked.scale))
+        else:
+            lines = [] if asked.into else digits_of(dump, list(zip(SIGNS, groups)))
+        for text in lines:
+            write(text)
+    if asked.into:
+        for name in written(asked, pictures):
+            write(name)
+    write(LEGEND if asked.view.coloured or asked.into else f"{SIGNS[0]} is bad, {SIGNS[1]} is stale; what else is there is good")
+    return FINE
+
+
+def said_unknown(points: Points) -> str:
+    """That not all could be told."""
+    return f", and some more of {area(points.unknown)} points, which are in too many pieces" if points.unknown else ""
+
+
+def wanted_lines(body: Body, number: Optional[int]) -> List[Line]:
+    """The lines at which bad points are shown: each `peek`, else each `dump`, or one that is asked for."""
+    lines = [*body.opening[-1:], *body.lines]
+    if number is None:
+        return [it for it in lines if it.text == "peek"] or [it for it in lines if it.text == "dump"] or lines[-1:]
+    found = [it for it in lines if not it.file and (it.place or it.number) == number]
+    if not found:
+        raise Trouble(f"line {number} is none of the script's steps and reports, nor its `begin`")
+    return found
 
 
 def show_difference(asked: argparse.Namespace) -> int:
@@ -113,7 +224,7 @@ def show_difference(asked: argparse.Namespace) -> int:
     first, second = read_output(names[0]), read_output(names[1])
     if any([told(first, names[0]), told(second, names[1])]):
         return TROUBLE
-    lines = report(first, second)
+    lines = report(first, second, asked.view)
     if not lines:
         return FINE
     write(f"A is {names[0]}, B is {names[1]}")
@@ -127,8 +238,26 @@ def show_difference(asked: argparse.Namespace) -> int:
 
 
 def read_output(name: str) -> Output:
-    """The output in a file."""
-    return take_apart(read_bytes(name).decode("latin-1"))
+    """The output in a file, which has printable bytes and line feeds alone."""
+    data = read_bytes(name)
+    place = strange_byte(data)
+    if place is not None:
+        raise Trouble(no_output(name, data, place))
+    return take_apart(data.decode("latin-1"))
+
+
+def no_output(name: str, data: bytes, place: int) -> str:
+    """That bytes are no output, and what they seem to be."""
+    file = "standard input" if name == "-" else name
+    kind = kind_of(data)
+    if is_stream(data):
+        return f"{file} is {kind}, and no output: ./trestle show < STREAM | bin/look"
+    if kind:
+        return f"{file} is {kind}, and no output of trestle"
+    line = data.count(b"\n", 0, place) + 1
+    if data[place] == 0x0D:
+        return f"{file}: line {line} has a carriage return, as on Windows: sed -i 's/\\r$//' FILE takes them away"
+    return f"{file}: line {line} has the byte {shown_byte(chr(data[place]))}, which no output has"
 
 
 def told(output: Output, name: str) -> bool:
@@ -151,11 +280,3 @@ def written(asked: argparse.Namespace, pictures: Sequence[Picture]) -> List[str]
     for name, picture in zip(names, pictures):
         write_file(name, FORMATS[path.suffix](picture, asked.scale))
     return names
-
-
-def write_file(name: str, data: bytes) -> None:
-    """Writes a file."""
-    try:
-        Path(name).write_bytes(data)
-    except OSError as error:
-        raise Trouble(f"{name} cannot be written: {error.strerror}")

@@ -1,27 +1,38 @@
 """snap: plays scripts and compares what they write with the outputs that are stored beside them."""
 
 import argparse
+import sys
+import time
 from pathlib import Path
-from typing import List, NamedTuple, Optional
+from typing import Iterator, List, NamedTuple, Optional
 
-from . import FINE, FOUND, Parser, write
-from ..comparison import plural, report
-from ..outputs import take_apart
+from . import FINE, FOUND, TROUBLE, Parser, write, write_file
+from ..comparison import SHOWN, plural
+from ..include import pack
+from ..outputs import Dump, take_apart
+from ..pictures import picture_of, terminal_lines
 from ..program import PLAYED, READ_FAULT, REFUSED, Played, Trouble, due_status, play, read_bytes
+from ..results import AS_STORED, DIFFERS, NO_SCRIPT, NOT_STORED, STATUS, STORED, Result, junit, page
+from ..results import TROUBLE as IN_TROUBLE
+from ..terminal import View, add_color, is_coloured
 
 WHAT = """\
 Plays each script and compares what it writes, and its status, with the output that is stored beside it. Of
 NAME.txt that is NAME.serial, NAME.dump or NAME.out for what `serial` writes, NAME.check for what `check` writes,
 NAME.play for what `play` writes, where that doesn't hang on the order of its threads, and NAME.mirror for what
 `mirror` writes, as `xxd` prints it. NAME.hex is a stream in hex digits, and NAME.show what `show` writes for it.
-The status that belongs to an output is 3 for a refusal, else 0. What differs is shown, dumps as pictures.
+The status that belongs to an output is 3 for a refusal, else 0. What differs is shown: lines with their numbers,
+dumps as pictures, into a pipe in hex digits. Of a folder it names stored outputs that have no script, too.
 
-It ends with 1 where something differs, or nothing is stored."""
+It ends with 1 where something differs, nothing is stored, or a script is missing."""
 
 EXAMPLE = """\
 bin/snap demos/*.txt                      # compares
-bin/snap --update button.txt              # stores what it writes, as button.serial
-bin/snap --update --check button.txt      # and button.check too; so --play and --mirror
+bin/snap --whole button.txt               # cuts nothing that differs short
+bin/snap --report page.html --junit snap.xml tests    # writes what differs as a page, and for CI
+bin/snap --update button.txt              # shows what changes, and stores what it writes, as button.serial
+bin/snap --update --review tests          # asks before each
+bin/snap --update --check button.txt      # button.check too; so --play and --mirror
 bin/snap --update --status 3 wrong.txt    # stores a refusal, which is never done without --status"""
 
 SERIAL_ENDINGS = (".serial", ".dump", ".out")
@@ -29,6 +40,9 @@ STREAM_ENDING, SHOW_ENDING = ".hex", ".show"
 
 # The outputs of a script that are stored where they are asked for: their endings, and the words that write them.
 FURTHER = {".check": "check", ".play": "play", ".mirror": "mirror"}
+
+# With what an output begins. Files with the same endings that begin otherwise are nobody's output.
+BEGINNINGS = ("dump ", "peek ", "where ", "inbox ", "journal ", "step ", "refused: ", "usage: ", "read fault", "00000000: ")
 
 
 class Stored(NamedTuple):
@@ -52,7 +66,13 @@ def words() -> Parser:
     taken.add_argument(
         "files", nargs="+", metavar="FILE", help="a script, a stream NAME.hex, or a folder with scripts NAME.txt and these"
     )
-    taken.add_argument("--update", action="store_true", help="store what differs or isn't stored yet")
+    taken.add_argument("--whole", action="store_true", help="show all that differs; else long texts and large pictures are cut")
+    taken.add_argument("--report", metavar="PAGE", help="write what differs as a page of HTML, with pictures, in one file")
+    taken.add_argument("--junit", metavar="FILE", help="write what came of each output as JUnit's XML")
+    add_color(taken)
+    taken.add_argument("--update", action="store_true", help="store what differs or isn't stored yet, and show it before")
+    taken.add_argument("--review", action="store_true", help="with --update: ask before each, and store what gets a yes")
+    taken.add_argument("--yes", action="store_true", help="with --review: say yes to each; needed where nobody can answer")
     taken.add_argument("--check", action="store_true", help="with --update: store what `check` writes, too")
     taken.add_argument("--play", action="store_true", help="with --update: store what `play` writes, too")
     taken.add_argument("--mirror", action="store_true", help="with --update: store what `mirror` writes, too")
@@ -64,19 +84,36 @@ def words() -> Parser:
 
 def main(arguments: List[str]) -> int:
     """Compares or stores the outputs of all scripts."""
-    taken = words()
-    asked = taken.parse_args(arguments)
-    if (is_further(asked) or asked.status is not None) and not asked.update:
-        taken.error("--check, --play, --mirror and --status go with --update")
+    asked = checked(words(), arguments)
     scripts = [script for name in asked.files for script in scripts_of(name)]
-    compared = differing = 0
-    for script in scripts:
-        for stored in stored_beside(script, asked):
-            compared += 1
-            differing += 0 if settled(script, stored, asked) else 1
-    count = f"{plural(compared, 'output')} of {counted(scripts)}"
+    results = [result for script in scripts for result in results_of(script, asked)]
+    results += [lonely(path) for name in asked.files for path in without_script(Path(name))]
+    if asked.report:
+        write_file(asked.report, page(results).encode())
+    if asked.junit:
+        write_file(asked.junit, junit(results, asked.whole).encode())
+    troubles = [it.says for it in results if it.outcome == IN_TROUBLE]
+    if troubles:
+        sys.stdout.flush()
+        print("".join(f"snap: {it}\n" for it in troubles), end="", file=sys.stderr)
+        return TROUBLE
+    differing = sum(not it.is_fine() for it in results)
+    count = f"{plural(len(results), 'output')} of {counted(scripts)}"
     write(f"snap: {count} as stored" if not differing else f"snap: {differing} not as stored, of {count}")
     return FOUND if differing else FINE
+
+
+def checked(taken: Parser, arguments: List[str]) -> argparse.Namespace:
+    """The words of a call, which go together."""
+    asked = taken.parse_args(arguments)
+    if (is_further(asked) or asked.status is not None or asked.review) and not asked.update:
+        taken.error("--check, --play, --mirror, --status and --review go with --update")
+    if asked.yes and not asked.review:
+        taken.error("--yes goes with --review")
+    if asked.review and not asked.yes and not sys.stdin.isatty():
+        taken.error("--review asks in a terminal, and standard input is none; --yes says yes to all")
+    asked.view = View(is_coloured(asked.color), asked.whole)
+    return asked
 
 
 def is_further(asked: argparse.Namespace) -> bool:
@@ -95,6 +132,9 @@ def counted(files: List[Path]) -> str:
 def is_stream(file: Path) -> bool:
     """Whether a file holds a stream."""
     return file.suffix == STREAM_ENDING
+
+
+# ---- Which files
 
 
 def scripts_of(name: str) -> List[Path]:
@@ -124,36 +164,90 @@ def stored_beside(script: Path, asked: argparse.Namespace) -> List[Stored]:
     return there + wanted
 
 
+def without_script(folder: Path) -> Iterator[Path]:
+    """The outputs in a folder whose script, or stream, is not there."""
+    for path in sorted(folder.iterdir()) if folder.is_dir() else []:
+        if path.suffix not in (*SERIAL_ENDINGS, *FURTHER, SHOW_ENDING) or not path.is_file():
+            continue
+        source = path.with_suffix(STREAM_ENDING if path.suffix == SHOW_ENDING else ".txt")
+        if not source.exists() and is_output(path):
+            yield path
+
+
+def is_output(path: Path) -> bool:
+    """Whether a file begins as an output does, or is empty."""
+    with open(path, "rb") as file:
+        begin = file.read(16).decode("latin-1")
+    return not begin or begin.startswith(BEGINNINGS)
+
+
+def lonely(path: Path) -> Result:
+    """An output without a script."""
+    source = path.with_suffix(STREAM_ENDING if path.suffix == SHOW_ENDING else ".txt")
+    says = f"{path} is an output without a script: there is no {source}"
+    write(says)
+    return Result(source, path, "", NO_SCRIPT, says)
+
+
 def given(script: Path) -> bytes:
     """What a script or a stream is given to the program as."""
-    data = read_bytes(str(script))
     if not is_stream(script):
-        return data
+        return pack(str(script)).script
     try:
-        return bytes.fromhex(data.decode("latin-1"))
+        return bytes.fromhex(read_bytes(str(script)).decode("latin-1"))
     except ValueError:
         raise Trouble(f"{script} holds other than hex digits and blanks")
 
 
-def settled(script: Path, stored: Stored, asked: argparse.Namespace) -> bool:
-    """Whether an output is as it is stored, or is stored now."""
+# ---- Comparing
+
+
+def results_of(script: Path, asked: argparse.Namespace) -> Iterator[Result]:
+    """What comes of each output of a script. A trouble with one keeps none of the others."""
+    for stored in stored_beside(script, asked):
+        start = time.monotonic()
+        try:
+            result = settled(script, stored, asked)
+        except Trouble as trouble:
+            result = Result(script, stored.path, stored.word, IN_TROUBLE, str(trouble))
+        yield result._replace(seconds=time.monotonic() - start)
+
+
+def settled(script: Path, stored: Stored, asked: argparse.Namespace) -> Result:
+    """Whether an output is as it is stored, or is stored now; all else is told."""
     played = play(given(script), stored.word)
-    before = stored.text()
-    if before == stored.text_of(played) and due_status(before) == played.status:
-        return True
+    result = compared(script, stored, played)
+    if result.outcome == AS_STORED:
+        return result
     if asked.update:
-        return updated(script, stored, played, asked)
+        return updated(result, stored, played, asked)
+    tell(result, stored, asked)
+    return result
+
+
+def compared(script: Path, stored: Stored, played: Played) -> Result:
+    """What came of an output, as it is stored now."""
+    before, now = stored.text(), stored.text_of(played)
+    result = Result(script, stored.path, stored.word, AS_STORED, "", before, now)
+    if before == now and due_status(before) == played.status:
+        return result
     if before is None:
-        write(f"{script}: no output is stored; bin/snap --update {script} stores it as {stored.path}")
-        return False
+        says = f"{script}: no output is stored; bin/snap --update {script} stores it as {stored.path}"
+        return result._replace(outcome=NOT_STORED, says=says)
     if played.status != due_status(before):
-        write(f"{script}: {stored.word} {ending(played)}, and {stored.path} has status {due_status(before)}")
-        return False
-    write(f"{script}: {stored.word} writes another text than {stored.path}")
-    write(f"A is {stored.path}, B is what {stored.word} writes now")
-    for line in report(take_apart(before), take_apart(stored.text_of(played))):
-        write(line)
-    return False
+        says = f"{script}: {stored.word} {ending(played)}, and {stored.path} has status {due_status(before)}"
+        return result._replace(outcome=STATUS, says=says)
+    says = f"{script}: {stored.word} writes another text than {stored.path}"
+    return result._replace(outcome=DIFFERS, says=says)
+
+
+def tell(result: Result, stored: Stored, asked: argparse.Namespace) -> None:
+    """Says what isn't as stored."""
+    write(result.says)
+    if result.outcome == DIFFERS:
+        write(f"A is {stored.path}, B is what {stored.word} writes now")
+        for line in result.differences(asked.view):
+            write(line)
 
 
 def ending(played: Played) -> str:
@@ -174,20 +268,64 @@ def hex_lines(data: bytes) -> str:
     return "".join(lines)
 
 
-def updated(script: Path, stored: Stored, played: Played, asked: argparse.Namespace) -> bool:
-    """Stores an output, and tells its file; but no other status than the stored one, unless it is asked for."""
-    status = due_status(stored.text() or "")
+# ---- Storing
+
+
+def updated(result: Result, stored: Stored, played: Played, asked: argparse.Namespace) -> Result:
+    """Stores an output, and shows before what changes; but no other status than the stored one, unless it is asked for."""
+    status = due_status(result.before or "")
     if played.status not in (status, asked.status):
-        write(f"{script}: {stored.word} {ending(played)}, where {status} is stored: not stored")
-        if played.status <= READ_FAULT:
-            write(f"  (to store it all the same: --status {played.status})")
-        return False
+        says = f"{result.script}: {stored.word} {ending(played)}, where {status} is stored: not stored"
+        further = f"\n  (to store it all the same: --status {played.status})" if played.status <= READ_FAULT else ""
+        write(says + further)
+        return result._replace(outcome=STATUS, says=says)
     if played.status != due_status(played.text()):
-        write(f"{script}: an output with status {played.status} cannot be stored")
-        return False
-    try:
-        stored.path.write_bytes(stored.text_of(played).encode("latin-1"))
-    except OSError as error:
-        raise Trouble(f"{stored.path} cannot be written: {error.strerror}")
+        says = f"{result.script}: an output with status {played.status} cannot be stored"
+        write(says)
+        return result._replace(outcome=STATUS, says=says)
+    tell_change(result, stored, asked)
+    if not agreed(asked):
+        write(f"not stored: {stored.path}")
+        return result
+    write_file(str(stored.path), str(result.now).encode("latin-1"))
     write(str(stored.path))
-    return True
+    return result._replace(outcome=STORED, says=f"{stored.path} was stored")
+
+
+def tell_change(result: Result, stored: Stored, asked: argparse.Namespace) -> None:
+    """Shows what an update changes; of a new output what it holds, where somebody is asked for a yes."""
+    if result.before is not None:
+        tell(result, stored, asked)
+        return
+    output = take_apart(str(result.now))
+    lines = [part for part in output.parts if isinstance(part, str)]
+    write(f"{stored.path} is new: {plural(len(output.dumps()), 'dump')}, {plural(len(lines), 'line')} beside")
+    for line in shown_whole(output.parts, asked.view) if asked.review else ():
+        write(line)
+
+
+def shown_whole(parts: List[object], view: View) -> Iterator[str]:
+    """An output as it is looked at: its dumps as pictures, and the lines beside, the first ones alone unless all are wanted."""
+    lines = 0
+    for part in parts:
+        if isinstance(part, Dump):
+            yield part.header()
+            yield from terminal_lines(picture_of(part)) if view.coloured else [row.hex() for row in part.rows]
+            continue
+        lines += 1
+        if lines <= SHOWN or view.whole:
+            yield str(part)
+    if lines > SHOWN and not view.whole:
+        yield f"  and {plural(lines - SHOWN, 'line')} more; --whole shows all"
+
+
+def agreed(asked: argparse.Namespace) -> bool:
+    """Whether a change is to be stored: by itself, or because somebody says so. At the end of the input nobody does."""
+    if not asked.review or asked.yes:
+        return True
+    sys.stdout.flush()
+    while True:
+        print("store it? [y/n] ", end="", file=sys.stderr, flush=True)
+        answer = sys.stdin.readline()
+        if answer.strip().lower() in ("y", "yes", "n", "no", ""):
+            return answer.strip().lower() in ("y", "yes")
