@@ -15,5 +15,9 @@ Python 3.8 and its standard library. Each module begins with what it is for:
     instruments  copies of a script that play as it does, with reports of their own
     answers      what an answer of the journal means, and what to do
     findings     what is legal in a script and yet hardly meant
+    places       where each window is, and whose point of the screen a point is
+    streams      reads and writes the streams of `mirror`
+    traces       a script step by step: answers, events, screens, places and numbers; two of them side by side
+    pages        traces as one page of HTML, by the template page.html
     commands     one module for each command at the top of the repository
 """

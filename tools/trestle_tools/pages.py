@@ -35,6 +35,7 @@ def trace_data(trace: Trace, begin: int = 0) -> Dict[str, Any]:
     return {
         "name": trace.name,
         "lines": trace.lines,
+        "labels": trace.labels,
         "from": begin,
         "moments": [moment_data(it) for it in trace.moments[begin:]],
         "numbers": [trace.numbers.get(n) for n in range(begin, len(trace.moments))],

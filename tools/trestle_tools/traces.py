@@ -11,6 +11,7 @@ from typing import Callable, Dict, Iterator, List, NamedTuple, Optional, Sequenc
 from .answers import meaning
 from .comparison import common_front
 from .grammar import REPORTS as REPORT_WORDS
+from .include import Packed
 from .instruments import Body, answers, body_of, copy_of, is_step, lags, peeks, played
 from .outputs import Dump, Entry, take_apart
 from .places import Layout, Rect
@@ -64,9 +65,11 @@ class Placed(NamedTuple):
 class Trace:
     """What a page shows of a script or an output."""
 
-    def __init__(self, name: str, lines: List[str]):
+    def __init__(self, name: str, lines: List[str], labels: Sequence[str] = ()):
         self.name = name
         self.lines = lines
+        # What a person calls the lines; none where that is their numbers.
+        self.labels = labels
         self.moments: List[Moment] = []
         self.chunks: List[Chunk] = []
         # How far the screen lags after a moment, by its number; waiting is None where nobody asked.
@@ -323,16 +326,17 @@ class Asked(NamedTuple):
     progress: Progress = quiet
 
 
-def trace_of_script(name: str, script: bytes, lines: List[Line], asked: Asked, known: Optional[Trace] = None) -> Trace:
+def trace_of_script(script: Packed, asked: Asked, known: Optional[Trace] = None) -> Trace:
     """Traces a script that plays. What another trace knows of the same beginning is taken over."""
     asked.progress("the script")
-    result = play(script)
+    result = play(script.script)
     if result.status == REFUSED:
-        raise Trouble(f"{name} is {result.text().strip()}; bin/why {name} says why")
+        raise Trouble(f"{script.name} is {result.text().strip()}; bin/why {script.name} says why")
     if result.status != PLAYED:
         raise Trouble(f"the program ended with status {result.status}: {result.text().strip() or 'nothing written'}")
-    body = body_of(lines)
-    trace = Trace(name, [line.text for line in lines])
+    body = body_of(script.lines)
+    labels = [line.at()[len("line ") :] for line in script.lines] if script.includes() else []
+    trace = Trace(script.name, [line.text for line in script.lines], labels)
     asked.progress("answers")
     entries = answers(body)
     trace.moments = list(moments_of(body, entries, result.text()))

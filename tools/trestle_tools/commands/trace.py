@@ -6,9 +6,9 @@ from pathlib import Path
 from typing import List
 
 from . import FINE, FOUND, Parser, write
+from ..include import pack
 from ..pages import page
-from ..program import Trouble, read_bytes
-from ..scripts import lines_of
+from ..program import Trouble
 from ..traces import Asked, Trace, is_script, pairs_of, trace_of_output, trace_of_script
 
 WHAT = """\
@@ -63,10 +63,10 @@ def main(arguments: List[str]) -> int:
 
 def trace_of(name: str, how: Asked) -> Trace:
     """The trace of a script or an output."""
-    data = read_bytes(name)
-    if not is_script(data):
-        return trace_of_output(name, data.decode("latin-1"))
-    return trace_of_script(name, data, lines_of(data), how)
+    packed = pack(name)
+    if is_script(packed.script):
+        return trace_of_script(packed, how)
+    return trace_of_output(name, packed.script.decode("latin-1"))
 
 
 def write_page(name: str, text: str) -> None:
