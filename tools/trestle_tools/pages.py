@@ -48,8 +48,8 @@ def trace_data(trace: Trace, begin: int = 0) -> Dict[str, Any]:
     }
 
 
-def page(traces: Sequence[Trace], pairs: Sequence[Pair] = (), live: Optional[str] = None, nonce: str = "") -> str:
-    """The page of one trace, or of two with their moments side by side. A live page has the address that it calls."""
+def page(traces: Sequence[Trace], pairs: Sequence[Pair] = (), live: Optional[Dict[str, Any]] = None, nonce: str = "") -> str:
+    """The page of one trace, or of two with their moments side by side. A live page is told whom it calls."""
     data = {
         "traces": [trace_data(trace) for trace in traces],
         "pairs": [list(pair) for pair in pairs],
