@@ -19,5 +19,8 @@ Python 3.8 and its standard library. Each module begins with what it is for:
     streams      reads and writes the streams of `mirror`
     traces       a script step by step: answers, events, screens, places and numbers; two of them side by side
     pages        traces as one page of HTML, by the template page.html
+    recordings   a script that is written while it is played
+    serving      serves the page of a recording on the loopback
+    rfb          serves the cuts of a stream to VNC viewers
     commands     one module for each command at the top of the repository
 """

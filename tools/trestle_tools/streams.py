@@ -1,7 +1,7 @@
 """Reads and writes streams: the screens that `mirror` sends, cut by cut, as docs/SCRIPT.md has their records."""
 
 import struct
-from typing import Iterator, List, NamedTuple, Optional, Tuple
+from typing import Iterator, List, NamedTuple, Optional, Sequence, Tuple
 
 from .outputs import GREATEST, Dump
 
@@ -156,7 +156,7 @@ def changed_rows(before: Frame, frame: Frame) -> Iterator[bytes]:
         yield head + (pixels[:1] if is_fill else pixels)
 
 
-def span_of(old: bytes, new: bytes) -> Optional[Tuple[int, int]]:
+def span_of(old: Sequence[int], new: Sequence[int]) -> Optional[Tuple[int, int]]:
     """The least span that has all places in which two rows of one length differ."""
     if old == new:
         return None
