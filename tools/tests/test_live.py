@@ -1,0 +1,426 @@
+"""What bin/live records, and whom it answers."""
+
+import http.client
+import json
+import re
+import socket
+import subprocess
+import sys
+import tempfile
+import threading
+import unittest
+from pathlib import Path
+from typing import Any, Dict, Tuple
+
+from browser import Browser, browser
+from commands_under_test import TOP, call
+
+sys.path.insert(0, str(TOP / "tools"))
+
+from trestle_tools import serving  # noqa: E402
+from trestle_tools.program import PLAYED, play  # noqa: E402
+from trestle_tools.recordings import STARTER, Recording, Refusal  # noqa: E402
+from trestle_tools.serving import Server  # noqa: E402
+
+CLICK = ["motion 1 20 15", "mouse 2 down 1", "mouse 3 up 1"]
+
+
+class InFolder(unittest.TestCase):
+    """Tests that have a folder of their own."""
+
+    def setUp(self) -> None:
+        folder = tempfile.TemporaryDirectory()
+        self.addCleanup(folder.cleanup)
+        self.folder = Path(folder.name)
+        self.path = self.folder / "button.txt"
+
+    def click(self, recording: Recording) -> None:
+        """Clicks at the button."""
+        recording.mouse("down", 1, 20, 15)
+        recording.mouse("up", 1, 20, 15)
+
+
+class Recordings(InFolder):
+    """What is written."""
+
+    def test_replays(self) -> None:
+        """A session is written as a script that gives the same bytes each time, and the pictures that were seen."""
+        recording = Recording(self.path)
+        self.click(recording)
+        recording.add_line("@button take")
+        recording.key(65)
+        recording.motion(4, 4)
+        for report in ("inbox button", "dump", "journal"):
+            recording.add_line(report)
+        recording.save(False)
+        wanted = [*CLICK, "sync", "@button take", "sync", "key 4 65", "motion 5 4 4", "sync", "inbox button", "dump", "journal", "end"]
+        self.assertEqual(STARTER.splitlines() + wanted, self.path.read_text().splitlines())
+        first, second = play(self.path.read_bytes()), play(self.path.read_bytes())
+        self.assertEqual(PLAYED, first.status)
+        self.assertEqual(first, second)
+        self.assertIn("took mouse 2 firstdown 1 8 4", first.text())
+        again = Recording(self.path)
+        self.assertEqual((recording.trace.moments, recording.trace.numbers), (again.trace.moments, again.trace.numbers))
+        self.assertEqual(0, call("snap", ["--update", str(self.path)]).status)
+        self.assertEqual(first.output, self.path.with_suffix(".serial").read_bytes())
+
+    def test_by_threads(self) -> None:
+        """A sync between two actors makes a recording the same by threads."""
+        recording = Recording(self.path)
+        self.click(recording)
+        recording.add_line("@button take")
+        recording.add_line("move button 2 2")
+        recording.add_line("dump")
+        recording.add_line("inbox button")
+        self.assertEqual(play(recording.script()).text() + "played threads\n", play(recording.script(), "play").text())
+
+    def test_files_come_out_as_they_are(self) -> None:
+        for script in [*sorted((TOP / "demos").glob("*.txt")), *sorted((TOP / "docs/examples").glob("testing_*.txt"))]:
+            with self.subTest(script.stem):
+                recording = Recording(script)
+                self.assertEqual(script.read_bytes(), recording.script())
+                self.assertTrue(recording.is_stored())
+
+    def test_undo(self) -> None:
+        recording = Recording(self.path)
+        begin = recording.script()
+        self.click(recording)
+        recording.add_line("dump")
+        self.assertEqual([*CLICK, "sync", "dump"], recording.lines[7:])
+        recording.undo()
+        self.assertEqual(CLICK, recording.lines[7:])
+        recording.undo()
+        self.assertEqual(CLICK[:2], recording.lines[7:])
+        self.assertEqual(((20, 15), ("1",)), recording.hand()[1:])
+        recording.undo()
+        recording.undo()
+        self.assertEqual(begin, recording.script())
+        self.assertRaises(Refusal, recording.undo)
+        self.path.write_text((TOP / "demos/first.txt").read_text())
+        recording = Recording(self.path)
+        for last in ("journal", "dump", "peek", "sync", "move edge 2 1", "@left tint 6", "mouse 2 down 1", "motion 1 7 3", "dump"):
+            self.assertEqual(last, [line for line in recording.lines if not line.startswith("#")][-1])
+            recording.undo()
+
+    def test_refused(self) -> None:
+        """A line that is refused changes nothing, and is explained."""
+        recording = Recording(self.path)
+        before = recording.script(), recording.version
+        for text, says in (
+            ("@button tnit 3", "`tnit` is no step of a leaf; perhaps `tint` is meant"),
+            ("@button tint 3", "button is a canvas leaf"),
+            ("move knob 3 3", "knob"),
+            ("end", "is written by itself"),
+            ("dump\npeek", "one line at a time"),
+            ("node desk z 3", "the name desk is taken"),
+        ):
+            with self.subTest(text):
+                with self.assertRaises(Refusal) as refused:
+                    recording.add_line(text)
+                self.assertIn(says, "\n".join(refused.exception.says))
+                self.assertEqual(before, (recording.script(), recording.version))
+
+    def test_opening(self) -> None:
+        """A line of the opening comes before `begin`."""
+        recording = Recording(self.path)
+        self.click(recording)
+        recording.add_line("leaf lamp 8 8 8 8 8 8 solid 11")
+        recording.add_line("put lamp desk 2 2")
+        self.assertEqual(["put lamp desk 2 2", "begin", *CLICK], recording.lines[-5:])
+        self.assertIn("lamp", recording.trace.windows)
+        recording.undo()
+        recording.undo()
+        self.assertEqual(STARTER.splitlines() + CLICK, recording.lines)
+
+    def test_buttons(self) -> None:
+        """A button that is down doesn't go down again."""
+        recording = Recording(self.path)
+        recording.mouse("up", 1, 3, 3)
+        recording.mouse("down", 1, 3, 3)
+        recording.mouse("down", 1, 4, 4)
+        recording.mouse("down", 2, 3, 3)
+        self.assertEqual(["motion 1 3 3", "mouse 2 down 1", "mouse 3 down 2"], recording.lines[7:])
+        self.assertEqual((3, (3, 3), ("1", "2")), recording.hand())
+
+    def test_somebody_else_writes(self) -> None:
+        recording = Recording(self.path)
+        recording.save(False)
+        self.path.write_text("mine\n")
+        self.assertRaises(Refusal, recording.save, False)
+        self.assertEqual("mine\n", self.path.read_text())
+        recording.save(True)
+        self.assertEqual(recording.script(), self.path.read_bytes())
+
+    def test_completion(self) -> None:
+        recording = Recording(self.path)
+        lines, forms = recording.completions("@b")
+        self.assertEqual(["@button"], lines)
+        self.assertIn("@LEAF take", forms)
+        self.assertEqual(["@button read", "@button rect"], recording.completions("@button re")[0])
+        self.assertEqual([], recording.completions("@button tin")[0])
+        self.assertEqual(["move button", "move desk"], recording.completions("move ")[0])
+        self.assertEqual(["motion 1"], recording.completions("motion ")[0])
+        self.assertEqual(["mouse 1 down", "mouse 1 up"], recording.completions("mouse 1 ")[0])
+        self.assertEqual(["motion", "mouse", "move"], recording.completions("mo")[0])
+
+
+class Served(InFolder):
+    """A server in this process."""
+
+    def setUp(self) -> None:
+        super().setUp()
+        self.recording = Recording(self.path)
+        self.server = Server(self.recording, 0)
+        thread = threading.Thread(target=self.server.serve_forever, kwargs={"poll_interval": 0.02}, daemon=True)
+        thread.start()
+        self.addCleanup(self.server.server_close)
+        self.addCleanup(self.server.shutdown)
+        self.host = f"127.0.0.1:{self.server.server_port}"
+        self.act = f"/{self.server.token}/act"
+
+    def raw(self, text: str, wait: float = 20) -> str:
+        """What is answered to some bytes."""
+        with socket.create_connection(self.server.server_address[:2], wait) as connection:
+            data = b""
+            try:
+                connection.sendall(text.encode("latin-1"))
+                for piece in iter(lambda: connection.recv(1 << 16), b""):
+                    data += piece
+            except (BrokenPipeError, ConnectionResetError):
+                pass
+        return data.decode("latin-1")
+
+    def status(self, method: str, path: str, headers: Dict[str, str], body: str = "", host: str = "") -> int:
+        """The status of a request."""
+        lines = [f"{method} {path} HTTP/1.1", f"Host: {host or self.host}", *(f"{name}: {value}" for name, value in headers.items())]
+        answer = self.raw("\r\n".join(lines) + "\r\n\r\n" + body)
+        return int(answer.split(" ")[1]) if answer else 0
+
+    def post(self, asked: Any, **more: str) -> Tuple[int, Any]:
+        """A call, and its answer."""
+        connection = http.client.HTTPConnection(self.host, timeout=20)
+        connection.request("POST", self.act, json.dumps(asked), {"Content-Type": "application/json", **more})
+        answer = connection.getresponse()
+        text = answer.read()
+        connection.close()
+        return answer.status, json.loads(text) if answer.status == 200 else None
+
+
+class Calls(Served):
+    """What the page calls."""
+
+    def test_calls(self) -> None:
+        version = 1
+        for asked, lines in (
+            ({"do": "mouse", "way": "down", "button": 1, "h": 20, "v": 15}, CLICK[:2]),
+            ({"do": "mouse", "way": "up", "button": 1, "h": 20, "v": 15}, CLICK),
+            ({"do": "undo"}, CLICK[:2]),
+            ({"do": "line", "text": "dump"}, [*CLICK[:2], "sync", "dump"]),
+            ({"do": "state"}, [*CLICK[:2], "sync", "dump"]),
+        ):
+            status, answer = self.post({**asked, "version": version})
+            self.assertEqual(200, status)
+            self.assertEqual(lines, self.recording.lines[7:])
+            self.assertGreaterEqual(answer["trace"]["from"], 1)
+            version = answer["version"]
+        self.assertEqual(0, self.post({"do": "state", "version": 2})[1]["trace"]["from"])
+        self.assertFalse(self.path.exists())
+        self.assertIn("is written", self.post({"do": "save"})[1]["said"][0])
+        self.assertEqual(self.recording.script(), self.path.read_bytes())
+        self.assertEqual(["motion", "mouse", "move"], self.post({"do": "complete", "text": "mo"})[1]["lines"])
+
+    def test_said(self) -> None:
+        """An answer that isn't ok is told in words."""
+        said = self.post({"do": "line", "text": "lift desk"})[1]["said"]
+        self.assertIn("lift desk: N6: desk is the root", said[0])
+
+    def test_page(self) -> None:
+        answer = self.raw(f"GET /{self.server.token}/ HTTP/1.1\r\nHost: {self.host}\r\n\r\n")
+        self.assertIn("200 OK", answer)
+        self.assertIn("frame-ancestors 'none'", answer)
+        self.assertIn('<script id="data"', answer)
+
+
+class Hostile(Served):
+    """Requests that the page doesn't make: each has an error, and changes nothing."""
+
+    def setUp(self) -> None:
+        super().setUp()
+        self.recording.save(False)
+        (self.folder / "secret").write_text("a secret")
+        self.good = {"Content-Type": "application/json", "Content-Length": "13"}
+
+    def tearDown(self) -> None:
+        self.assertEqual((1, STARTER + "end\n"), (self.recording.version, self.path.read_text()))
+        self.assertEqual(["button.txt", "secret"], sorted(it.name for it in self.folder.iterdir()))
+        self.assertEqual(200, self.status("GET", f"/{self.server.token}/", {}))
+
+    def test_loopback(self) -> None:
+        self.assertEqual("127.0.0.1", self.server.server_address[0])
+
+    def test_hosts(self) -> None:
+        port = self.server.server_port
+        self.assertEqual(200, self.status("GET", f"/{self.server.token}/", {}, host=f"localhost:{port}"))
+        for host in ("evil.example", f"evil.example:{port}", "127.0.0.1", f"127.0.0.1:{port + 1}", f"127.0.0.1:{port}.evil.example", "[::1]"):
+            with self.subTest(host):
+                self.assertEqual(403, self.status("GET", f"/{self.server.token}/", {}, host=host))
+                self.assertEqual(403, self.status("POST", self.act, self.good, '{"do":"undo"}', host))
+        twice = f"GET /{self.server.token}/ HTTP/1.1\r\nHost: {self.host}\r\nHost: evil.example\r\n\r\n"
+        self.assertIn(" 403 ", self.raw(twice).split("\r\n")[0])
+        self.assertIn(" 403 ", self.raw(f"GET /{self.server.token}/ HTTP/1.0\r\n\r\n").split("\r\n")[0])
+
+    def test_origins(self) -> None:
+        for origin in ("http://evil.example", "null", f"https://{self.host}", f"http://localhost:{self.server.server_port}", "", "file://"):
+            with self.subTest(origin):
+                self.assertEqual(403, self.status("POST", self.act, {**self.good, "Origin": origin}, '{"do":"undo"}'))
+
+    def test_paths(self) -> None:
+        """No path leads to a file, and none is answered without the token."""
+        token = self.server.token
+        for path in (
+            "/", "/act", "/../secret", f"/{token}", f"/{token}/../secret", f"/{token}/secret", f"/{token}/button.txt",
+            f"/{token}/%2e%2e/secret", f"/{token}/?x=1", f"/{token[:-1]}/", f"/{token}x/", "/etc/passwd",
+            f"http://{self.host}/{token}/../secret", f"/{token}/act", "/favicon.ico", "*", f"/{token}/\\..\\secret", "/\xff",
+        ):
+            with self.subTest(path):
+                self.assertEqual(404, self.status("GET", path, {}))
+        for path in ("/act", f"/{token}/", f"/{token}/../act", f"/{token}/act/", "/%2e%2e/act"):
+            with self.subTest(path):
+                self.assertEqual(404, self.status("POST", path, self.good, '{"do":"undo"}'))
+
+    def test_methods(self) -> None:
+        for method in ("PUT", "DELETE", "OPTIONS", "HEAD", "TRACE", "CONNECT", "get"):
+            with self.subTest(method):
+                self.assertEqual(501, self.status(method, self.act, self.good, '{"do":"undo"}'))
+
+    def test_bodies(self) -> None:
+        undo = '{"do":"undo"}'
+        for headers, body, status in (
+            ({"Content-Type": "application/json"}, undo, 411),
+            ({**self.good, "Content-Length": "-1"}, undo, 411),
+            ({**self.good, "Content-Length": "1e3"}, undo, 411),
+            ({**self.good, "Content-Length": "65537"}, undo, 413),
+            ({**self.good, "Content-Length": "9" * 4000}, undo, 413),
+            ({**self.good, "Transfer-Encoding": "chunked"}, "d\r\n" + undo + "\r\n0\r\n\r\n", 411),
+            ({**self.good, "Content-Type": "text/plain"}, undo, 415),
+            ({**self.good, "Content-Type": "application/x-www-form-urlencoded"}, undo, 415),
+            ({**self.good, "Content-Length": "5"}, "[1,2]", 400),
+            ({**self.good, "Content-Length": "4"}, '{"d"', 400),
+            ({**self.good, "Content-Length": "2"}, "\xff\xfe", 400),
+            ({**self.good, "Content-Length": "60000"}, "[" * 60000, 400),
+        ):
+            with self.subTest(f"{headers} {body[:20]}"):
+                self.assertEqual(status, self.status("POST", self.act, headers, body))
+
+    def test_endless(self) -> None:
+        """A body that doesn't end, and one that doesn't come, are given up; others are answered meanwhile."""
+        self.assertIn(self.status("POST", self.act, {**self.good, "Content-Length": "99999999"}, "x" * 5_000_000), (0, 413))
+        self.addCleanup(setattr, serving, "PATIENCE", serving.PATIENCE)
+        self.addCleanup(setattr, serving.Handler, "timeout", serving.Handler.timeout)
+        serving.PATIENCE = serving.Handler.timeout = 0.3
+        head = f"POST {self.act} HTTP/1.1\r\nHost: {self.host}\r\nContent-Type: application/json\r\nContent-Length: 13\r\n\r\n"
+        self.assertIn(" 408 ", self.raw(head + '{"do"').split("\r\n")[0])
+        self.assertEqual("", self.raw("POST " + "x" * 100))
+        self.assertIn(" 414 ", self.raw("GET /" + "x" * 70000 + "\r\n").split("\r\n")[0])
+
+    def test_many(self) -> None:
+        """Connections over a number are closed at once."""
+        held = [socket.create_connection(self.server.server_address[:2], 5) for _ in range(serving.AT_ONCE)]
+        late = socket.create_connection(self.server.server_address[:2], 5)
+        self.assertEqual(b"", late.recv(1))
+        for connection in [*held, late]:
+            connection.close()
+        for _ in range(200):
+            if self.status("GET", f"/{self.server.token}/", {}):
+                return
+        self.fail("nobody is answered any more")
+
+    def test_calls(self) -> None:
+        """A call with other values than it may have is refused."""
+        for asked in (
+            {}, {"do": "format"}, {"do": "key"}, {"do": "key", "code": 256}, {"do": "key", "code": True}, {"do": "key", "code": "65"},
+            {"do": "motion", "h": 8192, "v": 0}, {"do": "motion", "h": 1.5, "v": 0}, {"do": "mouse", "way": "left", "button": 1, "h": 0, "v": 0},
+            {"do": "mouse", "way": "down", "button": 6, "h": 0, "v": 0}, {"do": "line"}, {"do": "line", "text": "\t"},
+            {"do": "line", "text": "dump\nend"}, {"do": "line", "text": "x" * 5000}, {"do": ["undo"]}, {"do": "complete", "text": None},
+            {"do": "line", "text": "# include /etc/passwd"}, {"do": "line", "text": "# include ../../../../etc/passwd"},
+        ):
+            with self.subTest(asked):
+                status, answer = self.post(asked)
+                self.assertEqual((200, ["refused"]), (status, list(answer)))
+
+
+@unittest.skipUnless(browser(), "no browser is installed: apt-get install chromium")
+class InBrowser(InFolder):
+    """A session in a browser."""
+
+    def test_session(self) -> None:
+        """Clicks, keys and typed lines are recorded; what is written gives the bytes that the page showed."""
+        command = [sys.executable, str(TOP / "bin/live"), str(self.path)]
+        with subprocess.Popen(command, stdout=subprocess.PIPE, text=True) as live:
+            assert live.stdout
+            found = re.search(r"http://127\.0\.0\.1:\d+/\S+", live.stdout.readline())
+            assert found
+            window = Browser()
+            try:
+                window.open(found[0])
+                self.session(window)
+                self.assertEqual([], window.errors)
+            finally:
+                window.close()
+                live.terminate()
+        lines = self.path.read_text().splitlines()[7:]
+        self.assertEqual([*CLICK, "key 4 65", "sync", "@button take", "@button flush", "sync", "dump", "end"], lines)
+        self.assertEqual(self.shown, play(self.path.read_bytes()).text().replace("\n", "")[len("dump 48 32 map8") :])
+
+    def session(self, window: Browser) -> None:
+        """Clicks at the button, presses a key, types two lines, one of them wrong, and saves."""
+        west, north, scale = window.wait(
+            "page.sides[0].scale && (() => { const it = document.querySelector('.screen canvas').getBoundingClientRect();"
+            " return [it.left, it.top, page.sides[0].scale]; })()"
+        )
+        window.click(west + 20.5 * scale, north + 15.5 * scale)
+        window.wait("page.sides[0].trace.lines.includes('mouse 3 up 1')")
+        window.key("A", "A", 65)
+        window.wait("page.sides[0].trace.lines.includes('key 4 65')")
+        window.evaluate("document.querySelector('[data-line=\"@button take\"]').click()")
+        window.wait("page.sides[0].trace.lines.includes('@button take')")
+        self.type(window, "@button tnit 3")
+        window.wait("document.getElementById('said').textContent.includes('perhaps `tint` is meant')")
+        self.type(window, "@button flush")
+        window.wait("page.sides[0].trace.lines.includes('@button flush')")
+        window.evaluate("document.querySelector('[data-line=\"peek\"]').click()")
+        window.wait("page.sides[0].trace.lines.includes('peek')")
+        window.evaluate("document.getElementById('undo').click()")
+        window.wait("!page.sides[0].trace.lines.includes('peek')")
+        window.evaluate("document.querySelector('[data-line=\"dump\"]').click()")
+        window.wait("page.sides[0].trace.lines.includes('dump')")
+        window.evaluate("document.getElementById('save').click()")
+        window.wait("document.getElementById('save').textContent === 'Saved'")
+        hexed = "[...page.sides[0].frame.pixels].map((it) => it.toString(16).padStart(2, '0')).join('')"
+        self.shown = window.evaluate(hexed)
+
+    def type(self, window: Browser, text: str) -> None:
+        """Types a line."""
+        window.evaluate("document.getElementById('line').value = ''; document.getElementById('line').focus()")
+        for letter in text:
+            window.key(letter, letter)
+        window.key("Enter", "\r", 13)
+
+
+class Words(InFolder):
+    """The words of the command."""
+
+    def test_wrong(self) -> None:
+        self.path.write_text("trestle 1\nscren 4 4 map8\n")
+        for words, says in (
+            (["-"], "can be written"), ([], "FILE"), ([str(self.path)], "perhaps `screen` is meant"),
+            ([str(self.path), "--port", "70000"], "N is 0 to 65535"), ([str(self.folder)], "cannot be read"),
+        ):
+            with self.subTest(words):
+                ended = call("live", words)
+                self.assertEqual(2, ended.status)
+                self.assertIn(says, ended.text)
+
+
+if __name__ == "__main__":
+    unittest.main()

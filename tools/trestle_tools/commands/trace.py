@@ -1,0 +1,100 @@
+"""trace: writes a page on which a script is seen step by step."""
+
+import sys
+import time
+from pathlib import Path
+from typing import List
+
+from . import FINE, FOUND, Parser, write
+from ..include import pack
+from ..pages import page
+from ..program import Trouble
+from ..traces import Asked, Trace, is_script, pairs_of, trace_of_output, trace_of_script
+
+WHAT = """\
+Plays a script and writes a page of HTML, one file, on which each step is seen: its answer, what it sent to which
+window, the screen after it with the changed points marked, the inboxes, and how many points are bad or stale and
+how many commands wait. Arrow keys and a slider go from step to step. A click on the picture names the window, the
+point within it, and the line that put it there.
+
+Of two scripts, or two outputs, the page shows both side by side, and begins at the first difference; then it
+ends with 1 where they differ. Of a script that is too long for a page it takes every k-th step, and says so."""
+
+EXAMPLE = """\
+bin/trace button.txt -o button.html
+bin/trace before.txt after.txt -o both.html
+bin/trace button.serial today.serial -o both.html"""
+
+
+def words() -> Parser:
+    """The words that trace takes."""
+    taken = Parser("trace", WHAT, EXAMPLE)
+    taken.add_argument("files", nargs="+", metavar="FILE", help="a script or an output, or two of them")
+    taken.add_argument("-o", dest="into", metavar="PAGE", required=True, help="the page, a file NAME.html")
+    taken.add_argument("--every", type=int, default=0, metavar="K", help="a picture after each K-th step")
+    return taken
+
+
+def main(arguments: List[str]) -> int:
+    """Writes the page."""
+    taken = words()
+    asked = taken.parse_args(arguments)
+    if len(asked.files) > 2:
+        taken.error("one FILE or two are shown")
+    if asked.every < 0:
+        taken.error("K is 1 or more")
+    if Path(asked.into).suffix not in (".html", ".htm"):
+        taken.error(f"-o takes NAME.html, and not {asked.into}")
+    progress = Progress()
+    how = Asked(asked.every, len(asked.files) > 1, progress.tell)
+    traces = [trace_of(name, how) for name in asked.files]
+    pairs = pairs_of(*traces) if len(traces) == 2 else []
+    progress.tell("the page")
+    write_page(asked.into, page(traces, pairs))
+    progress.end()
+    for trace in traces:
+        for note in trace.notes:
+            write(f"{trace.name}: {note}")
+    differing = sum(bool(pair.differs) for pair in pairs)
+    if pairs:
+        write(f"{asked.into}: {differing} of {len(pairs)} moments differ" if differing else f"{asked.into}: nothing differs")
+    return FOUND if differing else FINE
+
+
+def trace_of(name: str, how: Asked) -> Trace:
+    """The trace of a script or an output."""
+    packed = pack(name)
+    if is_script(packed.script):
+        return trace_of_script(packed, how)
+    return trace_of_output(name, packed.script.decode("latin-1"))
+
+
+def write_page(name: str, text: str) -> None:
+    """Writes the page."""
+    try:
+        Path(name).write_text(text, "utf-8")
+    except OSError as error:
+        raise Trouble(f"{name} cannot be written: {error.strerror}")
+
+
+class Progress:
+    """Tells on standard error how far the work is: in one line of a terminal, else only of what takes long."""
+
+    def __init__(self) -> None:
+        self.is_terminal = sys.stderr.isatty()
+        self.told = time.monotonic()
+
+    def tell(self, what: str) -> None:
+        """Tells what is being done."""
+        if self.is_terminal:
+            sys.stderr.write(f"\r\033[Ktrace: {what}")
+        elif time.monotonic() > self.told + 5:
+            sys.stderr.write(f"trace: {what}\n")
+            self.told = time.monotonic()
+        sys.stderr.flush()
+
+    def end(self) -> None:
+        """Takes the line away."""
+        if self.is_terminal:
+            sys.stderr.write("\r\033[K")
+            sys.stderr.flush()

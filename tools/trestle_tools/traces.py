@@ -1,0 +1,499 @@
+"""A script step by step: each step with its answer and what it sent, the screen after it, and how far the screen lags.
+
+The screen after a step is a dump: a copy of the script has a `sync` and a `dump` after each step that is wanted. A
+dump is the picture painted from nothing, so it changes no later one. A copy has at most 64 dumps, 100,000 lines and
+4 MiB, so a long script takes several copies, and of a very long one every k-th step is shown."""
+
+import difflib
+import zlib
+from typing import Callable, Dict, Iterator, List, NamedTuple, Optional, Sequence, Set, Tuple
+
+from .answers import meaning
+from .comparison import common_front
+from .grammar import REPORTS as REPORT_WORDS
+from .include import Packed
+from .instruments import Body, answers, body_of, copy_of, is_step, lags, peeks, played
+from .outputs import Dump, Entry, take_apart
+from .places import Layout, Rect
+from .program import PLAYED, REFUSED, Trouble, play
+from .scripts import LINES, REPORTS, TEXT_BYTES, Line
+from .streams import Frame, frame_of, frames_of, stream_of
+from .windows import Window, Windows
+
+# So many pictures a page has at most, and so many points in all of them together; but always those of one copy.
+MOST_PICTURES, MOST_POINTS = 1024, 1 << 28
+# So many bytes of packed pictures a page has at most.
+MOST_PACKED = 24 << 20
+# So many places of windows are found for a trace. Where edits need more, places are found where a picture is.
+MOST_PLACES = 2_000_000
+# So many lines of a report are told.
+MOST_PRINTED = 80
+
+Progress = Callable[[str], None]
+
+
+class Moment(NamedTuple):
+    """A line after which one may look: `begin`, a step or a report."""
+
+    line: int
+    # How many steps have been made.
+    count: int
+    answer: str = ""
+    # What the answer means, where it isn't ok.
+    says: str = ""
+    events: Tuple[str, ...] = ()
+    # What a report printed.
+    printed: Tuple[str, ...] = ()
+
+
+class Chunk(NamedTuple):
+    """The screens after some numbers of steps: a stream with a cut for each, packed by zlib."""
+
+    counts: Tuple[int, ...]
+    packed: bytes
+
+
+class Placed(NamedTuple):
+    """Where a window is, how deep it is in the tree, and the line that put it there."""
+
+    name: str
+    depth: int
+    rect: Rect
+    line: int
+
+
+class Trace:
+    """What a page shows of a script or an output."""
+
+    def __init__(self, name: str, lines: List[str], labels: Sequence[str] = ()):
+        self.name = name
+        self.lines = lines
+        # What a person calls the lines; none where that is their numbers.
+        self.labels = labels
+        self.moments: List[Moment] = []
+        self.chunks: List[Chunk] = []
+        # How far the screen lags after a moment, by its number; waiting is None where nobody asked.
+        self.numbers: Dict[int, Tuple[int, Optional[int], int]] = {}
+        # From a number of steps on: all windows below the root, each followed by those in it, the front one first.
+        self.places: Dict[int, List[Placed]] = {}
+        self.windows: Dict[str, Window] = {}
+        self.notes: List[str] = []
+        # A sum over each screen, where it is asked for.
+        self.sums: Dict[int, int] = {}
+
+    def pictured(self) -> Set[int]:
+        """The numbers of steps after which there is a picture."""
+        return {count for chunk in self.chunks for count in chunk.counts}
+
+
+# ---- Which pictures are wanted
+
+
+def stride(steps: int, points: int) -> int:
+    """Every which step is shown of so many, on a screen of so many points."""
+    most = max(REPORTS, min(MOST_PICTURES, MOST_POINTS // points))
+    return max(1, -(-steps // most))
+
+
+def greatest_screen(lines: Sequence[Line]) -> int:
+    """The points of the greatest screen that a script may have."""
+    sizes = [line.texts() for line in lines if line.texts()[0] in ("screen", "resize")]
+    return max(int(words[1]) * int(words[2]) for words in sizes)
+
+
+def wanted_counts(body: Body, every: int) -> List[int]:
+    """The numbers of steps after which a picture is wanted: every so many, at each report, and at the end."""
+    count, wanted = 0, {0}
+    for line in body.lines:
+        count += is_step(line)
+        if count % every == 0 or line.texts()[0] in REPORT_WORDS:
+            wanted.add(count)
+    return sorted(wanted | {count})
+
+
+# ---- Copies
+
+
+def batches(body: Body, wanted: Sequence[int]) -> Iterator[List[int]]:
+    """Numbers of steps after which a copy has a dump, for as many copies as are needed. Where there is no room for one
+    dump behind so many steps, it and all that follow are left out."""
+    steps = body.steps()
+    sizes = [0]
+    for step in steps:
+        sizes.append(sizes[-1] + len(step.text) + 1)
+    opening = sum(len(line.text) + 1 for line in body.opening)
+    batch: List[int] = []
+    for count in wanted:
+        if batch and not has_room(body, opening + sizes[count], count, len(batch) + 1):
+            yield batch
+            batch = []
+        if not has_room(body, opening + sizes[count], count, 1):
+            return
+        batch.append(count)
+    if batch:
+        yield batch
+
+
+def has_room(body: Body, size: int, count: int, dumps: int) -> bool:
+    """Whether a copy with so many steps has room for so many dumps, each behind a sync."""
+    lines = len(body.opening) + count + 2 * dumps + 1
+    return dumps <= REPORTS and lines <= LINES and size + 10 * dumps + 4 <= TEXT_BYTES
+
+
+def pictures(body: Body, batch: Sequence[int]) -> bytes:
+    """The stream of the screens after some numbers of steps."""
+    items: List[str] = []
+    before = 0
+    steps = body.steps()
+    for count in batch:
+        items += [step.text for step in steps[before:count]]
+        items.append("dump")
+        before = count
+    return played(copy_of(body, items), "mirror").output
+
+
+def add_pictures(trace: Trace, body: Body, wanted: Sequence[int], asked: "Asked") -> None:
+    """Adds the screens after some numbers of steps."""
+    parts = list(batches(body, wanted))
+    for number, batch in enumerate(parts, 1):
+        asked.progress(f"pictures: copy {number} of {len(parts)}")
+        stream = pictures(body, batch)
+        trace.chunks.append(Chunk(tuple(batch), zlib.compress(stream, 9)))
+        if asked.summed:
+            add_sums(trace, batch, frames_of(stream))
+
+
+def add_sums(trace: Trace, counts: Sequence[int], frames: Iterator[Frame]) -> None:
+    """Adds a sum over each screen."""
+    for count, frame in zip(counts, frames):
+        head = f"{frame.width} {frame.height} {frame.kind} ".encode()
+        trace.sums[count] = zlib.crc32(frame.pixels, zlib.crc32(head))
+
+
+# ---- The moments
+
+
+def moments_of(body: Body, entries: Sequence[Entry], output: str) -> Iterator[Moment]:
+    """`begin`, and each step and report."""
+    count = 0
+    printed = reports_of(output)
+    windows = Windows()
+    for line in body.opening:
+        windows.add(line)
+    yield Moment(windows.begin_line, 0)
+    for line in body.lines:
+        words = line.texts()
+        if words[0] in REPORT_WORDS:
+            yield Moment(line.number, count, printed=next(printed, ()))
+        elif is_step(line):
+            entry = entries[count]
+            count += 1
+            yield Moment(line.number, count, entry.answer, meaning(entry, words, windows) or "", entry.events)
+            take_over(windows, entry, words)
+
+
+def is_edit(entry: Entry, words: List[str]) -> bool:
+    """Whether a step is an edit of the tree that was made."""
+    return entry.actor == "desk" and entry.answer == "ok" and words[0] not in ("mouse", "motion", "key")
+
+
+def take_over(windows: Windows, entry: Entry, words: List[str]) -> None:
+    """Takes over an edit that was made."""
+    if is_edit(entry, words):
+        windows.edit(words)
+
+
+def reports_of(output: str) -> Iterator[Tuple[str, ...]]:
+    """What each report printed; a dump by its first line alone, since it is a picture."""
+    parts = take_apart(output).parts
+    at = 0
+    while at < len(parts):
+        part = parts[at]
+        length = 1 if isinstance(part, Dump) else 1 + lines_below(part)
+        report = parts[at : at + length]
+        lines = tuple(it.header() if isinstance(it, Dump) else it for it in report)
+        more = (f".. and {len(lines) - MOST_PRINTED} lines more",) if len(lines) > MOST_PRINTED else ()
+        yield lines[:MOST_PRINTED] + more
+        at += length
+
+
+def lines_below(line: str) -> int:
+    """How many lines of a report follow its first one."""
+    words = line.split(" ")
+    if words[0] == "inbox":
+        return int(words[3])
+    return int(words[1]) if words[0] == "journal" else 0
+
+
+# ---- Where windows are
+
+
+def add_places(trace: Trace, body: Body, entries: Sequence[Entry]) -> None:
+    """Adds where the windows are after each number of steps that has a picture, where that is another place."""
+    windows = Windows()
+    for line in body.opening:
+        windows.add(line)
+    trace.windows = windows.names
+    steps, pictured = body.steps(), trace.pictured()
+    edits = [is_edit(entry, step.texts()) for entry, step in zip(entries, steps)]
+    each = sum(edits) * len(windows.names) <= MOST_PLACES
+    lines = first_lines(body)
+    rects: Dict[str, Rect] = {}
+    is_stale, by = True, 0
+    for count in range(len(steps) + 1):
+        if count and edits[count - 1]:
+            windows.edit(steps[count - 1].texts())
+            is_stale, by = True, steps[count - 1].number
+        if is_stale and (each or count in pictured):
+            layout = Layout(windows)
+            lines.update({name: by for name in layout.rects if by and layout.at(name) != rects.get(name)})
+            rects, is_stale = layout.rects, False
+        if count in pictured:
+            add_place(trace, count, [*placed(windows, rects, lines)])
+    if not each:
+        trace.notes.append("the script edits the tree so often that a window's line is one of those since the last picture")
+
+
+def add_place(trace: Trace, count: int, now: List[Placed]) -> None:
+    """Adds where the windows are, unless they are there already."""
+    last = trace.places[max(trace.places)] if trace.places else None
+    if now != last:
+        trace.places[count] = now
+
+
+def first_lines(body: Body) -> Dict[str, int]:
+    """The line that put each window into the tree."""
+    lines = {}
+    for line in body.opening:
+        words = line.texts()
+        if words[0] in ("put", "root"):
+            lines[words[1]] = line.number
+    return lines
+
+
+def placed(windows: Windows, rects: Dict[str, Rect], lines: Dict[str, int]) -> Iterator[Placed]:
+    """The windows below the root."""
+    def below(window: Window, depth: int) -> Iterator[Placed]:
+        yield Placed(window.name, depth, rects[window.name], lines.get(window.name, window.line))
+        for child in window.children:
+            yield from below(child, depth + 1)
+
+    return below(windows.root, 0) if windows.root else iter(())
+
+
+# ---- How far the screen lags
+
+
+def add_numbers(trace: Trace, body: Body, progress: Progress) -> None:
+    """Adds what is bad, waits and is stale after each moment that isn't known: by `check`, as far as that takes the
+    script, and where there is a picture by `peek`."""
+    places = [0]
+    for line in body.lines:
+        if line.text != "sync":
+            places.append(places[-1] + (is_step(line) or line.text == "dump"))
+    pictured = trace.pictured()
+    asked = {n for n, it in enumerate(trace.moments) if n not in trace.numbers and it.count in pictured}
+    try:
+        if len(asked) + len(trace.numbers) < len(trace.moments):
+            progress("numbers: check")
+            after = [(0, 0), *lags(body)]
+            unknown = [n for n in range(1, len(places)) if n not in trace.numbers]
+            trace.numbers.update({n: (after[places[n]][0], None, after[places[n]][1]) for n in unknown})
+    except Trouble:
+        trace.notes.append("`check` doesn't take this script: it is too long or too large")
+    progress("numbers: peek")
+    try:
+        found = peeks(body, {places[n] for n in asked})
+    except Trouble as trouble:
+        trace.notes.append(f"how many commands wait is not known: {trouble}")
+        return
+    trace.numbers.update({n: tuple(found[places[n]]) for n in asked})
+
+
+# ---- The whole
+
+
+def quiet(_what: str) -> None:
+    """Shows no progress."""
+
+
+class Asked(NamedTuple):
+    """How a script is traced: every which step has a picture (0: as many as a page has room for), whether its screens
+    are summed up, and who is told how far it is."""
+
+    every: int = 0
+    summed: bool = False
+    progress: Progress = quiet
+
+
+def trace_of_script(script: Packed, asked: Asked, known: Optional[Trace] = None) -> Trace:
+    """Traces a script that plays. What another trace knows of the same beginning is taken over."""
+    asked.progress("the script")
+    result = play(script.script)
+    if result.status == REFUSED:
+        raise Trouble(f"{script.name} is {result.text().strip()}; bin/why {script.name} says why")
+    if result.status != PLAYED:
+        raise Trouble(f"the program ended with status {result.status}: {result.text().strip() or 'nothing written'}")
+    body = body_of(script.lines)
+    labels = [line.at()[len("line ") :] for line in script.lines] if script.includes() else []
+    trace = Trace(script.name, [line.text for line in script.lines], labels)
+    asked.progress("answers")
+    entries = answers(body)
+    trace.moments = list(moments_of(body, entries, result.text()))
+    take_known(trace, known)
+    every = asked.every or stride(len(entries), greatest_screen(body.opening + body.lines))
+    add_all_pictures(trace, body, every, asked)
+    asked.progress("places")
+    add_places(trace, body, entries)
+    add_numbers(trace, body, asked.progress)
+    return trace
+
+
+def add_all_pictures(trace: Trace, body: Body, every: int, asked: Asked) -> None:
+    """Adds the pictures of every so many steps; of fewer, where the page would get too large."""
+    known = list(trace.chunks)
+    while True:
+        wanted = [count for count in wanted_counts(body, every) if count not in trace.pictured()]
+        add_pictures(trace, body, wanted, asked)
+        if sum(len(chunk.packed) for chunk in trace.chunks) <= MOST_PACKED or asked.every:
+            break
+        trace.chunks, every = list(known), 2 * every
+    steps = len(body.steps())
+    if every > 1:
+        trace.notes.append(f"{len(trace.pictured())} pictures of {steps} steps: one after every {every}th, and at each report")
+    if steps not in trace.pictured():
+        trace.notes.append(f"no picture after line {last_pictured(trace)}: the copy would have over {LINES} lines or 4 MiB")
+
+
+def last_pictured(trace: Trace) -> int:
+    """The last line after which there is a picture."""
+    pictured = trace.pictured()
+    return max(moment.line for moment in trace.moments if moment.count in pictured)
+
+
+def shared(one: Trace, other: Trace) -> int:
+    """With how many equal moments two traces begin, of which the lines up to `begin` are equal."""
+    if not one.moments or not other.moments:
+        return 0
+    begin, begun = one.moments[0].line, other.moments[0].line
+    if one.lines[:begin] != other.lines[:begun]:
+        return 0
+    count = 0
+    for here, there in zip(one.moments, other.moments):
+        if one.lines[here.line - 1] != other.lines[there.line - 1]:
+            break
+        count += 1
+    return count
+
+
+def take_known(trace: Trace, known: Optional[Trace]) -> None:
+    """Takes over the pictures and numbers of the moments with which another trace begins, too."""
+    same = shared(trace, known) if known else 0
+    if not known or not same:
+        return
+    last = trace.moments[same - 1].count
+    for chunk in known.chunks:
+        counts = tuple(count for count in chunk.counts if count <= last)
+        if counts:
+            trace.chunks.append(Chunk(counts, chunk.packed))
+    trace.numbers = {n: it for n, it in known.numbers.items() if n < same}
+
+
+# ---- Outputs
+
+
+def trace_of_output(name: str, text: str) -> Trace:
+    """Traces an output: its dumps are the pictures, and each of its parts is a moment."""
+    output = take_apart(text)
+    if output.faults:
+        fault = output.faults[0]
+        raise Trouble(f"{name}, line {fault.line}: {fault.what}")
+    trace = Trace(name, [part.header() if isinstance(part, Dump) else part for part in output.parts])
+    frames = [frame_of(part) for part in output.dumps()]
+    count = 0
+    for number, part in enumerate(output.parts, 1):
+        count += isinstance(part, Dump)
+        trace.moments.append(Moment(number, count))
+    for at in range(0, len(frames), REPORTS):
+        group = frames[at : at + REPORTS]
+        counts = tuple(range(at + 1, at + len(group) + 1))
+        trace.chunks.append(Chunk(counts, zlib.compress(stream_of(group), 9)))
+        add_sums(trace, counts, iter(group))
+    return trace
+
+
+def is_script(data: bytes) -> bool:
+    """Whether a file holds a script: its first line that means something says a version."""
+    for line in data.split(b"\n"):
+        if line and not line.startswith(b"#"):
+            return line.startswith(b"trestle ")
+    return False
+
+
+# ---- Two side by side
+
+# So many lines are compared one by one; of more the one is set beside the other by its number.
+COMPARED = 4000
+
+
+class Pair(NamedTuple):
+    """A moment of each of two traces, or none (-1), and what differs: text, answers, the picture, numbers."""
+
+    first: int
+    second: int
+    differs: Tuple[str, ...]
+
+
+def pairs_of(first: Trace, second: Trace) -> List[Pair]:
+    """The moments of two traces side by side, with what differs."""
+    pairs = []
+    before = (-1, -1)
+    for one, other in aligned(texts_of(first), texts_of(second)):
+        before = (one if one >= 0 else before[0], other if other >= 0 else before[1])
+        pairs.append(Pair(one, other, tuple(differences(first, second, (one, other), before))))
+    return pairs
+
+
+def texts_of(trace: Trace) -> List[str]:
+    """The lines of the moments."""
+    return [trace.lines[moment.line - 1] for moment in trace.moments]
+
+
+def aligned(one: List[str], other: List[str]) -> Iterator[Tuple[int, int]]:
+    """Places of two lists side by side: equal ones together, and else -1 where there is none."""
+    front = common_front(one, other)
+    yield from ((n, n) for n in range(front))
+    rest, there = one[front:], other[front:]
+    end = common_front(rest[::-1], there[::-1])
+    rest, there = rest[: len(rest) - end], there[: len(there) - end]
+    for begin, stop, begun, stopped in blocks(rest, there):
+        for n in range(max(stop - begin, stopped - begun)):
+            left, right = begin + n, begun + n
+            yield (front + left if left < stop else -1), (front + right if right < stopped else -1)
+    yield from ((len(one) - end + n, len(other) - end + n) for n in range(end))
+
+
+def blocks(one: List[str], other: List[str]) -> Iterator[Tuple[int, int, int, int]]:
+    """Ranges of two lists that belong together."""
+    if max(len(one), len(other)) > COMPARED:
+        yield 0, len(one), 0, len(other)
+        return
+    for _, begin, stop, begun, stopped in difflib.SequenceMatcher(None, one, other, False).get_opcodes():
+        yield begin, stop, begun, stopped
+
+
+def differences(first: Trace, second: Trace, pair: Tuple[int, int], now: Tuple[int, int]) -> Iterator[str]:
+    """What differs between a moment of each of two traces. `now` has the last moment of each so far."""
+    if -1 in pair:
+        yield "line"
+    else:
+        one, other = first.moments[pair[0]], second.moments[pair[1]]
+        if first.lines[one.line - 1] != second.lines[other.line - 1]:
+            yield "line"
+        if (one.answer, one.events) != (other.answer, other.events):
+            yield "answer"
+        if one.printed != other.printed:
+            yield "report"
+    sums = [trace.sums.get(trace.moments[n].count if n >= 0 else -1) for trace, n in zip((first, second), now)]
+    if sums[0] != sums[1]:
+        yield "picture"
