@@ -24,7 +24,6 @@ Python 3.8 and its standard library. Each module begins with what it is for:
     looks        what dumps show, and what nobody sees
     orders       steps whose order may show where threads play a script
     findings     what is legal in a script and yet hardly meant
-    places       where each window is, and whose point of the screen a point is
     streams      reads and writes the streams of `mirror`
     traces       a script step by step: answers, events, screens, places and numbers; two of them side by side
     pages        traces as one page of HTML, by the template page.html
