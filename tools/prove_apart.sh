@@ -71,7 +71,8 @@ complaints() {
 folder=$(mktemp -d) || exit 1
 trap 'rm -rf "$folder"' EXIT
 trap 'exit 1' HUP INT TERM
-mkdir "$folder/repository" && copy && sizes >"$folder/sizes" || { echo 'prove_apart: the crates cannot be copied' >&2; exit 1; }
+# (rt wants to be called at the top of a repository, wherever TMPDIR lies)
+mkdir -p "$folder/repository/.git" && copy && sizes >"$folder/sizes" || { echo 'prove_apart: the crates cannot be copied' >&2; exit 1; }
 { (cd "$folder/repository" && "$rt" ci $anew 2>&1); echo $? >"$folder/status"; } | tee "$folder/said" | tell
 if [ "$(cat "$folder/status")" -ne 0 ]; then
     complaints >&2
