@@ -2,14 +2,15 @@
 # tools/prove_apart.sh RT PROGRAM CRATE.. [--anew]   proves the program trestle of these crates (crates/NAME) and those
 #                                                  alone, as the gate proves them, and leaves it as PROGRAM
 #
-# Where nothing is proved yet, this takes half the time of `rt all check` and `rt run`. Those read every source once more
-# before the first proof, and prove the crates of tests and benches too; and their workers wait for crates below their
-# own. `rt ci` starts a crate when those below it are done, first the one with the longest chain above it, and lets a
-# crate that runs alone have all processors. So it gets a repository of its own, outside of the checkout, that has the
-# needed crates without tests and without edits. What it proves is kept on this machine by the sums of the files: the
-# gate needn't prove it again, and a call that was ended goes on where it was. With --anew it proves all.
+# Where nothing is proved yet, `rt all check` and `rt run` would take longer: they read every source before the first
+# proof, and prove the crates of tests and benches too, and their workers wait for the crates below their own. `rt ci`
+# starts a crate when those below it are done, the one with the longest chain above it first, and gives a crate that runs
+# alone four processors. So it gets a repository of its own, outside of the checkout, with the needed crates and without
+# their edits. rt keeps on this machine what it proves, by the sums of the files: the gate need not prove it again, and a
+# second call goes on where the first one was ended. With --anew it proves all.
 #
-# It runs at the top of the checkout. Standard error tells how far it is, and what is wrong.
+# It runs at the top of the checkout. Standard error tells how far it is, and what is wrong. The repository lies in TMPDIR,
+# or else in /tmp; rt wants 3 GB there.
 rt=$1
 program=$2
 shift 2
@@ -31,13 +32,8 @@ lines() {
 copy() {
     lines >"$folder/repository/crates.txt" || return 1
     [ ! -f HANDLES ] || cp HANDLES "$folder/repository/" || return 1
-    for crate in $crates; do
-        mkdir -p "$folder/repository/$crate" || return 1
-        for part in "$crate"/*; do
-            case ${part##*/} in out | must-fail) continue ;; esac
-            cp -R "$part" "$folder/repository/$crate/" || return 1
-        done
-    done
+    tar -cf "$folder/crates.tar" --no-wildcards-match-slash --exclude='crates/*/out' --exclude='crates/*/must-fail' $crates &&
+        tar -C "$folder/repository" -xf "$folder/crates.tar" && rm "$folder/crates.tar"
 }
 
 # How many lines of sources, definitions and proofs each crate has: what its proof takes is about as much.
