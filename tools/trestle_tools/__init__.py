@@ -17,6 +17,7 @@ Python 3.8 and its standard library. Each module begins with what it is for:
     windows      the names, the tree and the widgets of a script, as far as its lines say
     contents     what a widget holds, as far as is needed to see that a command changes nothing
     causes       why a line is refused
+    elsewhere    words that other tools have, and what stands for them here
     instruments  copies of a script that play as it does, with reports of their own
     bad          which points of the screen are bad
     steps        what is bad, waits and is stale after each step, and why

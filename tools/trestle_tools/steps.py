@@ -170,10 +170,10 @@ def numbers_after(body: Body) -> List[Peek]:
 
 def table(lines: List[Line], steps: Steps) -> Iterator[str]:
     """The lines of a script, each step and dump with what is bad, waits and is stale after it, and by how much that changed."""
-    yield "".join(f"{it:>7}{'':7}" for it in ("bad", "waiting", "stale"))
     told = {after.line.number: after for after in steps.all()}
     begin = steps.body.opening[-1]
     told[begin.number] = After(begin, steps.first, steps.first, [])
+    yield "".join(f"{it:>7}{'':7}" for it in ("bad", "waiting", "stale")).rstrip()
     for line in lines:
         after = told.get(line.number)
         columns = columns_of(after) if after else " " * 42
