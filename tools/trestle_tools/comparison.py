@@ -124,7 +124,7 @@ def text_differences(first: Output, second: Output, view: View) -> List[str]:
     """The lines outside of dumps that differ, with their numbers, `-` before those of A, `+` before those of B. Of long
     texts the first ones are compared alone, since no person reads on, unless all is asked for."""
     one, other = numbered(first), numbered(second)
-    front = common_front(one, other)
+    front = common_front([it.compared for it in one], [it.compared for it in other])
     one, other = one[front:], other[front:]
     if max(len(one), len(other)) > COMPARED and not view.whole:
         lines = list(changed_lines(one[:SHOWN], other[:SHOWN]))
@@ -165,11 +165,11 @@ def numbered(output: Output) -> List[Numbered]:
     return lines
 
 
-def common_front(one: List[Numbered], other: List[Numbered]) -> int:
+def common_front(one: List[str], other: List[str]) -> int:
     """With how many equal lines two texts begin."""
     count = 0
     for here, there in zip(one, other):
-        if here.compared != there.compared:
+        if here != there:
             break
         count += 1
     return count
