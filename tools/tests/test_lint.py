@@ -104,7 +104,7 @@ class Texts(Named):
         self.assertEqual(['script.txt:8: @name text "HELLO"', "    " + says], [it.split(", as demos")[0] for it in found])
 
     def test_letters_without_a_glyph(self) -> None:
-        says = "in `HI HO` the blank, `O` have no glyph and show as a box: include a font by `# include FILE`"
+        says = "in `HI HO` the blank, `O` have no glyph and show as boxes: include a font by `# include FILE`"
         found = self.lint(self.label("HI HO", "glyph 48 6666667e66666600\nglyph 49 3c18181818183c00"))
         self.assertEqual(["script.txt:10: @name text HI HO", "    " + says], [it.split(", as demos")[0] for it in found])
 
@@ -206,6 +206,13 @@ class Presses(Named):
         self.assertEqual("    N9: it follows from line 13, which was not made (N7)", found[3])
         self.assertEqual("    empty: it follows from line 13, which was not made (N7)", found[5])
         self.assertEqual(6, len(found))
+
+    def test_a_motion_that_is_not_made(self) -> None:
+        steps = ["motion 5 40 23", "motion 4 12 9", "mouse 6 down 1", "mouse 7 up 1", "sync", "@button take", "sync", "inbox button", "end"]
+        found = self.lint(script(self.OPENING, steps))
+        self.assertIn("N7 5: the time 4 goes back", found[1])
+        self.assertEqual("    the press goes to nobody: it follows from line 13, which was not made (N7)", found[3])
+        self.assertEqual("    empty: it follows from line 13, which was not made (N7)", found[5])
 
     def test_keys_and_selections_that_follow(self) -> None:
         steps = ["motion 5 12 9", "mouse 6 down 1", "mouse 6 up 1", "sync", "inbox button", "@button own key 5", "sync"]

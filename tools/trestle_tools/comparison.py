@@ -7,8 +7,7 @@ from .outputs import Dump, Output
 from .pictures import Picture, beside_in_columns, different_points, lines_beside, marks, picture_of
 from .terminal import View
 
-# So many columns a line of pictures may have; what would be wider is cut to what differs.
-COLUMNS = 160
+# So many points are shown around what differs, where a picture is cut.
 MARGIN = 4
 # So many lines that differ are shown, and so many are compared line by line.
 SHOWN = 12
@@ -101,7 +100,7 @@ def shown_panels(one: Dump, other: Dump, box: Box, view: View) -> List[str]:
     same_size = (one.width, one.height) == (other.width, other.height)
     part = all_of_it = 0, max(one.width, other.width), 0, max(one.height, other.height)
     # In hex digits a picture is large, and most of it is alike.
-    fits = view.coloured and sum(it.width for it in pictures) + 4 <= COLUMNS
+    fits = view.coloured and sum(it.width for it in pictures) + 4 <= view.columns
     if same_size and not fits and not view.whole:
         part = box.around(one.width, one.height)
     said = [f"(the part {' '.join(map(str, part))}; {WHOLE})"] if part != all_of_it else []

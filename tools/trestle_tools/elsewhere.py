@@ -3,7 +3,10 @@
 from typing import Dict, Optional
 
 CLICK = "a click is `motion T H V`, `mouse T down B` and `mouse T up B`"
-DRAG = "a drag is `motion T H V`, `mouse T down B`, further motions and `mouse T up B`: the window of the press hears of the release"
+DRAG = (
+    "a drag is `motion T H V`, `mouse T down B`, further motions and `mouse T up B`: "
+    "the window of the press hears of the release"
+)
 HOVER = "a window hears of the cursor where it asks: `@LEAF cage W E N S WHERE`"
 WAIT = "there is no time to wait for: `sync` waits until all steps are done"
 SHOT = "the screen is printed by `dump`"
@@ -13,7 +16,10 @@ GONE = "a window is taken away by `detach CHILD`"
 OFFER = "a leaf offers its value by `@LEAF own source T`, and another one reads it by `@LEAF read source`"
 MOVE = "the cursor is moved by `motion T H V`"
 FONT = "a letter's picture is a line `glyph HH HEX16`; a line `# include FILE` brings a font, as demos/fonts/ascii.txt"
-WINDOW = "a window is declared by `leaf NAME LO PREF HI LO PREF HI WIDGET ..` with content, or by `node NAME KIND TINT ..` for others in it"
+WINDOW = (
+    "a window is declared by `leaf NAME LO PREF HI LO PREF HI WIDGET ..` with content, "
+    "or by `node NAME KIND TINT ..` for others in it"
+)
 
 WORDS: Dict[str, str] = {
     **dict.fromkeys(("click", "tap", "press", "doubleclick", "dblclick"), CLICK),

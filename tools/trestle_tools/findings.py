@@ -1,6 +1,6 @@
 """What is legal in a script and yet hardly meant, line by line."""
 
-from typing import Dict, Iterator, List, Optional, Tuple
+from typing import Dict, Generator, Iterator, List, Optional, Tuple
 
 from .answers import meaning
 from .contents import WIDGETS, Content
@@ -22,6 +22,10 @@ NEARLY_INCLUDE = ("#include ", "# include:", "#Include ", "# Include ", "# INCLU
 PRESSED = ("canvas",)
 # The edits that change one setting of a window, and the others.
 SETTINGS = ("tint", "border", "offset", "fix", "move", "turn", "shapes")
+
+
+# What is said of a step, and in the end why it changes nothing, if so.
+Says = Generator[str, None, Optional[str]]
 
 
 class Press:
@@ -88,6 +92,8 @@ class Play:
         code = entry.answer.split(" ")[0]
         for line, answer in reversed(self.refused):
             refused = line.texts()
+            if code == "empty" and refused[0] == "motion":
+                return line, answer
             if code in ("N8", "N9") and refused[0] == "mouse" and refused[3] == words[3] and refused[2] != words[2]:
                 return line, answer
             if code == "N10" and answer == "N7" and refused[0] in ("mouse", "key") and refused[1] == words[3]:
@@ -110,7 +116,7 @@ class Play:
             return f"empty: no event waits for {leaf.name}: the press of {self.press.line.at()} went {to}, {place}"
         return f"empty: no event waits for {leaf.name}: one `take` takes one event"
 
-    def client_step(self, line: Line, words: List[str], entry: Entry) -> Iterator[str]:
+    def client_step(self, line: Line, words: List[str], entry: Entry) -> Says:
         """A step of a leaf. It gives back whether it changes nothing."""
         leaf = self.windows.names[words[0][1:]]
         content = self.contents[leaf.name]
@@ -127,14 +133,15 @@ class Play:
             if command:
                 content.change(command)
         elif words[1] == "cage" and not (int(words[2]) < int(words[3]) and int(words[4]) < int(words[5])):
-            yield f"the cage `{' '.join(words[2:6])}` has no point, so that it tells at once: the order is W E N S, W below E, N below S"
+            says = f"the cage `{' '.join(words[2:6])}` has no point, so that it tells at once"
+            yield says + ": the order is W E N S, W below E, N below S"
         if before != content.state():
             undone = self.looks.changed(line, ("content", leaf.name), before, content.state(), False)
             if undone:
                 yield undone
         return same
 
-    def desk_step(self, line: Line, words: List[str], entry: Entry) -> Iterator[str]:
+    def desk_step(self, line: Line, words: List[str], entry: Entry) -> Says:
         """A step of the desk. It gives back whether it changes nothing."""
         if words[0] == "mouse":
             yield from self.button(line, words, entry)
@@ -146,8 +153,8 @@ class Play:
             return (yield from self.edit(line, words, entry))
         return None
 
-    def edit(self, line: Line, words: List[str], entry: Entry) -> Iterator[str]:
-        """An edit of the tree."""
+    def edit(self, line: Line, words: List[str], entry: Entry) -> Says:
+        """An edit of the tree. It gives back whether it changes nothing."""
         key = (words[0] if words[0] in SETTINGS else "tree", words[1] if words[0] in SETTINGS else "")
         before = self.value_of(key)
         same = self.windows.edit(words)
@@ -192,6 +199,9 @@ class Play:
 
     def miss(self) -> str:
         """Where the cursor is when a press goes to nobody."""
+        refused = [it for it in self.refused if it[0].texts()[0] == "motion"]
+        if refused:
+            return f"it follows from {refused[-1][0].at()}, which was not made ({refused[-1][1]})"
         if not self.is_moved:
             return "the cursor is off the screen, where it is before the first `motion T H V`: put one before it"
         layout = Layout(self.windows)
@@ -202,6 +212,8 @@ class Play:
         """A step that was made: what was refused of the same button or selection before is no cause any more."""
         if words[0] == "mouse":
             self.refused = [it for it in self.refused if it[0].texts()[0] != "mouse" or it[0].texts()[3] != words[3]]
+        elif words[0] == "motion":
+            self.refused = [it for it in self.refused if it[0].texts()[0] != "motion"]
         elif words[1:2] == ["own"]:
             self.refused = [it for it in self.refused if it[0].texts()[1:3] != ["own", words[2]]]
 

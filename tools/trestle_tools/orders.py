@@ -39,9 +39,10 @@ class Pair(NamedTuple):
 def step_of(line: Line, entry: Entry) -> Step:
     """A step, with what its entry says of it."""
     words = line.texts()
-    word = words[1] if words[0].startswith("@") else words[0]
-    selection = words[2] if word in OWNERS else ""
-    return Step(line, words[0] if words[0].startswith("@") else "", word, selection, tuple(it.split(" ")[0] for it in entry.events))
+    actor = words[0] if words[0].startswith("@") else ""
+    word = words[1] if actor else words[0]
+    sent = tuple(event.split(" ")[0] for event in entry.events)
+    return Step(line, actor, word, words[2] if word in OWNERS else "", sent)
 
 
 def orders(body: Body, entries: List[Entry]) -> Tuple[List[Finding], List[str]]:

@@ -32,7 +32,7 @@ from ..places import Rect
 from ..program import PLAYED, Trouble, read_bytes
 from ..program import play as play_script
 from ..scripts import Line, shown_byte
-from ..terminal import View, add_color, columns, is_coloured
+from ..terminal import add_color, columns, view_of
 from ..visible import area
 
 WHAT = """\
@@ -107,7 +107,7 @@ def main(arguments: List[str]) -> int:
         taken.error("--together goes with -o NAME")
     if asked.play and (asked.into or asked.diff):
         taken.error("--play goes with neither -o nor --diff")
-    asked.view = View(is_coloured(asked.color), asked.whole)
+    asked.view = view_of(asked.color, asked.whole)
     if asked.at is not None and asked.bad is None:
         taken.error("--at goes with --bad")
     if asked.bad is not None and (asked.play or asked.diff):

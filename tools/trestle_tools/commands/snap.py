@@ -14,7 +14,7 @@ from ..pictures import picture_of, terminal_lines
 from ..program import PLAYED, READ_FAULT, REFUSED, Played, Trouble, due_status, play, read_bytes
 from ..results import AS_STORED, DIFFERS, NO_SCRIPT, NOT_STORED, STATUS, STORED, Result, junit, page
 from ..results import TROUBLE as IN_TROUBLE
-from ..terminal import View, add_color, is_coloured
+from ..terminal import View, add_color, view_of
 
 WHAT = """\
 Plays each script and compares what it writes, and its status, with the output that is stored beside it. Of
@@ -112,7 +112,7 @@ def checked(taken: Parser, arguments: List[str]) -> argparse.Namespace:
         taken.error("--yes goes with --review")
     if asked.review and not asked.yes and not sys.stdin.isatty():
         taken.error("--review asks in a terminal, and standard input is none; --yes says yes to all")
-    asked.view = View(is_coloured(asked.color), asked.whole)
+    asked.view = view_of(asked.color, asked.whole)
     return asked
 
 
