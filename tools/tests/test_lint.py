@@ -1,11 +1,19 @@
 """What lint names that is hardly meant: each finding of somebody who tested an interface, by a script with the mistake."""
 
+import sys
 import unittest
 from typing import List
 
-from commands_under_test import TOP
+from commands_under_test import TOP, call
 from test_files import Folder
-from commands_under_test import call
+from test_threads import ORDERED, scripts
+
+sys.path.insert(0, str(TOP / "tools"))
+
+from trestle_tools.findings import findings_of  # noqa: E402
+from trestle_tools.instruments import body_of  # noqa: E402
+from trestle_tools.program import PLAYED, play  # noqa: E402
+from trestle_tools.scripts import lines_of  # noqa: E402
 
 FONT = "".join(line + "\n" for line in (TOP / "demos/fonts/ascii.txt").read_text().split("\n") if line.startswith("glyph "))
 END = ["sync", "dump", "end"]
@@ -253,16 +261,38 @@ class Orders(Named):
         steps = ["motion 1 3 3", "mouse 2 down 1", "mouse 2 up 1", "@a own source 2", "@b read source", "sync", "journal", "end"]
         self.assertEqual([], self.lint(script(self.OPENING, steps)))
 
-    def test_the_scripts_of_the_repository(self) -> None:
-        """By threads just those print something else in another order whose tests of `play` expect it."""
-        from test_threads import ORDERED, scripts
 
+# What lint says by itself of demos and examples, whatever their comments say is meant, and of which of them.
+KINDS = {
+    # Those whose tests of `play` expect something else to be printed.
+    "by `play` this": set(ORDERED),
+    "is never seen, ": {"edits"},
+    "after it nothing of ": set(),
+    " no glyph": {"editor", "widget_label"},
+    " points wide, and ": set(),
+    " points high, and ": {"lower_case"},
+    "it undoes the change of ": {"lag"},
+    "the same picture as ": {"painting_steps", "stream"},
+    " has no point, so that ": set(),
+    "has no report": set(),
+    "the press goes to nobody": {"mouse", "testing_button"},
+}
+
+
+class NoFalseAlarms(unittest.TestCase):
+    """Demos and examples in which nothing is wrong stay without a finding."""
+
+    def test_the_scripts_of_the_repository(self) -> None:
+        found = {says: set() for says in KINDS}
         for file in scripts():
-            with self.subTest(file.stem):
-                text = file.read_text("latin-1").replace("# meant", "#")
-                (self.folder / "script.txt").write_text(text, "latin-1")
-                says = call("lint", ["script.txt"], self.folder).text
-                self.assertEqual(file.stem in ORDERED, "by `play` this" in says)
+            script = file.read_bytes().replace(b"# meant", b"#")
+            if play(script).status != PLAYED:
+                continue
+            lines = lines_of(script)
+            said = [finding.says for finding in findings_of(lines, body_of(lines))[0]]
+            for says in KINDS:
+                found[says] |= {file.stem} if any(says in it for it in said) else set()
+        self.assertEqual(KINDS, found)
 
 
 if __name__ == "__main__":
