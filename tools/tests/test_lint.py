@@ -162,7 +162,7 @@ class Undone(Named):
 
     def test_the_same_dump_twice(self) -> None:
         text = script(self.OPENING, ["dump", "motion 1 3 3", *END])
-        self.says(text, "dump", "the same picture as the dump of line 8: no step between them changes what is seen")
+        self.says(text, "dump", "the same picture as the dump of line 8: no step between them changes the picture")
         self.says(script(self.OPENING, ["dump", "@a force", *END]), "dump", self.lint(text)[1].strip())
         self.assertEqual([], self.lint(script(self.OPENING, ["dump", "@a tint 8", "@a flush", *END])))
 

@@ -1,4 +1,4 @@
-"""Why the program refuses a line: the likely cause, where it stands in the line, and what to do.
+"""Why the program refuses a line: the likely cause, its place in the line, and a remedy.
 
 The program names the code. Of that code alone a cause is looked for here; where none is found none is told, so
 that nothing here can contradict the program."""
@@ -84,7 +84,7 @@ class Case(NamedTuple):
     kind: Optional[str] = None
 
     def at(self, number: int) -> str:
-        """Where a line stands, as a person looks for it."""
+        """The place of a line, as a person looks for it."""
         return self.lines[number - 1].at()
 
     def words(self) -> List[Word]:
@@ -187,7 +187,7 @@ def word_causes(case: Case) -> Iterator[Cause]:
     yield from comment_behind(case, forms)
     yield from empty_words(case, forms)
     if words[0].text == "@":
-        yield at(words[0], "behind the @ stands the name of a leaf, without a blank between")
+        yield at(words[0], "the name of a leaf follows the @, without a blank between")
     place = forms[0].place
     if len(words) <= place:
         yield Cause(f"too few words: the line is `{BEGINNINGS[forms[0].first]}`", len(case.line.text))
@@ -352,11 +352,11 @@ def place_causes(case: Case) -> Iterator[Cause]:
         yield at(word, f"a second `begin`: the first is {case.at(windows.begin_line)}")
     elif text in OPENING and windows.begin_line:
         instead = "; a step `attach` does the same" if text == "put" else ""
-        yield at(word, f"`{text}` stands before `begin`, which is {case.at(windows.begin_line)}{instead}")
+        yield at(word, f"`{text}` belongs before `begin`, which is {case.at(windows.begin_line)}{instead}")
     elif not windows.begin_line:
-        yield at(word, f"`{text}` stands behind `begin`, and there is none yet: steps and reports come after it")
+        yield at(word, f"`{text}` belongs after `begin`, and there is none yet: steps and reports come after it")
     elif text in (*REPORTS, "end"):
-        yield at(word, "steps stand before it: put a line `sync` between them and this line")
+        yield at(word, "there are steps before it: put a line `sync` between them and this line")
 
 
 # ---- B2: values
@@ -484,7 +484,7 @@ def missing_name(case: Case, name: str, slot: Slot, leaf_step: bool) -> str:
     later = declared_later(case, name)
     near = nearly(name.lstrip("@"), known)
     if not name and leaf_step:
-        return "the leaf's name stands behind the @, without a blank between"
+        return "the leaf's name follows the @, without a blank between"
     if not name:
         return "a blank at the end of the line: take it away"
     if later:
@@ -558,7 +558,7 @@ def limit_causes(case: Case) -> Iterator[Cause]:
 def end_causes(case: Case) -> Iterator[Cause]:
     """What comes after the end, or an end that is missing."""
     if case.windows.end_line:
-        says = f"`end` is {case.at(case.windows.end_line)}, and behind it stand comments and blank lines alone"
+        says = f"`end` is {case.at(case.windows.end_line)}, and after it come comments and blank lines alone"
         yield Cause(says, 0, max(1, len(case.line.text)))
     elif not any(not line.is_empty() for line in case.lines):
         yield Cause("the script is empty: it begins with `trestle 1` and ends with `end`")

@@ -1,4 +1,4 @@
-"""Words that other tools have, and what stands for them in a script."""
+"""Words of other tools, and what to write in a script instead."""
 
 from typing import Dict, Optional
 
@@ -50,5 +50,5 @@ WORDS: Dict[str, str] = {
 
 
 def elsewhere(word: str) -> Optional[str]:
-    """What stands here for a word of other tools."""
+    """What to write instead of a word of other tools."""
     return WORDS.get(word.lower())

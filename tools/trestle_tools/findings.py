@@ -51,7 +51,7 @@ class Play:
         self.is_moved = False
         self.down: Dict[str, Line] = {}
         self.press: Optional[Press] = None
-        # The presses that each leaf was sent, by the event's words, and of which no output tells yet.
+        # The presses that each leaf was sent, by the event's words, as long as no output tells of them.
         self.presses: Dict[str, Dict[str, Line]] = {}
         # The lines of the devices, and those that own a selection, which were refused, with the answer.
         self.refused: List[Tuple[Line, str]] = []
@@ -324,7 +324,7 @@ def lagging_dumps(body: Body) -> Iterator[Finding]:
 
 
 def in_one(dumps: List[Finding]) -> List[Finding]:
-    """The first of these dumps, with the lines of the others: what is to be done is the same for all."""
+    """The first of these dumps, with the lines of the others: the remedy is the same for all."""
     if not dumps:
         return []
     more = places_of([it.line for it in dumps[1:]])
@@ -341,7 +341,7 @@ def lag_of(waiting: int, stale: int) -> Optional[str]:
 
 
 def peeked_dumps(body: Body) -> List[int]:
-    """The lines of dumps that a peek stands before, with reports alone between."""
+    """The lines of dumps that follow a peek, with nothing but reports between."""
     found, peeked = [], False
     for line in body.lines:
         word = line.texts()[0]

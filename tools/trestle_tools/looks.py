@@ -90,7 +90,7 @@ class Looks:
             self.changes = {key: change for key, change in self.changes.items() if key[0] != "content"}
 
     def changed(self, line: Line, key: Tuple[str, str], before: object, after: object, is_told: bool) -> Optional[str]:
-        """A change of a value; what is to be said where it leads back to the value at the last look."""
+        """A change of a value. Says so if it leads back to the value at the last look."""
         first = self.changes.get(key)
         if not first:
             self.changes[key] = Change(line, before, is_told)
@@ -116,7 +116,7 @@ class Looks:
         """A dump: what it shows."""
         layout = Layout(self.windows)
         if self.last_dump and not self.could_show:
-            says = f"the same picture as the dump of {self.last_dump.at()}: no step between them changes what is seen"
+            says = f"the same picture as the dump of {self.last_dump.at()}: no step between them changes the picture"
             self.found.append(Finding(line, says))
         for leaf in self.leaves():
             why = hidden(layout, leaf)

@@ -123,7 +123,7 @@ WIDE, GREATEST_SCALE = 480, 12
 
 
 def page(results: List[Result]) -> str:
-    """The results as one page that needs no other file: what is not as stored first, with pictures."""
+    """The results as one page that needs no other file: a table, and what differs, with pictures."""
     wrong = [it for it in results if not it.is_fine()]
     title = f"{plural(len(wrong), 'output')} not as stored" if wrong else "all outputs as stored"
     parts = [
@@ -132,7 +132,7 @@ def page(results: List[Result]) -> str:
         '<meta name="viewport" content="width=device-width, initial-scale=1">',
         f"<style>{STYLE}</style></head><body>",
         f"<h1>{title}</h1>",
-        f'<p class="quiet">snap compared {plural(len(results), "output")}. A is what is stored, B is what was written now.</p>',
+        f'<p class="quiet">snap compared {plural(len(results), "output")}. A is the stored output, B the one of now.</p>',
         *table(results),
     ]
     for number, result in enumerate(results):

@@ -12,11 +12,11 @@ from ..scripts import Line, shown_with_caret
 from ..windows import Windows
 
 WHAT = """\
-Has the program play a script, with what it includes, and where it is refused says why: the line with its blanks made
-visible, what its code says, and the likely cause with what to do, where one is found. Of a script that plays it says
-so.
+Plays a script, with the files that it includes. If the program refuses it, this command says why: the line, with its
+blanks made visible, the meaning of the code, and the likely cause with a remedy, if it finds one. If the script plays,
+it says so.
 
-It ends with 1 where the script is refused."""
+It ends with 1 if the script is refused."""
 
 EXAMPLE = """\
 bin/why button.txt
@@ -61,7 +61,7 @@ def explained(file: str, packed: Packed, number: int, code: str) -> List[str]:
 
 
 def place_of(file: str, line: Line) -> str:
-    """Where a line stands: in the script, or in a file that it includes."""
+    """The place of a line: in the script, or in a file that it includes."""
     if line.file:
         return f"{line.file}, line {line.place} (included by {file})"
     return f"{file}, {line.at()}" if line.number else f"{file}, the whole text"
