@@ -189,14 +189,15 @@ class Presses(Named):
         beside = "at (27, 15) is the frame of `frame`, 1 point east of `button` (11..27 by 8..16)"
         found = self.press(27, 15)
         self.assertEqual(["script.txt:13: mouse 2 down 1", "    the press goes to nobody: " + beside], found[:2])
-        self.assertEqual("    empty: no event waits for button: the press of line 13 went to nobody, " + beside, found[3])
+        self.assertEqual("    empty: no event waits for button, since the press of line 13 went to nobody", found[3])
         self.assertNotIn("motion", "".join(found[1::2]))
 
     def test_a_press_on_another_leaf(self) -> None:
         """Where a journal tells of all presses it named the `take` alone."""
         found = self.press(29, 12, "journal")
         beside = "at (29, 12) is `label`, 3 points east of `button` (11..27 by 8..16)"
-        self.assertEqual("    empty: no event waits for button: the press of line 13 went to label, " + beside, found[1])
+        says = "    empty: no event waits for button, since the press of line 13 went to label"
+        self.assertEqual([f"{says}: {beside}", says], found[1::2])
 
     def test_a_press_off_the_screen(self) -> None:
         says = "    the press goes to nobody: (40, 4) is off the screen (40 by 24), 3 points east and 4 north of `label` (29..38 by 8..16)"

@@ -29,10 +29,11 @@ Says = Generator[str, None, Optional[str]]
 
 
 class Press:
-    """The last press: its line, where the cursor was, and the leaf that got it, if any."""
+    """The last press: its line, where the cursor was, the leaf that got it, if any, and whether its place was told."""
 
     def __init__(self, line: Line, at: Tuple[int, int], leaf: str):
         self.line, self.at, self.leaf = line, at, leaf
+        self.is_told = not leaf
 
 
 class Play:
@@ -108,13 +109,17 @@ class Play:
     def none_waits(self, words: List[str]) -> str:
         """Why a take finds no event: the press before it went elsewhere, or all events were taken."""
         leaf = self.windows.names[words[0][1:]]
-        if self.press and self.press.leaf != leaf.name:
+        says = f"empty: no event waits for {leaf.name}"
+        press = self.press
+        if not press or press.leaf == leaf.name:
+            return f"{says}: one `take` takes one event"
+        says += f", since the press of {press.line.at()} went to {press.leaf or 'nobody'}"
+        if not press.is_told:
             layout = Layout(self.windows)
-            beside = from_leaf(layout, leaf, *self.press.at)
-            place = point_of(layout, *self.press.at) + (f", {beside}" if beside else "")
-            to = f"to {self.press.leaf}" if self.press.leaf else "to nobody"
-            return f"empty: no event waits for {leaf.name}: the press of {self.press.line.at()} went {to}, {place}"
-        return f"empty: no event waits for {leaf.name}: one `take` takes one event"
+            beside = from_leaf(layout, leaf, *press.at)
+            says += ": " + point_of(layout, *press.at) + (f", {beside}" if beside else "")
+            press.is_told = True
+        return says
 
     def client_step(self, line: Line, words: List[str], entry: Entry) -> Says:
         """A step of a leaf. It gives back whether it changes nothing."""
