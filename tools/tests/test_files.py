@@ -16,6 +16,7 @@ from pathlib import Path
 from typing import Dict, List
 from xml.etree import ElementTree
 
+from browser import Browser, browser
 from commands_under_test import HERE, TOP, call
 
 DUMPS = b"dump 2 1 map8\n0109\ndump 1 2 mono\n01\n00\n"
@@ -313,6 +314,22 @@ class Snap(Folder):
         self.assertTrue('<span class="less">- 11: 1 leaf:lamp win:lamp tint 46 = ok</span>' in page)
         self.assertEqual([], re.findall('(?:src|href)="(?!data:|#)', page))
         self.assertEqual(2, call("snap", ["--report", "no/page.html", "lamp.txt"], self.folder).status)
+
+    @unittest.skipUnless(browser(), "no browser is installed: apt-get install chromium")
+    def test_report_in_a_browser(self) -> None:
+        """The browser shows each picture in whole points, side by side, and reports no error."""
+        self.differing()
+        call("snap", ["--report", "page.html", "lamp.txt"], self.folder)
+        shown = Browser()
+        self.addCleanup(shown.close)
+        shown.call("Page.navigate", url=(self.folder / "page.html").as_uri())
+        shown.wait("document.readyState === 'complete' && document.images.length === 3")
+        places = shown.evaluate(
+            "[...document.images].map(it => [it.naturalWidth, it.naturalHeight, it.width / it.naturalWidth,"
+            " it.height / it.naturalHeight, it.getBoundingClientRect().top])"
+        )
+        self.assertEqual([[16, 8, 12, 12, places[0][4]]] * 3, places)
+        self.assertEqual([], shown.errors)
 
     def test_scripts_are_played_with_what_they_include(self) -> None:
         self.change("screen", "# include part.txt\nscreen")

@@ -1,11 +1,19 @@
 """What lint names that is hardly meant: each finding of somebody who tested an interface, by a script with the mistake."""
 
+import sys
 import unittest
 from typing import List
 
-from commands_under_test import TOP
+from commands_under_test import TOP, call
 from test_files import Folder
-from commands_under_test import call
+from test_threads import ORDERED, scripts
+
+sys.path.insert(0, str(TOP / "tools"))
+
+from trestle_tools.findings import findings_of  # noqa: E402
+from trestle_tools.instruments import body_of  # noqa: E402
+from trestle_tools.program import PLAYED, play  # noqa: E402
+from trestle_tools.scripts import lines_of  # noqa: E402
 
 FONT = "".join(line + "\n" for line in (TOP / "demos/fonts/ascii.txt").read_text().split("\n") if line.startswith("glyph "))
 END = ["sync", "dump", "end"]
@@ -104,7 +112,7 @@ class Texts(Named):
         self.assertEqual(['script.txt:8: @name text "HELLO"', "    " + says], [it.split(", as demos")[0] for it in found])
 
     def test_letters_without_a_glyph(self) -> None:
-        says = "in `HI HO` the blank, `O` have no glyph and show as a box: include a font by `# include FILE`"
+        says = "in `HI HO` the blank, `O` have no glyph and show as boxes: include a font by `# include FILE`"
         found = self.lint(self.label("HI HO", "glyph 48 6666667e66666600\nglyph 49 3c18181818183c00"))
         self.assertEqual(["script.txt:10: @name text HI HO", "    " + says], [it.split(", as demos")[0] for it in found])
 
@@ -154,7 +162,7 @@ class Undone(Named):
 
     def test_the_same_dump_twice(self) -> None:
         text = script(self.OPENING, ["dump", "motion 1 3 3", *END])
-        self.says(text, "dump", "the same picture as the dump of line 8: no step between them changes what is seen")
+        self.says(text, "dump", "the same picture as the dump of line 8: no step between them changes the picture")
         self.says(script(self.OPENING, ["dump", "@a force", *END]), "dump", self.lint(text)[1].strip())
         self.assertEqual([], self.lint(script(self.OPENING, ["dump", "@a tint 8", "@a flush", *END])))
 
@@ -181,14 +189,15 @@ class Presses(Named):
         beside = "at (27, 15) is the frame of `frame`, 1 point east of `button` (11..27 by 8..16)"
         found = self.press(27, 15)
         self.assertEqual(["script.txt:13: mouse 2 down 1", "    the press goes to nobody: " + beside], found[:2])
-        self.assertEqual("    empty: no event waits for button: the press of line 13 went to nobody, " + beside, found[3])
+        self.assertEqual("    empty: no event waits for button, since the press of line 13 went to nobody", found[3])
         self.assertNotIn("motion", "".join(found[1::2]))
 
     def test_a_press_on_another_leaf(self) -> None:
         """Where a journal tells of all presses it named the `take` alone."""
         found = self.press(29, 12, "journal")
         beside = "at (29, 12) is `label`, 3 points east of `button` (11..27 by 8..16)"
-        self.assertEqual("    empty: no event waits for button: the press of line 13 went to label, " + beside, found[1])
+        says = "    empty: no event waits for button, since the press of line 13 went to label"
+        self.assertEqual([f"{says}: {beside}", says], found[1::2])
 
     def test_a_press_off_the_screen(self) -> None:
         says = "    the press goes to nobody: (40, 4) is off the screen (40 by 24), 3 points east and 4 north of `label` (29..38 by 8..16)"
@@ -206,6 +215,13 @@ class Presses(Named):
         self.assertEqual("    N9: it follows from line 13, which was not made (N7)", found[3])
         self.assertEqual("    empty: it follows from line 13, which was not made (N7)", found[5])
         self.assertEqual(6, len(found))
+
+    def test_a_motion_that_is_not_made(self) -> None:
+        steps = ["motion 5 40 23", "motion 4 12 9", "mouse 6 down 1", "mouse 7 up 1", "sync", "@button take", "sync", "inbox button", "end"]
+        found = self.lint(script(self.OPENING, steps))
+        self.assertIn("N7 5: the time 4 goes back", found[1])
+        self.assertEqual("    the press goes to nobody: it follows from line 13, which was not made (N7)", found[3])
+        self.assertEqual("    empty: it follows from line 13, which was not made (N7)", found[5])
 
     def test_keys_and_selections_that_follow(self) -> None:
         steps = ["motion 5 12 9", "mouse 6 down 1", "mouse 6 up 1", "sync", "inbox button", "@button own key 5", "sync"]
@@ -246,16 +262,38 @@ class Orders(Named):
         steps = ["motion 1 3 3", "mouse 2 down 1", "mouse 2 up 1", "@a own source 2", "@b read source", "sync", "journal", "end"]
         self.assertEqual([], self.lint(script(self.OPENING, steps)))
 
-    def test_the_scripts_of_the_repository(self) -> None:
-        """By threads just those print something else in another order whose tests of `play` expect it."""
-        from test_threads import ORDERED, scripts
 
+# What lint says by itself of demos and examples, whatever their comments say is meant, and of which of them.
+KINDS = {
+    # Those whose tests of `play` expect something else to be printed.
+    "by `play` this": set(ORDERED),
+    "is never seen, ": {"edits"},
+    "after it nothing of ": set(),
+    " no glyph": {"editor", "widget_label"},
+    " points wide, and ": set(),
+    " points high, and ": {"lower_case"},
+    "it undoes the change of ": {"lag"},
+    "the same picture as ": {"painting_steps", "stream"},
+    " has no point, so that ": set(),
+    "has no report": set(),
+    "the press goes to nobody": {"mouse", "testing_button"},
+}
+
+
+class NoFalseAlarms(unittest.TestCase):
+    """Demos and examples in which nothing is wrong stay without a finding."""
+
+    def test_the_scripts_of_the_repository(self) -> None:
+        found = {says: set() for says in KINDS}
         for file in scripts():
-            with self.subTest(file.stem):
-                text = file.read_text("latin-1").replace("# meant", "#")
-                (self.folder / "script.txt").write_text(text, "latin-1")
-                says = call("lint", ["script.txt"], self.folder).text
-                self.assertEqual(file.stem in ORDERED, "by `play` this" in says)
+            script = file.read_bytes().replace(b"# meant", b"#")
+            if play(script).status != PLAYED:
+                continue
+            lines = lines_of(script)
+            said = [finding.says for finding in findings_of(lines, body_of(lines))[0]]
+            for says in KINDS:
+                found[says] |= {file.stem} if any(says in it for it in said) else set()
+        self.assertEqual(KINDS, found)
 
 
 if __name__ == "__main__":

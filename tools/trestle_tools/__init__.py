@@ -9,7 +9,7 @@ Python 3.8 and its standard library. Each module begins with what it is for:
     results      what came of stored outputs, as a page and as JUnit's XML
     terminal     whether a terminal gets colours, and how wide it is
     kinds        what bytes are that are no text
-    scripts      takes a script apart: lines, words, and where each word stands
+    scripts      takes a script apart: lines, words, and the place of each word
     include      expands `# include FILE`
     grammar      the lines that a script may have, with the ranges of their values
     places       where each window is, by the rules of the layouts
@@ -17,6 +17,7 @@ Python 3.8 and its standard library. Each module begins with what it is for:
     windows      the names, the tree and the widgets of a script, as far as its lines say
     contents     what a widget holds, as far as is needed to see that a command changes nothing
     causes       why a line is refused
+    elsewhere    words of other tools, and what to write instead
     instruments  copies of a script that play as it does, with reports of their own
     bad          which points of the screen are bad
     steps        what is bad, waits and is stale after each step, and why

@@ -1,8 +1,8 @@
 """Which points of the screen are bad, and which are stale, at a place in a script: exactly, by the program's own counts.
 
-No report names these points; `peek` counts them. So a copy of the script has its tree in a desk of its own, and there
-covers come in front, rectangles one after another, each where none is yet. The points of a new cover are bad, and those
-behind it no longer count. So what one cover changes tells how many points were bad, and how many stale, where it is:
+No report names these points; `peek` counts them. So a copy of the script puts the tree into a desk, and then puts
+covers in front of it: rectangles, one after another, that have no point in common. The points of a new cover are bad,
+and `peek` no longer counts those behind it. So each cover tells how many points behind it were bad, and how many stale:
 
     bad within the cover   = bad before + points of the cover - bad after
     stale within the cover = stale before - stale after
@@ -36,7 +36,7 @@ class Count(NamedTuple):
 
 
 class Points(NamedTuple):
-    """Rectangles that are wholly bad, wholly stale, or, where too many copies would be needed, some points of which are."""
+    """Rectangles that are wholly bad, or wholly stale; and those that have some such points, if too many copies were needed."""
 
     bad: List[Rect]
     stale: List[Rect]

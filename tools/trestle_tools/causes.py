@@ -1,4 +1,4 @@
-"""Why the program refuses a line: the likely cause, where it stands in the line, and what to do.
+"""Why the program refuses a line: the likely cause, its place in the line, and a remedy.
 
 The program names the code. Of that code alone a cause is looked for here; where none is found none is told, so
 that nothing here can contradict the program."""
@@ -7,6 +7,7 @@ import difflib
 import re
 from typing import Callable, Dict, Iterable, Iterator, List, NamedTuple, Optional
 
+from .elsewhere import elsewhere
 from .grammar import (
     COMMANDS,
     FIRST_WORDS,
@@ -19,6 +20,7 @@ from .grammar import (
     form_for,
     forms_of,
 )
+from .outputs import HEADER, PEEK
 from .scripts import (
     CHECK_POINTS,
     CHECK_STEPS,
@@ -52,6 +54,9 @@ CODES = {
 }
 
 
+# With what an output begins that is no dump.
+OUTPUTS = ("journal ", "inbox ", "refused: ", "usage: ", "read fault", "step ")
+
 # How a line begins whose form hangs on a later word.
 BEGINNINGS = {
     "node": "node NAME KIND TINT ..",
@@ -69,12 +74,18 @@ class Cause(NamedTuple):
 
 
 class Case(NamedTuple):
-    """A line that was refused, with what the lines before it say, and all lines."""
+    """A line that was refused, with what the lines before it say, all lines, and what the bytes are where they are no
+    text."""
 
     line: Line
     windows: Windows
     lines: List[Line]
     text_bytes: int
+    kind: Optional[str] = None
+
+    def at(self, number: int) -> str:
+        """The place of a line, as a person looks for it."""
+        return self.lines[number - 1].at()
 
     def words(self) -> List[Word]:
         """The line's words."""
@@ -114,6 +125,8 @@ def nearly(word: str, known: Iterable[str]) -> Optional[str]:
 def byte_causes(case: Case) -> Iterator[Cause]:
     """Bytes that aren't printable, and lines that are too long."""
     text = case.line.text
+    if case.kind:
+        yield Cause(f"this is {case.kind}, and no script")
     for column, byte in enumerate(text):
         if not " " <= byte <= "~":
             yield wrong_byte(case, column)
@@ -155,9 +168,17 @@ def letter_at(text: str, column: int) -> Optional[str]:
 # ---- B1: words
 
 
+def no_script(case: Case) -> Iterator[Cause]:
+    """An output in place of a script, at its first line."""
+    text = case.line.text
+    if not case.windows.last and (HEADER.fullmatch(text) or PEEK.fullmatch(text) or text.startswith(OUTPUTS)):
+        yield Cause("this is an output, as trestle writes it, and no script", 0, len(text))
+
+
 def word_causes(case: Case) -> Iterator[Cause]:
     """Blanks, unknown words, and words too many or too few."""
     words = case.words()
+    yield from no_script(case)
     yield from front_causes(case.line.text)
     forms = forms_of(words[0].text)
     if not forms:
@@ -166,7 +187,7 @@ def word_causes(case: Case) -> Iterator[Cause]:
     yield from comment_behind(case, forms)
     yield from empty_words(case, forms)
     if words[0].text == "@":
-        yield at(words[0], "behind the @ stands the name of a leaf, without a blank between")
+        yield at(words[0], "the name of a leaf follows the @, without a blank between")
     place = forms[0].place
     if len(words) <= place:
         yield Cause(f"too few words: the line is `{BEGINNINGS[forms[0].first]}`", len(case.line.text))
@@ -202,6 +223,8 @@ def unknown_first(case: Case, word: Word) -> Iterator[Cause]:
         yield at(word, "a comment begins with #")
     elif text in WIDGET_COMMANDS or any(text == form.choice for form in forms_of("@")):
         yield at(word, f"`{text}` is a step of a leaf: the line begins with `@` and the leaf's name")
+    elif near != text.lower() and elsewhere(text):
+        yield at(word, f"no line begins with `{text}`: {elsewhere(text)}")
     elif near:
         hint = ": words have small letters" if near == text.lower() else ""
         yield at(word, f"no line begins with `{text}`; perhaps `{near}` is meant{hint}")
@@ -265,7 +288,7 @@ def newer(case: Case, word: Word) -> Cause:
     where = case.windows.version_line
     if not where:
         return at(word, f"`{word.text}` is a word of version 2: the script begins with `trestle 2`")
-    return at(word, f"`{word.text}` is a word of version 2: write `trestle 2` in line {where}")
+    return at(word, f"`{word.text}` is a word of version 2: write `trestle 2` in {case.at(where)}")
 
 
 def comment_behind(case: Case, forms: List[Form]) -> Iterator[Cause]:
@@ -287,7 +310,9 @@ def count_causes(case: Case, fitting: List[Form]) -> Iterator[Cause]:
         rest = case.line.rest(words[most])
         yield Cause(f"{len(words)} words, and the line is {usage}", words[most].column, len(rest))
     else:
-        yield Cause(f"{len(words)} words only, and the line is {usage}", len(case.line.text))
+        no_time = words[0].text == "mouse" and len(words) > 1 and words[1].text in ("down", "up")
+        hint = ": the time T is missing" if no_time else ""
+        yield Cause(f"{len(words)} words only, and the line is {usage}{hint}", len(case.line.text))
 
 
 def unknown_options(case: Case) -> Iterator[Cause]:
@@ -301,7 +326,9 @@ def unknown_options(case: Case) -> Iterator[Cause]:
             yield newer(case, word)
         near = nearly(word.text, known)
         hint = f"; perhaps `{near}` is meant" if near else ""
-        yield at(word, f"`{word.text}` isn't known here: {slot.name} is {quoted(known)}{hint}")
+        newer_ones = [it for it in slot.newer if it not in known]
+        also = f", and in version 2 {quoted(newer_ones)}" if newer_ones else ""
+        yield at(word, f"`{word.text}` isn't known here: {slot.name} is {quoted(known)}{also}{hint}")
 
 
 # ---- B5: places
@@ -309,26 +336,27 @@ def unknown_options(case: Case) -> Iterator[Cause]:
 
 def place_causes(case: Case) -> Iterator[Cause]:
     """Lines that may not stand where they stand."""
+    yield from no_script(case)
     windows, word = case.windows, case.words()[0]
     text = word.text
     if not windows.version_line:
         yield at(word, "the first line that means something is `trestle 1` or `trestle 2`")
     elif text == "trestle":
-        yield at(word, f"a second version line: the first is line {windows.version_line}")
+        yield at(word, f"a second version line: the first is {case.at(windows.version_line)}")
     elif not windows.screen_line:
         yield at(word, "behind the version line comes `screen W H KIND`, and then all else")
     elif text == "screen":
         instead = " (to change it later: `resize`, `rescreen`)"
-        yield at(word, f"a second `screen`: the first is line {windows.screen_line}{instead}")
+        yield at(word, f"a second `screen`: the first is {case.at(windows.screen_line)}{instead}")
     elif text == "begin" and windows.begin_line:
-        yield at(word, f"a second `begin`: the first is line {windows.begin_line}")
+        yield at(word, f"a second `begin`: the first is {case.at(windows.begin_line)}")
     elif text in OPENING and windows.begin_line:
         instead = "; a step `attach` does the same" if text == "put" else ""
-        yield at(word, f"`{text}` stands before `begin`, which is line {windows.begin_line}{instead}")
+        yield at(word, f"`{text}` belongs before `begin`, which is {case.at(windows.begin_line)}{instead}")
     elif not windows.begin_line:
-        yield at(word, f"`{text}` stands behind `begin`, and there is none yet: steps and reports come after it")
+        yield at(word, f"`{text}` belongs after `begin`, and there is none yet: steps and reports come after it")
     elif text in (*REPORTS, "end"):
-        yield at(word, "steps stand before it: put a line `sync` between them and this line")
+        yield at(word, "there are steps before it: put a line `sync` between them and this line")
 
 
 # ---- B2: values
@@ -429,10 +457,10 @@ def twice_causes(case: Case) -> Iterator[Cause]:
     if words[0].text == "glyph":
         line = case.windows.glyphs.get(int(words[1].text, 16))
         if line:
-            yield at(words[1], f"the glyph {words[1].text.lower()} is there since line {line}: take one of them away")
+            yield at(words[1], f"the glyph {words[1].text.lower()} is there since {case.at(line)}: take one of them away")
     elif words[1].text in case.windows.names:
         window = case.windows.names[words[1].text]
-        says = f"the name {window.name} is taken since line {window.line} ({window.title()}): give this window another"
+        says = f"the name {window.name} is taken since {case.at(window.line)} ({window.title()}): give this window another"
         yield at(words[1], says + "; all windows share one set of names")
 
 
@@ -456,13 +484,13 @@ def missing_name(case: Case, name: str, slot: Slot, leaf_step: bool) -> str:
     later = declared_later(case, name)
     near = nearly(name.lstrip("@"), known)
     if not name and leaf_step:
-        return "the leaf's name stands behind the @, without a blank between"
+        return "the leaf's name follows the @, without a blank between"
     if not name:
         return "a blank at the end of the line: take it away"
     if later:
-        return f"{name} is declared only in line {later}: that line comes before this one"
+        return f"{name} is declared only in {case.at(later)}: that line comes before this one"
     if near:
-        return f"{name} isn't declared; perhaps `{near}` is meant (line {case.windows.names[near].line})"
+        return f"{name} isn't declared; perhaps `{near}` is meant ({case.at(case.windows.names[near].line)})"
     what = "leaf" if slot.sort == "leaf" else "window"
     some = f"; there is {quoted(known)}" if 0 < len(known) <= 8 else f"; there is no {what} yet" if not known else ""
     return f"{name} isn't declared{some}"
@@ -495,7 +523,7 @@ def tree_causes(case: Case) -> Iterator[Cause]:
     if words[0].text == "begin":
         yield at(words[0], "no window is the root: put a line `root NAME` before it")
     elif words[0].text == "root" and windows.root:
-        yield at(words[0], f"a second root: line {windows.root_line} makes {windows.root.name} the root")
+        yield at(words[0], f"a second root: {case.at(windows.root_line)} makes {windows.root.name} the root")
     elif words[0].text == "root":
         window = windows.names[words[1].text]
         if window.parent:
@@ -530,7 +558,7 @@ def limit_causes(case: Case) -> Iterator[Cause]:
 def end_causes(case: Case) -> Iterator[Cause]:
     """What comes after the end, or an end that is missing."""
     if case.windows.end_line:
-        says = f"`end` is line {case.windows.end_line}, and behind it stand comments and blank lines alone"
+        says = f"`end` is {case.at(case.windows.end_line)}, and after it come comments and blank lines alone"
         yield Cause(says, 0, max(1, len(case.line.text)))
     elif not any(not line.is_empty() for line in case.lines):
         yield Cause("the script is empty: it begins with `trestle 1` and ends with `end`")

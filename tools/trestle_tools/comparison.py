@@ -7,8 +7,7 @@ from .outputs import Dump, Output
 from .pictures import Picture, beside_in_columns, different_points, lines_beside, marks, picture_of
 from .terminal import View
 
-# So many columns a line of pictures may have; what would be wider is cut to what differs.
-COLUMNS = 160
+# So many points are shown around what differs, where a picture is cut.
 MARGIN = 4
 # So many lines that differ are shown, and so many are compared line by line.
 SHOWN = 12
@@ -101,7 +100,7 @@ def shown_panels(one: Dump, other: Dump, box: Box, view: View) -> List[str]:
     same_size = (one.width, one.height) == (other.width, other.height)
     part = all_of_it = 0, max(one.width, other.width), 0, max(one.height, other.height)
     # In hex digits a picture is large, and most of it is alike.
-    fits = view.coloured and sum(it.width for it in pictures) + 4 <= COLUMNS
+    fits = view.coloured and sum(it.width for it in pictures) + 4 <= view.columns
     if same_size and not fits and not view.whole:
         part = box.around(one.width, one.height)
     said = [f"(the part {' '.join(map(str, part))}; {WHOLE})"] if part != all_of_it else []
@@ -124,7 +123,7 @@ def text_differences(first: Output, second: Output, view: View) -> List[str]:
     """The lines outside of dumps that differ, with their numbers, `-` before those of A, `+` before those of B. Of long
     texts the first ones are compared alone, since no person reads on, unless all is asked for."""
     one, other = numbered(first), numbered(second)
-    front = common_front(one, other)
+    front = common_front([it.compared for it in one], [it.compared for it in other])
     one, other = one[front:], other[front:]
     if max(len(one), len(other)) > COMPARED and not view.whole:
         lines = list(changed_lines(one[:SHOWN], other[:SHOWN]))
@@ -165,11 +164,11 @@ def numbered(output: Output) -> List[Numbered]:
     return lines
 
 
-def common_front(one: List[Numbered], other: List[Numbered]) -> int:
+def common_front(one: List[str], other: List[str]) -> int:
     """With how many equal lines two texts begin."""
     count = 0
     for here, there in zip(one, other):
-        if here.compared != there.compared:
+        if here != there:
             break
         count += 1
     return count

@@ -1,6 +1,6 @@
 """What is legal in a script and yet hardly meant, line by line."""
 
-from typing import Dict, Iterator, List, Optional, Tuple
+from typing import Dict, Generator, Iterator, List, Optional, Tuple
 
 from .answers import meaning
 from .contents import WIDGETS, Content
@@ -24,11 +24,16 @@ PRESSED = ("canvas",)
 SETTINGS = ("tint", "border", "offset", "fix", "move", "turn", "shapes")
 
 
+# What is said of a step, and in the end why it changes nothing, if so.
+Says = Generator[str, None, Optional[str]]
+
+
 class Press:
-    """The last press: its line, where the cursor was, and the leaf that got it, if any."""
+    """The last press: its line, where the cursor was, the leaf that got it, if any, and whether its place was told."""
 
     def __init__(self, line: Line, at: Tuple[int, int], leaf: str):
         self.line, self.at, self.leaf = line, at, leaf
+        self.is_told = not leaf
 
 
 class Play:
@@ -47,7 +52,7 @@ class Play:
         self.is_moved = False
         self.down: Dict[str, Line] = {}
         self.press: Optional[Press] = None
-        # The presses that each leaf was sent, by the event's words, and of which no output tells yet.
+        # The presses that each leaf was sent, by the event's words, as long as no output tells of them.
         self.presses: Dict[str, Dict[str, Line]] = {}
         # The lines of the devices, and those that own a selection, which were refused, with the answer.
         self.refused: List[Tuple[Line, str]] = []
@@ -88,6 +93,8 @@ class Play:
         code = entry.answer.split(" ")[0]
         for line, answer in reversed(self.refused):
             refused = line.texts()
+            if code == "empty" and refused[0] == "motion":
+                return line, answer
             if code in ("N8", "N9") and refused[0] == "mouse" and refused[3] == words[3] and refused[2] != words[2]:
                 return line, answer
             if code == "N10" and answer == "N7" and refused[0] in ("mouse", "key") and refused[1] == words[3]:
@@ -102,15 +109,19 @@ class Play:
     def none_waits(self, words: List[str]) -> str:
         """Why a take finds no event: the press before it went elsewhere, or all events were taken."""
         leaf = self.windows.names[words[0][1:]]
-        if self.press and self.press.leaf != leaf.name:
+        says = f"empty: no event waits for {leaf.name}"
+        press = self.press
+        if not press or press.leaf == leaf.name:
+            return f"{says}: one `take` takes one event"
+        says += f", since the press of {press.line.at()} went to {press.leaf or 'nobody'}"
+        if not press.is_told:
             layout = Layout(self.windows)
-            beside = from_leaf(layout, leaf, *self.press.at)
-            place = point_of(layout, *self.press.at) + (f", {beside}" if beside else "")
-            to = f"to {self.press.leaf}" if self.press.leaf else "to nobody"
-            return f"empty: no event waits for {leaf.name}: the press of {self.press.line.at()} went {to}, {place}"
-        return f"empty: no event waits for {leaf.name}: one `take` takes one event"
+            beside = from_leaf(layout, leaf, *press.at)
+            says += ": " + point_of(layout, *press.at) + (f", {beside}" if beside else "")
+            press.is_told = True
+        return says
 
-    def client_step(self, line: Line, words: List[str], entry: Entry) -> Iterator[str]:
+    def client_step(self, line: Line, words: List[str], entry: Entry) -> Says:
         """A step of a leaf. It gives back whether it changes nothing."""
         leaf = self.windows.names[words[0][1:]]
         content = self.contents[leaf.name]
@@ -127,14 +138,15 @@ class Play:
             if command:
                 content.change(command)
         elif words[1] == "cage" and not (int(words[2]) < int(words[3]) and int(words[4]) < int(words[5])):
-            yield f"the cage `{' '.join(words[2:6])}` has no point, so that it tells at once: the order is W E N S, W below E, N below S"
+            says = f"the cage `{' '.join(words[2:6])}` has no point, so that it tells at once"
+            yield says + ": the order is W E N S, W below E, N below S"
         if before != content.state():
             undone = self.looks.changed(line, ("content", leaf.name), before, content.state(), False)
             if undone:
                 yield undone
         return same
 
-    def desk_step(self, line: Line, words: List[str], entry: Entry) -> Iterator[str]:
+    def desk_step(self, line: Line, words: List[str], entry: Entry) -> Says:
         """A step of the desk. It gives back whether it changes nothing."""
         if words[0] == "mouse":
             yield from self.button(line, words, entry)
@@ -146,8 +158,8 @@ class Play:
             return (yield from self.edit(line, words, entry))
         return None
 
-    def edit(self, line: Line, words: List[str], entry: Entry) -> Iterator[str]:
-        """An edit of the tree."""
+    def edit(self, line: Line, words: List[str], entry: Entry) -> Says:
+        """An edit of the tree. It gives back whether it changes nothing."""
         key = (words[0] if words[0] in SETTINGS else "tree", words[1] if words[0] in SETTINGS else "")
         before = self.value_of(key)
         same = self.windows.edit(words)
@@ -192,6 +204,9 @@ class Play:
 
     def miss(self) -> str:
         """Where the cursor is when a press goes to nobody."""
+        refused = [it for it in self.refused if it[0].texts()[0] == "motion"]
+        if refused:
+            return f"it follows from {refused[-1][0].at()}, which was not made ({refused[-1][1]})"
         if not self.is_moved:
             return "the cursor is off the screen, where it is before the first `motion T H V`: put one before it"
         layout = Layout(self.windows)
@@ -202,6 +217,8 @@ class Play:
         """A step that was made: what was refused of the same button or selection before is no cause any more."""
         if words[0] == "mouse":
             self.refused = [it for it in self.refused if it[0].texts()[0] != "mouse" or it[0].texts()[3] != words[3]]
+        elif words[0] == "motion":
+            self.refused = [it for it in self.refused if it[0].texts()[0] != "motion"]
         elif words[1:2] == ["own"]:
             self.refused = [it for it in self.refused if it[0].texts()[1:3] != ["own", words[2]]]
 
@@ -312,7 +329,7 @@ def lagging_dumps(body: Body) -> Iterator[Finding]:
 
 
 def in_one(dumps: List[Finding]) -> List[Finding]:
-    """The first of these dumps, with the lines of the others: what is to be done is the same for all."""
+    """The first of these dumps, with the lines of the others: the remedy is the same for all."""
     if not dumps:
         return []
     more = places_of([it.line for it in dumps[1:]])
@@ -329,7 +346,7 @@ def lag_of(waiting: int, stale: int) -> Optional[str]:
 
 
 def peeked_dumps(body: Body) -> List[int]:
-    """The lines of dumps that a peek stands before, with reports alone between."""
+    """The lines of dumps that follow a peek, with nothing but reports between."""
     found, peeked = [], False
     for line in body.lines:
         word = line.texts()[0]

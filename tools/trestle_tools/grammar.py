@@ -134,7 +134,7 @@ class Form(NamedTuple):
 
     def usage(self) -> str:
         """The form as a person reads it."""
-        names = [slot.name for slot in self.slots]
+        names = [slot.name if len(slot.options) != 2 else "|".join(slot.options) for slot in self.slots]
         return " ".join(["@LEAF", *names[1:]] if self.first == "@" else names)
 
     def has_text(self) -> bool:

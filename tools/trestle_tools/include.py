@@ -1,4 +1,4 @@
-"""Expands `# include FILE` in a script: the lines of that file stand in its place.
+"""Expands `# include FILE` in a script: the lines of that file replace it.
 
 FILE is a path relative to the file with the line. It lies in the folder of the script that is read, or below it, or
 anywhere in the same git repository. The program itself takes such a line for a comment."""
@@ -11,7 +11,7 @@ from .program import Trouble, read_bytes
 from .scripts import LINES, TEXT_BYTES, Line, texts_of
 
 INCLUDE = "# include "
-# What stands in the packed script in place of the line, so that a reader finds the way back.
+# The comment that replaces the line in the packed script, so that a reader sees where the lines came from.
 INCLUDED = "# included "
 # So many files may be open one in the other, and so many are included in all.
 NESTED, FILES = 16, 1000

@@ -73,8 +73,8 @@ class Looks:
     # ---- Steps
 
     def give(self, leaf: Window, line: Line) -> None:
-        """Notes which line gave each text that a leaf has now."""
-        for text in self.contents[leaf.name].shown(1 << 16):
+        """Notes which line gave each text that a leaf has now. A typescript's newest one is its last."""
+        for text in self.contents[leaf.name].shown(1 if leaf.kind == "lines" else 1 << 16):
             self.given.setdefault((leaf.name, text), line)
 
     def step(self, line: Line, is_made: bool) -> None:
@@ -90,7 +90,7 @@ class Looks:
             self.changes = {key: change for key, change in self.changes.items() if key[0] != "content"}
 
     def changed(self, line: Line, key: Tuple[str, str], before: object, after: object, is_told: bool) -> Optional[str]:
-        """A change of a value; what is to be said where it leads back to the value at the last look."""
+        """A change of a value. Says so if it leads back to the value at the last look."""
         first = self.changes.get(key)
         if not first:
             self.changes[key] = Change(line, before, is_told)
@@ -116,7 +116,7 @@ class Looks:
         """A dump: what it shows."""
         layout = Layout(self.windows)
         if self.last_dump and not self.could_show:
-            says = f"the same picture as the dump of {self.last_dump.at()}: no step between them changes what is seen"
+            says = f"the same picture as the dump of {self.last_dump.at()}: no step between them changes the picture"
             self.found.append(Finding(line, says))
         for leaf in self.leaves():
             why = hidden(layout, leaf)
@@ -144,7 +144,8 @@ class Looks:
             if CELL * len(text) > wide:
                 rest = text[wide // CELL :]
                 says = f"`{text}` is {CELL * len(text)} points wide, and {leaf.name} {wide}: of `{rest}` "
-                self.cut.setdefault(key, (given, says + ("not all is seen" if cells > wide // CELL else "nothing is seen")))
+                says += "not all is seen" if cells > wide // CELL else "nothing is seen"
+                self.cut.setdefault(key, (given, says))
             elif text and high < CELL:
                 says = f"a letter is {CELL} points high, and {leaf.name} {high}: of `{text}` not all is seen"
                 self.cut.setdefault(key, (given, says))
@@ -165,7 +166,8 @@ class Looks:
         """That no dump shows a leaf, and why."""
         cause, says = self.why[leaf.name]
         dumps = "the dump doesn't show it" if self.dumps == 1 else f"none of the {self.dumps} dumps shows it"
-        return f"{leaf.name} is never seen, {dumps}: {says}" + (" at the last one" if cause == NOT_SHOWN and self.dumps > 1 else "")
+        last = " at the last one" if cause == NOT_SHOWN and self.dumps > 1 else ""
+        return f"{leaf.name} is never seen, {dumps}: {says}{last}"
 
     def boxes_in_one(self) -> Iterator[Finding]:
         """The first text with letters that have no glyph, with the lines of the others: the remedy is the same for all."""
@@ -176,7 +178,9 @@ class Looks:
         more = places_of(list(dict.fromkeys(it.line for it, _ in texts[1:] if it.line != text.line)))
         also = f" (so also {more})" if more else ""
         letters = ", ".join("the blank" if it == " " else f"`{it}`" for it in boxes)
-        says = f"in `{text.text}` {letters} ha{'s' if len(boxes) == 1 else 've'} no glyph and show{'s' * (len(boxes) == 1)} as a box"
+        what = "has no glyph and shows as a box" if len(boxes) == 1 else "have no glyph and show as boxes"
+        says = f"in `{text.text}` {letters} {what}"
         if not self.windows.glyphs:
             says = f"the script has no glyphs, so all letters of `{text.text}` are boxes"
-        yield Finding(text.line, f"{says}{also}: include a font by `# include FILE`, as demos/fonts/ascii.txt, or paste its lines")
+        remedy = "include a font by `# include FILE`, as demos/fonts/ascii.txt, or paste its lines"
+        yield Finding(text.line, f"{says}{also}: {remedy}")

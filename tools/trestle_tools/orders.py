@@ -1,9 +1,9 @@
 """Steps of one part, from a sync to the next, whose order may show where threads play the script.
 
-By `play` each actor makes its own steps in order, and those of others come before, between or behind them. A pair of
-steps of which one may hang on the other is tried: a copy of the script in which they come the other way round is played
-by `serial`. Where a dump, an inbox or a place comes out otherwise, the order shows. Journals and what `peek` counts may
-always differ by `play`, so they aren't compared."""
+By `play` each actor makes its own steps in order, and the steps of others come before, between or after them. For each
+pair of steps that may depend on one another a copy of the script has them the other way round, and `serial` plays it. If
+a dump, an inbox or a place differs then, the order shows. Journals and the counts of `peek` may always differ by `play`,
+so they aren't compared."""
 
 from typing import Iterator, List, NamedTuple, Tuple
 
@@ -39,9 +39,10 @@ class Pair(NamedTuple):
 def step_of(line: Line, entry: Entry) -> Step:
     """A step, with what its entry says of it."""
     words = line.texts()
-    word = words[1] if words[0].startswith("@") else words[0]
-    selection = words[2] if word in OWNERS else ""
-    return Step(line, words[0] if words[0].startswith("@") else "", word, selection, tuple(it.split(" ")[0] for it in entry.events))
+    actor = words[0] if words[0].startswith("@") else ""
+    word = words[1] if actor else words[0]
+    sent = tuple(event.split(" ")[0] for event in entry.events)
+    return Step(line, actor, word, words[2] if word in OWNERS else "", sent)
 
 
 def orders(body: Body, entries: List[Entry]) -> Tuple[List[Finding], List[str]]:
@@ -53,7 +54,7 @@ def orders(body: Body, entries: List[Entry]) -> Tuple[List[Finding], List[str]]:
         hanging: List[Pair] = []
         for pair in pairs(part):
             if any(pair.earlier <= it.earlier and it.later <= pair.later for it in hanging):
-                # The sync that is wanted there stands between these, too.
+                # A sync between those two is between these two as well.
                 continue
             if tried == TRIED:
                 return found, [f"which orders of steps show by `play` was tried for {TRIED} pairs, up to {part[0].line.at()}"]
@@ -92,7 +93,7 @@ def pairs(part: List[Step]) -> Iterator[Pair]:
 
 
 def may_hang(step: Step, other: Step) -> bool:
-    """Whether a client's step may come out otherwise where the other step comes on its other side."""
+    """Whether a client's step may have another result if the other step comes on its other side."""
     if step.word == "take":
         return step.actor[1:] in other.sent
     if step.word in ("cage", "free"):

@@ -80,7 +80,7 @@ class Recording:
         result = play(packed.script)
         refusal = REFUSAL.match(result.text())
         if result.status == REFUSED and refusal:
-            raise Refusal(explained(packed.name, packed.script, int(refusal[1]), refusal[2]))
+            raise Refusal(explained(packed.name, packed, int(refusal[1]), refusal[2]))
         if result.status != PLAYED:
             raise Trouble(f"the program ended with status {result.status}")
         return trace_of_script(packed, Asked(), getattr(self, "trace", None))

@@ -100,11 +100,20 @@ def xml_text(text: str) -> str:
 # ---- The page
 
 STYLE = """
-:root { color-scheme: light dark; --ground: #fff; --ink: #1a1a1a; --line: #ccc; --less: #b00020; --more: #00662b; }
-@media (prefers-color-scheme: dark) { :root { --ground: #161616; --ink: #e6e6e6; --line: #444; --less: #ff8a80; --more: #7ee2a0; } }
-body { background: var(--ground); color: var(--ink); font: 15px/1.5 system-ui, sans-serif; margin: 2rem auto; max-width: 90rem; padding: 0 1rem; }
-h1, h2 { font-weight: 600; line-height: 1.2; } h2 { border-top: 1px solid var(--line); margin-top: 2.5rem; padding-top: 1rem; font-size: 1.2rem; }
-table { border-collapse: collapse; } td, th { border-bottom: 1px solid var(--line); padding: .2rem .8rem .2rem 0; text-align: left; }
+:root {
+  color-scheme: light dark; --ground: #fff; --ink: #1a1a1a; --line: #ccc; --less: #b00020; --more: #00662b;
+}
+@media (prefers-color-scheme: dark) {
+  :root { --ground: #161616; --ink: #e6e6e6; --line: #444; --less: #ff8a80; --more: #7ee2a0; }
+}
+body {
+  background: var(--ground); color: var(--ink); font: 15px/1.5 system-ui, sans-serif;
+  margin: 2rem auto; max-width: 90rem; padding: 0 1rem;
+}
+h1, h2 { font-weight: 600; line-height: 1.2; }
+h2 { border-top: 1px solid var(--line); margin-top: 2.5rem; padding-top: 1rem; font-size: 1.2rem; }
+table { border-collapse: collapse; }
+td, th { border-bottom: 1px solid var(--line); padding: .2rem .8rem .2rem 0; text-align: left; }
 pre { overflow-x: auto; } .less { color: var(--less); } .more { color: var(--more); } .quiet { opacity: .7; }
 .pictures { display: flex; flex-wrap: wrap; gap: 1rem; } figure { margin: 0; max-width: 100%; overflow-x: auto; }
 img { image-rendering: pixelated; display: block; border: 1px solid var(--line); }
@@ -114,7 +123,7 @@ WIDE, GREATEST_SCALE = 480, 12
 
 
 def page(results: List[Result]) -> str:
-    """The results as one page that needs no other file: what is not as stored first, with pictures."""
+    """The results as one page that needs no other file: a table, and what differs, with pictures."""
     wrong = [it for it in results if not it.is_fine()]
     title = f"{plural(len(wrong), 'output')} not as stored" if wrong else "all outputs as stored"
     parts = [
@@ -123,7 +132,7 @@ def page(results: List[Result]) -> str:
         '<meta name="viewport" content="width=device-width, initial-scale=1">',
         f"<style>{STYLE}</style></head><body>",
         f"<h1>{title}</h1>",
-        f'<p class="quiet">snap compared {plural(len(results), "output")}. A is what is stored, B is what was written now.</p>',
+        f'<p class="quiet">snap compared {plural(len(results), "output")}. A is the stored output, B the one of now.</p>',
         *table(results),
     ]
     for number, result in enumerate(results):
@@ -137,7 +146,8 @@ def table(results: List[Result]) -> Iterator[str]:
     for number, result in enumerate(results):
         told = html.escape(result.outcome)
         outcome = told if result.outcome == AS_STORED else f'<a href="#n{number}">{told}</a>'
-        yield f"<tr><td>{html.escape(str(result.script))}</td><td>{html.escape(result.stored.name)}</td><td>{outcome}</td></tr>"
+        cells = html.escape(str(result.script)), html.escape(result.stored.name), outcome
+        yield "<tr>" + "".join(f"<td>{cell}</td>" for cell in cells) + "</tr>"
     yield "</table>"
 
 

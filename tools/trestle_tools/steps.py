@@ -170,10 +170,10 @@ def numbers_after(body: Body) -> List[Peek]:
 
 def table(lines: List[Line], steps: Steps) -> Iterator[str]:
     """The lines of a script, each step and dump with what is bad, waits and is stale after it, and by how much that changed."""
-    yield "".join(f"{it:>7}{'':7}" for it in ("bad", "waiting", "stale"))
     told = {after.line.number: after for after in steps.all()}
     begin = steps.body.opening[-1]
     told[begin.number] = After(begin, steps.first, steps.first, [])
+    yield "".join(f"{it:>7}{'':7}" for it in ("bad", "waiting", "stale")).rstrip()
     for line in lines:
         after = told.get(line.number)
         columns = columns_of(after) if after else " " * 42
@@ -181,7 +181,7 @@ def table(lines: List[Line], steps: Steps) -> Iterator[str]:
         yield f"{columns}{place:>7}  {line.text}"
         for grown in after.grown if after else ():
             yield f"{'':51}{grown.points:+} of {titled(steps, grown.window)}: {grown.why}"
-    yield from greatest(list(told.values()))
+    yield from greatest([told[number] for number in sorted(told)])
 
 
 def columns_of(after: After) -> str:
@@ -196,7 +196,9 @@ def titled(steps: Steps, name: str) -> str:
 
 
 def greatest(told: List[After]) -> Iterator[str]:
-    """The step after which most is bad, and the one by which most became bad."""
+    """The step after which most is bad, and the one by which most became bad, once all was painted for the first time."""
+    painted = next((place for place, after in enumerate(told) if not after.now.bad), 0)
+    told = told[painted:]
     if any(after.now.bad for after in told):
         most = max(told, key=lambda it: it.now.bad)
         grown = max(told, key=lambda it: it.now.bad - it.before.bad)

@@ -14,6 +14,8 @@ class View(NamedTuple):
 
     coloured: bool = True
     whole: bool = False
+    # So many columns a line of pictures may have; what would be wider is cut to what differs.
+    columns: int = 160
 
 
 def add_color(taken: argparse.ArgumentParser) -> None:
@@ -35,3 +37,8 @@ def columns() -> Optional[int]:
         return shutil.get_terminal_size().columns
     told = os.environ.get("COLUMNS", "")
     return int(told) if told.isdecimal() and int(told) else None
+
+
+def view_of(choice: str, whole: bool) -> View:
+    """How a command shows what it shows, by its options and the terminal."""
+    return View(is_coloured(choice), whole, columns() or View().columns)

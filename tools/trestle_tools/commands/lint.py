@@ -11,19 +11,22 @@ from ..program import PLAYED, REFUSED, Trouble, play
 from ..steps import Steps, table
 
 WHAT = """\
-Plays copies of a script with reports of their own, and names, line by line, what is legal and yet hardly meant:
-steps that are answered with N1 to N12 or `empty`, events that are dropped or go to nobody, presses of which no
-output tells, windows that were never put below the root or that no dump shows, letters without a glyph, texts that
-are wider than their window, steps that change nothing or are undone before anybody looks, cages without a point,
-dumps that must be alike, buttons that are down at the end, dumps before which something waits or is stale, scripts
-without a report, and steps whose order may show where `play` makes them side by side.
+Plays copies of a script with reports of their own, and names each line that is legal and probably a mistake:
 
-A comment that begins with `# meant` says that the line below it is meant: that one isn't named.
-It ends with 1 where it names anything."""
+  steps     answered with N1 to N12 or `empty`; that change nothing, or are undone before a report shows them
+  presses   that reach nobody, or that no output tells of; events that are dropped; buttons still down at the end
+  windows   never put below the root; that no dump shows: off the screen, without room, covered; moved off the screen
+  texts     with letters that have no glyph; wider than their window
+  cages     without a point
+  reports   none at all; a dump that must be like the one before; a dump before which something waits or is stale
+  order     steps that `play` may make in another order, if the output would differ
+
+A comment that begins with `# meant` says that the line below it is meant, and lint doesn't name that line.
+It ends with 1 if it names anything."""
 
 EXAMPLE = """\
 bin/lint button.txt
-bin/lint --steps button.txt               # first the script, with what is bad, waits and is stale after each step"""
+bin/lint --steps button.txt               # first the script step by step"""
 
 
 def words() -> Parser:
@@ -33,7 +36,8 @@ def words() -> Parser:
     taken.add_argument(
         "--steps",
         action="store_true",
-        help="print each line with the bad points, waiting commands and stale points after it, and whose points became bad",
+        help="first print the script: after each step the bad points, waiting commands and stale points, their change, "
+        "and the window and the reason if points became bad",
     )
     return taken
 

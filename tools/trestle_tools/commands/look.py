@@ -32,17 +32,21 @@ from ..places import Rect
 from ..program import PLAYED, Trouble, read_bytes
 from ..program import play as play_script
 from ..scripts import Line, shown_byte
-from ..terminal import View, add_color, columns, is_coloured
+from ..terminal import add_color, columns, view_of
 from ..visible import area
 
 WHAT = """\
 Shows the dumps of an output as pictures in the terminal, two rows of points in a line of half blocks, and
-passes on what is no dump. With -o the pictures go to files, whose names stand in their places. With --play they
-are shown one after another in the same place. Where there are no colours (in a pipe, where NO_COLOR is set, or by
---color never) dumps are passed on as they are.
+passes on all other lines. With -o it writes the pictures to files, and their names in place of the pictures. With
+--play it shows them one after another in the same place. Without colours (in a pipe, if NO_COLOR is set, or by
+--color never) it passes dumps on as they are.
 
-It ends with 2 where the input isn't whole: a refusal, a dump that is cut off, a row that isn't hex, a picture or
-other bytes that are no output."""
+With --bad it takes a script, and marks the bad and the stale points on the picture that the windows want to show. The
+points are exact: it plays copies of the script with covers in front of parts of the screen, and `peek` counts what
+they hide. If the tree has no room for covers, it says so.
+
+It ends with 2 if the input isn't whole or is no output: a refusal, a dump that is cut off, a row that isn't hex, a
+stream, a picture or other bytes."""
 
 EXAMPLE = """\
 ./trestle serial < demos/desktop.txt | bin/look
@@ -53,7 +57,7 @@ bin/look --bad demos/typescript.txt     # which points are bad at each `peek`"""
 
 GREATEST_SCALE = 64
 
-# What stands for a bad point, a stale one, and one of which it isn't known, where there are no colours.
+# The signs for a bad point, a stale one, and one that may be either, if there are no colours.
 SIGNS = ("##", "%%", "??")
 LEGEND = "magenta is bad, yellow is stale; what else is there is good"
 
@@ -81,10 +85,9 @@ def words() -> Parser:
     taken.add_argument(
         "--bad",
         metavar="SCRIPT",
-        help="of a script, and not of an output: which points are bad and which are stale at each `peek`, or without any "
-        "before each `dump`, on the picture that is due there",
+        help="mark the bad and the stale points at each `peek` of a script; if it has none, before each `dump`",
     )
-    taken.add_argument("--at", type=int, metavar="LINE", help="with --bad: after this line of the script instead")
+    taken.add_argument("--at", type=int, metavar="LINE", help="with --bad: mark them after this line of the script instead")
     taken.add_argument("--whole", action="store_true", help="with --diff: cut nothing short")
     add_color(taken)
     return taken
@@ -107,7 +110,7 @@ def main(arguments: List[str]) -> int:
         taken.error("--together goes with -o NAME")
     if asked.play and (asked.into or asked.diff):
         taken.error("--play goes with neither -o nor --diff")
-    asked.view = View(is_coloured(asked.color), asked.whole)
+    asked.view = view_of(asked.color, asked.whole)
     if asked.at is not None and asked.bad is None:
         taken.error("--at goes with --bad")
     if asked.bad is not None and (asked.play or asked.diff):

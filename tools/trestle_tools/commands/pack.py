@@ -7,15 +7,16 @@ from . import FINE, Parser
 from ..include import pack
 
 WHAT = """\
-Writes a script to standard output, with the lines of each file that it includes in place of the comment line
+Writes a script to standard output, and replaces each comment line
 
     # include FILE
 
-FILE is a path relative to the file with that line, and may have such lines itself. It lies in the folder of the
-script or below it, or anywhere in the same git repository. The program takes such a line for a comment, so play what
-this command writes. snap, why, lint and look --bad read scripts as this command does.
+by the lines of that file. FILE is a path relative to the file with that line, and may have such lines itself. It must
+lie in the folder of the script or below it, or anywhere in the same git repository. The program takes such a line for
+a comment, so play the text that this command writes. snap, why, lint, trace and look --bad include files by
+themselves.
 
-It ends with 2 where a file can't be included: it isn't there, lies elsewhere, or includes itself."""
+It ends with 2 if a file can't be included: it isn't there, lies elsewhere, or includes itself."""
 
 EXAMPLE = """\
 bin/pack button.txt | ./trestle serial

@@ -14,17 +14,17 @@ from ..pictures import picture_of, terminal_lines
 from ..program import PLAYED, READ_FAULT, REFUSED, Played, Trouble, due_status, play, read_bytes
 from ..results import AS_STORED, DIFFERS, NO_SCRIPT, NOT_STORED, STATUS, STORED, Result, junit, page
 from ..results import TROUBLE as IN_TROUBLE
-from ..terminal import View, add_color, is_coloured
+from ..terminal import View, add_color, view_of
 
 WHAT = """\
-Plays each script and compares what it writes, and its status, with the output that is stored beside it. Of
-NAME.txt that is NAME.serial, NAME.dump or NAME.out for what `serial` writes, NAME.check for what `check` writes,
-NAME.play for what `play` writes, where that doesn't hang on the order of its threads, and NAME.mirror for what
-`mirror` writes, as `xxd` prints it. NAME.hex is a stream in hex digits, and NAME.show what `show` writes for it.
-The status that belongs to an output is 3 for a refusal, else 0. What differs is shown: lines with their numbers,
-dumps as pictures, into a pipe in hex digits. Of a folder it names stored outputs that have no script, too.
+Plays each script and compares its output and status with the output stored beside it. For NAME.txt that is
+NAME.serial, NAME.dump or NAME.out by `serial`, NAME.check by `check`, NAME.play by `play`, if that doesn't depend on
+the order of its threads, and NAME.mirror by `mirror`, as `xxd` prints it. NAME.hex is a stream in hex digits, and
+NAME.show is what `show` prints for it. The status of a refusal is 3, of all other outputs 0. snap shows what differs:
+lines with their numbers, dumps as pictures, or as hex digits in a pipe. In a folder it also names stored outputs that
+have no script.
 
-It ends with 1 where something differs, nothing is stored, or a script is missing."""
+It ends with 1 if an output differs or isn't stored, or a script is missing, and with 2 if a script can't be played."""
 
 EXAMPLE = """\
 bin/snap demos/*.txt                      # compares
@@ -112,7 +112,7 @@ def checked(taken: Parser, arguments: List[str]) -> argparse.Namespace:
         taken.error("--yes goes with --review")
     if asked.review and not asked.yes and not sys.stdin.isatty():
         taken.error("--review asks in a terminal, and standard input is none; --yes says yes to all")
-    asked.view = View(is_coloured(asked.color), asked.whole)
+    asked.view = view_of(asked.color, asked.whole)
     return asked
 
 

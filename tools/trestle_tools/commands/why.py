@@ -4,16 +4,19 @@ from typing import List
 
 from . import FINE, FOUND, Parser, write
 from ..causes import CODES, Case, cause_of
+from ..include import Packed, pack
+from ..kinds import kind_of
 from ..outputs import REFUSAL
-from ..program import PLAYED, REFUSED, Trouble, play, read_bytes
-from ..scripts import Line, lines_of, shown_with_caret
+from ..program import PLAYED, REFUSED, Trouble, play
+from ..scripts import Line, shown_with_caret
 from ..windows import Windows
 
 WHAT = """\
-Has the program play a script, and where it is refused says why: the line with its blanks made visible, what its
-code says, and the likely cause with what to do, where one is found. A script that plays is passed in silence.
+Plays a script, with the files that it includes. If the program refuses it, this command says why: the line, with its
+blanks made visible, the meaning of the code, and the likely cause with a remedy, if it finds one. If the script plays,
+it says so.
 
-It ends with 1 where the script is refused."""
+It ends with 1 if the script is refused."""
 
 EXAMPLE = """\
 bin/why button.txt
@@ -31,25 +34,25 @@ def words() -> Parser:
 def main(arguments: List[str]) -> int:
     """Explains the program's refusal of a script."""
     asked = words().parse_args(arguments)
-    script = read_bytes(asked.file)
-    played = play(script, "check" if asked.check else "serial")
+    packed = pack(asked.file)
+    file = "standard input" if asked.file == "-" else asked.file
+    played = play(packed.script, "check" if asked.check else "serial")
     if played.status == PLAYED:
+        write(f"{file} plays" + " by `check`" * asked.check)
         return FINE
     refusal = REFUSAL.match(played.text())
     if played.status != REFUSED or not refusal:
         raise Trouble(f"the program ended with status {played.status}: {played.text().strip() or 'nothing written'}")
-    for line in explained(asked.file, script, int(refusal[1]), refusal[2]):
+    for line in explained(file, packed, int(refusal[1]), refusal[2]):
         write(line)
     return FOUND
 
 
-def explained(name: str, script: bytes, number: int, code: str) -> List[str]:
+def explained(file: str, packed: Packed, number: int, code: str) -> List[str]:
     """The lines that explain a refusal."""
-    case = case_of(script, number)
+    case = case_of(packed, number)
     cause = cause_of(code, case)
-    where = f"line {number}" if number else "the whole text"
-    file = "standard input" if name == "-" else name
-    said = [f"{file}, {where}: {code}, {CODES.get(code, 'a code of a later version')}"]
+    said = [f"{place_of(file, case.line)}: {code}, {CODES.get(code, 'a code of a later version')}"]
     if 0 < number <= len(case.lines):
         text, carets = shown_with_caret(case.line.text, cause.column if cause else 0, cause.length if cause else 0)
         said.append(f"    {text}")
@@ -57,11 +60,19 @@ def explained(name: str, script: bytes, number: int, code: str) -> List[str]:
     return said + ([cause.says] if cause else [])
 
 
-def case_of(script: bytes, number: int) -> Case:
-    """The line that is refused, and what the lines before it say."""
-    lines = lines_of(script)
+def place_of(file: str, line: Line) -> str:
+    """The place of a line: in the script, or in a file that it includes."""
+    if line.file:
+        return f"{line.file}, line {line.place} (included by {file})"
+    return f"{file}, {line.at()}" if line.number else f"{file}, the whole text"
+
+
+def case_of(packed: Packed, number: int) -> Case:
+    """The line that is refused, and what the lines before it say. It may be the one behind the last."""
+    lines = packed.lines
     windows = Windows()
     for line in lines[: max(0, number - 1)]:
         windows.add(line)
-    line = lines[number - 1] if 0 < number <= len(lines) else Line(number, "")
-    return Case(line, windows, lines, len(script))
+    behind = lines[-1].place + 1 if number > len(lines) and lines and lines[-1].place else 0
+    line = lines[number - 1] if 0 < number <= len(lines) else Line(number, "", "", behind)
+    return Case(line, windows, lines, len(packed.script), kind_of(packed.script))
