@@ -219,14 +219,14 @@ class Pairs(unittest.TestCase):
         pairs = pairs_of(one, other)
         self.assertEqual(("line",), next(pair.differs for pair in pairs if pair.differs))
         self.assertIn(("answer",), [pair.differs for pair in pairs])
-        self.assertIn(("answer", "picture"), [pair.differs for pair in pairs])
+        self.assertEqual(1, sum("picture" in pair.differs for pair in pairs))
         self.assertEqual([()] * len(one.moments), [pair.differs for pair in pairs_of(one, one)])
 
     def test_outputs(self) -> None:
         text = (TOP / "demos/first.serial").read_text()
         one, other = trace_of_output("a", text), trace_of_output("b", text.replace("0606", "0607"))
         self.assertEqual(2, len(frames(one)))
-        self.assertEqual([("picture",)] * 15, [pair.differs for pair in pairs_of(one, other) if pair.differs])
+        self.assertEqual([("picture",)], [pair.differs for pair in pairs_of(one, other) if pair.differs])
 
 
 class Page(unittest.TestCase):
@@ -346,9 +346,9 @@ class InBrowser(unittest.TestCase):
         missed.write_text(BUTTON.read_text().replace("motion 1 9 5", "motion 1 20 10"))
         self.page(BUTTON, missed)
         self.browser.wait("page.sides.length === 2 && page.sides[1].frame")
-        self.assertIn("line differ", self.browser.evaluate("document.getElementById('where').textContent"))
+        self.assertIn("differs: line", self.browser.evaluate("document.getElementById('where').textContent"))
         self.browser.key("n", "n")
-        self.browser.wait("document.getElementById('where').textContent.includes('answer differ')")
+        self.browser.wait("document.getElementById('where').textContent.includes('differs: answer')")
         self.assertEqual([], self.browser.errors)
 
 

@@ -437,7 +437,7 @@ COMPARED = 4000
 
 
 class Pair(NamedTuple):
-    """A moment of each of two traces, or none (-1), and what differs: text, answers, the picture, numbers."""
+    """A moment of each of two traces, or none (-1), and what differs that didn't so before: line, answer, report, picture."""
 
     first: int
     second: int
@@ -447,11 +447,21 @@ class Pair(NamedTuple):
 def pairs_of(first: Trace, second: Trace) -> List[Pair]:
     """The moments of two traces side by side, with what differs."""
     pairs = []
-    before = (-1, -1)
+    now, before = (-1, -1), (0, 0)
     for one, other in aligned(texts_of(first), texts_of(second)):
-        before = (one if one >= 0 else before[0], other if other >= 0 else before[1])
-        pairs.append(Pair(one, other, tuple(differences(first, second, (one, other), before))))
+        now = (one if one >= 0 else now[0], other if other >= 0 else now[1])
+        differs = list(differences(first, second, (one, other)))
+        sums = (sum_at(first, now[0]), sum_at(second, now[1]))
+        if sums[0] != sums[1] and sums != before:
+            differs.append("picture")
+        before = sums
+        pairs.append(Pair(one, other, tuple(differs)))
     return pairs
+
+
+def sum_at(trace: Trace, n: int) -> int:
+    """The sum over the screen after a moment; 0 where there is none."""
+    return trace.sums.get(trace.moments[n].count, 0) if n >= 0 else 0
 
 
 def texts_of(trace: Trace) -> List[str]:
@@ -482,18 +492,15 @@ def blocks(one: List[str], other: List[str]) -> Iterator[Tuple[int, int, int, in
         yield begin, stop, begun, stopped
 
 
-def differences(first: Trace, second: Trace, pair: Tuple[int, int], now: Tuple[int, int]) -> Iterator[str]:
-    """What differs between a moment of each of two traces. `now` has the last moment of each so far."""
+def differences(first: Trace, second: Trace, pair: Tuple[int, int]) -> Iterator[str]:
+    """What differs between a moment of each of two traces, but their pictures."""
     if -1 in pair:
         yield "line"
-    else:
-        one, other = first.moments[pair[0]], second.moments[pair[1]]
-        if first.lines[one.line - 1] != second.lines[other.line - 1]:
-            yield "line"
-        if (one.answer, one.events) != (other.answer, other.events):
-            yield "answer"
-        if one.printed != other.printed:
-            yield "report"
-    sums = [trace.sums.get(trace.moments[n].count if n >= 0 else -1) for trace, n in zip((first, second), now)]
-    if sums[0] != sums[1]:
-        yield "picture"
+        return
+    one, other = first.moments[pair[0]], second.moments[pair[1]]
+    if first.lines[one.line - 1] != second.lines[other.line - 1]:
+        yield "line"
+    if (one.answer, one.events) != (other.answer, other.events):
+        yield "answer"
+    if one.printed != other.printed:
+        yield "report"

@@ -6,6 +6,7 @@ from pathlib import Path
 from typing import List
 
 from . import FINE, FOUND, Parser, write
+from ..comparison import plural
 from ..include import pack
 from ..pages import page
 from ..program import Trouble
@@ -57,7 +58,7 @@ def main(arguments: List[str]) -> int:
             write(f"{trace.name}: {note}")
     differing = sum(bool(pair.differs) for pair in pairs)
     if pairs:
-        write(f"{asked.into}: {differing} of {len(pairs)} moments differ" if differing else f"{asked.into}: nothing differs")
+        write(f"{asked.into}: {plural(differing, 'difference')}" if differing else f"{asked.into}: nothing differs")
     return FOUND if differing else FINE
 
 
