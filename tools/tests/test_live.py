@@ -131,6 +131,13 @@ class Recordings(InFolder):
         recording.undo()
         recording.undo()
         self.assertEqual(STARTER.splitlines() + CLICK, recording.lines)
+        (self.folder / "glyphs.txt").write_text("glyph 41 183c66667e666600\n")
+        recording.add_line("# include glyphs.txt")
+        self.assertEqual(["# include glyphs.txt", "begin"], recording.lines[6:8])
+        self.assertIn("glyph 41 183c66667e666600", recording.trace.lines)
+        recording.save(False)
+        self.assertIn("# include glyphs.txt\nbegin\n", self.path.read_text())
+        self.assertEqual(recording.trace.lines, Recording(self.path).trace.lines)
 
     def test_buttons(self) -> None:
         """A button that is down doesn't go down again."""

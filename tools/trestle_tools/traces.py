@@ -9,7 +9,6 @@ import zlib
 from typing import Callable, Dict, Iterator, List, NamedTuple, Optional, Sequence, Set, Tuple
 
 from .answers import meaning
-from .comparison import common_front
 from .grammar import REPORTS as REPORT_WORDS
 from .include import Packed
 from .instruments import Body, answers, body_of, copy_of, is_step, lags, peeks, played
@@ -471,16 +470,21 @@ def texts_of(trace: Trace) -> List[str]:
 
 def aligned(one: List[str], other: List[str]) -> Iterator[Tuple[int, int]]:
     """Places of two lists side by side: equal ones together, and else -1 where there is none."""
-    front = common_front(one, other)
+    front = equal_front(one, other)
     yield from ((n, n) for n in range(front))
     rest, there = one[front:], other[front:]
-    end = common_front(rest[::-1], there[::-1])
+    end = equal_front(rest[::-1], there[::-1])
     rest, there = rest[: len(rest) - end], there[: len(there) - end]
     for begin, stop, begun, stopped in blocks(rest, there):
         for n in range(max(stop - begin, stopped - begun)):
             left, right = begin + n, begun + n
             yield (front + left if left < stop else -1), (front + right if right < stopped else -1)
     yield from ((len(one) - end + n, len(other) - end + n) for n in range(end))
+
+
+def equal_front(one: List[str], other: List[str]) -> int:
+    """With how many equal texts two lists begin."""
+    return next((n for n, (here, there) in enumerate(zip(one, other)) if here != there), min(len(one), len(other)))
 
 
 def blocks(one: List[str], other: List[str]) -> Iterator[Tuple[int, int, int, int]]:
