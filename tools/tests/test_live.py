@@ -324,7 +324,7 @@ class Hostile(Served):
         self.assertIn(self.status("POST", self.act, {**self.good, "Content-Length": "99999999"}, "x" * 5_000_000), (0, 413))
         self.addCleanup(setattr, serving, "PATIENCE", serving.PATIENCE)
         self.addCleanup(setattr, serving.Handler, "timeout", serving.Handler.timeout)
-        serving.PATIENCE = serving.Handler.timeout = 0.3
+        serving.PATIENCE = serving.Handler.timeout = 1.0
         head = f"POST {self.act} HTTP/1.1\r\nHost: {self.host}\r\nContent-Type: application/json\r\nContent-Length: 13\r\n\r\n"
         self.assertIn(" 408 ", self.raw(head + '{"do"').split("\r\n")[0])
         self.assertEqual("", self.raw("POST " + "x" * 100))

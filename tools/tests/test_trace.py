@@ -189,7 +189,7 @@ class Limits(unittest.TestCase):
         with tempfile.TemporaryDirectory() as folder:
             said = call("trace", [str(TOP / "demos/desktop.txt"), "--every", "4", "-o", f"{folder}/page.html"])
         self.assertEqual(0, said.status)
-        self.assertIn("pictures of 10 steps: one after every 4th, and at each report", said.text)
+        self.assertIn("pictures of 10 steps: one after every 4 steps, and at each report", said.text)
 
     def test_more_than_one_copy(self) -> None:
         steps = [f"@a tint {n % 200}" for n in range(150)]
@@ -339,6 +339,15 @@ class InBrowser(unittest.TestCase):
             said = played(copy_of(body, [*steps, *(f"where {h} {v}" for h, v in points)])).text().splitlines()
             shown = self.browser.evaluate(f"{json.dumps(points)}.map(([h, v]) => page.sides[0].trace.where({len(steps)}, h, v))")
             self.assertEqual(said, shown)
+
+    def test_not_ok(self) -> None:
+        """A button leads from one answer that isn't ok to the next."""
+        self.page(TOP / "demos/selections.txt")
+        lines = []
+        for _ in range(4):
+            self.browser.evaluate("document.getElementById('next').click()")
+            lines.append(self.browser.evaluate("page.sides[0].trace.moments[page.stops[page.at]].line"))
+        self.assertEqual([16, 18, 24, 40], lines)
 
     def test_first_difference(self) -> None:
         """Two scripts side by side begin at the first difference."""

@@ -359,7 +359,7 @@ def add_all_pictures(trace: Trace, body: Body, every: int, asked: Asked) -> None
         trace.chunks, every = list(known), 2 * every
     steps = len(body.steps())
     if every > 1:
-        trace.notes.append(f"{len(trace.pictured())} pictures of {steps} steps: one after every {every}th, and at each report")
+        trace.notes.append(f"{len(trace.pictured())} pictures of {steps} steps: one after every {every} steps, and at each report")
     if steps not in trace.pictured():
         trace.notes.append(f"no picture after line {last_pictured(trace)}: the copy would have over {LINES} lines or 4 MiB")
 
