@@ -146,6 +146,16 @@ class Traces(unittest.TestCase):
         last = {it.name: it.line for it in trace.places[max(trace.places)]}
         self.assertEqual({"desk": 10, "edge": 17, "left": 17, "right": 7}, last)
 
+    def test_included(self) -> None:
+        """Lines of an included file have the numbers that they have there."""
+        with tempfile.TemporaryDirectory() as folder:
+            (Path(folder) / "glyphs.txt").write_text("glyph 41 183c66667e666600\nglyph 42 7c66667c66667c00\n")
+            script = Path(folder) / "script.txt"
+            script.write_text("trestle 1\nscreen 8 8 map8\n# include glyphs.txt\nleaf a 8 8 8 8 8 8 label A\nroot a\nbegin\n@a text B\nsync\nend\n")
+            trace = trace_of_script(pack(str(script)), Asked())
+        self.assertEqual(["1", "2", "3", "1 of glyphs.txt", "2 of glyphs.txt", "4", "5", "6", "7", "8", "9"], trace.labels)
+        self.assertEqual([8, 9], [moment.line for moment in trace.moments])
+
     def test_known(self) -> None:
         """What is known of a beginning is taken over, and leads to the same."""
         lines = lines_of((TOP / "demos/desktop.txt").read_bytes())
