@@ -250,7 +250,7 @@ def add_places(trace: Trace, body: Body, entries: Sequence[Entry]) -> None:
         if count in pictured:
             add_place(trace, count, [*placed(windows, rects, lines)])
     if not each:
-        trace.notes.append("the script edits the tree so often that a window's line is one of those since the last picture")
+        trace.notes.append("the script has very many edits: a window may have its place by any line since the last picture")
 
 
 def add_place(trace: Trace, count: int, now: List[Placed]) -> None:
@@ -299,12 +299,12 @@ def add_numbers(trace: Trace, body: Body, progress: Progress) -> None:
             unknown = [n for n in range(1, len(places)) if n not in trace.numbers]
             trace.numbers.update({n: (after[places[n]][0], None, after[places[n]][1]) for n in unknown})
     except Trouble:
-        trace.notes.append("`check` doesn't take this script: it is too long or too large")
+        trace.notes.append("numbers only at pictures: `check` refuses a script of this size")
     progress("numbers: peek")
     try:
         found = peeks(body, {places[n] for n in asked})
     except Trouble as trouble:
-        trace.notes.append(f"how many commands wait is not known: {trouble}")
+        trace.notes.append(f"the number of waiting commands is unknown: {trouble}")
         return
     trace.numbers.update({n: tuple(found[places[n]]) for n in asked})
 
