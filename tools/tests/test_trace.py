@@ -232,10 +232,25 @@ class Pairs(unittest.TestCase):
         self.assertEqual(1, sum("picture" in pair.differs for pair in pairs))
         self.assertEqual([()] * len(one.moments), [pair.differs for pair in pairs_of(one, one)])
 
+    def test_thinned(self) -> None:
+        """Of long scripts the second one has its pictures beside those of the first."""
+        steps = [f"@a tint {n % 200}" for n in range(40)]
+        texts = [
+            "\n".join(["trestle 1", "screen 4 4 map8", "leaf a 4 4 4 4 4 4 solid 7", "root a", "begin", *it, "sync", "end", ""])
+            for it in (steps, [*steps[:5], "@a tint 9", *steps[5:]])
+        ]
+        packs = [pack(str(BUTTON))._replace(script=it.encode(), lines=lines_of(it.encode())) for it in texts]
+        first = trace_of_script(packs[0], Asked(7, True))
+        second = trace_of_script(packs[1], Asked(7, True, beside=first))
+        self.assertEqual([{0, 7, 14, 21, 28, 35, 40}, {0, 8, 15, 22, 29, 36, 41}], [first.pictured(), second.pictured()])
+        pairs = pairs_of(first, second)
+        self.assertEqual(8, len(pairs))
+        self.assertEqual([(-1, 6, ("line",))], [tuple(pair) for pair in pairs if pair.differs])
+
     def test_outputs(self) -> None:
         text = (TOP / "demos/first.serial").read_text()
         one, other = trace_of_output("a", text), trace_of_output("b", text.replace("0606", "0607"))
-        self.assertEqual(2, len(frames(one)))
+        self.assertEqual((2, False), (len(frames(one)), one.is_thinned()))
         self.assertEqual([("picture",)], [pair.differs for pair in pairs_of(one, other) if pair.differs])
 
 

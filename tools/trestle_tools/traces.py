@@ -84,6 +84,11 @@ class Trace:
         """The numbers of steps after which there is a picture."""
         return {count for chunk in self.chunks for count in chunk.counts}
 
+    def is_thinned(self) -> bool:
+        """Whether some steps have no picture."""
+        pictured = self.pictured()
+        return any(moment.count and moment.count not in pictured for moment in self.moments)
+
 
 # ---- Which pictures are wanted
 
@@ -318,11 +323,12 @@ def quiet(_what: str) -> None:
 
 class Asked(NamedTuple):
     """How a script is traced: every which step has a picture (0: as many as a page has room for), whether its screens
-    are summed up, and who is told how far it is."""
+    are summed up, who is told how far it is, and the trace beside which it is seen."""
 
     every: int = 0
     summed: bool = False
     progress: Progress = quiet
+    beside: Optional[Trace] = None
 
 
 def trace_of_script(script: Packed, asked: Asked, known: Optional[Trace] = None) -> Trace:
@@ -352,13 +358,17 @@ def add_all_pictures(trace: Trace, body: Body, every: int, asked: Asked) -> None
     """Adds the pictures of every so many steps; of fewer, where the page would get too large."""
     known = list(trace.chunks)
     while True:
-        wanted = [count for count in wanted_counts(body, every) if count not in trace.pictured()]
-        add_pictures(trace, body, wanted, asked)
-        if sum(len(chunk.packed) for chunk in trace.chunks) <= MOST_PACKED or asked.every:
+        wanted = wanted_counts(body, every)
+        if asked.beside and asked.beside.is_thinned():
+            wanted = sorted({*counts_beside(asked.beside, trace), wanted[-1]})
+        add_pictures(trace, body, [count for count in wanted if count not in trace.pictured()], asked)
+        if sum(len(chunk.packed) for chunk in trace.chunks) <= MOST_PACKED or asked.every or asked.beside:
             break
         trace.chunks, every = list(known), 2 * every
     steps = len(body.steps())
-    if every > 1:
+    if trace.is_thinned() and asked.beside:
+        trace.notes.append(f"{len(trace.pictured())} pictures of {steps} steps: those beside the other script's")
+    elif every > 1:
         trace.notes.append(f"{len(trace.pictured())} pictures of {steps} steps: one after every {every} steps, and at each report")
     if steps not in trace.pictured():
         trace.notes.append(f"no picture after line {last_pictured(trace)}: the copy would have over {LINES} lines or 4 MiB")
@@ -446,21 +456,33 @@ class Pair(NamedTuple):
 def pairs_of(first: Trace, second: Trace) -> List[Pair]:
     """The moments of two traces side by side, with what differs."""
     pairs = []
-    now, before = (-1, -1), (0, 0)
+    now: Tuple[int, int] = (-1, -1)
+    before: Tuple[Optional[int], ...] = ()
+    is_thinned = first.is_thinned() or second.is_thinned()
     for one, other in aligned(texts_of(first), texts_of(second)):
         now = (one if one >= 0 else now[0], other if other >= 0 else now[1])
         differs = list(differences(first, second, (one, other)))
         sums = (sum_at(first, now[0]), sum_at(second, now[1]))
-        if sums[0] != sums[1] and sums != before:
-            differs.append("picture")
-        before = sums
-        pairs.append(Pair(one, other, tuple(differs)))
+        if None not in sums:
+            if sums[0] != sums[1] and sums != before:
+                differs.append("picture")
+            before = sums
+        # Where neither differs nor shows anything, a long pair of scripts has no stop.
+        if differs or not is_thinned or None not in sums:
+            pairs.append(Pair(one, other, tuple(differs)))
     return pairs
 
 
-def sum_at(trace: Trace, n: int) -> int:
-    """The sum over the screen after a moment; 0 where there is none."""
-    return trace.sums.get(trace.moments[n].count, 0) if n >= 0 else 0
+def sum_at(trace: Trace, n: int) -> Optional[int]:
+    """The sum over the screen after a moment, if it has a picture."""
+    return trace.sums.get(trace.moments[n].count) if n >= 0 else None
+
+
+def counts_beside(first: Trace, second: Trace) -> Set[int]:
+    """The numbers of steps of a trace beside which another one has a picture."""
+    pictured = first.pictured()
+    pairs = aligned(texts_of(first), texts_of(second))
+    return {second.moments[it].count for one, it in pairs if it >= 0 and one >= 0 and first.moments[one].count in pictured}
 
 
 def texts_of(trace: Trace) -> List[str]:

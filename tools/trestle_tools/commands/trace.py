@@ -48,7 +48,9 @@ def main(arguments: List[str]) -> int:
         taken.error(f"-o takes NAME.html, and not {asked.into}")
     progress = Progress()
     how = Asked(asked.every, len(asked.files) > 1, progress.tell)
-    traces = [trace_of(name, how) for name in asked.files]
+    traces: List[Trace] = []
+    for name in asked.files:
+        traces.append(trace_of(name, how._replace(beside=traces[0] if traces else None)))
     pairs = pairs_of(*traces) if len(traces) == 2 else []
     progress.tell("the page")
     write_page(asked.into, page(traces, pairs))
