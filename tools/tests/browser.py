@@ -11,7 +11,7 @@ from pathlib import Path
 from typing import Any, Dict, List, Optional
 
 NAMES = ("chromium", "chromium-browser", "google-chrome", "chrome")
-SECONDS = 30
+SECONDS = 60
 
 WORDS = (
     "--headless",
@@ -36,11 +36,11 @@ class Browser:
     def __init__(self) -> None:
         path = browser()
         assert path
-        self.folder = tempfile.TemporaryDirectory(ignore_cleanup_errors=True)
+        self.folder = tempfile.mkdtemp()
         given, self.writer = os.pipe()
         self.reader, written = os.pipe()
         # The protocol reads from descriptor 3 and writes to descriptor 4.
-        words = ["sh", "-c", f'exec "$0" "$@" 3<&{given} 4>&{written}', path, *WORDS, f"--user-data-dir={self.folder.name}", "about:blank"]
+        words = ["sh", "-c", f'exec "$0" "$@" 3<&{given} 4>&{written}', path, *WORDS, f"--user-data-dir={self.folder}", "about:blank"]
         self.process = subprocess.Popen(words, pass_fds=(given, written), stdout=subprocess.DEVNULL, stderr=subprocess.DEVNULL)
         os.close(given)
         os.close(written)
@@ -63,7 +63,8 @@ class Browser:
         self.process.wait(SECONDS)
         os.close(self.writer)
         os.close(self.reader)
-        self.folder.cleanup()
+        # Parts of the browser may still write there for a moment.
+        shutil.rmtree(self.folder, ignore_errors=True)
 
     def message(self) -> Dict[str, Any]:
         """The next message of the browser."""

@@ -10,7 +10,7 @@ import tempfile
 import threading
 import unittest
 from pathlib import Path
-from typing import Any, Dict, Tuple
+from typing import Any, Callable, Dict, Tuple
 
 from browser import Browser, browser
 from commands_under_test import TOP, call
@@ -131,6 +131,13 @@ class Recordings(InFolder):
         recording.undo()
         recording.undo()
         self.assertEqual(STARTER.splitlines() + CLICK, recording.lines)
+        (self.folder / "glyphs.txt").write_text("glyph 41 183c66667e666600\n")
+        recording.add_line("# include glyphs.txt")
+        self.assertEqual(["# include glyphs.txt", "begin"], recording.lines[6:8])
+        self.assertIn("glyph 41 183c66667e666600", recording.trace.lines)
+        recording.save(False)
+        self.assertIn("# include glyphs.txt\nbegin\n", self.path.read_text())
+        self.assertEqual(recording.trace.lines, Recording(self.path).trace.lines)
 
     def test_buttons(self) -> None:
         """A button that is down doesn't go down again."""
@@ -317,7 +324,7 @@ class Hostile(Served):
         self.assertIn(self.status("POST", self.act, {**self.good, "Content-Length": "99999999"}, "x" * 5_000_000), (0, 413))
         self.addCleanup(setattr, serving, "PATIENCE", serving.PATIENCE)
         self.addCleanup(setattr, serving.Handler, "timeout", serving.Handler.timeout)
-        serving.PATIENCE = serving.Handler.timeout = 0.3
+        serving.PATIENCE = serving.Handler.timeout = 1.0
         head = f"POST {self.act} HTTP/1.1\r\nHost: {self.host}\r\nContent-Type: application/json\r\nContent-Length: 13\r\n\r\n"
         self.assertIn(" 408 ", self.raw(head + '{"do"').split("\r\n")[0])
         self.assertEqual("", self.raw("POST " + "x" * 100))
@@ -355,6 +362,19 @@ class InBrowser(InFolder):
 
     def test_session(self) -> None:
         """Clicks, keys and typed lines are recorded; what is written gives the bytes that the page showed."""
+        self.live(self.session)
+        lines = self.path.read_text().splitlines()[7:]
+        self.assertEqual([*CLICK, "key 4 65", "sync", "@button take", "@button flush", "sync", "dump", "end"], lines)
+        self.assertEqual(self.shown, play(self.path.read_bytes()).text().replace("\n", "")[len("dump 48 32 map8") :])
+
+    def test_drag(self) -> None:
+        """While a button is down, a cursor that rests is recorded; and so it is with `moves`."""
+        self.live(self.drag)
+        wanted = ["motion 1 20 15", "mouse 2 down 1", "motion 3 30 18", "motion 4 40 2", "mouse 5 up 1", "motion 6 3 3", "sync", "end"]
+        self.assertEqual(wanted, self.path.read_text().splitlines()[7:])
+
+    def live(self, session: Callable[[Browser], None]) -> None:
+        """Has a session with the command itself."""
         command = [sys.executable, str(TOP / "bin/live"), str(self.path)]
         with subprocess.Popen(command, stdout=subprocess.PIPE, text=True) as live:
             assert live.stdout
@@ -363,21 +383,40 @@ class InBrowser(InFolder):
             window = Browser()
             try:
                 window.open(found[0])
-                self.session(window)
+                session(window)
+                window.evaluate("document.getElementById('save').click()")
+                window.wait("document.getElementById('save').textContent === 'Saved'")
                 self.assertEqual([], window.errors)
             finally:
                 window.close()
                 live.terminate()
-        lines = self.path.read_text().splitlines()[7:]
-        self.assertEqual([*CLICK, "key 4 65", "sync", "@button take", "@button flush", "sync", "dump", "end"], lines)
-        self.assertEqual(self.shown, play(self.path.read_bytes()).text().replace("\n", "")[len("dump 48 32 map8") :])
 
-    def session(self, window: Browser) -> None:
-        """Clicks at the button, presses a key, types two lines, one of them wrong, and saves."""
-        west, north, scale = window.wait(
+    def drag(self, window: Browser) -> None:
+        """Drags from the button to another place, with a rest on the way, and rests somewhere else."""
+        west, north, scale = self.screen(window)
+        at = [(west + (h + 0.5) * scale, north + (v + 0.5) * scale) for h, v in ((20, 15), (30, 18), (40, 2), (9, 9), (3, 3))]
+        window.mouse("mouseMoved", *at[0], "none")
+        window.mouse("mousePressed", *at[0], held=1)
+        window.mouse("mouseMoved", *at[1], held=1)
+        window.wait("page.sides[0].trace.lines.includes('motion 3 30 18')")
+        window.mouse("mouseMoved", *at[2], held=1)
+        window.mouse("mouseReleased", *at[2])
+        window.wait("page.sides[0].trace.lines.includes('mouse 5 up 1')")
+        window.evaluate("document.getElementById('moves').click()")
+        window.mouse("mouseMoved", *at[3], "none")
+        window.mouse("mouseMoved", *at[4], "none")
+        window.wait("page.sides[0].trace.lines.includes('motion 6 3 3')")
+
+    def screen(self, window: Browser) -> Tuple[float, ...]:
+        """Where the picture is in the page, and its scale."""
+        return window.wait(
             "page.sides[0].scale && (() => { const it = document.querySelector('.screen canvas').getBoundingClientRect();"
             " return [it.left, it.top, page.sides[0].scale]; })()"
         )
+
+    def session(self, window: Browser) -> None:
+        """Clicks at the button, presses a key, and types two lines, one of them wrong."""
+        west, north, scale = self.screen(window)
         window.click(west + 20.5 * scale, north + 15.5 * scale)
         window.wait("page.sides[0].trace.lines.includes('mouse 3 up 1')")
         window.key("A", "A", 65)
@@ -394,8 +433,6 @@ class InBrowser(InFolder):
         window.wait("!page.sides[0].trace.lines.includes('peek')")
         window.evaluate("document.querySelector('[data-line=\"dump\"]').click()")
         window.wait("page.sides[0].trace.lines.includes('dump')")
-        window.evaluate("document.getElementById('save').click()")
-        window.wait("document.getElementById('save').textContent === 'Saved'")
         hexed = "[...page.sides[0].frame.pixels].map((it) => it.toString(16).padStart(2, '0')).join('')"
         self.shown = window.evaluate(hexed)
 
@@ -413,7 +450,7 @@ class Words(InFolder):
     def test_wrong(self) -> None:
         self.path.write_text("trestle 1\nscren 4 4 map8\n")
         for words, says in (
-            (["-"], "can be written"), ([], "FILE"), ([str(self.path)], "perhaps `screen` is meant"),
+            (["-"], "live writes it"), ([], "FILE"), ([str(self.path)], "perhaps `screen` is meant"),
             ([str(self.path), "--port", "70000"], "N is 0 to 65535"), ([str(self.folder)], "cannot be read"),
         ):
             with self.subTest(words):

@@ -146,6 +146,16 @@ class Traces(unittest.TestCase):
         last = {it.name: it.line for it in trace.places[max(trace.places)]}
         self.assertEqual({"desk": 10, "edge": 17, "left": 17, "right": 7}, last)
 
+    def test_included(self) -> None:
+        """Lines of an included file have the numbers that they have there."""
+        with tempfile.TemporaryDirectory() as folder:
+            (Path(folder) / "glyphs.txt").write_text("glyph 41 183c66667e666600\nglyph 42 7c66667c66667c00\n")
+            script = Path(folder) / "script.txt"
+            script.write_text("trestle 1\nscreen 8 8 map8\n# include glyphs.txt\nleaf a 8 8 8 8 8 8 label A\nroot a\nbegin\n@a text B\nsync\nend\n")
+            trace = trace_of_script(pack(str(script)), Asked())
+        self.assertEqual(["1", "2", "3", "1 of glyphs.txt", "2 of glyphs.txt", "4", "5", "6", "7", "8", "9"], trace.labels)
+        self.assertEqual([8, 9], [moment.line for moment in trace.moments])
+
     def test_known(self) -> None:
         """What is known of a beginning is taken over, and leads to the same."""
         lines = lines_of((TOP / "demos/desktop.txt").read_bytes())
@@ -189,7 +199,7 @@ class Limits(unittest.TestCase):
         with tempfile.TemporaryDirectory() as folder:
             said = call("trace", [str(TOP / "demos/desktop.txt"), "--every", "4", "-o", f"{folder}/page.html"])
         self.assertEqual(0, said.status)
-        self.assertIn("pictures of 10 steps: one after every 4th, and at each report", said.text)
+        self.assertIn("pictures of 10 steps: one after every 4 steps, and at each report", said.text)
 
     def test_more_than_one_copy(self) -> None:
         steps = [f"@a tint {n % 200}" for n in range(150)]
@@ -219,14 +229,29 @@ class Pairs(unittest.TestCase):
         pairs = pairs_of(one, other)
         self.assertEqual(("line",), next(pair.differs for pair in pairs if pair.differs))
         self.assertIn(("answer",), [pair.differs for pair in pairs])
-        self.assertIn(("answer", "picture"), [pair.differs for pair in pairs])
+        self.assertEqual(1, sum("picture" in pair.differs for pair in pairs))
         self.assertEqual([()] * len(one.moments), [pair.differs for pair in pairs_of(one, one)])
+
+    def test_thinned(self) -> None:
+        """Of long scripts the second one has its pictures beside those of the first."""
+        steps = [f"@a tint {n % 200}" for n in range(40)]
+        texts = [
+            "\n".join(["trestle 1", "screen 4 4 map8", "leaf a 4 4 4 4 4 4 solid 7", "root a", "begin", *it, "sync", "end", ""])
+            for it in (steps, [*steps[:5], "@a tint 9", *steps[5:]])
+        ]
+        packs = [pack(str(BUTTON))._replace(script=it.encode(), lines=lines_of(it.encode())) for it in texts]
+        first = trace_of_script(packs[0], Asked(7, True))
+        second = trace_of_script(packs[1], Asked(7, True, beside=first))
+        self.assertEqual([{0, 7, 14, 21, 28, 35, 40}, {0, 8, 15, 22, 29, 36, 41}], [first.pictured(), second.pictured()])
+        pairs = pairs_of(first, second)
+        self.assertEqual(8, len(pairs))
+        self.assertEqual([(-1, 6, ("line",))], [tuple(pair) for pair in pairs if pair.differs])
 
     def test_outputs(self) -> None:
         text = (TOP / "demos/first.serial").read_text()
         one, other = trace_of_output("a", text), trace_of_output("b", text.replace("0606", "0607"))
-        self.assertEqual(2, len(frames(one)))
-        self.assertEqual([("picture",)] * 15, [pair.differs for pair in pairs_of(one, other) if pair.differs])
+        self.assertEqual((2, False), (len(frames(one)), one.is_thinned()))
+        self.assertEqual([("picture",)], [pair.differs for pair in pairs_of(one, other) if pair.differs])
 
 
 class Page(unittest.TestCase):
@@ -340,15 +365,24 @@ class InBrowser(unittest.TestCase):
             shown = self.browser.evaluate(f"{json.dumps(points)}.map(([h, v]) => page.sides[0].trace.where({len(steps)}, h, v))")
             self.assertEqual(said, shown)
 
+    def test_not_ok(self) -> None:
+        """A button leads from one answer that isn't ok to the next."""
+        self.page(TOP / "demos/selections.txt")
+        lines = []
+        for _ in range(4):
+            self.browser.evaluate("document.getElementById('next').click()")
+            lines.append(self.browser.evaluate("page.sides[0].trace.moments[page.stops[page.at]].line"))
+        self.assertEqual([16, 18, 24, 40], lines)
+
     def test_first_difference(self) -> None:
         """Two scripts side by side begin at the first difference."""
         missed = Path(self.folder.name) / "missed.txt"
         missed.write_text(BUTTON.read_text().replace("motion 1 9 5", "motion 1 20 10"))
         self.page(BUTTON, missed)
         self.browser.wait("page.sides.length === 2 && page.sides[1].frame")
-        self.assertIn("line differ", self.browser.evaluate("document.getElementById('where').textContent"))
+        self.assertIn("differs: line", self.browser.evaluate("document.getElementById('where').textContent"))
         self.browser.key("n", "n")
-        self.browser.wait("document.getElementById('where').textContent.includes('answer differ')")
+        self.browser.wait("document.getElementById('where').textContent.includes('differs: answer')")
         self.assertEqual([], self.browser.errors)
 
 

@@ -233,7 +233,7 @@ class Views(Served):
 
     def test_timed(self) -> None:
         cuts = frames()
-        client = self.client(self.serve(cuts, Timing(0.15)))
+        client = self.client(self.serve(cuts, Timing(1.0)))
         begun = time.monotonic()
         client.ask(False)
         client.take()
@@ -241,11 +241,11 @@ class Views(Served):
             client.ask(True)
             client.take()
             self.assertEqual(wanted(cut, 64, 48), client.pixels)
-        self.assertGreater(time.monotonic() - begun, 0.1)
-        client = self.client(self.serve(cuts, Timing(0.05, True)))
+        self.assertGreater(time.monotonic() - begun, 0.5)
+        client = self.client(self.serve(cuts, Timing(0.6, True)))
         client.ask(False)
         client.take()
-        for number in range(5):
+        for number in range(3):
             client.ask(True)
             client.take()
             self.assertEqual(wanted(cuts[(number + 1) % len(cuts)], 64, 48), client.pixels)
@@ -299,7 +299,7 @@ class Hostile(Served):
     def test_half_a_message(self) -> None:
         """Half a message that isn't followed by the rest, and a viewer that goes within one."""
         self.addCleanup(setattr, rfb, "PATIENCE", rfb.PATIENCE)
-        rfb.PATIENCE = 0.3
+        rfb.PATIENCE = 1.0
         address = self.serve(frames())
         client = self.client(address)
         client.socket.sendall(struct.pack(">BBH", 3, 0, 0))

@@ -5,7 +5,7 @@ from typing import Iterator, List, NamedTuple, Optional, Tuple
 
 from .commands.why import explained
 from .grammar import COMMANDS, FORMS, OPENING, REPORTS, WIDGET_COMMANDS, Form, Slot
-from .include import Packed, Packer
+from .include import INCLUDE, Packed, Packer
 from .outputs import REFUSAL
 from .program import PLAYED, REFUSED, Trouble, play, read_bytes
 from .scripts import SYNCS, texts_of
@@ -110,7 +110,7 @@ class Recording:
             raise Refusal(["one line at a time"])
         if first == "end":
             raise Refusal(["the script's `end` is written by itself"])
-        if first in OPENING:
+        if first in OPENING or text.startswith(INCLUDE):
             if "begin" not in self.lines:
                 raise Refusal(["`begin` is in another file, which is included: write the line there"])
             at = self.lines.index("begin")

@@ -9,7 +9,6 @@ import zlib
 from typing import Callable, Dict, Iterator, List, NamedTuple, Optional, Sequence, Set, Tuple
 
 from .answers import meaning
-from .comparison import common_front
 from .grammar import REPORTS as REPORT_WORDS
 from .include import Packed
 from .instruments import Body, answers, body_of, copy_of, is_step, lags, peeks, played
@@ -84,6 +83,11 @@ class Trace:
     def pictured(self) -> Set[int]:
         """The numbers of steps after which there is a picture."""
         return {count for chunk in self.chunks for count in chunk.counts}
+
+    def is_thinned(self) -> bool:
+        """Whether some steps have no picture."""
+        pictured = self.pictured()
+        return any(moment.count and moment.count not in pictured for moment in self.moments)
 
 
 # ---- Which pictures are wanted
@@ -251,7 +255,7 @@ def add_places(trace: Trace, body: Body, entries: Sequence[Entry]) -> None:
         if count in pictured:
             add_place(trace, count, [*placed(windows, rects, lines)])
     if not each:
-        trace.notes.append("the script edits the tree so often that a window's line is one of those since the last picture")
+        trace.notes.append("the script has very many edits: a window may have its place by any line since the last picture")
 
 
 def add_place(trace: Trace, count: int, now: List[Placed]) -> None:
@@ -300,12 +304,12 @@ def add_numbers(trace: Trace, body: Body, progress: Progress) -> None:
             unknown = [n for n in range(1, len(places)) if n not in trace.numbers]
             trace.numbers.update({n: (after[places[n]][0], None, after[places[n]][1]) for n in unknown})
     except Trouble:
-        trace.notes.append("`check` doesn't take this script: it is too long or too large")
+        trace.notes.append("numbers only at pictures: `check` refuses a script of this size")
     progress("numbers: peek")
     try:
         found = peeks(body, {places[n] for n in asked})
     except Trouble as trouble:
-        trace.notes.append(f"how many commands wait is not known: {trouble}")
+        trace.notes.append(f"the number of waiting commands is unknown: {trouble}")
         return
     trace.numbers.update({n: tuple(found[places[n]]) for n in asked})
 
@@ -319,11 +323,12 @@ def quiet(_what: str) -> None:
 
 class Asked(NamedTuple):
     """How a script is traced: every which step has a picture (0: as many as a page has room for), whether its screens
-    are summed up, and who is told how far it is."""
+    are summed up, who is told how far it is, and the trace beside which it is seen."""
 
     every: int = 0
     summed: bool = False
     progress: Progress = quiet
+    beside: Optional[Trace] = None
 
 
 def trace_of_script(script: Packed, asked: Asked, known: Optional[Trace] = None) -> Trace:
@@ -353,14 +358,18 @@ def add_all_pictures(trace: Trace, body: Body, every: int, asked: Asked) -> None
     """Adds the pictures of every so many steps; of fewer, where the page would get too large."""
     known = list(trace.chunks)
     while True:
-        wanted = [count for count in wanted_counts(body, every) if count not in trace.pictured()]
-        add_pictures(trace, body, wanted, asked)
-        if sum(len(chunk.packed) for chunk in trace.chunks) <= MOST_PACKED or asked.every:
+        wanted = wanted_counts(body, every)
+        if asked.beside and asked.beside.is_thinned():
+            wanted = sorted({*counts_beside(asked.beside, trace), wanted[-1]})
+        add_pictures(trace, body, [count for count in wanted if count not in trace.pictured()], asked)
+        if sum(len(chunk.packed) for chunk in trace.chunks) <= MOST_PACKED or asked.every or asked.beside:
             break
         trace.chunks, every = list(known), 2 * every
     steps = len(body.steps())
-    if every > 1:
-        trace.notes.append(f"{len(trace.pictured())} pictures of {steps} steps: one after every {every}th, and at each report")
+    if trace.is_thinned() and asked.beside:
+        trace.notes.append(f"{len(trace.pictured())} pictures of {steps} steps: those beside the other script's")
+    elif every > 1:
+        trace.notes.append(f"{len(trace.pictured())} pictures of {steps} steps: one after every {every} steps, and at each report")
     if steps not in trace.pictured():
         trace.notes.append(f"no picture after line {last_pictured(trace)}: the copy would have over {LINES} lines or 4 MiB")
 
@@ -437,7 +446,7 @@ COMPARED = 4000
 
 
 class Pair(NamedTuple):
-    """A moment of each of two traces, or none (-1), and what differs: text, answers, the picture, numbers."""
+    """A moment of each of two traces, or none (-1), and what differs that didn't so before: line, answer, report, picture."""
 
     first: int
     second: int
@@ -447,11 +456,33 @@ class Pair(NamedTuple):
 def pairs_of(first: Trace, second: Trace) -> List[Pair]:
     """The moments of two traces side by side, with what differs."""
     pairs = []
-    before = (-1, -1)
+    now: Tuple[int, int] = (-1, -1)
+    before: Tuple[Optional[int], ...] = ()
+    is_thinned = first.is_thinned() or second.is_thinned()
     for one, other in aligned(texts_of(first), texts_of(second)):
-        before = (one if one >= 0 else before[0], other if other >= 0 else before[1])
-        pairs.append(Pair(one, other, tuple(differences(first, second, (one, other), before))))
+        now = (one if one >= 0 else now[0], other if other >= 0 else now[1])
+        differs = list(differences(first, second, (one, other)))
+        sums = (sum_at(first, now[0]), sum_at(second, now[1]))
+        if None not in sums:
+            if sums[0] != sums[1] and sums != before:
+                differs.append("picture")
+            before = sums
+        # Where neither differs nor shows anything, a long pair of scripts has no stop.
+        if differs or not is_thinned or None not in sums:
+            pairs.append(Pair(one, other, tuple(differs)))
     return pairs
+
+
+def sum_at(trace: Trace, n: int) -> Optional[int]:
+    """The sum over the screen after a moment, if it has a picture."""
+    return trace.sums.get(trace.moments[n].count) if n >= 0 else None
+
+
+def counts_beside(first: Trace, second: Trace) -> Set[int]:
+    """The numbers of steps of a trace beside which another one has a picture."""
+    pictured = first.pictured()
+    pairs = aligned(texts_of(first), texts_of(second))
+    return {second.moments[it].count for one, it in pairs if it >= 0 and one >= 0 and first.moments[one].count in pictured}
 
 
 def texts_of(trace: Trace) -> List[str]:
@@ -461,16 +492,21 @@ def texts_of(trace: Trace) -> List[str]:
 
 def aligned(one: List[str], other: List[str]) -> Iterator[Tuple[int, int]]:
     """Places of two lists side by side: equal ones together, and else -1 where there is none."""
-    front = common_front(one, other)
+    front = equal_front(one, other)
     yield from ((n, n) for n in range(front))
     rest, there = one[front:], other[front:]
-    end = common_front(rest[::-1], there[::-1])
+    end = equal_front(rest[::-1], there[::-1])
     rest, there = rest[: len(rest) - end], there[: len(there) - end]
     for begin, stop, begun, stopped in blocks(rest, there):
         for n in range(max(stop - begin, stopped - begun)):
             left, right = begin + n, begun + n
             yield (front + left if left < stop else -1), (front + right if right < stopped else -1)
     yield from ((len(one) - end + n, len(other) - end + n) for n in range(end))
+
+
+def equal_front(one: List[str], other: List[str]) -> int:
+    """With how many equal texts two lists begin."""
+    return next((n for n, (here, there) in enumerate(zip(one, other)) if here != there), min(len(one), len(other)))
 
 
 def blocks(one: List[str], other: List[str]) -> Iterator[Tuple[int, int, int, int]]:
@@ -482,18 +518,15 @@ def blocks(one: List[str], other: List[str]) -> Iterator[Tuple[int, int, int, in
         yield begin, stop, begun, stopped
 
 
-def differences(first: Trace, second: Trace, pair: Tuple[int, int], now: Tuple[int, int]) -> Iterator[str]:
-    """What differs between a moment of each of two traces. `now` has the last moment of each so far."""
+def differences(first: Trace, second: Trace, pair: Tuple[int, int]) -> Iterator[str]:
+    """What differs between a moment of each of two traces, but their pictures."""
     if -1 in pair:
         yield "line"
-    else:
-        one, other = first.moments[pair[0]], second.moments[pair[1]]
-        if first.lines[one.line - 1] != second.lines[other.line - 1]:
-            yield "line"
-        if (one.answer, one.events) != (other.answer, other.events):
-            yield "answer"
-        if one.printed != other.printed:
-            yield "report"
-    sums = [trace.sums.get(trace.moments[n].count if n >= 0 else -1) for trace, n in zip((first, second), now)]
-    if sums[0] != sums[1]:
-        yield "picture"
+        return
+    one, other = first.moments[pair[0]], second.moments[pair[1]]
+    if first.lines[one.line - 1] != second.lines[other.line - 1]:
+        yield "line"
+    if (one.answer, one.events) != (other.answer, other.events):
+        yield "answer"
+    if one.printed != other.printed:
+        yield "report"

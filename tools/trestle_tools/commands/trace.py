@@ -6,19 +6,20 @@ from pathlib import Path
 from typing import List
 
 from . import FINE, FOUND, Parser, write
+from ..comparison import plural
 from ..include import pack
 from ..pages import page
 from ..program import Trouble
 from ..traces import Asked, Trace, is_script, pairs_of, trace_of_output, trace_of_script
 
 WHAT = """\
-Plays a script and writes a page of HTML, one file, on which each step is seen: its answer, what it sent to which
-window, the screen after it with the changed points marked, the inboxes, and how many points are bad or stale and
-how many commands wait. Arrow keys and a slider go from step to step. A click on the picture names the window, the
-point within it, and the line that put it there.
+Plays a script and writes one self-contained page of HTML. The page shows each step with its answer, the events that
+it sent, the screen after it with the changed points marked, the inboxes, and how many points are bad or stale and how
+many commands wait. Arrow keys and a slider move from step to step. A click on the picture names the window, the point
+within it, and the line that put the window there.
 
-Of two scripts, or two outputs, the page shows both side by side, and begins at the first difference; then it
-ends with 1 where they differ. Of a script that is too long for a page it takes every k-th step, and says so."""
+Two scripts or two outputs appear side by side, from the first difference on; if they differ the status is 1. If a
+script is too long for a page, only every k-th step has a picture, and the command says so."""
 
 EXAMPLE = """\
 bin/trace button.txt -o button.html
@@ -30,7 +31,7 @@ def words() -> Parser:
     """The words that trace takes."""
     taken = Parser("trace", WHAT, EXAMPLE)
     taken.add_argument("files", nargs="+", metavar="FILE", help="a script or an output, or two of them")
-    taken.add_argument("-o", dest="into", metavar="PAGE", required=True, help="the page, a file NAME.html")
+    taken.add_argument("-o", dest="into", metavar="PAGE", required=True, help="the page to write, NAME.html")
     taken.add_argument("--every", type=int, default=0, metavar="K", help="a picture after each K-th step")
     return taken
 
@@ -47,7 +48,9 @@ def main(arguments: List[str]) -> int:
         taken.error(f"-o takes NAME.html, and not {asked.into}")
     progress = Progress()
     how = Asked(asked.every, len(asked.files) > 1, progress.tell)
-    traces = [trace_of(name, how) for name in asked.files]
+    traces: List[Trace] = []
+    for name in asked.files:
+        traces.append(trace_of(name, how._replace(beside=traces[0] if traces else None)))
     pairs = pairs_of(*traces) if len(traces) == 2 else []
     progress.tell("the page")
     write_page(asked.into, page(traces, pairs))
@@ -57,7 +60,7 @@ def main(arguments: List[str]) -> int:
             write(f"{trace.name}: {note}")
     differing = sum(bool(pair.differs) for pair in pairs)
     if pairs:
-        write(f"{asked.into}: {differing} of {len(pairs)} moments differ" if differing else f"{asked.into}: nothing differs")
+        write(f"{asked.into}: {plural(differing, 'difference')}" if differing else f"{asked.into}: nothing differs")
     return FOUND if differing else FINE
 
 

@@ -11,10 +11,10 @@ from ..rfb import Server, Show, Timing
 from ..streams import Frame, Refused, frames_of
 
 WHAT = """\
-Serves the cuts of a stream, as `trestle mirror` writes it, to VNC viewers on this machine, by RFB 3.8 on 127.0.0.1,
-without a password. Each viewer begins at the first cut. The next one comes after a second, or after --seconds; with
---keys by a key alone: space, Return, Right and Page Down go on, Backspace, Left and Page Up go back, Home and End to
-the first and the last one. The keys do so in any case. Ctrl-C ends it."""
+Shows the cuts of a stream, as `trestle mirror` writes it, to VNC viewers on this machine: by RFB 3.8 on 127.0.0.1,
+without a password. Each viewer begins at the first cut. The next one follows after a second, or after --seconds; with
+--keys only a key brings it. Space, Return, Right and Page Down go on; Backspace, Left and Page Up go back; Home and End
+go to the first and the last cut. These keys always work. Ctrl-C ends the server."""
 
 EXAMPLE = """\
 ./trestle mirror < demos/desktop.txt > desktop.stream
@@ -31,12 +31,12 @@ def words() -> Parser:
     """The words that vnc takes."""
     taken = Parser("vnc", WHAT, EXAMPLE)
     taken.add_argument("file", metavar="STREAM", help="a stream; - is standard input")
-    taken.add_argument("--port", type=int, default=5900, metavar="N", help="the port; 0 is one that is free")
+    taken.add_argument("--port", type=int, default=5900, metavar="N", help="the port; 0 is a free one")
     taken.add_argument("--seconds", type=seconds, default=1.0, metavar="S", help="how long each cut is shown")
-    taken.add_argument("--keys", action="store_true", help="the next cut comes by a key alone")
-    taken.add_argument("--loop", action="store_true", help="behind the last cut comes the first one")
+    taken.add_argument("--keys", action="store_true", help="only a key brings the next cut")
+    taken.add_argument("--loop", action="store_true", help="the first cut follows the last one")
     taken.add_argument(
-        "--scale", type=int, default=0, metavar="N", help=f"N by N points for each pixel, 1 to {GREATEST_SCALE}; else what is large enough"
+        "--scale", type=int, default=0, metavar="N", help=f"N by N points for each pixel, 1 to {GREATEST_SCALE}; without it a size that is easy to see"
     )
     return taken
 
@@ -63,7 +63,7 @@ def main(arguments: List[str]) -> int:
     try:
         server = Server(show, Timing(None if asked.keys else asked.seconds, asked.loop), asked.port)
     except OSError as error:
-        raise Trouble(f"port {asked.port} cannot be had: {error.strerror}; --port takes another one")
+        raise Trouble(f"port {asked.port} cannot be used: {error.strerror}; --port names another one")
     write(f"vnc: {len(frames)} cuts at 127.0.0.1::{server.server_address[1]}")
     sys.stdout.flush()
     try:
