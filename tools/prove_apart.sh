@@ -64,7 +64,7 @@ complaints() {
     END { printf "%s", text }' "$folder/said"
 }
 
-folder=$(mktemp -d) || exit 1
+folder=$(mktemp -d "${TMPDIR:-/tmp}/trestle-proof.XXXXXX") || exit 1
 trap 'rm -rf "$folder"' EXIT
 trap 'exit 1' HUP INT TERM
 # (rt wants to be called at the top of a repository, wherever TMPDIR lies)

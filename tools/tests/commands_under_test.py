@@ -1,4 +1,5 @@
-"""How the tests call the commands: as a user does, with the program that the commands choose where TRESTLE names none."""
+"""How the tests call the commands: as a user does, with the program that TRESTLE names, or else with the one that is built.
+Where none is, the tests end at once, and start no proof."""
 
 import os
 import subprocess
@@ -10,7 +11,15 @@ HERE = Path(__file__).resolve().parent
 TOP = HERE.parents[1]
 sys.path.insert(0, str(TOP / "tools"))
 
-from trestle_tools.program import program  # noqa: E402
+from trestle_tools.program import built  # noqa: E402
+
+if not os.environ.get("TRESTLE"):
+    if built() == str(TOP / "trestle"):
+        # (unittest goes on behind a module that can't be read, so that the process has to end)
+        print("tests: no program is built for these files: ./build --unproved makes one in minutes, or TRESTLE names one", file=sys.stderr)
+        sys.stderr.flush()
+        os._exit(2)
+    os.environ["TRESTLE"] = built()
 
 
 class Ended(NamedTuple):
@@ -22,7 +31,7 @@ class Ended(NamedTuple):
 
 def call(command: str, words: List[str], folder: Path = HERE, given: bytes = b"") -> Ended:
     """Calls a command in a folder."""
-    environment = {**os.environ, "TRESTLE": program(), "PYTHONDONTWRITEBYTECODE": "1"}
+    environment = {**os.environ, "PYTHONDONTWRITEBYTECODE": "1"}
     ran = subprocess.run(
         [str(TOP / "bin" / command), *words], input=given, cwd=folder, env=environment, capture_output=True, check=False
     )
