@@ -236,7 +236,9 @@ class Snap(Folder):
 
     def test_update_shows_what_it_changes(self) -> None:
         """A press that misses by a pixel was stored over the good output without a word."""
-        self.assertIn("lamp.serial is new: 1 dump, 0 lines beside\n", call("snap", ["--update", "."], self.folder).text)
+        says = "lamp.serial is new: 1 dump, 0 other lines\ndump 16 8 map8\nlamp.serial\n"
+        self.assertIn(says, call("snap", ["--update", "."], self.folder).text)
+        self.assertNotIn("is new", call("snap", ["--update", "."], self.folder).text)
         self.change("tint 46", "tint 47")
         ended = call("snap", ["--update", "."], self.folder)
         self.assertEqual(0, ended.status)

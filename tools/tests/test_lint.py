@@ -3,6 +3,7 @@
 import sys
 import unittest
 from typing import List
+from unittest import mock
 
 from commands_under_test import TOP, call
 from test_files import Folder
@@ -256,6 +257,14 @@ class Orders(Named):
     def test_steps_that_have_nothing_to_do_with_one_another(self) -> None:
         steps = ["motion 1 3 3", "mouse 2 down 1", "mouse 3 up 1", "@b tint 8", "@b force", "sync", "inbox a", "@a take", "move b 8 4", "@a take"]
         self.assertEqual([], self.lint(script(self.OPENING, [*steps, "@a flush", *END])))
+
+    def test_very_many_pairs_are_not_all_tried(self) -> None:
+        """It says where it stopped."""
+        pairs = [step for time in range(1, 9) for step in (f"motion {time} {time % 8} 3", "@a cage 0 8 0 8 both")]
+        lines = lines_of(script(self.OPENING, ["motion 1 3 3", "sync", *pairs, "sync", "inbox b", "end"]).encode())
+        says = "tried 3 pairs of steps for an order that shows by `play`, and stopped in the part that begins at line 12"
+        with mock.patch("trestle_tools.orders.TRIED", 3):
+            self.assertEqual(([], [says]), findings_of(lines, body_of(lines)))
 
     def test_what_a_journal_alone_would_show_is_left(self) -> None:
         """A journal and a peek may differ at each run by `play`."""

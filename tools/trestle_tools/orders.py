@@ -57,7 +57,8 @@ def orders(body: Body, entries: List[Entry]) -> Tuple[List[Finding], List[str]]:
                 # A sync between those two is between these two as well.
                 continue
             if tried == TRIED:
-                return found, [f"which orders of steps show by `play` was tried for {TRIED} pairs, up to {part[0].line.at()}"]
+                says = f"tried {TRIED} pairs of steps for an order that shows by `play`"
+                return found, [f"{says}, and stopped in the part that begins at {part[0].line.at()}"]
             printed = printed or compared(script_of(body, body.lines))
             tried += 1
             if compared(script_of(body, reordered(body.lines, begin, part, pair))) != printed:

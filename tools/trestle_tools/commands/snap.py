@@ -293,24 +293,27 @@ def updated(result: Result, stored: Stored, played: Played, asked: argparse.Name
 
 
 def tell_change(result: Result, stored: Stored, asked: argparse.Namespace) -> None:
-    """Shows what an update changes; of a new output what it holds, where somebody is asked for a yes."""
+    """Shows what an update changes; of a new output what it holds."""
     if result.before is not None:
         tell(result, stored, asked)
         return
     output = take_apart(str(result.now))
     lines = [part for part in output.parts if isinstance(part, str)]
-    write(f"{stored.path} is new: {plural(len(output.dumps()), 'dump')}, {plural(len(lines), 'line')} beside")
-    for line in shown_whole(output.parts, asked.view) if asked.review else ():
+    write(f"{stored.path} is new: {plural(len(output.dumps()), 'dump')}, {plural(len(lines), 'other line')}")
+    for line in shown_as_new(output.parts, asked.view, asked.review or asked.whole):
         write(line)
 
 
-def shown_whole(parts: List[object], view: View) -> Iterator[str]:
-    """An output as it is looked at: its dumps as pictures, and the lines beside, the first ones alone unless all are wanted."""
+def shown_as_new(parts: List[object], view: View, with_digits: bool) -> Iterator[str]:
+    """A new output: its dumps as pictures, or in hex digits if these are asked for, and the first lines beside, or all."""
     lines = 0
     for part in parts:
         if isinstance(part, Dump):
             yield part.header()
-            yield from terminal_lines(picture_of(part)) if view.coloured else [row.hex() for row in part.rows]
+            if view.coloured:
+                yield from terminal_lines(picture_of(part))
+            elif with_digits:
+                yield from (row.hex() for row in part.rows)
             continue
         lines += 1
         if lines <= SHOWN or view.whole:
