@@ -8,6 +8,7 @@ import subprocess
 import sys
 import tempfile
 import threading
+import time
 import unittest
 from pathlib import Path
 from typing import Any, Callable, Dict, Tuple
@@ -328,6 +329,12 @@ class Hostile(Served):
         head = f"POST {self.act} HTTP/1.1\r\nHost: {self.host}\r\nContent-Type: application/json\r\nContent-Length: 13\r\n\r\n"
         self.assertIn(" 408 ", self.raw(head + '{"do"').split("\r\n")[0])
         self.assertEqual("", self.raw("POST " + "x" * 100))
+        with socket.create_connection(self.server.server_address[:2], 20) as slow:
+            begun = time.monotonic()
+            with self.assertRaises(OSError):
+                while time.monotonic() < begun + 20:
+                    slow.sendall(b"x")
+                    time.sleep(0.2)
         self.assertIn(" 414 ", self.raw("GET /" + "x" * 70000 + "\r\n").split("\r\n")[0])
 
     def test_many(self) -> None:

@@ -9,6 +9,10 @@ from typing import Any, Dict, List, Optional, Sequence, Tuple
 from .pictures import palette
 from .traces import Moment, Pair, Placed, Trace
 
+# A page in a file asks nobody for anything. Of a live page the server says whom it may ask.
+POLICY = """
+<meta http-equiv="Content-Security-Policy" content="default-src 'none'; script-src 'unsafe-inline'; style-src 'unsafe-inline'">"""
+
 TEMPLATE = Path(__file__).with_name("page.html")
 
 
@@ -63,6 +67,7 @@ def page(traces: Sequence[Trace], pairs: Sequence[Pair] = (), live: Optional[Dic
         TEMPLATE.read_text("utf-8"),
         ("@DATA@", text),
         ("@CHUNKS@", "\n".join(f'<script class="chunk" type="text/plain">{it}</script>' for it in chunks)),
+        ("@POLICY@", "" if live else POLICY),
         ("@NONCE@", f' nonce="{nonce}"' if nonce else ""),
     )
 

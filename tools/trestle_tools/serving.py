@@ -8,6 +8,7 @@ a file. The only file that is ever written is the script's own."""
 import hmac
 import json
 import secrets
+import socket
 import threading
 import time
 from http.server import BaseHTTPRequestHandler, ThreadingHTTPServer
@@ -88,6 +89,25 @@ class Handler(BaseHTTPRequestHandler):
     timeout = PATIENCE
     server: Server
 
+    def setup(self) -> None:
+        """Gives the head of a request so many seconds in all, however its bytes come."""
+        super().setup()
+        self.watch = threading.Timer(PATIENCE, self.give_up)
+        self.watch.daemon = True
+        self.watch.start()
+
+    def give_up(self) -> None:
+        """Ends the connection."""
+        try:
+            self.connection.shutdown(socket.SHUT_RDWR)
+        except OSError:
+            pass
+
+    def finish(self) -> None:
+        """Ends the watch, too."""
+        self.watch.cancel()
+        super().finish()
+
     def do_GET(self) -> None:  # pylint: disable=invalid-name
         """The page."""
         self.answer(self.page)
@@ -98,6 +118,7 @@ class Handler(BaseHTTPRequestHandler):
 
     def answer(self, make: Callable[[], Tuple[bytes, Dict[str, str]]]) -> None:
         """Answers a request that is allowed; another one gets its status and a line."""
+        self.watch.cancel()
         try:
             self.check()
             body, headers = make()

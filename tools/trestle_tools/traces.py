@@ -121,21 +121,35 @@ def wanted_counts(body: Body, every: int) -> List[int]:
 def batches(body: Body, wanted: Sequence[int]) -> Iterator[List[int]]:
     """Numbers of steps after which a copy has a dump, for as many copies as are needed. Where there is no room for one
     dump behind so many steps, it and all that follow are left out."""
-    steps = body.steps()
-    sizes = [0]
-    for step in steps:
-        sizes.append(sizes[-1] + len(step.text) + 1)
-    opening = sum(len(line.text) + 1 for line in body.opening)
+    sizes = sizes_of(body)
     batch: List[int] = []
     for count in wanted:
-        if batch and not has_room(body, opening + sizes[count], count, len(batch) + 1):
+        if batch and not has_room(body, sizes[count], count, len(batch) + 1):
             yield batch
             batch = []
-        if not has_room(body, opening + sizes[count], count, 1):
+        if not has_room(body, sizes[count], count, 1):
             return
         batch.append(count)
     if batch:
         yield batch
+
+
+def sizes_of(body: Body) -> List[int]:
+    """The bytes of the opening and so many steps, by the number of steps."""
+    sizes = [sum(len(line.text) + 1 for line in body.opening)]
+    for step in body.steps():
+        sizes.append(sizes[-1] + len(step.text) + 1)
+    return sizes
+
+
+def all_answers(body: Body) -> List[Entry]:
+    """The entry of the journal for each step. Of a script that leaves a copy no room for a journal the last ones are empty."""
+    steps, sizes = body.steps(), sizes_of(body)
+    count = len(steps)
+    while count and (len(body.opening) + count + 3 > LINES or sizes[count] + len("sync\njournal\nend\n") > TEXT_BYTES):
+        count -= 1
+    entries = answers(Body(body.opening, steps[:count]))
+    return entries + [Entry(0, "", step.text, "", ()) for step in steps[count:]]
 
 
 def has_room(body: Body, size: int, count: int, dumps: int) -> bool:
@@ -295,8 +309,10 @@ def add_numbers(trace: Trace, body: Body, progress: Progress) -> None:
     for line in body.lines:
         if line.text != "sync":
             places.append(places[-1] + (is_step(line) or line.text == "dump"))
-    pictured = trace.pictured()
+    pictured, sizes = trace.pictured(), sizes_of(body)
     asked = {n for n, it in enumerate(trace.moments) if n not in trace.numbers and it.count in pictured}
+    # A copy may have 64 dumps of the script beside the reports that are asked for.
+    asked = {n for n in asked for count in [trace.moments[n].count] if has_room(body, sizes[count], count + 2 * REPORTS, REPORTS)}
     try:
         if len(asked) + len(trace.numbers) < len(trace.moments):
             progress("numbers: check")
@@ -306,8 +322,9 @@ def add_numbers(trace: Trace, body: Body, progress: Progress) -> None:
     except Trouble:
         trace.notes.append("numbers only at pictures: `check` refuses a script of this size")
     progress("numbers: peek")
+    last = max((trace.moments[n].line for n in asked), default=0)
     try:
-        found = peeks(body, {places[n] for n in asked})
+        found = peeks(Body(body.opening, [line for line in body.lines if line.number <= last]), {places[n] for n in asked})
     except Trouble as trouble:
         trace.notes.append(f"the number of waiting commands is unknown: {trouble}")
         return
@@ -343,7 +360,9 @@ def trace_of_script(script: Packed, asked: Asked, known: Optional[Trace] = None)
     labels = [line.at()[len("line ") :] for line in script.lines] if script.includes() else []
     trace = Trace(script.name, [line.text for line in script.lines], labels)
     asked.progress("answers")
-    entries = answers(body)
+    entries = all_answers(body)
+    if entries and not entries[-1].answer:
+        trace.notes.append("no answers of the last steps: a copy with a journal would have too many lines or bytes")
     trace.moments = list(moments_of(body, entries, result.text()))
     take_known(trace, known)
     every = asked.every or stride(len(entries), greatest_screen(body.opening + body.lines))
