@@ -42,7 +42,7 @@ class InFolder(unittest.TestCase):
 
 
 class Recordings(InFolder):
-    """What is written."""
+    """The lines of a recording."""
 
     def test_replays(self) -> None:
         """A session is written as a script that gives the same bytes each time, and the pictures that were seen."""
@@ -187,7 +187,7 @@ class Served(InFolder):
         self.act = f"/{self.server.token}/act"
 
     def raw(self, text: str, wait: float = 20) -> str:
-        """What is answered to some bytes."""
+        """The answer to some bytes."""
         with socket.create_connection(self.server.server_address[:2], wait) as connection:
             data = b""
             try:
@@ -368,7 +368,7 @@ class InBrowser(InFolder):
     """A session in a browser."""
 
     def test_session(self) -> None:
-        """Clicks, keys and typed lines are recorded; what is written gives the bytes that the page showed."""
+        """Clicks, keys and typed lines are recorded; the written script gives the bytes that the page showed."""
         self.live(self.session)
         lines = self.path.read_text().splitlines()[7:]
         self.assertEqual([*CLICK, "key 4 65", "sync", "@button take", "@button flush", "sync", "dump", "end"], lines)

@@ -158,7 +158,7 @@ class Traces(unittest.TestCase):
         self.assertEqual([8, 9], [moment.line for moment in trace.moments])
 
     def test_known(self) -> None:
-        """What is known of a beginning is taken over, and leads to the same."""
+        """A trace that takes over a known beginning is the same as a fresh one."""
         lines = lines_of((TOP / "demos/desktop.txt").read_bytes())
         whole = pack(str(TOP / "demos/desktop.txt"))
         first = next(line.number for line in lines if line.text.startswith("sync"))
