@@ -8,6 +8,7 @@ import subprocess
 import sys
 import tempfile
 import threading
+import time
 import unittest
 from pathlib import Path
 from typing import Any, Callable, Dict, Tuple
@@ -41,7 +42,7 @@ class InFolder(unittest.TestCase):
 
 
 class Recordings(InFolder):
-    """What is written."""
+    """The lines of a recording."""
 
     def test_replays(self) -> None:
         """A session is written as a script that gives the same bytes each time, and the pictures that were seen."""
@@ -186,7 +187,7 @@ class Served(InFolder):
         self.act = f"/{self.server.token}/act"
 
     def raw(self, text: str, wait: float = 20) -> str:
-        """What is answered to some bytes."""
+        """The answer to some bytes."""
         with socket.create_connection(self.server.server_address[:2], wait) as connection:
             data = b""
             try:
@@ -328,6 +329,12 @@ class Hostile(Served):
         head = f"POST {self.act} HTTP/1.1\r\nHost: {self.host}\r\nContent-Type: application/json\r\nContent-Length: 13\r\n\r\n"
         self.assertIn(" 408 ", self.raw(head + '{"do"').split("\r\n")[0])
         self.assertEqual("", self.raw("POST " + "x" * 100))
+        with socket.create_connection(self.server.server_address[:2], 20) as slow:
+            begun = time.monotonic()
+            with self.assertRaises(OSError):
+                while time.monotonic() < begun + 20:
+                    slow.sendall(b"x")
+                    time.sleep(0.2)
         self.assertIn(" 414 ", self.raw("GET /" + "x" * 70000 + "\r\n").split("\r\n")[0])
 
     def test_many(self) -> None:
@@ -361,7 +368,7 @@ class InBrowser(InFolder):
     """A session in a browser."""
 
     def test_session(self) -> None:
-        """Clicks, keys and typed lines are recorded; what is written gives the bytes that the page showed."""
+        """Clicks, keys and typed lines are recorded; the written script gives the bytes that the page showed."""
         self.live(self.session)
         lines = self.path.read_text().splitlines()[7:]
         self.assertEqual([*CLICK, "key 4 65", "sync", "@button take", "@button flush", "sync", "dump", "end"], lines)

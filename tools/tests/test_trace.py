@@ -16,6 +16,7 @@ from commands_under_test import TOP, call
 
 sys.path.insert(0, str(TOP / "tools"))
 
+from trestle_tools import traces  # noqa: E402
 from trestle_tools.include import pack  # noqa: E402
 from trestle_tools.instruments import Body, answers, body_of, copy_of, played  # noqa: E402
 from trestle_tools.outputs import take_apart  # noqa: E402
@@ -157,7 +158,7 @@ class Traces(unittest.TestCase):
         self.assertEqual([8, 9], [moment.line for moment in trace.moments])
 
     def test_known(self) -> None:
-        """What is known of a beginning is taken over, and leads to the same."""
+        """A trace that takes over a known beginning is the same as a fresh one."""
         lines = lines_of((TOP / "demos/desktop.txt").read_bytes())
         whole = pack(str(TOP / "demos/desktop.txt"))
         first = next(line.number for line in lines if line.text.startswith("sync"))
@@ -194,6 +195,15 @@ class Limits(unittest.TestCase):
         self.assertEqual([[0, 1, steps], [steps + 1, steps + 2]], list(batches(body, [0, 1, steps, steps + 1, steps + 2])))
         body = Body([Line(1, "a")], [Line(n, "b" * 50) for n in range(82_300)])
         self.assertEqual([[1, 80_000, 82_240]], list(batches(body, [1, 80_000, 82_240, 82_241])))
+
+    def test_no_room_for_a_journal(self) -> None:
+        """Steps for whose answers a copy has no room have none."""
+        short = traces.LINES
+        self.addCleanup(setattr, traces, "LINES", short)
+        traces.LINES = 12
+        lines = ["trestle 1", "screen 4 4 map8", "leaf a 4 4 4 4 4 4 solid 7", "root a", "begin", *["@a tint 3"] * 5, "sync", "end"]
+        entries = traces.all_answers(body_of(lines_of("\n".join(lines).encode())))
+        self.assertEqual(["ok", "ok", "ok", "ok", ""], [entry.answer for entry in entries])
 
     def test_every(self) -> None:
         with tempfile.TemporaryDirectory() as folder:

@@ -73,7 +73,7 @@ class Client:
         return data
 
     def ask(self, is_changed: bool, area: Optional[Tuple[int, ...]] = None) -> None:
-        """Asks for what is on the screen."""
+        """Asks for an area, or for the changes in it."""
         self.socket.sendall(struct.pack(">BBHHHH", 3, is_changed, *(area or (0, 0, self.width, self.height))))
 
     def take(self) -> None:

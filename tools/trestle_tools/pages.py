@@ -9,6 +9,10 @@ from typing import Any, Dict, List, Optional, Sequence, Tuple
 from .pictures import palette
 from .traces import Moment, Pair, Placed, Trace
 
+# A page in a file may load nothing. The server sends a live page its own policy.
+POLICY = """
+<meta http-equiv="Content-Security-Policy" content="default-src 'none'; script-src 'unsafe-inline'; style-src 'unsafe-inline'">"""
+
 TEMPLATE = Path(__file__).with_name("page.html")
 
 
@@ -18,7 +22,7 @@ def packed(data: bytes) -> str:
 
 
 def moment_data(moment: Moment) -> List[Any]:
-    """A moment, without what is empty at its end."""
+    """A moment as a list, without empty values at its end."""
     data: List[Any] = [moment.line, moment.count, moment.answer, moment.says, moment.events, moment.printed]
     while not data[-1] and len(data) > 2:
         data.pop()
@@ -31,7 +35,7 @@ def placed_data(placed: Placed) -> List[Any]:
 
 
 def trace_data(trace: Trace, begin: int = 0) -> Dict[str, Any]:
-    """A trace, but its pictures; of its moments those from a number on."""
+    """A trace without its pictures, and without its moments before a number."""
     return {
         "name": trace.name,
         "lines": trace.lines,
@@ -49,7 +53,7 @@ def trace_data(trace: Trace, begin: int = 0) -> Dict[str, Any]:
 
 
 def page(traces: Sequence[Trace], pairs: Sequence[Pair] = (), live: Optional[Dict[str, Any]] = None, nonce: str = "") -> str:
-    """The page of one trace, or of two with their moments side by side. A live page is told whom it calls."""
+    """The page of one trace, or of two with their moments side by side. `live` tells a live page its server."""
     data = {
         "traces": [trace_data(trace) for trace in traces],
         "pairs": [list(pair) for pair in pairs],
@@ -63,6 +67,7 @@ def page(traces: Sequence[Trace], pairs: Sequence[Pair] = (), live: Optional[Dic
         TEMPLATE.read_text("utf-8"),
         ("@DATA@", text),
         ("@CHUNKS@", "\n".join(f'<script class="chunk" type="text/plain">{it}</script>' for it in chunks)),
+        ("@POLICY@", "" if live else POLICY),
         ("@NONCE@", f' nonce="{nonce}"' if nonce else ""),
     )
 

@@ -1,4 +1,4 @@
-"""A script that is written while it is played: lines are added at its end, and each time it is played again."""
+"""A script that grows while it is played: each new line plays it again."""
 
 from pathlib import Path
 from typing import Iterator, List, NamedTuple, Optional, Tuple
@@ -12,7 +12,7 @@ from .scripts import SYNCS, texts_of
 from .traces import Asked, Moment, Trace, trace_of_script
 from .windows import Windows
 
-# What a script begins with that isn't there yet: a desk with a canvas, which answers a press.
+# The beginning of a new script: a desk with a canvas, which answers a press.
 STARTER = """trestle 1
 screen 48 32 map8
 node desk z 8
@@ -35,7 +35,7 @@ class Refusal(Exception):
 
 
 class Hand(NamedTuple):
-    """What the devices did last: the time, the place of the cursor, and the buttons that are down."""
+    """The last state of the devices: the time, the place of the cursor, and the buttons that are down."""
 
     time: int
     at: Tuple[int, int]
@@ -48,7 +48,7 @@ class Recording:
     def __init__(self, path: Path):
         self.path = path
         self.is_new = not path.exists()
-        # What the file held when it was read or written last.
+        # The bytes of the file when it was last read or written.
         self.stored = b"" if self.is_new else read_bytes(str(path))
         texts = texts_of(self.stored) if not self.is_new else STARTER.splitlines()
         self.lines, self.tail = cut_at_end(texts)
@@ -75,7 +75,7 @@ class Recording:
         return Packed(str(self.path), "".join(line.text + "\n" for line in packer.lines).encode("latin-1"), packer.lines)
 
     def played(self, lines: List[str]) -> Trace:
-        """The trace of a script; what the present one knows is taken over."""
+        """The trace of a script. It takes over parts of the present one."""
         packed = self.packed(self.script(lines))
         result = play(packed.script)
         refusal = REFUSAL.match(result.text())
@@ -86,13 +86,13 @@ class Recording:
         return trace_of_script(packed, Asked(), getattr(self, "trace", None))
 
     def take(self, states: List[List[str]]) -> None:
-        """Plays the last of some states of the lines; the present one and the others are kept for `undo`."""
+        """Plays the last of some states of the lines, and keeps the present one and the others for `undo`."""
         trace = self.played(states[-1])
         self.before += [self.lines, *states[:-1]]
         self.lines, self.last, self.trace = states[-1], self.trace, trace
         self.version += 1
 
-    # ---- What is done
+    # ---- Actions
 
     def add(self, texts: List[str]) -> None:
         """Adds lines, each behind a sync where one is needed."""
@@ -162,10 +162,10 @@ class Recording:
             raise Refusal([f"{self.path} cannot be written: {error.strerror}"])
         self.stored = script
 
-    # ---- What is so
+    # ---- State
 
     def hand(self) -> Hand:
-        """What the devices did last."""
+        """The last state of the devices."""
         time, at, down = 0, (-1, -1), []
         for moment in self.trace.moments:
             words = self.trace.lines[moment.line - 1].split(" ")
@@ -179,11 +179,11 @@ class Recording:
         return Hand(time, at, tuple(down))
 
     def news(self) -> List[Moment]:
-        """The moments that the last version didn't have."""
+        """The moments that are new in this version."""
         return self.trace.moments[len(self.last.moments) if self.last else 0 :]
 
     def completions(self, text: str) -> Tuple[List[str], List[str]]:
-        """Texts of which this one is the beginning, a word further, and the forms that the line may have."""
+        """Texts that complete the last word of this one, and the forms that the line may have."""
         windows = Windows()
         for line in self.packed(self.script()).lines:
             windows.add(line)
@@ -206,7 +206,7 @@ def last_word(lines: List[str]) -> str:
 
 
 def needs_sync(lines: List[str]) -> bool:
-    """Whether a report can't follow on these lines: a step stands at their end."""
+    """Whether a report needs a sync after these lines: they end with a step."""
     return last_word(lines) not in (*REPORTS, "sync", *OPENING, "")
 
 
@@ -229,7 +229,7 @@ def actor(first: str) -> str:
 
 
 def completions(text: str, windows: Windows, time: int) -> Tuple[List[str], List[str]]:
-    """Texts of which this one is the beginning, a word further, and the forms that the line may have."""
+    """Texts that complete the last word of this one, and the forms that the line may have."""
     *done, last = text.split(" ")
     forms = [form for form in FORMS if fits(form, done, windows)]
     found = {word for form in forms for word in options(form, done, windows, time) if word.startswith(last)}
@@ -252,7 +252,7 @@ def fits(form: Form, done: List[str], windows: Windows) -> bool:
 
 
 def values(slot: Slot, place: int, form: Form, windows: Windows) -> Optional[List[str]]:
-    """The words that may stand in a place, or None where they are numbers, digits or a text."""
+    """The words that a place allows, or None if it takes a number, digits or a text."""
     if slot.sort == "fixed":
         return [slot.name]
     if slot.sort == "word":

@@ -95,11 +95,11 @@ def format_of(data: bytes) -> Format:
     return wanted
 
 
-# ---- What is shown
+# ---- The cuts
 
 
 class Show:
-    """The cuts of a stream, each in one of 256 colours and all of one size: the greatest; the rest is ground."""
+    """The cuts of a stream in 256 colours. All have the greatest size; smaller ones lie on ground."""
 
     def __init__(self, name: str, frames: List[Frame], scale: int):
         self.name = name
@@ -139,9 +139,9 @@ class Viewer:
         self.cut = 0
         self.format = OURS
         self.planes = OURS.planes()
-        # What the viewer has; a row of other colours than any stands for nothing.
+        # The colours that the viewer has; -1 before it has any.
         self.has: List[List[int]] = [[-1] * show.width for _ in range(show.height)]
-        # The area of the requests for what changed that aren't answered yet.
+        # The area of the waiting requests for changes.
         self.asked: Optional[Area] = None
         self.next = time.monotonic()
 
@@ -237,7 +237,7 @@ class Viewer:
         self.read(4 * struct.unpack(">xH", self.read(3))[0])
 
     def take_request(self) -> None:
-        """A request for what is on the screen, or for what of it changed."""
+        """A request for an area, or for the changes in it."""
         is_changed, west, north, width, height = struct.unpack(">BHHHH", self.read(9))
         whole = self.show.whole()
         west, north = min(west, whole.width), min(north, whole.height)
@@ -269,21 +269,21 @@ class Viewer:
     # ---- Updates
 
     def update(self) -> None:
-        """Answers the requests for what changed that wait, as soon as anything has."""
+        """Answers the waiting requests for changes, once there are any."""
         areas = list(self.changed(self.asked)) if self.asked else []
         if areas:
             self.asked = None
             self.send(areas)
 
     def send(self, areas: List[Area]) -> None:
-        """Sends these areas as they are now."""
+        """Sends the present pixels of some areas."""
         self.connection.sendall(struct.pack(">BxH", 0, len(areas)))
         for one in areas:
             self.connection.sendall(struct.pack(">HHHHi", *one, 0) + self.pixels(one))
             self.note(one)
 
     def cells(self, area: Area) -> Tuple[range, range]:
-        """The columns and rows of points of which an area has a part."""
+        """The columns and rows of points that an area touches."""
         scale = self.show.scale
         return (
             range(area.west // scale, -(-(area.west + area.width) // scale)),
@@ -291,7 +291,7 @@ class Viewer:
         )
 
     def changed(self, area: Area) -> Iterator[Area]:
-        """Rectangles with all of an area that the viewer doesn't have as it is now."""
+        """Rectangles that hold all points of an area that changed."""
         columns, rows = self.cells(area)
         now = self.show.cuts[self.cut]
         found: List[List[int]] = []
@@ -327,7 +327,7 @@ class Viewer:
         return b"".join(pieces)
 
     def note(self, area: Area) -> None:
-        """Notes that the viewer has an area; a point that it has in part is sent again."""
+        """Notes that the viewer has an area. Points that it has in part are sent again."""
         scale = self.show.scale
         first, last = -(-area.west // scale), (area.west + area.width) // scale
         for v in range(-(-area.north // scale), (area.north + area.height) // scale):
@@ -346,7 +346,7 @@ def spread(row: bytes, scale: int) -> bytes:
 
 
 def encoded(row: bytes, planes: List[bytes]) -> bytes:
-    """A row of colours as pixels, of which each byte has a table."""
+    """A row of colours as pixels. Each byte of a pixel has a table."""
     made = bytearray(len(row) * len(planes))
     for place, plane in enumerate(planes):
         made[place :: len(planes)] = row.translate(plane)

@@ -1,13 +1,14 @@
 """Serves the page of a recording to a browser on the same machine, and to nobody else.
 
-A page of another origin may send requests to a server on the loopback: by a form, by a picture's address, or under a
-name of its own that leads to 127.0.0.1. So each request names this server as its host, and where it has an origin
-that is this page; its path has a token that is drawn at random; a call is JSON of a limited length. No path leads to
-a file. The only file that is ever written is the script's own."""
+Pages of another origin can send requests to a server on the loopback: by a form, by the address of a picture, or under
+a name of their own that leads to 127.0.0.1. So a request must name this server as its host and, if it has an origin,
+as its origin. Its path must have the random token. A call is JSON of limited length. No path leads to a file, and the
+server writes only the file of the script."""
 
 import hmac
 import json
 import secrets
+import socket
 import threading
 import time
 from http.server import BaseHTTPRequestHandler, ThreadingHTTPServer
@@ -88,6 +89,25 @@ class Handler(BaseHTTPRequestHandler):
     timeout = PATIENCE
     server: Server
 
+    def setup(self) -> None:
+        """Gives the head of a request so many seconds in all, however its bytes come."""
+        super().setup()
+        self.watch = threading.Timer(PATIENCE, self.give_up)
+        self.watch.daemon = True
+        self.watch.start()
+
+    def give_up(self) -> None:
+        """Ends the connection."""
+        try:
+            self.connection.shutdown(socket.SHUT_RDWR)
+        except OSError:
+            pass
+
+    def finish(self) -> None:
+        """Ends the watch, too."""
+        self.watch.cancel()
+        super().finish()
+
     def do_GET(self) -> None:  # pylint: disable=invalid-name
         """The page."""
         self.answer(self.page)
@@ -98,6 +118,7 @@ class Handler(BaseHTTPRequestHandler):
 
     def answer(self, make: Callable[[], Tuple[bytes, Dict[str, str]]]) -> None:
         """Answers a request that is allowed; another one gets its status and a line."""
+        self.watch.cancel()
         try:
             self.check()
             body, headers = make()
@@ -124,7 +145,7 @@ class Handler(BaseHTTPRequestHandler):
             raise Wrong(404, "there is nothing here")
 
     def page(self) -> Tuple[bytes, Dict[str, str]]:
-        """The page as it is now."""
+        """The present page."""
         nonce = secrets.token_urlsafe(18)
         with self.server.lock:
             recording = self.server.recording
@@ -142,7 +163,7 @@ class Handler(BaseHTTPRequestHandler):
         return json.dumps(answer).encode("ascii"), {"Content-Type": "application/json"}
 
     def body(self) -> Dict[str, Any]:
-        """What a call asks for."""
+        """The JSON object of a call."""
         lengths = self.headers.get_all("Content-Length", [])
         if self.headers.get("Transfer-Encoding") or len(lengths) != 1 or not lengths[0].isdecimal():
             raise Wrong(411, "a call says its length")
@@ -180,7 +201,7 @@ class Handler(BaseHTTPRequestHandler):
 
 
 def called(recording: Recording, asked: Dict[str, Any]) -> Dict[str, Any]:
-    """Does what a call asks for, and answers what is so then."""
+    """Does a call, and answers with the new state."""
     said: List[str] = []
     before = recording.version
     try:
@@ -197,7 +218,7 @@ def called(recording: Recording, asked: Dict[str, Any]) -> Dict[str, Any]:
 
 
 def done(recording: Recording, asked: Dict[str, Any]) -> Optional[Dict[str, Any]]:
-    """Does what a call asks for. Some calls have an answer of their own."""
+    """Does a call. Some calls have an answer of their own."""
     what = asked.get("do")
     if what == "motion":
         recording.motion(*point(asked))
@@ -243,7 +264,7 @@ def text(asked: Dict[str, Any]) -> str:
 
 
 def state(recording: Recording, has: Any, before: int) -> Dict[str, Any]:
-    """What a page needs that has a version: all, or what is new since the last one."""
+    """The state for a page that has a version: everything, or only the new moments."""
     trace, begin = recording.trace, 0
     if has == recording.version:
         begin = len(trace.moments)

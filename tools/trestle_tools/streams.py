@@ -5,7 +5,7 @@ from typing import Iterator, List, NamedTuple, Optional, Sequence, Tuple
 
 from .outputs import GREATEST, Dump
 
-# The kinds of pixels by the byte that stands for them, and the greatest size of a screen.
+# The kinds of pixels in the order of their bytes, and the limits of a stream.
 KINDS = ("mono", "map8", "map4")
 MOST_GROUPS, MOST_BYTES, MOST_SIDE = 64, 75_497_472, 1024
 SCREEN, RUN, FILL, CUT = 1, 2, 3, 4
@@ -14,7 +14,7 @@ HEADS = {SCREEN: 6, RUN: 7, FILL: 7, CUT: 5}
 
 
 class Refused(Exception):
-    """What is wrong with a stream: the place of the record, and the code, as `show` tells it."""
+    """A fault of a stream: the place of the record and the code, as `show` prints them."""
 
     def __init__(self, place: int, code: str):
         super().__init__(f"byte {place} {code}")
@@ -52,7 +52,7 @@ class Reader:
         self.kind = ""
         self.pixels = bytearray()
         self.cuts = 0
-        # What came in the group so far: the least row that may come, and whether a Screen may come.
+            # The least row that may follow in this group, and whether the group is still empty.
         self.next_row = 0
         self.is_fresh = True
 

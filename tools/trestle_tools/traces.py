@@ -94,7 +94,7 @@ class Trace:
 
 
 def stride(steps: int, points: int) -> int:
-    """Every which step is shown of so many, on a screen of so many points."""
+    """How many steps lie between two pictures, for so many steps on a screen of so many points."""
     most = max(REPORTS, min(MOST_PICTURES, MOST_POINTS // points))
     return max(1, -(-steps // most))
 
@@ -119,23 +119,36 @@ def wanted_counts(body: Body, every: int) -> List[int]:
 
 
 def batches(body: Body, wanted: Sequence[int]) -> Iterator[List[int]]:
-    """Numbers of steps after which a copy has a dump, for as many copies as are needed. Where there is no room for one
-    dump behind so many steps, it and all that follow are left out."""
-    steps = body.steps()
-    sizes = [0]
-    for step in steps:
-        sizes.append(sizes[-1] + len(step.text) + 1)
-    opening = sum(len(line.text) + 1 for line in body.opening)
+    """The numbers of steps at which each copy has a dump. Numbers that leave no room for a dump are left out."""
+    sizes = sizes_of(body)
     batch: List[int] = []
     for count in wanted:
-        if batch and not has_room(body, opening + sizes[count], count, len(batch) + 1):
+        if batch and not has_room(body, sizes[count], count, len(batch) + 1):
             yield batch
             batch = []
-        if not has_room(body, opening + sizes[count], count, 1):
+        if not has_room(body, sizes[count], count, 1):
             return
         batch.append(count)
     if batch:
         yield batch
+
+
+def sizes_of(body: Body) -> List[int]:
+    """The bytes of the opening and so many steps, by the number of steps."""
+    sizes = [sum(len(line.text) + 1 for line in body.opening)]
+    for step in body.steps():
+        sizes.append(sizes[-1] + len(step.text) + 1)
+    return sizes
+
+
+def all_answers(body: Body) -> List[Entry]:
+    """The journal's entry for each step. If a copy has no room for a journal, the last entries are empty."""
+    steps, sizes = body.steps(), sizes_of(body)
+    count = len(steps)
+    while count and (len(body.opening) + count + 3 > LINES or sizes[count] + len("sync\njournal\nend\n") > TEXT_BYTES):
+        count -= 1
+    entries = answers(Body(body.opening, steps[:count]))
+    return entries + [Entry(0, "", step.text, "", ()) for step in steps[count:]]
 
 
 def has_room(body: Body, size: int, count: int, dumps: int) -> bool:
@@ -233,7 +246,7 @@ def lines_below(line: str) -> int:
 
 
 def add_places(trace: Trace, body: Body, entries: Sequence[Entry]) -> None:
-    """Adds where the windows are after each number of steps that has a picture, where that is another place."""
+    """Adds the places of the windows at each picture, if they changed."""
     windows = Windows()
     for line in body.opening:
         windows.add(line)
@@ -259,7 +272,7 @@ def add_places(trace: Trace, body: Body, entries: Sequence[Entry]) -> None:
 
 
 def add_place(trace: Trace, count: int, now: List[Placed]) -> None:
-    """Adds where the windows are, unless they are there already."""
+    """Adds the places of the windows, if they changed."""
     last = trace.places[max(trace.places)] if trace.places else None
     if now != last:
         trace.places[count] = now
@@ -289,14 +302,16 @@ def placed(windows: Windows, rects: Dict[str, Rect], lines: Dict[str, int]) -> I
 
 
 def add_numbers(trace: Trace, body: Body, progress: Progress) -> None:
-    """Adds what is bad, waits and is stale after each moment that isn't known: by `check`, as far as that takes the
-    script, and where there is a picture by `peek`."""
+    """Adds the bad points, waiting commands and stale points after each unknown moment: by `check` if it accepts the
+    script, and at each picture by `peek`."""
     places = [0]
     for line in body.lines:
         if line.text != "sync":
             places.append(places[-1] + (is_step(line) or line.text == "dump"))
-    pictured = trace.pictured()
+    pictured, sizes = trace.pictured(), sizes_of(body)
     asked = {n for n, it in enumerate(trace.moments) if n not in trace.numbers and it.count in pictured}
+    # A copy may have 64 dumps of the script beside the reports that are asked for.
+    asked = {n for n in asked for count in [trace.moments[n].count] if has_room(body, sizes[count], count + 2 * REPORTS, REPORTS)}
     try:
         if len(asked) + len(trace.numbers) < len(trace.moments):
             progress("numbers: check")
@@ -306,8 +321,9 @@ def add_numbers(trace: Trace, body: Body, progress: Progress) -> None:
     except Trouble:
         trace.notes.append("numbers only at pictures: `check` refuses a script of this size")
     progress("numbers: peek")
+    last = max((trace.moments[n].line for n in asked), default=0)
     try:
-        found = peeks(body, {places[n] for n in asked})
+        found = peeks(Body(body.opening, [line for line in body.lines if line.number <= last]), {places[n] for n in asked})
     except Trouble as trouble:
         trace.notes.append(f"the number of waiting commands is unknown: {trouble}")
         return
@@ -322,8 +338,8 @@ def quiet(_what: str) -> None:
 
 
 class Asked(NamedTuple):
-    """How a script is traced: every which step has a picture (0: as many as a page has room for), whether its screens
-    are summed up, who is told how far it is, and the trace beside which it is seen."""
+    """How a script is traced: how many steps lie between two pictures (0: as few as a page has room for), whether to sum up
+    the screens, whom to tell the progress, and the trace that the page shows beside it."""
 
     every: int = 0
     summed: bool = False
@@ -343,7 +359,9 @@ def trace_of_script(script: Packed, asked: Asked, known: Optional[Trace] = None)
     labels = [line.at()[len("line ") :] for line in script.lines] if script.includes() else []
     trace = Trace(script.name, [line.text for line in script.lines], labels)
     asked.progress("answers")
-    entries = answers(body)
+    entries = all_answers(body)
+    if entries and not entries[-1].answer:
+        trace.notes.append("no answers of the last steps: a copy with a journal would have too many lines or bytes")
     trace.moments = list(moments_of(body, entries, result.text()))
     take_known(trace, known)
     every = asked.every or stride(len(entries), greatest_screen(body.opening + body.lines))
@@ -381,7 +399,7 @@ def last_pictured(trace: Trace) -> int:
 
 
 def shared(one: Trace, other: Trace) -> int:
-    """With how many equal moments two traces begin, of which the lines up to `begin` are equal."""
+    """How many equal moments two traces share at their start; 0 if their openings differ."""
     if not one.moments or not other.moments:
         return 0
     begin, begun = one.moments[0].line, other.moments[0].line
@@ -396,7 +414,7 @@ def shared(one: Trace, other: Trace) -> int:
 
 
 def take_known(trace: Trace, known: Optional[Trace]) -> None:
-    """Takes over the pictures and numbers of the moments with which another trace begins, too."""
+    """Takes over the pictures and numbers of the moments that another trace shares."""
     same = shared(trace, known) if known else 0
     if not known or not same:
         return
@@ -467,7 +485,7 @@ def pairs_of(first: Trace, second: Trace) -> List[Pair]:
             if sums[0] != sums[1] and sums != before:
                 differs.append("picture")
             before = sums
-        # Where neither differs nor shows anything, a long pair of scripts has no stop.
+        # Long scripts: a pair without a picture that doesn't differ is no stop.
         if differs or not is_thinned or None not in sums:
             pairs.append(Pair(one, other, tuple(differs)))
     return pairs
@@ -505,7 +523,7 @@ def aligned(one: List[str], other: List[str]) -> Iterator[Tuple[int, int]]:
 
 
 def equal_front(one: List[str], other: List[str]) -> int:
-    """With how many equal texts two lists begin."""
+    """How many equal texts two lists share at their start."""
     return next((n for n, (here, there) in enumerate(zip(one, other)) if here != there), min(len(one), len(other)))
 
 

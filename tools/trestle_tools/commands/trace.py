@@ -81,14 +81,14 @@ def write_page(name: str, text: str) -> None:
 
 
 class Progress:
-    """Tells on standard error how far the work is: in one line of a terminal, else only of what takes long."""
+    """Tells the progress on standard error: in one line of a terminal, otherwise every five seconds."""
 
     def __init__(self) -> None:
         self.is_terminal = sys.stderr.isatty()
         self.told = time.monotonic()
 
     def tell(self, what: str) -> None:
-        """Tells what is being done."""
+        """Tells the present piece of work."""
         if self.is_terminal:
             sys.stderr.write(f"\r\033[Ktrace: {what}")
         elif time.monotonic() > self.told + 5:

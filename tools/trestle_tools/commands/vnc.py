@@ -36,7 +36,11 @@ def words() -> Parser:
     taken.add_argument("--keys", action="store_true", help="only a key brings the next cut")
     taken.add_argument("--loop", action="store_true", help="the first cut follows the last one")
     taken.add_argument(
-        "--scale", type=int, default=0, metavar="N", help=f"N by N points for each pixel, 1 to {GREATEST_SCALE}; without it a size that is easy to see"
+        "--scale",
+        type=int,
+        default=0,
+        metavar="N",
+        help=f"N by N points for each pixel, 1 to {GREATEST_SCALE}; without it a size that is easy to see",
     )
     return taken
 
