@@ -12,6 +12,7 @@ import time
 import unittest
 from pathlib import Path
 from typing import Any, Callable, Dict, Tuple
+from unittest import mock
 
 from browser import Browser, browser
 from commands_under_test import TOP, call
@@ -186,7 +187,7 @@ class Served(InFolder):
         self.host = f"127.0.0.1:{self.server.server_port}"
         self.act = f"/{self.server.token}/act"
 
-    def raw(self, text: str, wait: float = 20) -> str:
+    def raw(self, text: str, wait: float = 60) -> str:
         """The answer to some bytes."""
         with socket.create_connection(self.server.server_address[:2], wait) as connection:
             data = b""
@@ -206,7 +207,7 @@ class Served(InFolder):
 
     def post(self, asked: Any, **more: str) -> Tuple[int, Any]:
         """A call, and its answer."""
-        connection = http.client.HTTPConnection(self.host, timeout=20)
+        connection = http.client.HTTPConnection(self.host, timeout=60)
         connection.request("POST", self.act, json.dumps(asked), {"Content-Type": "application/json", **more})
         answer = connection.getresponse()
         text = answer.read()
@@ -323,24 +324,26 @@ class Hostile(Served):
     def test_endless(self) -> None:
         """A body that doesn't end, and one that doesn't come, are given up; others are answered meanwhile."""
         self.assertIn(self.status("POST", self.act, {**self.good, "Content-Length": "99999999"}, "x" * 5_000_000), (0, 413))
-        self.addCleanup(setattr, serving, "PATIENCE", serving.PATIENCE)
-        self.addCleanup(setattr, serving.Handler, "timeout", serving.Handler.timeout)
-        serving.PATIENCE = serving.Handler.timeout = 1.0
+        with mock.patch.object(serving, "PATIENCE", 1.0), mock.patch.object(serving.Handler, "timeout", 1.0):
+            self.slow()
+        self.assertIn(" 414 ", self.raw("GET /" + "x" * 70000 + "\r\n").split("\r\n")[0])
+
+    def slow(self) -> None:
+        """Requests that come too slowly, or not whole."""
         head = f"POST {self.act} HTTP/1.1\r\nHost: {self.host}\r\nContent-Type: application/json\r\nContent-Length: 13\r\n\r\n"
         self.assertIn(" 408 ", self.raw(head + '{"do"').split("\r\n")[0])
         self.assertEqual("", self.raw("POST " + "x" * 100))
-        with socket.create_connection(self.server.server_address[:2], 20) as slow:
+        with socket.create_connection(self.server.server_address[:2], 60) as slow:
             begun = time.monotonic()
             with self.assertRaises(OSError):
-                while time.monotonic() < begun + 20:
+                while time.monotonic() < begun + 60:
                     slow.sendall(b"x")
                     time.sleep(0.2)
-        self.assertIn(" 414 ", self.raw("GET /" + "x" * 70000 + "\r\n").split("\r\n")[0])
 
     def test_many(self) -> None:
         """Connections over a number are closed at once."""
-        held = [socket.create_connection(self.server.server_address[:2], 5) for _ in range(serving.AT_ONCE)]
-        late = socket.create_connection(self.server.server_address[:2], 5)
+        held = [socket.create_connection(self.server.server_address[:2], 60) for _ in range(serving.AT_ONCE)]
+        late = socket.create_connection(self.server.server_address[:2], 60)
         self.assertEqual(b"", late.recv(1))
         for connection in [*held, late]:
             connection.close()
