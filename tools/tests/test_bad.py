@@ -1,8 +1,9 @@
 """Which points are bad: what look --bad shows, and what lint --steps says of each step."""
 
+import re
 import sys
 import unittest
-from typing import Set, Tuple
+from typing import List, Set, Tuple
 
 from commands_under_test import TOP, call
 from test_files import Folder, colours_of
@@ -12,8 +13,10 @@ sys.path[:0] = [str(TOP / "tools"), str(TOP / "judges")]
 from model.printing import Model  # noqa: E402
 from trestle_tools.bad import Prober, place_of  # noqa: E402
 from trestle_tools.include import pack  # noqa: E402
-from trestle_tools.instruments import answers, body_of  # noqa: E402
+from trestle_tools.instruments import Peek, answers, body_of  # noqa: E402
 from trestle_tools.places import Rect  # noqa: E402
+from trestle_tools.scripts import Line  # noqa: E402
+from trestle_tools.steps import After, greatest  # noqa: E402
 
 # A typescript behind a note, and two windows in a row.
 SCRIPT = """trestle 1
@@ -149,8 +152,30 @@ class Steps(Folder):
                 self.assertEqual(reasons, lines[place + 1 : place + 1 + len(reasons)])
         self.assertRegex(lines[after["begin"]], r"^384 +0 +0 +18  begin$")
         self.assertRegex(lines[after["@text flush"]], r"^16 +\+16 +0 +-3 ")
-        self.assertTrue(any(it.startswith("most points are bad after line ") for it in lines))
-        self.assertTrue(any(it.startswith("most points become bad by line ") for it in lines))
+        self.assertTrue(any(re.match("(after the first dump, |once all was painted by line [0-9]+, )most points are bad after line ", it) for it in lines))
+        self.assertTrue(any(re.match(".*, most points become bad by line ", it) for it in lines))
+
+    def greatest(self, text: str, bad: List[int]) -> List[str]:
+        """What is said at the end of lines of one letter each, with so many bad points after each."""
+        told = [After(Line(number, it), Peek(now, 0, 0), Peek(before, 0, 0), []) for number, (it, now, before) in enumerate(zip(text, bad, [0, *bad]), 1)]
+        told = [after._replace(line=Line(after.line.number, "dump")) if after.line.text == "d" else after for after in told]
+        return list(greatest(told))
+
+    def test_all_lines_that_tie_are_named(self) -> None:
+        """It named the first one alone, and called it the greatest though all points are bad before the first dump."""
+        self.assertEqual(
+            [
+                "after the first dump, most points are bad after line 4 to line 5 and line 7: 8",
+                "after the first dump, most points become bad by lines 4, 7: 8 each",
+            ],
+            self.greatest("abdxydedf", [90, 90, 0, 8, 8, 0, 8, 0, 4]),
+        )
+        self.assertEqual(
+            ["once all was painted by line 2, most points are bad after line 3: 6 (`c`)", "once all was painted by line 2, most points become bad by line 3: 6 (`c`)"],
+            self.greatest("abcd", [90, 0, 6, 0]),
+        )
+        self.assertEqual(["most points are bad after line 1 to line 2: 90"], self.greatest("ab", [90, 90])[:1])
+        self.assertEqual([], self.greatest("ad", [90, 0]))
 
 
 if __name__ == "__main__":

@@ -11,6 +11,7 @@ from commands_under_test import TOP, call
 sys.path.insert(0, str(TOP / "tools"))
 
 from trestle_tools.pictures import palette  # noqa: E402
+from trestle_tools.program import play  # noqa: E402
 
 
 def lines_of(name: str) -> List[str]:
@@ -65,6 +66,21 @@ class Docs(unittest.TestCase):
         for script in sorted((TOP / "docs/examples").glob("testing_*.txt")):
             with self.subTest(script.stem):
                 self.assertEqual((0, ""), call("lint", [str(script)]))
+
+    def test_what_testing_says_of_the_recorded_script(self) -> None:
+        """The numbers after a dump, the finding of the press that misses, and the key that reaches its owner."""
+        page = (TOP / "docs/TESTING.md").read_text("utf-8")
+        recorded = (TOP / "docs/examples/testing_recorded.txt").read_text()
+        with_dump = play(recorded.replace("begin\n", "begin\ndump\n").encode()).text()
+        [peek] = [line for line in with_dump.splitlines() if line.startswith("peek ")]
+        self.assertIn(f"`{peek}`", page)
+        missed = call("lint", ["-"], given=recorded.replace("motion 1 20 15", "motion 1 40 15").encode())
+        place, says = missed.text.splitlines()[:2]
+        self.assertIn(f"    {place.replace('-:', 'button.txt:')}\n    {says}\n", page)
+        steps = ["motion 1 20 15", "mouse 2 down 1", "mouse 3 up 1", "sync", "@button own key 3", "sync", "key 4 65", "sync", "inbox button", "end"]
+        self.assertIn(f"`{steps[4]}`", page)
+        keys = recorded.partition("begin\n")[0] + "\n".join(["begin", *steps, ""])
+        self.assertIn("\nkey 4 65\n", play(keys.encode()).text())
 
     def test_refused_lines(self) -> None:
         text = "\n".join(lines_of("docs/SCRIPT.md"))

@@ -286,6 +286,41 @@ class Snap(Folder):
         self.assertNotIn("notes", ended.text)
         self.assertIn("snap: 3 not as stored, of 4 outputs of 1 script\n", ended.text)
 
+    def test_an_output_by_its_ending(self) -> None:
+        """Only snap stores files that end so, whatever they hold."""
+        (self.folder / "orphan.serial").write_text("something else\n")
+        ended = call("snap", ["--update", "."], self.folder)
+        self.assertEqual(1, ended.status)
+        self.assertIn("orphan.serial is an output without a script: there is no orphan.txt\n", ended.text)
+
+    def test_a_folder_without_scripts(self) -> None:
+        """It was fine with 0 outputs of 0 scripts, so that a test in CI passed which compared nothing."""
+        (self.folder / "empty").mkdir()
+        says = "empty has no script NAME.txt and no stream NAME.hex"
+        self.assertEqual((2, f"snap: {says}\n"), call("snap", ["empty"], self.folder))
+        (self.folder / "empty/some").mkdir()
+        self.script.rename(self.folder / "empty/some/lamp.txt")
+        (self.folder / "empty/lamp.serial").write_text("dump 1 1 map8\n07\n")
+        ended = call("snap", ["--junit", "out.xml", "--report", "page.html", "empty"], self.folder)
+        self.assertEqual(2, ended.status)
+        self.assertIn("empty/lamp.serial is an output without a script: there is no empty/lamp.txt\n", ended.text)
+        says += "; folders in it aren't searched: give empty/some"
+        self.assertIn(f"snap: {says}\n", ended.text)
+        [error] = ElementTree.parse(self.folder / "out.xml").getroot().iter("error")
+        self.assertEqual(says, error.get("message"))
+        self.assertIn("folders in it aren&#x27;t searched", (self.folder / "page.html").read_text())
+
+    def test_a_refused_script_without_an_output(self) -> None:
+        """snap gave the advice to store it, and --update refused that."""
+        self.script.write_text("trestle 1\n")
+        says = "lamp.txt: refused: line 2 B8; bin/why lamp.txt says why"
+        ended = call("snap", ["--junit", "out.xml", "--report", "page.html", "lamp.txt"], self.folder)
+        self.assertEqual((1, f"{says}\nsnap: 1 not as stored, of 1 output of 1 script\n"), ended)
+        [failure] = ElementTree.parse(self.folder / "out.xml").getroot().iter("failure")
+        self.assertEqual(says, failure.get("message"))
+        self.assertIn(f"<p>{says}</p>", (self.folder / "page.html").read_text())
+        self.assertIn(f"{says}: not stored\n  (to store it all the same: --status 3)\n", call("snap", ["--update", "lamp.txt"], self.folder).text)
+
     def test_junit(self) -> None:
         """What CI systems read: a case for each output, and what differs as the text of a failure."""
         self.differing()
@@ -359,6 +394,12 @@ class Help(unittest.TestCase):
             ended = call(command, ["--help"])
             self.assertEqual(0, ended.status)
             self.assertRegex(ended.text, r"for example:\n  (\./|bin/)\w")
+
+    def test_examples_start_no_proof(self) -> None:
+        """./trestle alone proves for an hour where only the unproved program is built."""
+        for command in ("look", "pack", "vnc"):
+            self.assertRegex(call(command, ["--help"]).text, r"\./trestle --unproved \w")
+            self.assertNotRegex(call(command, ["--help"]).text, r"\./trestle (?!--unproved )")
 
 
 if __name__ == "__main__":

@@ -10,6 +10,7 @@ from pathlib import Path
 from typing import Dict, List, Optional
 
 from commands_under_test import TOP, Ended
+from stand_ins import mark_fresh, write_program
 from trestle_tools.program import play, program
 TOOLS = sorted(file.name for file in (TOP / "bin").iterdir() if file.is_file())
 SCRIPT = b"trestle 1\nscreen 1 1 map8\nleaf a 0 1 1 0 1 1 solid 7\nroot a\nbegin\ndump\nend\n"
@@ -32,14 +33,13 @@ class Installed(unittest.TestCase):
 
     def write(self, name: str, command: str) -> None:
         """Makes a program of a line of the shell, in the checkout."""
-        path = self.top / name
-        path.parent.mkdir(exist_ok=True)
-        path.write_text(f"#!/bin/sh\n{command}\n")
-        path.chmod(0o755)
+        write_program(self.top / name, command)
 
     def call(self, words: List[str], given: bytes = b"", more: Optional[Dict[str, str]] = None) -> Ended:
         """Calls a command in a folder that has nothing to do with either, with no TRESTLE."""
         environment = {name: value for name, value in os.environ.items() if name not in ("TRESTLE", "DESTDIR")}
+        # (the toolchain that the stand-ins were made by)
+        environment["PATH"] = f"{self.top}/kit/bin:{environment['PATH']}"
         environment.update(more or {})
         ran = subprocess.run(words, input=given, cwd=self.room, env=environment, capture_output=True, check=False)
         return Ended(ran.returncode, (ran.stdout + ran.stderr).decode("utf-8"))
@@ -73,7 +73,7 @@ class Installed(unittest.TestCase):
         for name in TOOLS:
             ended = self.call([tool(name), "--help"])
             self.assertEqual(0, ended.status, ended.text)
-            self.assertNotRegex(ended.text, r"\./trestle|\bbin/")
+            self.assertNotRegex(ended.text, r"\./trestle|trestle --unproved|\bbin/")
 
     def test_uninstall(self) -> None:
         """All goes that was put there, and what others have there stays."""
@@ -117,8 +117,43 @@ class Installed(unittest.TestCase):
             self.assertIn("isn't built", ended.text)
             self.assertEqual([], self.found())
 
+    def test_unproved(self) -> None:
+        """The unproved program is installed where it is asked for, also beside a proved one, and each call tells of it once."""
+        shutil.copy(TOP / "fresh.sh", self.top)
+        self.write(".build/unproved/trestle", f'exec "{program()}" "$@"')
+        ended = self.install("--unproved", str(self.prefix))
+        self.assertEqual(1, ended.status)
+        self.assertIn("./build --unproved compiles it", ended.text)
+        mark_fresh(self.top, ".build/unproved")
+        self.assertEqual(0, self.install("--unproved", str(self.prefix)).status)
+        shutil.rmtree(self.top)
+        moved = self.room / "moved"
+        self.prefix.rename(moved)
+        warning = "trestle: this program is unproved: its run-time checks find only some mistakes\n"
+        self.assertEqual(Ended(0, DUMP + warning), self.call([str(moved / "bin/trestle"), "serial"], SCRIPT))
+        warning = "trestle-lint: by the unproved program, which was installed\n"
+        self.assertEqual(Ended(0, warning), self.call([str(moved / "bin/trestle-lint"), "-"], SCRIPT))
+
+    def test_proved_over_unproved(self) -> None:
+        """Nothing of the unproved program stays."""
+        shutil.copy(TOP / "fresh.sh", self.top)
+        self.write(".build/unproved/trestle", "exit 9")
+        mark_fresh(self.top, ".build/unproved")
+        for words in (["--unproved"], []):
+            self.assertEqual(0, self.install(*words, str(self.prefix)).status)
+        self.assertFalse((self.prefix / "lib/trestle/unproved").exists())
+        self.assertEqual(Ended(0, DUMP), self.call([str(self.prefix / "bin/trestle"), "serial"], SCRIPT))
+
+    def test_pages_as_installed(self) -> None:
+        """The pages name the programs as they are called there; what they say of a checkout stays so."""
+        self.assertEqual(0, self.install(str(self.prefix)).status)
+        for page in ("SCRIPT", "TESTING"):
+            for line in (self.prefix / f"share/doc/trestle/{page}.md").read_text("utf-8").split("\n"):
+                if "checkout" not in line:
+                    self.assertNotRegex(line, r"\./trestle|trestle --unproved|\bbin/\w")
+
     def test_words(self) -> None:
-        for words in ([], ["--uninstall"], ["a", "b"], ["--other"], [""]):
+        for words in ([], ["--uninstall"], ["--unproved"], ["a", "b"], ["--other"], [""]):
             self.assertEqual(2, self.install(*words).status, words)
         self.assertEqual(0, self.install("--help").status)
 

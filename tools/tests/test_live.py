@@ -76,6 +76,13 @@ class Recordings(InFolder):
         recording.add_line("inbox button")
         self.assertEqual(play(recording.script()).text() + "played threads\n", play(recording.script(), "play").text())
 
+    def test_the_hint_is_legal(self) -> None:
+        """The page's hint was a command of another widget, so that whoever typed it was refused."""
+        [hint] = re.findall('placeholder="a line of the script, as ([^"]*)"', (TOP / "tools/trestle_tools/page.html").read_text("utf-8"))
+        recording = Recording(self.path)
+        recording.add_line(hint)
+        self.assertEqual([hint], recording.lines[len(STARTER.splitlines()) :])
+
     def test_files_come_out_as_they_are(self) -> None:
         for script in [*sorted((TOP / "demos").glob("*.txt")), *sorted((TOP / "docs/examples").glob("testing_*.txt"))]:
             with self.subTest(script.stem):

@@ -1,6 +1,6 @@
 """Runs the program trestle on a script: the program that TRESTLE names in the environment; or else the proved program, where
 it is built; or else the unproved one, where that is built, which is told on standard error; or else ./trestle, which proves
-and builds it."""
+and builds it. Installed tools take the program that was installed with them."""
 
 import functools
 import os
@@ -36,12 +36,22 @@ def built() -> str:
     try:
         ran = subprocess.run([str(TOP / "build"), "--fresh"], stdin=subprocess.DEVNULL, stdout=subprocess.PIPE, check=False)
     except OSError:
-        # (an installed program stands there, and nothing that builds it)
-        return str(TOP / "trestle")
+        # (nothing that builds the program was installed)
+        return installed()
     path = os.fsdecode(ran.stdout).rstrip("\n")
     if path == str(TOP / ".build" / "unproved" / "trestle"):
         print(f"{Path(sys.argv[0]).name}: by the unproved program, since the proved one isn't built", file=sys.stderr)
     return path or str(TOP / "trestle")
+
+
+def installed() -> str:
+    """The path of the program that was installed with the tools. Of an unproved one they tell once themselves, since they may
+    call it many times."""
+    unproved = TOP / "unproved" / "trestle"
+    if not unproved.exists():
+        return str(TOP / "trestle")
+    print(f"{Path(sys.argv[0]).name}: by the unproved program, which was installed", file=sys.stderr)
+    return str(unproved)
 
 
 def program() -> str:

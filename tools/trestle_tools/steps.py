@@ -1,5 +1,6 @@
 """A script step by step: what is bad, waits and is stale after each, and whose points became bad, and why."""
 
+from itertools import groupby
 from typing import Dict, Iterator, List, NamedTuple, Optional, Set, Tuple
 
 from .bad import Prober, windows_of
@@ -8,7 +9,7 @@ from .instruments import Body, Peek, is_step, lags, peeks
 from .outputs import Entry
 from .places import EMPTY, Layout
 from .program import Trouble
-from .scripts import Line
+from .scripts import Line, places_of
 from .visible import visible
 from .windows import Window
 
@@ -196,12 +197,34 @@ def titled(steps: Steps, name: str) -> str:
 
 
 def greatest(told: List[After]) -> Iterator[str]:
-    """The step after which most is bad, and the one by which most became bad, once all was painted for the first time."""
-    painted = next((place for place, after in enumerate(told) if not after.now.bad), 0)
-    told = told[painted:]
-    if any(after.now.bad for after in told):
-        most = max(told, key=lambda it: it.now.bad)
-        grown = max(told, key=lambda it: it.now.bad - it.before.bad)
-        yield f"most points are bad after {most.line.at()}: {most.now.bad} (`{most.line.text}`)"
-        if grown.now.bad > grown.before.bad:
-            yield f"most points become bad by {grown.line.at()}: {grown.now.bad - grown.before.bad} (`{grown.line.text}`)"
+    """The steps after which most is bad, and those by which most became bad, once all was painted for the first time."""
+    painted = next((place for place, after in enumerate(told) if not after.now.bad), None)
+    rest = told if painted is None else told[painted:]
+    most = max(it.now.bad for it in rest)
+    if not most:
+        return
+    since = "" if painted is None else since_when(told[painted].line)
+    after = [it.line for it in rest if it.now.bad == most]
+    yield f"{since}most points are bad after {' and '.join(runs(rest, most))}: {most}{text_of(after)}"
+    grown = max(it.now.bad - it.before.bad for it in rest)
+    by = [it.line for it in rest if it.now.bad - it.before.bad == grown]
+    if grown > 0:
+        yield f"{since}most points become bad by {places_of(by)}: {grown}{' each' * (len(by) > 1)}{text_of(by)}"
+
+
+def since_when(line: Line) -> str:
+    """From which line on the points are counted: in the beginning all are bad."""
+    return "after the first dump, " if line.text == "dump" else f"once all was painted by {line.at()}, "
+
+
+def runs(told: List[After], bad: int) -> Iterator[str]:
+    """The lines after which so many points are bad: of lines in a row the first and the last one."""
+    for is_so, group in groupby(told, lambda it: it.now.bad == bad):
+        lines = [it.line for it in group]
+        if is_so:
+            yield lines[0].at() + f" to {lines[-1].at()}" * (len(lines) > 1)
+
+
+def text_of(lines: List[Line]) -> str:
+    """The text of a line, if it is the only one."""
+    return f" (`{lines[0].text}`)" if len(lines) == 1 else ""

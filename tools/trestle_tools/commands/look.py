@@ -49,9 +49,9 @@ It ends with 2 if the input isn't whole or is no output: a refusal, a dump that 
 stream, a picture or other bytes."""
 
 EXAMPLE = """\
-./trestle serial < demos/desktop.txt | bin/look
-./trestle serial < demos/desktop.txt | bin/look -o desktop.png --scale 8
-./trestle mirror < demos/desktop.txt | ./trestle show | bin/look --play
+./trestle --unproved serial < demos/desktop.txt | bin/look
+./trestle --unproved serial < demos/desktop.txt | bin/look -o desktop.png --scale 8
+./trestle --unproved mirror < demos/desktop.txt | ./trestle --unproved show | bin/look --play
 bin/look --diff demos/desktop.serial today.serial
 bin/look --bad demos/typescript.txt     # which points are bad at each `peek`"""
 

@@ -19,7 +19,7 @@ themselves.
 It ends with 2 if a file can't be included: it isn't there, lies elsewhere, or includes itself."""
 
 EXAMPLE = """\
-bin/pack button.txt | ./trestle serial
+bin/pack button.txt | ./trestle --unproved serial
 bin/pack button.txt > packed.txt"""
 
 

@@ -22,9 +22,10 @@ NAME.serial, NAME.dump or NAME.out by `serial`, NAME.check by `check`, NAME.play
 the order of its threads, and NAME.mirror by `mirror`, as `xxd` prints it. NAME.hex is a stream in hex digits, and
 NAME.show is what `show` prints for it. The status of a refusal is 3, of all other outputs 0. snap shows what differs:
 lines with their numbers, dumps as pictures, or as hex digits in a pipe. In a folder it also names stored outputs that
-have no script.
+have no script; it doesn't search the folders in it.
 
-It ends with 1 if an output differs or isn't stored, or a script is missing, and with 2 if a script can't be played."""
+It ends with 1 if an output differs or isn't stored, if a script is refused and no such refusal is stored, or if an
+output has no script. It ends with 2 if a folder has no script, or if the program couldn't play one."""
 
 EXAMPLE = """\
 bin/snap demos/*.txt                      # compares
@@ -36,6 +37,8 @@ bin/snap --update --check button.txt      # button.check too; so --play and --mi
 bin/snap --update --status 3 wrong.txt    # stores a refusal, which is never done without --status"""
 
 SERIAL_ENDINGS = (".serial", ".dump", ".out")
+# The ending that no other program's files have.
+OWN_ENDING = ".serial"
 STREAM_ENDING, SHOW_ENDING = ".hex", ".show"
 
 # The outputs of a script that are stored where they are asked for: their endings, and the words that write them.
@@ -88,6 +91,7 @@ def main(arguments: List[str]) -> int:
     scripts = [script for name in asked.files for script in scripts_of(name)]
     results = [result for script in scripts for result in results_of(script, asked)]
     results += [lonely(path) for name in asked.files for path in without_script(Path(name))]
+    results += [empty(Path(name)) for name in asked.files if not scripts_of(name)]
     if asked.report:
         write_file(asked.report, page(results).encode())
     if asked.junit:
@@ -170,7 +174,7 @@ def without_script(folder: Path) -> Iterator[Path]:
         if path.suffix not in (*SERIAL_ENDINGS, *FURTHER, SHOW_ENDING) or not path.is_file():
             continue
         source = path.with_suffix(STREAM_ENDING if path.suffix == SHOW_ENDING else ".txt")
-        if not source.exists() and is_output(path):
+        if not source.exists() and (path.suffix == OWN_ENDING or is_output(path)):
             yield path
 
 
@@ -187,6 +191,15 @@ def lonely(path: Path) -> Result:
     says = f"{path} is an output without a script: there is no {source}"
     write(says)
     return Result(source, path, "", NO_SCRIPT, says)
+
+
+def empty(folder: Path) -> Result:
+    """A folder without a script: whoever gives it expects that something is compared."""
+    says = f"{folder} has no script NAME.txt and no stream NAME.hex"
+    below = sorted({str(path.parent) for ending in (".txt", STREAM_ENDING) for path in folder.rglob("*" + ending)})
+    if below:
+        says += f"; folders in it aren't searched: give {', '.join(below[:SHOWN])}" + ", .." * (len(below) > SHOWN)
+    return Result(folder / "*.txt", folder / ("*" + OWN_ENDING), "", IN_TROUBLE, says)
 
 
 def given(script: Path) -> bytes:
@@ -231,6 +244,10 @@ def compared(script: Path, stored: Stored, played: Played) -> Result:
     result = Result(script, stored.path, stored.word, AS_STORED, "", before, now)
     if before == now and due_status(before) == played.status:
         return result
+    if before is None and played.status == REFUSED:
+        return result._replace(outcome=STATUS, says=f"{script}: {first_line(played)}; bin/why {script} says why")
+    if before is None and played.status != PLAYED:
+        return result._replace(outcome=STATUS, says=f"{script}: {stored.word} {ending(played)}, and no output is stored")
     if before is None:
         says = f"{script}: no output is stored; bin/snap --update {script} stores it as {stored.path}"
         return result._replace(outcome=NOT_STORED, says=says)
@@ -252,9 +269,14 @@ def tell(result: Result, stored: Stored, asked: argparse.Namespace) -> None:
 
 def ending(played: Played) -> str:
     """How a script ended, and where to look further."""
-    first = played.text().split("\n")[0] if played.status != PLAYED else ""
+    first = first_line(played) if played.status != PLAYED else ""
     further = {REFUSED: "; bin/why says why"}.get(played.status, "")
     return f"ends with status {played.status}" + (f" ({first}{further})" if first else "")
+
+
+def first_line(played: Played) -> str:
+    """The first line of what was written."""
+    return played.text().split("\n")[0]
 
 
 def hex_lines(data: bytes) -> str:
@@ -276,6 +298,8 @@ def updated(result: Result, stored: Stored, played: Played, asked: argparse.Name
     status = due_status(result.before or "")
     if played.status not in (status, asked.status):
         says = f"{result.script}: {stored.word} {ending(played)}, where {status} is stored: not stored"
+        if result.before is None:
+            says = f"{result.says}: not stored"
         further = f"\n  (to store it all the same: --status {played.status})" if played.status <= READ_FAULT else ""
         write(says + further)
         return result._replace(outcome=STATUS, says=says)

@@ -17,9 +17,9 @@ without a password. Each viewer begins at the first cut. The next one follows af
 go to the first and the last cut. These keys always work. Ctrl-C ends the server."""
 
 EXAMPLE = """\
-./trestle mirror < demos/desktop.txt > desktop.stream
+./trestle --unproved mirror < demos/desktop.txt > desktop.stream
 bin/vnc desktop.stream                          # and in another terminal: xtigervncviewer 127.0.0.1::5900
-./trestle mirror < demos/desktop.txt | bin/vnc - --keys --port 5901
+./trestle --unproved mirror < demos/desktop.txt | bin/vnc - --keys --port 5901
 bin/vnc button.mirror                           # a stream that bin/snap has stored"""
 
 GREATEST_SCALE = 32
