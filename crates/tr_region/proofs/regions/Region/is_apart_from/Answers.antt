@@ -1,9 +1,14 @@
-use Rattle.std.proofs.Common.{sym, ◌∙◌}
-use Rattle.tr_region.proofs.RegionLemmas.{stored_holds, apart_by_extents}
+use Rattle.tr_base.specs.Rects.{has_point}
+use Rattle.tr_region.specs.Points.{holds}
+use Rattle.tr_region.proofs.ApartLemmas.{apart_from, apart_swapped}
 use Rattle.tr_region.proofs.regions.Region.is_apart_from.Goals as goal
 
-pub returns : goal.returns
-returns c = λ none p.
-    apart_by_extents _ _ _ _ (stored_holds _ _ c.args.self.now p c.self.invariant c.self.view_is)
-    (stored_holds _ _ c.args.other.now p c.other.invariant c.other.view_is)
-    (sym (c.meet.ensures.points p) ∙ c.is_empty.ensures.points.0 none p)
+pub returns-then-is_apart : goal.returns-then-is_apart
+returns-then-is_apart c = λ h p.
+    apart_from (holds c.args.self.now p) (holds c.args.other.now p) (has_point c.extents.result p) (c.extents.ensures.points p)
+    (c.is_apart.ensures c.if-is_apart.true p)
+
+pub returns-else-is_apart : goal.returns-else-is_apart
+returns-else-is_apart c = λ h p.
+    apart_swapped (holds c.args.self.now p) (holds c.args.other.now p) (has_point c.extents-else-is_apart.result p)
+    (c.extents-else-is_apart.ensures.points p) (c.is_apart-else-is_apart.ensures h p)
