@@ -1,4 +1,4 @@
-ghost use Rattle.std.specs.Prelude.{◌≡◌, ◌↔◌, ℕ, [], true, List, Option, IsTrue, IfOk, IfSome};
+ghost use Rattle.std.specs.Prelude.{◌≡◌, ◌↔◌, ◌++◌, ℕ, [], true, List, Option, IsTrue, IfOk, IfSome, OnOk, OnErr};
 ghost use Rattle.tr_base.specs.declared.points.Point.{Point};
 ghost use Rattle.tr_base.specs.declared.sizes.Size.{Size};
 ghost use Rattle.tr_base.specs.declared.events.Event.{Event};
@@ -79,6 +79,32 @@ pub trait Client: Sized + Drop + Send + Sync {
         ensures next { IfOk result (λ r. r.0 ≡ next self.now cmd.now) }
         ensures patch { let look = look_of env.now.kind env.now.font.now in
             IfOk result (λ r. r.1 ≡ patch look size self.now cmd.now) };
+
+    /// A command changes the content in place, and the command's patch goes behind the commands of a
+    /// batch. Where memory runs out, both stay as they are. A client whose contents are large does better
+    /// to change them where they lie.
+    fn apply(
+        &mut self,
+        alloc: Global,
+        env: &Env,
+        size: Size,
+        cmd: &Self::Cmd,
+        batch: &mut Batch,
+    ) -> Result<(), NoMemory>
+        requires { IsWindowSize size }
+        ensures valid { valid self.old }
+        ensures command { Self.Cmd.valid cmd.now }
+        ensures content_ok { OnOk result (self.new ≡ next self.old cmd.now) }
+        ensures batch_ok { let look = look_of env.now.kind env.now.font.now in
+            OnOk result (batch.new ≡ batch.old ++ patch look size self.old cmd.now) }
+        ensures content_err { OnErr result (self.new ≡ self.old) }
+        ensures batch_err { OnErr result (batch.new ≡ batch.old) }
+    {
+        let (content, patch) = self.change(alloc, env, size, cmd)?;
+        batch.extend(patch)?;
+        *self = content;
+        Ok(())
+    }
 
     /// The command that an event asks for, if it asks for one.
     fn react(&self, alloc: Global, event: &Event) -> Result<Option<Self::Cmd>, NoMemory>

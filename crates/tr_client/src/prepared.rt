@@ -8,7 +8,7 @@ ghost use Rattle.tr_client.specs.Runs.{content_after, patches_of};
 
 use crate::clients::Client;
 use std::alloc::Global;
-use tr_base::{Env, Font, Kind, NoMemory, Size};
+use tr_base::{Command, Env, Font, Kind, NoMemory, Size};
 use tr_paint::Batch;
 
 /// Commands over a content, with the content that they leave and their patches in a row, all for one
@@ -73,12 +73,11 @@ impl<C: Client> Prepared<C> {
             font: &self.font,
         };
         let alloc = *self.commands.allocator();
-        let (to, patch) = self.to.change(alloc, &env, self.size, &cmd)?;
-        self.to.obeys_patch(&env, self.size, &cmd);
+        obeys(&self.to, &env, self.size, &cmd);
         self.commands.reserve(1)?;
-        self.batch.extend(patch)?;
+        self.to
+            .apply(alloc, &env, self.size, &cmd, &mut self.batch)?;
         self.commands.push(cmd)?;
-        self.to = to;
         Ok(())
     }
 
@@ -126,10 +125,21 @@ fn run<C: Client>(
     let mut to = content.copy(alloc)?;
     let mut batch = Batch::new(alloc);
     for cmd in commands {
-        let (next, patch) = to.change(alloc, env, size, cmd)?;
-        to.obeys_patch(env, size, cmd);
-        batch.extend(patch)?;
-        to = next;
+        obeys(&to, env, size, cmd);
+        to.apply(alloc, env, size, cmd, &mut batch)?;
     }
     Ok((to, batch))
+}
+
+/// The law of patches for a content and a command, told before the content changes. It asks which points
+/// the content keeps only since the answer tells that it is a content.
+fn obeys<C: Client>(content: &C, env: &Env, size: Size, cmd: &C::Cmd)
+    requires { IsWindowSize size }
+    ensures { let look = look_of env.now.kind env.now.font.now in
+        IsPatch look size (C.patch look size content.now cmd.now)
+        (C.pic look size content.now) (C.pic look size (C.next content.now cmd.now)) }
+{
+    let _kept = content.keeps(size, size);
+    cmd.known();
+    content.obeys_patch(env, size, cmd);
 }

@@ -1,4 +1,6 @@
 pub mod NearLemmas
+pub mod HullLemmas
+pub mod SumLemmas
 pub mod TraceLemmas
 pub mod PatchLemmas
 pub mod PaintingLemmas

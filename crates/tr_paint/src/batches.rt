@@ -1,31 +1,34 @@
-ghost use Rattle.std.specs.Prelude.{◌≡◌, ◌<◌, ◌↔◌, ◌++◌, [], length, slice_get, Some, IsTrue, IfOk, OnOk, OnErr};
+ghost use Rattle.std.specs.Prelude.{◌≡◌, ◌<◌, ◌↔◌, ◌++◌, [], length, slice_get, take, Some, IsTrue, IfOk, OnOk, OnErr};
 ghost use Rattle.tr_paint.specs.Paints.{IsNearPaint};
+ghost use Rattle.tr_paint.specs.Sums.{AreNear, AreScrolls, IsHull, cost_of, has_spoil};
 ghost use Rattle.tr_base.specs.declared.Point.{Point};
 ghost use Rattle.tr_paint.specs.Traces.{Look, Base, after, left_by};
 ghost use Rattle.tr_paint.specs.Batches as spec;
 
 use crate::paints::Paint;
+use crate::sums::{Scrolls, Sums, sums_of};
 use std::alloc::Global;
 use std::marker::Model;
-use tr_base::{NoMemory, Point};
+use tr_base::{NoMemory, Point, Rect};
 
 /// Paint commands in the order in which they are to be executed, seen as their list. Each has an area
-/// that isn't empty.
+/// that isn't empty. What is asked of all of them at once is kept beside them.
 #[derive(Debug, Drop)]
 pub struct Batch {
     paints: Vec<Paint>,
+    sums: Sums,
 }
 
 impl Model for Batch {
     ghost use Rattle.std.specs.Prelude.{List};
     ghost use Rattle.tr_paint.specs.declared.paints.Paint.{Paint};
-    ghost use Rattle.tr_paint.specs.Batches.{IsBatch};
+    ghost use Rattle.tr_paint.specs.Sums.{IsSummed};
 
     ghost Value = { List Paint };
 
     ghost view = { λ b. b.paints.items };
 
-    ghost invariant = { λ b. IsBatch b.paints.items };
+    ghost invariant = { λ b. IsSummed b.paints.items b.sums };
 }
 
 impl Batch {
@@ -35,6 +38,7 @@ impl Batch {
     {
         Batch {
             paints: Vec::new(alloc),
+            sums: Sums::none(),
         }
     }
 
@@ -44,9 +48,13 @@ impl Batch {
         ensures ok { OnOk result (self.new ≡ self.old ++ spec.kept paint) }
         ensures err { OnErr result (self.new ≡ self.old) }
     {
-        if !paint.area().is_empty() {
-            self.paints.push(paint)?;
+        let area = paint.area();
+        if area.is_empty() {
+            return Ok(());
         }
+        let sums = self.sums.with(&Sums::of(&paint, area));
+        self.paints.push(paint)?;
+        self.sums = sums;
         Ok(())
     }
 
@@ -61,6 +69,7 @@ impl Batch {
     {
         let mut copies = copies_of(&other.paints)?;
         self.paints.append(&mut copies)?;
+        self.sums = self.sums.with(&other.sums);
         Ok(())
     }
 
@@ -69,8 +78,9 @@ impl Batch {
         ensures ok { OnOk result (self.new ≡ self.old ++ other) }
         ensures err { OnErr result (self.new ≡ self.old) }
     {
-        let Batch { mut paints } = other;
+        let Batch { mut paints, sums } = other;
         self.paints.append(&mut paints)?;
+        self.sums = self.sums.with(&sums);
         Ok(())
     }
 
@@ -124,11 +134,51 @@ impl Batch {
         false
     }
 
+    /// The least rectangle round all points that its commands touch.
+    pub fn hull(&self) -> Rect
+        ensures { IsHull result self.now }
+    {
+        self.sums.hull
+    }
+
+    /// What executing its commands costs: the sum of their areas, each by its weight, which stops at
+    /// 2^64 - 1.
+    pub fn cost(&self) -> u64
+        ensures { result ≡ cost_of self.now }
+    {
+        self.sums.cost
+    }
+
+    /// Whether one of its commands is a spoil.
+    pub fn has_spoil(&self) -> bool
+        ensures { result ≡ has_spoil self.now }
+    {
+        self.sums.spoils
+    }
+
+    /// What is known of its scrolls without a walk over them.
+    pub fn scrolls(&self) -> Scrolls
+        ensures scrolls { AreScrolls result self.now }
+        ensures near { AreNear result }
+    {
+        self.sums.scrolls
+    }
+
     /// Lets all commands go.
     pub fn clear(&mut self)
         ensures { self.new ≡ [] }
     {
         self.paints.clear();
+        self.sums = Sums::none();
+    }
+
+    /// Lets all commands go but the first `count`. It walks over these, since it is called only where a
+    /// patch was half made when memory ran out.
+    pub fn truncate(&mut self, count: usize)
+        ensures { self.new ≡ take count self.old }
+    {
+        self.paints.truncate(count);
+        self.sums = sums_of(&self.paints);
     }
 
     /// A batch with the same commands.
@@ -137,6 +187,7 @@ impl Batch {
     {
         Ok(Batch {
             paints: copies_of(&self.paints)?,
+            sums: self.sums,
         })
     }
 }

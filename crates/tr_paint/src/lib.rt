@@ -5,7 +5,11 @@
 #![tactic(auto)]
 
 mod batches;
+mod hulls;
 mod paints;
+mod sums;
 
 pub use batches::Batch;
+pub use hulls::hull;
 pub use paints::{NEAR, Paint};
+pub use sums::{Scrolls, points_in};

@@ -158,6 +158,28 @@ impl Client for Widget {
         }
     }
 
+    fn apply(
+        &mut self,
+        alloc: Global,
+        env: &Env,
+        size: Size,
+        cmd: &WidgetCmd,
+        batch: &mut Batch,
+    ) -> Result<(), NoMemory> {
+        self.known();
+        cmd.known();
+        match (self, cmd) {
+            (Widget::Solid(x), WidgetCmd::Solid(cmd)) => x.apply(alloc, env, size, cmd, batch),
+            (Widget::Board(x), WidgetCmd::Board(cmd)) => x.apply(alloc, env, size, cmd, batch),
+            (Widget::Label(x), WidgetCmd::Label(cmd)) => x.apply(alloc, env, size, cmd, batch),
+            (Widget::Lines(x), WidgetCmd::Lines(cmd)) => x.apply(alloc, env, size, cmd, batch),
+            (Widget::Canvas(x), WidgetCmd::Canvas(cmd)) => x.apply(alloc, env, size, cmd, batch),
+            (Widget::Meter(x), WidgetCmd::Meter(cmd)) => x.apply(alloc, env, size, cmd, batch),
+            (Widget::Editor(x), WidgetCmd::Editor(cmd)) => x.apply(alloc, env, size, cmd, batch),
+            _ => Ok(()),
+        }
+    }
+
     fn react(&self, alloc: Global, event: &Event) -> Result<Option<WidgetCmd>, NoMemory> {
         Ok(match self {
             Widget::Solid(x) => x.react(alloc, event)?.map(|cmd| WidgetCmd::Solid(cmd)),

@@ -1,4 +1,4 @@
-ghost use Rattle.std.specs.Prelude.{◌≡◌, ◌↔◌, [], true, pos, IsTrue, IfOk, IfSome};
+ghost use Rattle.std.specs.Prelude.{◌≡◌, ◌↔◌, ◌++◌, [], true, pos, IsTrue, IfOk, IfSome, OnOk, OnErr};
 ghost use Rattle.tr_base.specs.Layouts.{longest};
 ghost use Rattle.tr_base.specs.Rects.{between};
 ghost use Rattle.tr_paint.specs.Paints.{IsNearPaint, IsNearRect};
@@ -146,16 +146,52 @@ impl Canvas {
         }
     }
 
-    /// The patch for a figure over all others.
-    fn with_patch(&self, alloc: Global, size: Size, figure: &Figure) -> Result<Batch, NoMemory>
-        requires { IsWindowSize size }
-        ensures { IfOk result (λ batch. batch ≡ spec.with_patch size self.now figure.now) }
+    /// A figure over all others, if there is room for it, in place.
+    fn add(&mut self, figure: Figure) -> Result<(), NoMemory>
+        requires { spec.IsFigure figure }
+        ensures ok { OnOk result (self.new ≡ spec.with_figure self.old figure) }
+        ensures err { OnErr result (self.new ≡ self.old) }
     {
-        let mut batch = Batch::new(alloc);
+        if self.figures.len() < FIGURES {
+            self.figures.push(figure)?;
+        }
+        Ok(())
+    }
+
+    /// The last figure goes, in place.
+    fn remove_last(&mut self)
+        ensures { self.new ≡ spec.without_last self.old }
+    {
+        let left = self.figures.len().saturating_sub(1);
+        self.figures.truncate(left);
+    }
+
+    /// The content after a command, in place.
+    fn take(&mut self, cmd: &CanvasCmd) -> Result<(), NoMemory>
+        ensures ok { OnOk result (self.new ≡ spec.canvas_next self.old cmd.now) }
+        ensures err { OnErr result (self.new ≡ self.old) }
+    {
+        cmd.known();
+        match *cmd {
+            CanvasCmd::Rect { area, tint } => self.add(filled(area, tint)),
+            CanvasCmd::Exchange { area, a, b } => self.add(exchanging(area, a, b)),
+            CanvasCmd::Undo => {
+                self.remove_last();
+                Ok(())
+            }
+        }
+    }
+
+    /// Puts the patch for a figure over all others behind the commands of a batch.
+    fn put_figure(&self, size: Size, figure: &Figure, batch: &mut Batch) -> Result<(), NoMemory>
+        requires { IsWindowSize size }
+        ensures ok { OnOk result (batch.new ≡ batch.old ++ spec.with_patch size self.now figure.now) }
+        ensures err { OnErr result (batch.new ≡ batch.old) }
+    {
         if self.figures().len() < FIGURES {
             batch.push(figure.paint(&window(size)))?;
         }
-        Ok(batch)
+        Ok(())
     }
 
     /// The patch for the last figure that goes away.
@@ -172,18 +208,28 @@ impl Canvas {
         paints(alloc, &part, &figures[..last])
     }
 
-    /// The patch of a command.
-    fn patch(&self, alloc: Global, size: Size, cmd: &CanvasCmd) -> Result<Batch, NoMemory>
+    /// Puts the patch of a command behind the commands of a batch.
+    fn put_patch(
+        &self,
+        alloc: Global,
+        size: Size,
+        cmd: &CanvasCmd,
+        batch: &mut Batch,
+    ) -> Result<(), NoMemory>
         requires { IsWindowSize size }
-        ensures { (look : Look) →
-            IfOk result (λ batch. batch ≡ spec.canvas_patch look size self.now cmd.now) }
+        ensures ok { (look : Look) →
+            OnOk result (batch.new ≡ batch.old ++ spec.canvas_patch look size self.now cmd.now) }
+        ensures err { OnErr result (batch.new ≡ batch.old) }
     {
         match *cmd {
-            CanvasCmd::Rect { area, tint } => self.with_patch(alloc, size, &filled(area, tint)),
+            CanvasCmd::Rect { area, tint } => self.put_figure(size, &filled(area, tint), batch),
             CanvasCmd::Exchange { area, a, b } => {
-                self.with_patch(alloc, size, &exchanging(area, a, b))
+                self.put_figure(size, &exchanging(area, a, b), batch)
             }
-            CanvasCmd::Undo => self.undo_patch(alloc, size),
+            CanvasCmd::Undo => {
+                let patch = self.undo_patch(alloc, size)?;
+                batch.extend(patch)
+            }
         }
     }
 }
@@ -320,8 +366,28 @@ impl Client for Canvas {
         let _figures = self.figures();
         cmd.known();
         let next = self.after(alloc, cmd)?;
-        let patch = self.patch(alloc, size, cmd)?;
+        let mut patch = Batch::new(alloc);
+        self.put_patch(alloc, size, cmd, &mut patch)?;
         Ok((next, patch))
+    }
+
+    fn apply(
+        &mut self,
+        alloc: Global,
+        _env: &Env,
+        size: Size,
+        cmd: &CanvasCmd,
+        batch: &mut Batch,
+    ) -> Result<(), NoMemory> {
+        let _figures = self.figures();
+        cmd.known();
+        let before = batch.len();
+        self.put_patch(alloc, size, cmd, batch)?;
+        if let Err(error) = self.take(cmd) {
+            batch.truncate(before);
+            return Err(error);
+        }
+        Ok(())
     }
 
     fn react(&self, _alloc: Global, event: &Event) -> Result<Option<CanvasCmd>, NoMemory> {

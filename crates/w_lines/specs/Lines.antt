@@ -1,5 +1,5 @@
 -- Windows that show the last lines of a typescript.
-use Rattle.std.specs.Prelude.{ℕ, ◌-◌, ◌≤◌, ◌==◌, nat_lt, min, if◌then◌else◌, List, [], ◌∷◌, ◌++◌, length, drop, slice_index_or, All, Option, Some, None, codes}
+use Rattle.std.specs.Prelude.{ℕ, ◌-◌, ◌<◌, ◌≤◌, ◌==◌, nat_lt, min, if◌then◌else◌, List, [], ◌∷◌, ◌++◌, length, drop, slice_index_or, All, Option, Some, None, codes}
 use Rattle.tr_base.specs.declared.Point.{Point}
 use Rattle.tr_base.specs.declared.Size.{Size}
 use Rattle.tr_base.specs.declared.Event.{Event}
@@ -29,6 +29,12 @@ last_of n lines = drop (length lines - n) lines
 pub record IsLines (lines : List (List ℕ)) : Type 0 where
   pub few : length lines ≤ most_lines
   pub each : All IsLine lines
+
+-- lines lie in a block behind others that are no longer kept, which are fewer than 200
+pub record IsBlock (stale : ℕ) (block : List (List ℕ)) : Type 0 where
+  pub within : stale ≤ length block
+  pub few : stale < most_lines
+  pub lines : IsLines (drop stale block)
 
 -- the text of a command is one of a line
 abbrev pub IsLinesCmd : LinesCmd → Type 0

@@ -1,4 +1,4 @@
-ghost use Rattle.std.specs.Prelude.{◌≡◌, ◌*◌, ◌++◌, ◌∷◌, [], ◌<◌, ◌≤◌, ◌↔◌, true, IfOk, IsTrue};
+ghost use Rattle.std.specs.Prelude.{◌≡◌, ◌*◌, ◌++◌, ◌∷◌, [], ◌<◌, ◌≤◌, ◌↔◌, true, length, take, drop, IfOk, IsTrue, OnOk, OnErr};
 ghost use Rattle.tr_base.specs.declared.points.Point.{Point};
 ghost use Rattle.tr_base.specs.Rects.{has_point, whole_of};
 ghost use Rattle.tr_base.specs.Layouts.{longest};
@@ -6,6 +6,7 @@ ghost use Rattle.tr_paint.specs.Paints.{IsNearRect};
 ghost use Rattle.tr_paint.specs.Traces.{Look};
 ghost use Rattle.tr_paint.specs.Paintings.{IsPainting};
 ghost use Rattle.tr_client.specs.Laws.{IsWindowSize};
+ghost use Rattle.tr_client.specs.Texts.{cleared as background};
 ghost use Rattle.w_lines.specs.Lines as spec;
 
 use crate::commands::LinesCmd;
@@ -13,29 +14,33 @@ use std::alloc::Global;
 use std::marker::Model;
 use tr_base::{Command, Env, Event, Line, NoMemory, Op, Rect, Size, is_printable};
 use tr_client::{
-    Client, PLAIN, area_of, begin_of, cleared, keeps_nothing, kept_part, paint_lines,
-    part_of_window, room, same_lines, upwards, window,
+    Client, PLAIN, area_of, begin_of, keeps_nothing, kept_part, paint_lines, part_of_window, room,
+    same_lines, upwards, window,
 };
 use tr_paint::{Batch, Paint};
 
 /// The most lines that are kept.
 pub const MOST_LINES: usize = 200;
 
-/// A window with the last lines of a typescript, which are kept in one block, seen as their list.
+/// A window with the last lines of a typescript, seen as their list. They lie in one block, behind lines
+/// that are no longer kept. These leave the block when there are 200 of them, so a line more costs about
+/// what it adds, and not the lines that stay.
 #[derive(Debug, Drop)]
 pub struct Lines {
-    lines: Vec<Line>,
+    block: Vec<Line>,
+    /// How many lines of the block are no longer kept.
+    stale: usize,
 }
 
 impl Model for Lines {
-    ghost use Rattle.std.specs.Prelude.{List, ℕ};
-    ghost use Rattle.w_lines.specs.Lines.{IsLines};
+    ghost use Rattle.std.specs.Prelude.{List, ℕ, drop};
+    ghost use Rattle.w_lines.specs.Lines.{IsBlock};
 
     ghost Value = { List (List ℕ) };
 
-    ghost view = { λ l. l.lines.items };
+    ghost view = { λ l. drop l.stale l.block.items };
 
-    ghost invariant = { λ l. IsLines l.lines.items };
+    ghost invariant = { λ l. IsBlock l.stale l.block.items };
 }
 
 impl Lines {
@@ -44,7 +49,8 @@ impl Lines {
         ensures { IfOk result (λ typescript. typescript ≡ []) }
     {
         Ok(Lines {
-            lines: Vec::new(alloc),
+            block: Vec::new(alloc),
+            stale: 0,
         })
     }
 
@@ -53,56 +59,63 @@ impl Lines {
         ensures value { result.now ≡ self.now }
         ensures invariant { spec.IsLines self.now }
     {
-        &self.lines
+        &self.block[self.stale..]
     }
 
-    /// The content with one line more. The lines that stay are copied as one block, so where the
-    /// oldest goes no other is moved for it.
-    fn with_line(&self, alloc: Global, line: &Line) -> Result<Lines, NoMemory>
-        ensures { IfOk result (λ next. next ≡ spec.last_of MOST_LINES (self.now ++ line.now ∷ [])) }
+    /// One line more.
+    fn take_line(&mut self, line: &Line) -> Result<(), NoMemory>
+        ensures ok { OnOk result (self.new ≡ spec.last_of MOST_LINES (self.old ++ line.now ∷ [])) }
+        ensures err { OnErr result (self.new ≡ self.old) }
     {
         let _bytes = line.bytes();
-        let stay = last_of(&self.lines, MOST_LINES - 1);
-        let mut lines = Vec::with_capacity(alloc, stay.len() + 1)?;
-        lines.extend_from_slice(stay)?;
-        lines.push(*line)?;
-        Ok(Lines { lines })
+        self.block.push(*line)?;
+        self.stale = without_stale(&mut self.block, self.stale);
+        Ok(())
     }
 
-    /// The content after a command.
-    fn after(&self, alloc: Global, cmd: &LinesCmd) -> Result<Lines, NoMemory>
-        ensures { IfOk result (λ next. next ≡ spec.lines_next self.now cmd.now) }
+    /// A command changes the content.
+    fn take(&mut self, cmd: &LinesCmd) -> Result<(), NoMemory>
+        ensures ok { OnOk result (self.new ≡ spec.lines_next self.old cmd.now) }
+        ensures err { OnErr result (self.new ≡ self.old) }
     {
         match cmd {
-            LinesCmd::Line(line) => self.with_line(alloc, line),
-            LinesCmd::Clear => Lines::new(alloc),
+            LinesCmd::Line(line) => self.take_line(line),
+            LinesCmd::Clear => {
+                self.block.clear();
+                self.stale = 0;
+                Ok(())
+            }
         }
     }
 
-    /// The patch of a line more.
-    fn line_patch(&self, alloc: Global, size: Size, line: &Line) -> Result<Batch, NoMemory>
+    /// Puts the patch of a line more behind the commands of a batch. Where memory runs out, some of it may
+    /// stay there.
+    fn put_line_patch(&self, size: Size, line: &Line, batch: &mut Batch) -> Result<(), NoMemory>
         requires { IsWindowSize size }
-        ensures { IfOk result (λ batch. batch ≡ spec.line_patch size self.now line.now) }
+        ensures ok { OnOk result (batch.new ≡ batch.old ++ spec.line_patch size self.now line.now) }
+        ensures err { OnErr result (take (length batch.old) batch.new ≡ batch.old) }
     {
         let count = room(size).min(MOST_LINES);
-        let above = self.lines.len();
+        let above = self.lines().len();
         if count == 0 {
-            Ok(Batch::new(alloc))
+            Ok(())
         } else if above < count {
-            written_below(alloc, size, above, line)
+            put_below(batch, size, above, line)
         } else {
-            moved_up(alloc, size, count, line)
+            put_moved_up(batch, size, count, line)
         }
     }
 
-    /// The patch of a command.
-    fn patch(&self, alloc: Global, size: Size, cmd: &LinesCmd) -> Result<Batch, NoMemory>
+    /// The same for the patch of a command.
+    fn put_patch(&self, size: Size, cmd: &LinesCmd, batch: &mut Batch) -> Result<(), NoMemory>
         requires { IsWindowSize size }
-        ensures { (look : Look) → IfOk result (λ batch. batch ≡ spec.lines_patch look size self.now cmd.now) }
+        ensures ok { (look : Look) →
+            OnOk result (batch.new ≡ batch.old ++ spec.lines_patch look size self.now cmd.now) }
+        ensures err { OnErr result (take (length batch.old) batch.new ≡ batch.old) }
     {
         match cmd {
-            LinesCmd::Line(line) => self.line_patch(alloc, size, line),
-            LinesCmd::Clear => cleared(alloc, window(size)),
+            LinesCmd::Line(line) => self.put_line_patch(size, line, batch),
+            LinesCmd::Clear => put_cleared(batch, size),
         }
     }
 
@@ -113,7 +126,7 @@ impl Lines {
         ensures { (look : Look) →
             IfOk result (λ batch. IsPainting look part.now batch (spec.lines_pic look size self.now)) }
     {
-        paint_lines(alloc, *part, last_of(&self.lines, room(size)))
+        paint_lines(alloc, *part, last_of(self.lines(), room(size)))
     }
 }
 
@@ -124,31 +137,49 @@ fn last_of(lines: &[Line], n: usize) -> &[Line]
     &lines[lines.len().saturating_sub(n)..]
 }
 
+/// Where the last 200 of the lines begin that stand from a place of a block on. Where as many lines stand
+/// in front of them, these leave the block.
+fn without_stale(block: &mut Vec<Line>, stale: usize) -> usize
+    requires { stale ≤ length block.old.items }
+    ensures lines { drop result block.new.items ≡ spec.last_of MOST_LINES (drop stale block.old.items) }
+    ensures within { result ≤ length block.new.items }
+    ensures few { result < MOST_LINES }
+{
+    let stale = stale + (block.len() - stale).saturating_sub(MOST_LINES);
+    if stale < MOST_LINES {
+        return stale;
+    }
+    let stay = block.len() - stale;
+    block.rotate_left(stale);
+    block.truncate(stay);
+    0
+}
+
 /// A line is written below so many others.
-fn written_below(alloc: Global, size: Size, above: usize, line: &Line) -> Result<Batch, NoMemory>
+fn put_below(batch: &mut Batch, size: Size, above: usize, line: &Line) -> Result<(), NoMemory>
     requires size { IsWindowSize size }
     requires above { 8 * above ≤ longest }
-    ensures { IfOk result (λ batch. batch ≡ spec.written_below size above line.now) }
+    ensures ok { OnOk result (batch.new ≡ batch.old ++ spec.written_below size above line.now) }
+    ensures err { OnErr result (take (length batch.old) batch.new ≡ batch.old) }
 {
-    let mut batch = Batch::new(alloc);
     batch.push(Paint::Text {
         clip: window(size),
         at: begin_of(above),
         ops: PLAIN,
         text: *line,
     })?;
-    Ok(batch)
+    Ok(())
 }
 
 /// The lines of a full window move upwards, and a line is written where the last one was.
-fn moved_up(alloc: Global, size: Size, count: usize, line: &Line) -> Result<Batch, NoMemory>
+fn put_moved_up(batch: &mut Batch, size: Size, count: usize, line: &Line) -> Result<(), NoMemory>
     requires size { IsWindowSize size }
     requires some { 0 < count }
     requires count { 8 * count ≤ longest }
-    ensures { IfOk result (λ batch. batch ≡ spec.moved_up size count line.now) }
+    ensures ok { OnOk result (batch.new ≡ batch.old ++ spec.moved_up size count line.now) }
+    ensures err { OnErr result (take (length batch.old) batch.new ≡ batch.old) }
 {
     let last = count - 1;
-    let mut batch = Batch::new(alloc);
     batch.push(Paint::Scroll {
         clip: area_of(size, 0, last),
         delta: upwards(),
@@ -163,7 +194,20 @@ fn moved_up(alloc: Global, size: Size, count: usize, line: &Line) -> Result<Batc
         ops: PLAIN,
         text: *line,
     })?;
-    Ok(batch)
+    Ok(())
+}
+
+/// All of a window becomes background.
+fn put_cleared(batch: &mut Batch, size: Size) -> Result<(), NoMemory>
+    requires { IsWindowSize size }
+    ensures ok { OnOk result (batch.new ≡ batch.old ++ background (whole_of size)) }
+    ensures err { OnErr result (take (length batch.old) batch.new ≡ batch.old) }
+{
+    batch.push(Paint::Tint {
+        clip: window(size),
+        op: Op::Bg,
+    })?;
+    Ok(())
 }
 
 impl Client for Lines {
@@ -187,8 +231,8 @@ impl Client for Lines {
     ghost keeps = { lines_keeps };
 
     fn copy(&self, alloc: Global) -> Result<Lines, NoMemory> {
-        let lines = Vec::from_slice(alloc, self.lines())?;
-        Ok(Lines { lines })
+        let block = Vec::from_slice(alloc, self.lines())?;
+        Ok(Lines { block, stale: 0 })
     }
 
     fn same(&self, other: &Lines) -> bool {
@@ -210,9 +254,33 @@ impl Client for Lines {
     ) -> Result<(Lines, Batch), NoMemory> {
         let _lines = self.lines();
         cmd.known();
-        let next = self.after(alloc, cmd)?;
-        let patch = self.patch(alloc, size, cmd)?;
+        let mut next = self.copy(alloc)?;
+        next.take(cmd)?;
+        let mut patch = Batch::new(alloc);
+        self.put_patch(size, cmd, &mut patch)?;
         Ok((next, patch))
+    }
+
+    fn apply(
+        &mut self,
+        _alloc: Global,
+        _env: &Env,
+        size: Size,
+        cmd: &LinesCmd,
+        batch: &mut Batch,
+    ) -> Result<(), NoMemory> {
+        let _lines = self.lines();
+        cmd.known();
+        let before = batch.len();
+        if let Err(error) = self.put_patch(size, cmd, batch) {
+            batch.truncate(before);
+            return Err(error);
+        }
+        if let Err(error) = self.take(cmd) {
+            batch.truncate(before);
+            return Err(error);
+        }
+        Ok(())
     }
 
     fn react(&self, _alloc: Global, event: &Event) -> Result<Option<LinesCmd>, NoMemory> {

@@ -27,10 +27,10 @@ loop-cmd-preserved g c =
     take_more cmds c.loop-cmd.cmd-index cmd c.loop-cmd-test.true ∙ ap (λ m. done ++ m ∷ []) (sym c.cmd-item.is) in
     let patch = client.patch look c.args.size c.loop-cmd.to cmd in
     record {
-      contents = rw (more, content_more client first done cmd, ← c.loop-cmd.invariant.contents) c.in_ok-next.ensures.next;
+      contents = rw (more, content_more client first done cmd, ← c.loop-cmd.invariant.contents) c.in_ok-apply.ensures.content_ok;
       patches = rw (more, patches_more client look c.args.size first done cmd, ← c.loop-cmd.invariant.contents, ← c.loop-cmd.invariant.patches)
-          (rw (c.in_ok-extend.ensures.ok, c.in_ok-next.ensures.patch) refl);
-      patch = rw (c.in_ok-extend.ensures.ok, c.in_ok-next.ensures.patch, c.in_ok-next.ensures.next)
+          c.in_ok-apply.ensures.batch_ok;
+      patch = rw (c.in_ok-apply.ensures.batch_ok, c.in_ok-apply.ensures.content_ok)
           (two_patches look c.args.size c.loop-cmd.batch patch (client.pic look c.args.size first) (client.pic look c.args.size c.loop-cmd.to)
-          (client.pic look c.args.size (client.next c.loop-cmd.to cmd)) c.loop-cmd.invariant.patch c.obeys_patch.ensures);
+          (client.pic look c.args.size (client.next c.loop-cmd.to cmd)) c.loop-cmd.invariant.patch c.obeys.ensures);
     }

@@ -7,6 +7,6 @@ pub returns : goal.returns
 returns c = λ look.
     let shown : c.last_of.result.now ≡ last_of (room c.args.size) c.args.self.now =
     c.last_of.ensures
-    ∙ ap (λ n. last_of n c.deref.result.now) c.room.ensures
-    ∙ ap (λ (lines : List (List ℕ)). last_of (room c.args.size) lines) (c.deref.ensures.value ∙ c.self.view_is) in
+    ∙ ap (λ n. last_of n c.lines.result.now) c.room.ensures
+    ∙ ap (λ (lines : List (List ℕ)). last_of (room c.args.size) lines) c.lines.ensures.value in
     rw shown at (c.paint_lines.ensures look)

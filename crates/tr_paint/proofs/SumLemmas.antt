@@ -1,0 +1,80 @@
+-- The sums of commands in a row.
+use Rattle.std.proofs.Common.{◌≡◌, ◌≢◌, ℕ, ◌+◌, ◌-◌, ◌*◌, ◌^◌, Bool, true, false, ◌||◌, List, [], ◌∷◌, ◌++◌, refl, sym, ap, ◌∙◌, ⊎_elim, take, arith}
+use Rattle.std.specs.Prelude.{min, int_lt}
+use Rattle.std.proofs.lemmas.Bool.{or_cases, and_parts}
+use Rattle.std.proofs.lemmas.List.Folds.{list_any-append}
+use Rattle.std.proofs.lemmas.List.Sums.{sum_by-append}
+use Rattle.std.proofs.lemmas.List.Elements.{All-append, All-weaker, All-nil, All-cons, All-take, All-from_recursion, recursion_from_All}
+use Rattle.tr_base.specs.declared.Point.{Point}
+use Rattle.tr_base.specs.Rects.{Edges, IsRect, empty_rect, has_point}
+use Rattle.tr_paint.specs.declared.paints.Paint.{Paint}
+use Rattle.tr_paint.specs.declared.sums.Scrolls.{Scrolls}
+use Rattle.tr_paint.specs.Paints.{area, has_area}
+use Rattle.tr_paint.specs.Batches.{touches, IsKept, IsBatch}
+use Rattle.tr_paint.specs.Hulls.{HasAll}
+use Rattle.tr_paint.proofs.HullLemmas.{lies}
+use Rattle.tr_paint.specs.Sums.{points_in, weight, cost_of, IsOneOf, AreScrolls, IsHull}
+
+-- a test that is true passes beside any other
+or_first : (a b : Bool) → a ≡ true → (a || b) ≡ true
+or_first true b h = refl
+or_first false b h = cc
+
+or_second : (a b : Bool) → b ≡ true → (a || b) ≡ true
+or_second true b h = refl
+or_second false b h = h
+
+-- the least rectangle round those of two lists
+pub hull-append : (e a b : Edges) (xs ys : List Paint) → HasAll e (has_point a) → HasAll e (has_point b) →
+    ((outer : Edges) → HasAll outer (has_point a) → HasAll outer (has_point b) → HasAll outer (has_point e)) →
+    IsHull a xs → IsHull b ys → IsHull e (xs ++ ys)
+hull-append e a b xs ys first second least some others = record {
+  touched = λ q h.
+      ⊎_elim (λ (k : touches xs q ≡ true). first q (some.touched q k)) (λ (k : touches ys q ≡ true). second q (others.touched q k))
+      (or_cases (touches xs q) (touches ys q) (sym (both q) ∙ h));
+  least = λ outer all.
+      least outer (some.least outer (λ q k. all q (both q ∙ or_first (touches xs q) (touches ys q) k)))
+      (others.least outer (λ q k. all q (both q ∙ or_second (touches xs q) (touches ys q) k)));
+}
+  where
+    both : (q : Point) → touches (xs ++ ys) q ≡ (touches xs q || touches ys q)
+    both q = list_any-append (λ c. has_point (area c) q) xs ys
+
+-- the area of one command is its hull
+pub hull-one : (c : Paint) → IsHull (area c) (c ∷ [])
+hull-one c = record {
+  touched = λ q h. or_none (has_point (area c) q) h;
+  least = λ outer all q h. all q (or_first (has_point (area c) q) false h);
+}
+  where
+    or_none : (b : Bool) → (b || false) ≡ true → b ≡ true
+    or_none true h = refl
+    or_none false h = h
+
+-- the cost of two lists
+pub cost-append : (m n : ℕ) (xs ys : List Paint) → m ≡ cost_of xs → n ≡ cost_of ys → min (m + n) (2 ^ 64 - 1) ≡ cost_of (xs ++ ys)
+cost-append m n xs ys hm hn =
+    let sum = sum_by-append (λ (c : Paint). points_in (area c) * weight c) xs ys in
+    omega (arith, sum)
+
+-- the scrolls of two lists
+pub scrolls-append : (s t both : Scrolls) (xs ys : List Paint) → ((c : Paint) → IsOneOf s c → IsOneOf both c) →
+    ((c : Paint) → IsOneOf t c → IsOneOf both c) → AreScrolls s xs → AreScrolls t ys → AreScrolls both (xs ++ ys)
+scrolls-append s t both xs ys first second some others =
+    All-append (IsOneOf both) xs ys (All-weaker (IsOneOf s) (IsOneOf both) first xs some) (All-weaker (IsOneOf t) (IsOneOf both) second ys others)
+
+pub scrolls-one : (s : Scrolls) (c : Paint) → IsOneOf s c → AreScrolls s (c ∷ [])
+scrolls-one s c is = All-cons (IsOneOf s) c [] is (All-nil (IsOneOf s))
+
+-- two batches in a row are one
+pub batch-append : (xs ys : List Paint) → IsBatch xs → IsBatch ys → IsBatch (xs ++ ys)
+batch-append [] ys some others = others
+batch-append (x ∷ xs) ys some others = (some.0, batch-append xs ys some.1 others)
+
+-- the first commands of a batch are one
+pub batch-take : (n : ℕ) (xs : List Paint) → IsBatch xs → IsBatch (take n xs)
+batch-take n xs is = recursion_from_All IsKept (take n xs) (All-take IsKept n xs (All-from_recursion IsKept xs is))
+
+-- a command whose area isn't the empty rectangle is kept
+pub full-area : (c : Paint) (e : Edges) → e ≡ area c → IsRect e → e ≢ empty_rect → has_area c ≡ true
+full-area c e is rect full = ap (λ (r : Edges). int_lt r.west r.east) (sym is) ∙ (and_parts _ _ (lies e rect full)).0

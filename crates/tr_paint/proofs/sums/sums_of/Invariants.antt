@@ -1,0 +1,7 @@
+use Rattle.std.proofs.Common.{take}
+use Rattle.tr_paint.specs.Sums as spec
+use Rattle.tr_paint.proofs.sums.sums_of.Given as goal
+
+-- the sums are those of the commands so far
+abbrev pub invariant-loop-paint : goal.invariant-loop-paint
+invariant-loop-paint l = spec.AreSums l.sums (take l.paint-index l.paints)

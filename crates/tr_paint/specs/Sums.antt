@@ -1,0 +1,71 @@
+-- What is known of the commands of a batch without a walk over them.
+use Rattle.std.specs.Prelude.{◌≡◌, ⊤, ℕ, ◌-◌, ◌*◌, ◌^◌, Bool, true, false, List, min, sum_by, All}
+use Rattle.std.specs.List.{list_any}
+use Rattle.tr_base.specs.Rects.{Edges, has_point, sides_of}
+use Rattle.tr_paint.specs.declared.paints.Paint.{Paint}
+use Rattle.tr_paint.specs.declared.paints.Paint.TheVariants.{Tint, Texture, Pixels, Text, Scroll, Spoil}
+use Rattle.tr_paint.specs.declared.sums.Scrolls.{Scrolls}
+use Rattle.tr_paint.specs.declared.sums.Scrolls.TheVariants.{Absent, Alike}
+use Rattle.tr_paint.specs.declared.sums.Sums.{Sums}
+use Rattle.tr_paint.specs.Paints.{IsNearPoint, IsNearRect, area}
+use Rattle.tr_paint.specs.Batches.{touches, IsBatch}
+use Rattle.tr_paint.specs.Hulls.{HasAll}
+
+-- how many points a rectangle has
+abbrev pub points_in : Edges → ℕ
+points_in e = (sides_of e).0 * (sides_of e).1
+
+-- what a point of a command's area costs, beside a point that is filled
+abbrev pub weight : Paint → ℕ
+weight (Tint clip op) = 1
+weight (Texture clip ops tile delta) = 2
+weight (Pixels clip src delta) = 1
+weight (Text clip at ops text) = 3
+weight (Scroll clip delta) = 2
+weight (Spoil clip) = 1
+
+-- what executing commands costs: the sum of their areas, each by its weight, which stops at 2^64 - 1
+abbrev pub cost_of : List Paint → ℕ
+cost_of commands = min (sum_by (λ c. points_in (area c) * weight c) commands) (2 ^ 64 - 1)
+
+-- a command makes what points show unknown
+abbrev pub is_spoil : Paint → Bool
+is_spoil (Spoil clip) = true
+is_spoil c = false
+
+-- one of the commands does
+abbrev pub has_spoil : List Paint → Bool
+has_spoil commands = list_any is_spoil commands
+
+-- a command is no scroll, or one of these: of none, of those that are alike, or of any
+abbrev pub IsOneOf : Scrolls → Paint → Type 0
+IsOneOf Absent (Scroll clip delta) = ⊥
+IsOneOf (Alike clip delta) (Scroll c d) = (c ≡ clip) × (d ≡ delta)
+IsOneOf scrolls c = ⊤
+
+-- each scroll among the commands is one of these
+abbrev pub AreScrolls : Scrolls → List Paint → Type 0
+AreScrolls scrolls commands = All (IsOneOf scrolls) commands
+
+-- where scrolls are alike, their coordinates are near
+abbrev pub AreNear : Scrolls → Type 0
+AreNear (Alike clip delta) = IsNearRect clip × IsNearPoint delta
+AreNear scrolls = ⊤
+
+-- a rectangle is the least one round all points that commands touch: it has them all, and any other that has them has its points
+pub record IsHull (e : Edges) (commands : List Paint) : Type 0 where
+  pub touched : HasAll e (touches commands)
+  pub least : (outer : Edges) → HasAll outer (touches commands) → HasAll outer (has_point e)
+
+-- the sums are those of the commands
+pub record AreSums (sums : Sums) (commands : List Paint) : Type 0 where
+  pub hull : IsHull sums.hull commands
+  pub cost : sums.cost ≡ cost_of commands
+  pub spoils : sums.spoils ≡ has_spoil commands
+  pub scrolls : AreScrolls sums.scrolls commands
+  pub near : AreNear sums.scrolls
+
+-- the commands are those of a batch, and the sums are theirs
+pub record IsSummed (commands : List Paint) (sums : Sums) : Type 0 where
+  pub batch : IsBatch commands
+  pub known : AreSums sums commands

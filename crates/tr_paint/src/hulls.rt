@@ -1,0 +1,41 @@
+ghost use Rattle.std.specs.Prelude.{◌≢◌};
+ghost use Rattle.tr_base.specs.Rects.{Edges, empty_rect, has_point};
+ghost use Rattle.tr_paint.specs.Hulls.{HasAll};
+
+use tr_base::{Rect, greater, lesser};
+
+/// The least rectangle round the points of both.
+pub fn hull(a: &Rect, b: &Rect) -> Rect
+    ensures first { HasAll result (has_point a.now) }
+    ensures second { HasAll result (has_point b.now) }
+    ensures least { (e : Edges) → HasAll e (has_point a.now) → HasAll e (has_point b.now) →
+        HasAll e (has_point result) }
+{
+    if a.is_empty() {
+        return *b;
+    }
+    if b.is_empty() {
+        return *a;
+    }
+    least_round(a, b)
+}
+
+/// The least rectangle round two that hold points.
+fn least_round(a: &Rect, b: &Rect) -> Rect
+    requires one { a.now ≢ empty_rect }
+    requires other { b.now ≢ empty_rect }
+    ensures first { HasAll result (has_point a.now) }
+    ensures second { HasAll result (has_point b.now) }
+    ensures least { (e : Edges) → HasAll e (has_point a.now) → HasAll e (has_point b.now) →
+        HasAll e (has_point result) }
+{
+    // Called for what they tell the prover: that the edges are those of rectangles.
+    let _ = a.is_empty();
+    let _ = b.is_empty();
+    Rect::edges(
+        lesser(a.west(), b.west()),
+        greater(a.east(), b.east()),
+        lesser(a.north(), b.north()),
+        greater(a.south(), b.south()),
+    )
+}

@@ -1,0 +1,141 @@
+ghost use Rattle.std.specs.Prelude.{◌≡◌, ◌||◌, ◌++◌, ◌∷◌, [], List};
+ghost use Rattle.tr_paint.specs.declared.paints.Paint.{Paint};
+ghost use Rattle.tr_paint.specs.Paints.{IsNearPaint, area as area_of};
+ghost use Rattle.tr_paint.specs.Batches.{IsBatch};
+ghost use Rattle.tr_paint.specs.Sums as spec;
+
+use crate::hulls::hull;
+use crate::paints::Paint;
+use tr_base::{Point, Rect};
+
+/// What is known of the scrolls of a batch.
+#[derive(Clone, Copy, Debug)]
+pub enum Scrolls {
+    /// There is none.
+    Absent,
+    /// Each of them is this one.
+    Alike { clip: Rect, delta: Point },
+    /// Nothing: they differ.
+    Various,
+}
+
+/// What is known of the commands of a batch without a walk over them.
+#[derive(Clone, Copy, Debug)]
+pub(crate) struct Sums {
+    /// The least rectangle round all points that they touch.
+    pub hull: Rect,
+    /// The sum of their areas, each by its weight, which stops at 2^64 - 1.
+    pub cost: u64,
+    /// Whether one of them is a spoil.
+    pub spoils: bool,
+    pub scrolls: Scrolls,
+}
+
+impl Sums {
+    /// Those of no command.
+    pub fn none() -> Sums
+        ensures { spec.AreSums result [] }
+    {
+        Sums {
+            hull: Rect::edges(0, 0, 0, 0),
+            cost: 0,
+            spoils: false,
+            scrolls: Scrolls::Absent,
+        }
+    }
+
+    /// Those of one command with this area.
+    pub fn of(paint: &Paint, area: Rect) -> Sums
+        requires near { IsNearPaint paint.now }
+        requires area { area ≡ area_of paint.now }
+        ensures { spec.AreSums result (paint.now ∷ []) }
+    {
+        Sums {
+            hull: area,
+            cost: points_in(&area).saturating_mul(weight(paint)),
+            spoils: matches!(paint, Paint::Spoil { .. }),
+            scrolls: scrolls_of(paint),
+        }
+    }
+
+    /// Those of commands with others behind them.
+    pub fn with(&self, behind: &Sums) -> Sums
+        ensures { (front back : List Paint) → spec.AreSums self.now front → spec.AreSums behind.now back →
+            spec.AreSums result (front ++ back) }
+    {
+        Sums {
+            hull: hull(&self.hull, &behind.hull),
+            cost: self.cost.saturating_add(behind.cost),
+            spoils: either(self.spoils, behind.spoils),
+            scrolls: both_scrolls(&self.scrolls, &behind.scrolls),
+        }
+    }
+}
+
+/// The sums of commands, by a walk over them.
+pub(crate) fn sums_of(paints: &[Paint]) -> Sums
+    requires { IsBatch paints.now }
+    ensures { spec.AreSums result paints.now }
+{
+    let mut sums = Sums::none();
+    for paint in paints {
+        sums = sums.with(&Sums::of(paint, paint.area()));
+    }
+    sums
+}
+
+/// How many points a rectangle has.
+pub fn points_in(rect: &Rect) -> u64
+    ensures { result ≡ spec.points_in rect.now }
+{
+    let (wide, high) = rect.size();
+    u64::from(wide) * u64::from(high)
+}
+
+/// What a point of a command's area costs, as measured, beside a point that is filled.
+fn weight(paint: &Paint) -> u64
+    ensures { result ≡ spec.weight paint.now }
+{
+    match paint {
+        Paint::Tint { .. } | Paint::Pixels { .. } | Paint::Spoil { .. } => 1,
+        Paint::Texture { .. } | Paint::Scroll { .. } => 2,
+        Paint::Text { .. } => 3,
+    }
+}
+
+/// Whether one of the two is true.
+fn either(a: bool, b: bool) -> bool
+    ensures { result ≡ a || b }
+{
+    a || b
+}
+
+/// What is known of the scrolls where this is the one command.
+fn scrolls_of(paint: &Paint) -> Scrolls
+    requires { IsNearPaint paint.now }
+    ensures one { spec.IsOneOf result paint.now }
+    ensures near { spec.AreNear result }
+{
+    match paint {
+        Paint::Scroll { clip, delta } => Scrolls::Alike {
+            clip: *clip,
+            delta: *delta,
+        },
+        _ => Scrolls::Absent,
+    }
+}
+
+/// What is known of the scrolls that some commands and others have.
+fn both_scrolls(some: &Scrolls, others: &Scrolls) -> Scrolls
+    ensures some { (c : Paint) → spec.IsOneOf some.now c → spec.IsOneOf result c }
+    ensures others { (c : Paint) → spec.IsOneOf others.now c → spec.IsOneOf result c }
+    ensures near { spec.AreNear some.now → spec.AreNear others.now → spec.AreNear result }
+{
+    match (some, others) {
+        (Scrolls::Absent, _) => *others,
+        (_, Scrolls::Absent) => *some,
+        (Scrolls::Alike { clip, delta }, Scrolls::Alike { clip: c, delta: d })
+            if clip == c && delta == d => *some,
+        _ => Scrolls::Various,
+    }
+}
