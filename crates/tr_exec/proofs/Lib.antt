@@ -10,3 +10,4 @@ pub mod ShownLemmas
 pub mod PaintingLemmas
 pub mod TracedLemmas
 pub mod GlyphLemmas
+pub mod BaseLemmas

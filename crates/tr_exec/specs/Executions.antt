@@ -34,6 +34,13 @@ base_of origin visible bad screen = record {
   known = λ q. if holds bad (placed origin q) then None else Some (pixel_of screen (placed origin q));
 }
 
+-- the same, where the visible points that are good are told, in place of the bad ones
+abbrev pub known_base : Point → List Edges → List Edges → Picture → Base
+known_base origin visible good screen = record {
+  visible = λ q. holds visible (placed origin q);
+  known = λ q. if holds good (placed origin q) then Some (pixel_of screen (placed origin q)) else None;
+}
+
 -- the colour of a point of the screen after a batch, if it is known: that of the window's point there
 abbrev pub colour_after : Look → Base → List Paint → Point → Point → Option ℕ
 colour_after look base batch origin p = after look base batch (before_shift p origin)

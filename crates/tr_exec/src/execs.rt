@@ -1,12 +1,12 @@
-ghost use Rattle.std.specs.Prelude.{◌≡◌, ◌<◌, ℕ, true, false, is_none, length, slice_index_or, OnOk, OnErr, Some};
+ghost use Rattle.std.specs.Prelude.{◌≡◌, ◌<◌, ◌&&◌, ℕ, not, true, false, is_none, length, slice_index_or, IfOk, OnOk, OnErr, Some};
 ghost use Rattle.tr_base.specs.declared.Point.{Point};
 ghost use Rattle.tr_base.specs.Rects.{before_shift};
-ghost use Rattle.tr_region.specs.Points.{holds};
+ghost use Rattle.tr_region.specs.Points.{holds, Includes};
 ghost use Rattle.tr_screen.specs.Pictures.{pixel_of};
 ghost use Rattle.tr_screen.specs.Runs.{IsOn};
 ghost use Rattle.tr_paint.specs.Batches.{touches};
 ghost use Rattle.tr_paint.specs.Traces.{look_of};
-ghost use Rattle.tr_exec.specs.Executions.{IsOrigin, LiesOn, base_of, colour_after};
+ghost use Rattle.tr_exec.specs.Executions.{IsOrigin, LiesOn, base_of, colour_after, known_base};
 
 use crate::sites::Site;
 use std::alloc::Global;
@@ -77,4 +77,64 @@ pub fn execute(
     site.paint_all(env, batch, &plan.moves, screen);
     *bad = plan.bad;
     Ok(())
+}
+
+/// The same, where the visible points are told that are good, in place of the bad ones: of these the pixels
+/// are known at first. It answers the visible points whose colour is known afterwards.
+pub fn execute_known(
+    alloc: Global,
+    batch: &Batch,
+    env: &Env<'_>,
+    origin: Point,
+    visible: &Region,
+    good: &Region,
+    screen: &mut Screen,
+) -> Result<Region, NoMemory>
+    requires origin { IsOrigin origin }
+    requires visible { LiesOn screen.old.size visible.now }
+    requires good { Includes visible.now good.now }
+    requires kind { env.now.kind ≡ screen.old.kind }
+
+    // Each visible point whose colour is known has it.
+    ensures known { let look = look_of env.now.kind env.now.font.now in
+        let base = known_base origin visible.now good.now screen.old in
+        OnOk result ((p : Point) (x : ℕ) → holds visible.now p ≡ true →
+        colour_after look base batch.now origin p ≡ Some x → pixel_of screen.new p ≡ x) }
+
+    // These points are answered.
+    ensures good { let look = look_of env.now.kind env.now.font.now in
+        let base = known_base origin visible.now good.now screen.old in
+        IfOk result (λ r. (p : Point) → holds r p
+        ≡ (holds visible.now p && not (is_none (colour_after look base batch.now origin p)))) }
+
+    // A visible point that no command touches keeps its pixel, known or not.
+    ensures untouched { OnOk result ((p : Point) → holds visible.now p ≡ true →
+        touches batch.now (before_shift p origin) ≡ false →
+        pixel_of screen.new p ≡ pixel_of screen.old p) }
+
+    // Outside the visible points nothing changes.
+    ensures pixels { OnOk result ((p : Point) → IsOn screen.old.size p →
+        holds visible.now p ≡ false → pixel_of screen.new p ≡ pixel_of screen.old p) }
+    ensures size { screen.new.size ≡ screen.old.size }
+    ensures kind { screen.new.kind ≡ screen.old.kind }
+    ensures err { OnErr result (screen.new ≡ screen.old) }
+{
+    // Called for what it tells the prover: that the screen is no larger than the greatest one.
+    let _ = screen.size();
+    let site = Site {
+        alloc,
+        origin,
+        visible,
+    };
+    let bad = visible.minus(good)?;
+    let plan = site.plan(batch, &bad);
+    drop(bad);
+    let plan = plan?;
+    let Ok(known) = visible.minus(&plan.bad) else {
+        drop(plan);
+        return Err(NoMemory);
+    };
+    site.paint_all(env, batch, &plan.moves, screen);
+    drop(plan);
+    Ok(known)
 }

@@ -10,5 +10,5 @@ mod sites;
 mod strokes;
 mod walks;
 
-pub use execs::execute;
+pub use execs::{execute, execute_known};
 pub use walks::{Brush, paint_within};

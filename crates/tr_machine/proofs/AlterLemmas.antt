@@ -16,7 +16,6 @@ use Rattle.tr_base.specs.Ops.{eff}
 use Rattle.tr_base.specs.Layouts.{IsDomain}
 use Rattle.tr_base.specs.Rects.{has_point}
 use Rattle.tr_base.proofs.RectLemmas.{false-true}
-use Rattle.tr_region.specs.Points.{holds}
 use Rattle.tr_screen.specs.Pictures.{pixel_of}
 use Rattle.tr_paint.specs.Batches.{touches}
 use Rattle.tr_paint.specs.Traces.{look_of}
@@ -32,7 +31,7 @@ use Rattle.tr_spot.specs.Spots.{spot, is_in_leaf}
 use Rattle.tr_spot.specs.Leaves.{in_leaf, leaf_size, same_kind, same_size}
 use Rattle.tr_spot.proofs.LeafLemmas.{IsPartOf, part_of}
 use Rattle.tr_spot.proofs.WayLemmas.{and_left, and_right, equal_numbers, equal_test}
-use Rattle.tr_surface.specs.Surfaces.{Shown, IsShown, is_on}
+use Rattle.tr_surface.specs.Surfaces.{Shown, IsShown, is_on, is_bad}
 use Rattle.tr_surface.specs.TreeSteps.{Keeping, bad_after, good_after, is_kept, moved_child, same_point, source, survives}
 use Rattle.tr_surface.proofs.KnownLemmas.{IsGood, good_parts}
 use Rattle.tr_mail.specs.Deliveries.{is_reshaped}
@@ -145,17 +144,11 @@ module _ {C M : Type 0} (client : Ghosts C M) where
     pub tree : n.tree ≡ edited_tree s.tree edit
     pub kept : Keeping
     pub kept_is : kept ≡ keeping client m
-    pub bad : (p : Point) → holds n.bad p ≡ bad_after kept s.tree n.tree edit (holds s.bad) p
-    pub pixels : (p : Point) → good_after kept s.tree n.tree edit (holds s.bad) p ≡ true →
+    pub bad : (p : Point) → is_bad n p ≡ bad_after kept s.tree n.tree edit (is_bad s) p
+    pub pixels : (p : Point) → good_after kept s.tree n.tree edit (is_bad s) p ≡ true →
         pixel_of n.screen p ≡ pixel_of s.screen (source s.tree n.tree edit p)
     pub old_sizes : (leaf : LeafId) → IsWindowSize (leaf_size s.tree leaf)
     pub new_sizes : (leaf : LeafId) → IsWindowSize (leaf_size n.tree leaf)
-
-  -- bad points lie on the screen of the edited tree
-  pub altered_bad_on : (m : State C M) (edit : Edit) (p : Point) → (altered client edit m).bad p ≡ true → is_on (altered client edit m).tree p ≡ true
-  altered_bad_on m edit p h =
-      let is : Seen = edited_tree m.tree edit in
-      and_left (is_on is p) (not (good_after (keeping client m) m.tree is edit m.bad p)) h
 
   -- ---- the colours of points that last
 
@@ -300,11 +293,11 @@ module _ {C M : Type 0} (client : Ghosts C M) where
 
     -- the kept points, the trees and the bad points are the state's
     by_state : {X : Type 0} (f : Keeping → Seen → Seen → (Point → Bool) → X) →
-        f a.kept s.tree n.tree (holds s.bad) ≡ f (keeping client m) m.tree is m.bad
+        f a.kept s.tree n.tree (is_bad s) ≡ f (keeping client m) m.tree is m.bad
     by_state f =
-        ap (λ (k : Keeping). f k s.tree n.tree (holds s.bad)) a.kept_is
-        ∙ ap (λ (t : Seen). f (keeping client m) t n.tree (holds s.bad)) a.showing.tree
-        ∙ ap (λ (t : Seen). f (keeping client m) m.tree t (holds s.bad)) same_tree
+        ap (λ (k : Keeping). f k s.tree n.tree (is_bad s)) a.kept_is
+        ∙ ap (λ (t : Seen). f (keeping client m) t n.tree (is_bad s)) a.showing.tree
+        ∙ ap (λ (t : Seen). f (keeping client m) m.tree t (is_bad s)) same_tree
         ∙ ap (λ (b : Point → Bool). f (keeping client m) m.tree is b) (fun_ext a.showing.bad)
 
     -- a point of the screen that isn't bad is good

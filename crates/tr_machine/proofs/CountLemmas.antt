@@ -1,16 +1,13 @@
 -- The bad points as a surface counts them, in a square that has every screen, are those that the machine counts on its screen.
-use Rattle.std.proofs.Common.{◌≡◌, ℕ, zero, suc, ◌+◌, ◌<◌, ◌≤◌, pos, Bool, true, false, cond, ◌⊎◌, inl, inr, List, refl, sym, ap, ◌∙◌, arith}
+use Rattle.std.proofs.Common.{◌≡◌, ℕ, zero, suc, ◌+◌, ◌<◌, ◌≤◌, pos, Bool, true, false, cond, ◌⊎◌, inl, inr, refl, ap, ◌∙◌, arith}
 use Rattle.std.proofs.lemmas.Bool.{cases_lt}
 use Rattle.tr_base.specs.declared.Point.{Point}
 use Rattle.tr_base.specs.declared.Size.{Size}
-use Rattle.tr_base.specs.Rects.{Edges, has_point, whole_of}
+use Rattle.tr_base.specs.Rects.{has_point, whole_of}
 use Rattle.tr_base.proofs.PlaceLemmas.{in_whole}
-use Rattle.tr_region.specs.Points.{count_below, count_in_square, holds, sum_below}
-use Rattle.tr_region.proofs.CountLemmas.{count_below-same, sum_below-same}
-use Rattle.tr_surface.specs.Surfaces.{is_on}
+use Rattle.tr_region.specs.Points.{count_below, sum_below}
+use Rattle.tr_region.proofs.CountLemmas.{sum_below-same}
 use Rattle.tr_surface.specs.Counts.{count_on}
-use Rattle.tr_machine.specs.States.{State}
-use Rattle.tr_machine.specs.Pictures.{bad_count}
 
 -- the numbers from k on add nothing to the sum where the function is 0 there
 sum_below-cut : (n k : ℕ) (f : ℕ → ℕ) → k ≤ n → ((x : ℕ) → k ≤ x → f x ≡ 0) → sum_below n f ≡ sum_below k f
@@ -63,15 +60,3 @@ count_square size test n across down off =
     (λ h. off _ (off_screen size h v (λ left above. omega (arith, above, beyond)))))
     ∙ sum_below-same size.high _ _ (λ v. count_below-cut n size.wide (λ h. test (record { h = pos h; v = pos v })) across
     (λ h beyond. off _ (off_screen size h v (λ left above. omega (arith, left, beyond)))))
-
--- the count of a surface's bad points is the machine's
-pub bad_count_is : {C M : Type 0} (m : State C M) (bad : List Edges) → m.tree.size.wide ≤ 1024 → m.tree.size.high ≤ 1024 →
-    ((p : Point) → holds bad p ≡ m.bad p) → ((p : Point) → m.bad p ≡ true → is_on m.tree p ≡ true) →
-    count_in_square 1024 bad ≡ bad_count m
-bad_count_is m bad across down same on =
-    sum_below-same 1024 _ _ (λ v. count_below-same 1024 _ _ (λ h. same (record { h = pos h; v = pos v })))
-    ∙ count_square m.tree.size m.bad 1024 across down (λ p off. by_test p off (m.bad p) refl)
-  where
-    by_test : (p : Point) → is_on m.tree p ≡ false → (b : Bool) → m.bad p ≡ b → b ≡ false
-    by_test p off true is = sym (on p is) ∙ off
-    by_test p off false is = refl

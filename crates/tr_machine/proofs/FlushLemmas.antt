@@ -18,7 +18,7 @@ use Rattle.tr_tree.specs.Trees.{Seen}
 use Rattle.tr_spot.specs.Spots.{spot, is_in_leaf}
 use Rattle.tr_spot.specs.Leaves.{leaf_corner, leaf_size, in_leaf}
 use Rattle.tr_spot.proofs.WayLemmas.{equal_numbers, equal_test}
-use Rattle.tr_surface.specs.Surfaces.{Shown, IsShown, is_on, leaf_base}
+use Rattle.tr_surface.specs.Surfaces.{Shown, IsShown, is_on, leaf_base, is_bad}
 use Rattle.tr_surface.proofs.ShownLemmas.{IsExecuted}
 use Rattle.tr_machine.specs.Windows.{Window, content, updated}
 use Rattle.tr_machine.specs.States.{State, base, batch_of, content_of, look, window_of, with_window}
@@ -26,7 +26,7 @@ use Rattle.tr_machine.specs.Paintings.{flushed, is_visible}
 use Rattle.tr_machine.specs.Pictures.{colour_in, shown, shown_of}
 use Rattle.tr_machine.specs.Promises.{Fits}
 use Rattle.tr_machine.proofs.ListLemmas.{leaf_by_number, window_here, window_there}
-use Rattle.tr_machine.proofs.ShownLemmas.{IsShowing, after-base, base_sees, colour_in_leaf, colour_same, on_tree}
+use Rattle.tr_machine.proofs.ShownLemmas.{IsShowing, after-base, bad_state, base_sees, colour_in_leaf, colour_same, on_tree}
 
 -- what isn't nothing is something
 pub some_of : (o : Option ℕ) → is_none o ≡ false → (x : ℕ) × (o ≡ Some x)
@@ -49,10 +49,10 @@ one_leaf a b spots.Off first second = absurd (false-true first)
 
 -- an execution by another name of its font and of its batch
 pub by_state : {font own : List (List ℕ)} {batch waiting : List Paint} (s n : Shown) (leaf : LeafId) → font ≡ own → batch ≡ waiting →
-    IsExecuted s font leaf batch n.screen n.bad → IsExecuted s own leaf waiting n.screen n.bad
+    IsExecuted s n font leaf batch → IsExecuted s n own leaf waiting
 by_state {font} {own} {batch} {waiting} s n leaf font_is batch_is executed =
-    let P : List Paint → Type 0 = λ cs. IsExecuted s own leaf cs n.screen n.bad in
-    let Q : List (List ℕ) → Type 0 = λ glyphs. IsExecuted s glyphs leaf batch n.screen n.bad in
+    let P : List Paint → Type 0 = λ cs. IsExecuted s n own leaf cs in
+    let Q : List (List ℕ) → Type 0 = λ glyphs. IsExecuted s n glyphs leaf batch in
     subst P batch_is (subst Q font_is executed)
 
 module _ {C M : Type 0} (client : Ghosts C M) where
@@ -74,7 +74,7 @@ module _ {C M : Type 0} (client : Ghosts C M) where
     pub window : Window C M
     pub at : window_of m leaf ≡ Some window
     pub batch : List Paint
-    pub executed : IsExecuted s m.font leaf batch n.screen n.bad
+    pub executed : IsExecuted s n m.font leaf batch
     pub brings : (q : Point) → (base client m leaf).visible q ≡ true →
         IfSome (after (look m) (base client m leaf) batch q) (λ x. x ≡ colour_in client m (leaf_size m.tree leaf) q (content_of client m leaf))
     pub inside : (p : Point) → is_visible m leaf p ≡ true → bad p ≡ is_none (after (look m) (base client m leaf) batch (in_leaf m.tree leaf p))
@@ -100,9 +100,9 @@ module _ {C M : Type 0} (client : Ghosts C M) where
     forest = forest_of m s b.was b.showing
 
     -- the clauses of the execution, by the state's tree
-    done : IsExecuted (on_tree client m s) m.font leaf b.batch n.screen n.bad
+    done : IsExecuted (on_tree client m s) n m.font leaf b.batch
     done =
-        let P : Seen → Type 0 = λ t. IsExecuted (record { tree = t; screen = s.screen; bad = s.bad }) m.font leaf b.batch n.screen n.bad in
+        let P : Seen → Type 0 = λ t. IsExecuted (record { tree = t; screen = s.screen; good = s.good }) n m.font leaf b.batch in
         subst P b.showing.tree b.executed
 
     -- what the batch makes of a point, by the pixels and by the shown content
@@ -112,12 +112,12 @@ module _ {C M : Type 0} (client : Ghosts C M) where
     made p = after-base client m s leaf b.window forest b.showing b.at b.batch (in_leaf m.tree leaf p)
 
     -- the bad points are the state's
-    brought_bad : (p : Point) → holds n.bad p ≡ bad p
+    brought_bad : (p : Point) → is_bad n p ≡ bad p
     brought_bad p = by_sight (is_visible m leaf p) refl
       where
-        by_sight : (c : Bool) → is_visible m leaf p ≡ c → holds n.bad p ≡ bad p
+        by_sight : (c : Bool) → is_visible m leaf p ≡ c → is_bad n p ≡ bad p
         by_sight true seen = done.unknown p seen ∙ ap is_none (made p) ∙ sym (b.inside p seen)
-        by_sight false hidden = done.others p hidden ∙ b.showing.bad p ∙ sym (b.outside p hidden)
+        by_sight false hidden = done.others p hidden ∙ bad_state client m s b.showing p ∙ sym (b.outside p hidden)
 
     -- a good visible point has the colour of the present content
     inside_good : (p : Point) → is_visible m leaf p ≡ true → bad p ≡ false → pixel_of n.screen p ≡ shown client (brought leaf bad m) p
@@ -174,7 +174,7 @@ module _ {C M : Type 0} (client : Ghosts C M) where
     pub font_is : font ≡ m.font
     pub batch : List Paint
     pub batch_is : batch ≡ batch_of client m leaf
-    pub executed : IsExecuted s font leaf batch n.screen n.bad
+    pub executed : IsExecuted s n font leaf batch
 
   -- after a flush the surface shows the machine's next state
   pub flush_shows : (m : State C M) (s n : Shown) (leaf : LeafId) → IsFlush m s n leaf → IsShowing client (flushed client leaf m) n

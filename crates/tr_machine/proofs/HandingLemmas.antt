@@ -1,5 +1,5 @@
 -- Commands that are handed over: their lines, and the state after them.
-use Rattle.std.proofs.Common.{◌≡◌, ℕ, ◌<◌, ◌==◌, Bool, true, false, List, [], ◌∷◌, ◌++◌, map, length, get_or, refl, sym, ap, ◌∙◌, arith, append-nil}
+use Rattle.std.proofs.Common.{◌≡◌, ℕ, ◌==◌, Bool, true, false, List, [], ◌∷◌, ◌++◌, map, length, refl, sym, ap, ◌∙◌, arith, append-nil}
 use Rattle.std.specs.Prelude.{◌||◌, ◌&&◌}
 use Rattle.std.specs.List.{list_any}
 use Rattle.std.proofs.Math.Path.{fun_ext}
@@ -11,7 +11,7 @@ use Rattle.tr_client.specs.declared.clients.Client.{Ghosts}
 use Rattle.tr_forest.specs.Nodes.{Nodes}
 use Rattle.tr_levels.specs.declared.Level.{Level}
 use Rattle.tr_levels.specs.declared.Level.TheVariants.{Mu, Share, Win}
-use Rattle.tr_levels.specs.Levels.{Admits, HaveLevels, HoldsNoLeaf, IsTreeLock, sort_of}
+use Rattle.tr_levels.specs.Levels.{HaveLevels, HoldsNoLeaf, IsTreeLock}
 use Rattle.tr_journal.specs.declared.steps.Actor.TheVariants.{Leaf}
 use Rattle.tr_journal.specs.declared.steps.Step.TheVariants.{Act}
 use Rattle.tr_journal.specs.Journals.{JournalLine, silent}
@@ -24,15 +24,6 @@ use Rattle.tr_machine.specs.Handing.{act_entries, acts}
 use Rattle.tr_machine.proofs.ListLemmas.{changed_at-twice, unchanged}
 
 -- ---- levels
-
--- a window may be taken where no share and no window is held
-tree_below : (level : Level) (leaf : LeafId) → IsTreeLock level → sort_of level < sort_of (Win leaf)
-tree_below Mu leaf h = omega arith
-tree_below (Share a) leaf h = absurd h
-tree_below (Win a) leaf h = absurd h
-
-pub admits_window : (held : List Level) (leaf : LeafId) → HoldsNoLeaf held → Admits held (Win leaf)
-admits_window held leaf free i d within = tree_below (get_or held i d) leaf (free i d within)
 
 -- what holds no leaf, and then a window, is levels of leaves
 window_levels : (t : Nodes) (held : List Level) (leaf : LeafId) → HoldsNoLeaf held → IsLeaf t leaf → AreLevels t (held ++ Win leaf ∷ [])

@@ -70,11 +70,6 @@ module _ {C M : Type 0} (client : Ghosts C M) where
   after_steps-append m [] ys = refl
   after_steps-append m (x ∷ xs) ys = after_steps-append (next client m x) xs ys
 
-  -- one step more
-  pub after_steps-more : (m : State C M) (xs : List (Step M)) (step : Step M) →
-      after_steps client m (xs ++ step ∷ []) ≡ next client (after_steps client m xs) step
-  after_steps-more m xs step = after_steps-append m xs (step ∷ [])
-
   -- their lines
   pub lines_of-append : (actor : Actor) (held : List Level) (m : State C M) (xs ys : List (Step M)) →
       lines_of client actor held m (xs ++ ys) ≡ lines_of client actor held m xs ++ lines_of client actor held (after_steps client m xs) ys
@@ -87,12 +82,6 @@ module _ {C M : Type 0} (client : Ghosts C M) where
       lines_of client actor held m (xs ++ step ∷ [])
       ≡ lines_of client actor held m xs ++ line_of client (after_steps client m xs) actor held step ∷ []
   lines_of-more actor held m xs step = lines_of-append actor held m xs (step ∷ [])
-
-  -- the first steps of a row, one by one: the state after one more of them
-  pub after_steps-take : (m : State C M) (steps : List (Step M)) (k : ℕ) (d : Step M) → k < length steps →
-      after_steps client m (take (k + 1) steps) ≡ next client (after_steps client m (take k steps)) (get_or steps k d)
-  after_steps-take m steps k d lt =
-      ap (λ (xs : List (Step M)). after_steps client m xs) (take_more steps k d lt) ∙ after_steps-more m (take k steps) (get_or steps k d)
 
   -- and their lines
   pub lines_of-take : (actor : Actor) (held : List Level) (m : State C M) (steps : List (Step M)) (k : ℕ) (d : Step M) → k < length steps →
@@ -126,9 +115,3 @@ module _ {C M : Type 0} (client : Ghosts C M) where
       AllByRecursion (IsFor t actor held) steps → IsLegalFrom client t m (lines_of client actor held m steps)
   legal_lines t m actor held [] all = tt
   legal_lines t m actor held (x ∷ xs) all = (legal_line t m actor held x all.0, legal_lines t (next client m x) actor held xs all.1)
-
-  -- so do steps that have levels of their own
-  pub legal_by : (t : Nodes) (m : State C M) (actor : Actor) (made : List (List Level × Step M)) →
-      AllByRecursion (λ (x : List Level × Step M). IsFor t actor x.0 x.1) made → IsLegalFrom client t m (lines_by client actor m made)
-  legal_by t m actor [] all = tt
-  legal_by t m actor (x ∷ xs) all = (legal_line t m actor x.0 x.1 all.0, legal_by t (next client m x.1) actor xs all.1)

@@ -1,6 +1,5 @@
 -- What each step leaves of a state: its counts, its root, and that its nodes are a forest.
-use Rattle.std.proofs.Common.{◌≡◌, ℕ, ◌<◌, Bool, List, [], ◌∷◌, Option, Some, None, length, refl, sym, subst, ◌∙◌}
-use Rattle.std.specs.Prelude.{IsSome}
+use Rattle.std.proofs.Common.{◌≡◌, ℕ, ◌<◌, Bool, List, Option, Some, None, length, refl, sym, subst}
 use Rattle.tr_base.specs.declared.Point.{Point}
 use Rattle.tr_base.specs.declared.NodeId.{NodeId}
 use Rattle.tr_base.specs.declared.LeafId.{LeafId}
@@ -15,24 +14,20 @@ use Rattle.tr_forest.specs.Edits.{IsEdit, refusal}
 use Rattle.tr_forest.proofs.Keeping.{Follows}
 use Rattle.tr_forest.proofs.Editing.{follows_edited}
 use Rattle.tr_tree.specs.Trees.{edited_tree}
-use Rattle.tr_spot.specs.Spots.{HasRoot}
 use Rattle.tr_desk.specs.declared.desks.DeskFault.{DeskFault}
 use Rattle.tr_desk.specs.Faults.{time_fault, mouse_fault, own_fault, disown_fault}
 use Rattle.tr_mail.specs.Mails.{Mails, Sending}
 use Rattle.tr_mail.specs.Deliveries as mail
-use Rattle.tr_journal.specs.declared.items.Item.{Item}
 use Rattle.tr_journal.specs.declared.steps.Step.{Step}
 use Rattle.tr_journal.specs.declared.steps.Step.TheVariants as steps
 use Rattle.tr_journal.specs.declared.steps.Query.{Query}
 use Rattle.tr_journal.specs.declared.steps.Query.TheVariants as queries
-use Rattle.tr_journal.specs.Journals.{JournalLine}
-use Rattle.tr_journal.specs.Openings.{tree_of}
 use Rattle.tr_journal.specs.Steps.{AreAsMany, IsLeaf, IsQuery, IsStep}
 use Rattle.tr_machine.specs.Windows.{Window, Command, Mark, updated, with_change}
-use Rattle.tr_machine.specs.States.{State, content_of, start, with_window}
+use Rattle.tr_machine.specs.States.{State, content_of, with_window}
 use Rattle.tr_machine.specs.Paintings.{acted, flushed, repainted, framed}
 use Rattle.tr_machine.specs.Machines.{edited, obeyed, asked_of, taken, unless}
-use Rattle.tr_machine.specs.Replays.{next, replay_from, replay, IsLegalFrom, IsLegal}
+use Rattle.tr_machine.specs.Replays.{next}
 use Rattle.tr_machine.proofs.ListLemmas.{refitted_from-length, with_window-length}
 
 module _ {C M : Type 0} (client : Ghosts C M) where
@@ -114,17 +109,6 @@ module _ {C M : Type 0} (client : Ghosts C M) where
   kept_next m steps.Sync forest fits = kept_itself m forest
   kept_next m (steps.Report query) forest fits = kept_itself m forest
 
-  -- what is kept twice is kept
-  pub kept_both : (m mid new : State C M) → IsKept m mid → IsKept mid new → IsKept m new
-  kept_both m mid new first second = record {
-    font = second.font ∙ first.font;
-    windows = second.windows ∙ first.windows;
-    nodes = second.nodes ∙ first.nodes;
-    leaves = second.leaves ∙ first.leaves;
-    root = second.root ∙ first.root;
-    forest = second.forest;
-  }
-
 -- ---- the numbers of a step
 
 -- what is a node, a leaf, an edit or a query of the first is one of the second
@@ -184,23 +168,3 @@ module _ {C M : Type 0} (client : Ghosts C M) where
   -- a kept state has as many nodes and leaves
   pub as_many : (m new : State C M) → IsKept client m new → AreAsMany m.tree.nodes new.tree.nodes
   as_many m new kept = record { nodes = kept.nodes; leaves = kept.leaves }
-
-  -- and its root, if there was one
-  pub kept_root : (m new : State C M) → IsKept client m new → HasRoot m.tree → HasRoot new.tree
-  kept_root m new kept root = subst (λ (o : Option NodeId). IsSome o) (sym kept.root) root
-
-  -- lines that the machine makes keep the state from which they start
-  pub kept_lines : (t : Nodes) (m : State C M) (lines : List (JournalLine M)) → IsForest m.tree.nodes → AreAsMany t m.tree.nodes →
-      IsLegalFrom client t m lines → IsKept client m (replay_from client m lines)
-  kept_lines t m [] forest many legal = kept_itself client m forest
-  kept_lines t m (line ∷ lines) forest many legal =
-      let new : State C M = next client m line.entry.step in
-      let one : IsKept client m new = kept_next client m line.entry.step forest (step_along t m.tree.nodes many line.entry.step legal.0.values) in
-      let still : AreAsMany t new.tree.nodes = record { nodes = one.nodes ∙ many.nodes; leaves = one.leaves ∙ many.leaves } in
-      kept_both client m new (replay_from client new lines) one (kept_lines t new lines one.forest still legal.1)
-
-  -- a journal of the machine keeps the state at the start
-  pub kept_replay : (items : List (Item C)) (lines : List (JournalLine M)) → IsForest (tree_of items).nodes → IsLegal client items lines →
-      IsKept client (start items) (replay client items lines)
-  kept_replay items lines forest legal =
-      kept_lines (tree_of items).nodes (start items) lines forest (record { nodes = refl; leaves = refl }) legal

@@ -119,7 +119,3 @@ window_here leaf other change m same =
 pub window_there : {C M : Type 0} (leaf other : LeafId) (change : Window C M → Window C M) (m : State C M) → (leaf.0 ≡ other.0 → ⊥) →
     window_of (with_window leaf change m) other ≡ window_of m other
 window_there leaf other change m apart = changed_at-there leaf.0 other.0 change m.windows apart
-
--- a leaf whose number is below the count of windows has a window
-pub window_some : {C M : Type 0} (m : State C M) (leaf : LeafId) → leaf.0 < length m.windows → (w : Window C M) × (window_of m leaf ≡ Some w)
-window_some m leaf within = slice_get-some m.windows leaf.0 within

@@ -18,7 +18,7 @@ use Rattle.tr_exec.specs.Executions.{placed}
 use Rattle.tr_client.specs.declared.clients.Client.{Ghosts}
 use Rattle.tr_spot.specs.Leaves.{leaf_corner, leaf_size, in_leaf}
 use Rattle.tr_spot.proofs.WayLemmas.{and_right}
-use Rattle.tr_surface.specs.Surfaces.{Shown, IsShown}
+use Rattle.tr_surface.specs.Surfaces.{Shown, IsShown, is_bad}
 use Rattle.tr_surface.proofs.ShownLemmas.{IsExecuted}
 use Rattle.tr_machine.specs.Windows.{Window, content}
 use Rattle.tr_machine.specs.States.{State, base, batch_of, content_of, look, window_of}
@@ -47,7 +47,7 @@ module _ {C M : Type 0} (client : Ghosts C M) where
     pub font : List (List ℕ)
     pub font_is : font ≡ m.font
     pub batch : List Paint
-    pub executed : IsExecuted s font leaf batch n.screen n.bad
+    pub executed : IsExecuted s n font leaf batch
 
   -- the commands are a painting of the part of the window in a clip, which has each visible bad point, and each point that a waiting
   -- command would touch
@@ -55,7 +55,7 @@ module _ {C M : Type 0} (client : Ghosts C M) where
     pub clip : Edges
     pub paints : IsPainting (look m) (meet_of (whole_of (leaf_size m.tree leaf)) clip) batch
         (client.pic (look m) (leaf_size m.tree leaf) (content client window))
-    pub bad : (p : Point) → is_visible m leaf p ≡ true → holds s.bad p ≡ true → has_point clip (in_leaf m.tree leaf p) ≡ true
+    pub bad : (p : Point) → is_visible m leaf p ≡ true → is_bad s p ≡ true → has_point clip (in_leaf m.tree leaf p) ≡ true
     pub waiting : (q : Point) → touches (batch_of client m leaf) q ≡ true → has_point clip q ≡ true
 
   module _ (m : State C M) (s n : Shown) (leaf : LeafId) (r : IsRepaint m s n leaf) where

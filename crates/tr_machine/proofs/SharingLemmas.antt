@@ -16,12 +16,11 @@ use Rattle.tr_forest.specs.Nodes.{Nodes, leaf_count}
 use Rattle.tr_forest.specs.Forests.{IsForest}
 use Rattle.tr_spot.specs.Spots.{HasRoot, spot}
 use Rattle.tr_surface.specs.Surfaces.{is_on, is_frame}
-use Rattle.tr_levels.specs.declared.Level.{Level}
-use Rattle.tr_levels.specs.declared.Level.TheVariants.{Mu, Share}
+use Rattle.tr_levels.specs.declared.Level.TheVariants.{Mu}
 use Rattle.tr_journal.specs.declared.items.Item.{Item}
 use Rattle.tr_journal.specs.declared.steps.Actor.TheVariants.{Painter}
 use Rattle.tr_journal.specs.declared.steps.Step.{Step}
-use Rattle.tr_journal.specs.declared.steps.Step.TheVariants.{Flush, PaintFrame, Repaint}
+use Rattle.tr_journal.specs.declared.steps.Step.TheVariants.{Flush, PaintFrame}
 use Rattle.tr_journal.specs.Journals.{JournalLine}
 use Rattle.tr_journal.specs.Steps.{IsFor}
 use Rattle.tr_journal.proofs.LevelLemmas.{lock_level}
@@ -29,11 +28,11 @@ use Rattle.tr_machine.specs.Windows.{Window, content, updated}
 use Rattle.tr_machine.specs.States.{State, batch_in, batch_of, content_of, window_of}
 use Rattle.tr_machine.specs.Paintings.{flushed, is_visible, repainted}
 use Rattle.tr_machine.specs.Pictures.{want}
-use Rattle.tr_machine.specs.Replays.{after_steps, line_of, lines_by, lines_of, replay, replay_from, under}
+use Rattle.tr_machine.specs.Replays.{after_steps, replay, replay_from}
 use Rattle.tr_machine.specs.Settling.{frame_steps, is_frame_bad}
-use Rattle.tr_machine.specs.Sharing.{IsPaintedOf, all_bad_leaves, at_shares, bad_leaves, flushes_below, flushing, has_bad, repainted_each, share_lines, sharing_lines, waits}
+use Rattle.tr_machine.specs.Sharing.{IsPaintedOf, all_bad_leaves, bad_leaves, flushes_below, flushing, has_bad, repainted_each, share_lines, waits}
 use Rattle.tr_machine.proofs.FlushLemmas.{one_leaf}
-use Rattle.tr_machine.proofs.JournalLemmas.{after_steps-append, lines_by-append, replay-append, replay_from-lines_of}
+use Rattle.tr_machine.proofs.JournalLemmas.{after_steps-append, replay-append}
 use Rattle.tr_machine.proofs.ListLemmas.{leaf_by_number, window_here, window_there}
 use Rattle.tr_machine.proofs.PointLemmas.{covered, none_on}
 use Rattle.tr_machine.proofs.SettleLemmas.{no_batch, repainted-is}
@@ -315,15 +314,7 @@ module _ {C M : Type 0} (client : Ghosts C M) where
 
   -- ---- a row of shares
 
-  -- the lines of one more
-  pub share_lines-more : (m : State C M) (leaves : List LeafId) (leaf : LeafId) →
-      share_lines client m (leaves ++ leaf ∷ [])
-      ≡ share_lines client m leaves ++ line_of client (repainted_each client m leaves) Painter (Share leaf ∷ []) (Repaint leaf) ∷ []
-  share_lines-more m [] leaf = refl
-  share_lines-more m (l ∷ leaves) leaf =
-      ap (λ (ls : List (JournalLine M)). line_of client m Painter (Share l ∷ []) (Repaint l) ∷ ls) (share_lines-more (repainted client l m) leaves leaf)
-
-  -- their replay
+  -- the replay of their lines
   pub share_replay : (m : State C M) (leaves : List LeafId) → replay_from client m (share_lines client m leaves) ≡ repainted_each client m leaves
   share_replay m [] = refl
   share_replay m (l ∷ leaves) = share_replay (repainted client l m) leaves
@@ -332,38 +323,6 @@ module _ {C M : Type 0} (client : Ghosts C M) where
       replay client opening (lines ++ share_lines client (replay client opening lines) leaves) ≡ repainted_each client (replay client opening lines) leaves
   state_shared opening lines leaves =
       replay-append client opening lines (share_lines client (replay client opening lines) leaves) ∙ share_replay (replay client opening lines) leaves
-
-  -- the lines of all steps, part by part
-  pub sharing-parts : (m : State C M) → (let idle : State C M = after_steps client m (flushing client m) in
-      let shown : State C M = repainted_each client idle (all_bad_leaves idle) in
-      sharing_lines client m
-      ≡ lines_of client Painter (Mu ∷ []) m (flushing client m)
-      ++ (share_lines client idle (all_bad_leaves idle) ++ lines_of client Painter (Mu ∷ []) shown (frame_steps shown)))
-  sharing-parts m =
-      lines_by-append client Painter m flushes (shares ++ frames)
-      ∙ ap (λ (s : State C M). first ++ lines_by client Painter s (shares ++ frames))
-      (replay_from-lines_of client Painter (Mu ∷ []) m (flushing client m))
-      ∙ ap (λ (ls : List (JournalLine M)). first ++ ls) (lines_by-append client Painter idle shares frames
-      ∙ ap (λ (s : State C M). share_lines client idle (all_bad_leaves idle) ++ lines_by client Painter s frames)
-      (share_replay idle (all_bad_leaves idle)))
-    where
-      idle : State C M
-      idle = after_steps client m (flushing client m)
-
-      shown : State C M
-      shown = repainted_each client idle (all_bad_leaves idle)
-
-      flushes : List (List Level × Step M)
-      flushes = under (Mu ∷ []) (flushing client m)
-
-      shares : List (List Level × Step M)
-      shares = at_shares (all_bad_leaves idle)
-
-      frames : List (List Level × Step M)
-      frames = under (Mu ∷ []) (frame_steps shown)
-
-      first : List (JournalLine M)
-      first = lines_of client Painter (Mu ∷ []) m (flushing client m)
 
   -- ---- the end
 

@@ -19,11 +19,12 @@ use Rattle.tr_paint.proofs.TraceLemmas.{after-first}
 use Rattle.tr_exec.specs.Executions.{placed}
 use Rattle.tr_client.specs.declared.clients.Client.{Ghosts}
 use Rattle.tr_forest.specs.Forests.{IsForest}
+use Rattle.tr_tree.specs.Trees.{Seen}
 use Rattle.tr_spot.specs.Spots.{spot, is_in_leaf}
 use Rattle.tr_spot.specs.Leaves.{leaf_corner, leaf_size, in_leaf}
 use Rattle.tr_spot.proofs.LeafLemmas.{part_of}
 use Rattle.tr_spot.proofs.WayLemmas.{equal_test}
-use Rattle.tr_surface.specs.Surfaces.{Shown, is_frame, frame_colour, leaf_base}
+use Rattle.tr_surface.specs.Surfaces.{Shown, is_frame, frame_colour, leaf_base, is_bad}
 use Rattle.tr_machine.specs.Windows.{Window}
 use Rattle.tr_machine.specs.States.{State, base, batch_of, content_of, look, shown_at, window_of}
 use Rattle.tr_machine.specs.Paintings.{is_visible}
@@ -142,18 +143,25 @@ module _ {C M : Type 0} (client : Ghosts C M) where
   -- a surface shows a state: it has the state's tree and bad points, and its screen agrees with the state
   pub record IsShowing (m : State C M) (s : Shown) : Type 0 where
     pub tree : s.tree ≡ m.tree
-    pub bad : (p : Point) → holds s.bad p ≡ m.bad p
+    pub bad : (p : Point) → is_bad s p ≡ m.bad p
     pub agrees : Agrees client m s.screen
 
   -- the surface with the state's own tree
   abbrev pub on_tree : State C M → Shown → Shown
-  on_tree m s = record { tree = m.tree; screen = s.screen; bad = s.bad }
+  on_tree m s = record { tree = m.tree; screen = s.screen; good = s.good }
+
+  -- its bad points are the same, and so the state's
+  pub bad_tree : (m : State C M) (s : Shown) → s.tree ≡ m.tree → (p : Point) → is_bad (on_tree m s) p ≡ is_bad s p
+  bad_tree m s same p = sym (ap (λ (t : Seen). is_bad (record { tree = t; screen = s.screen; good = s.good }) p) same)
+
+  pub bad_state : (m : State C M) (s : Shown) → IsShowing m s → (p : Point) → is_bad (on_tree m s) p ≡ m.bad p
+  bad_state m s is p = bad_tree m s is.tree p ∙ is.bad p
 
   -- what is known of the visible points of a leaf is the same by the screen's pixels and by the shown content
   same_known : (m : State C M) (s : Shown) (leaf : LeafId) (w : Window C M) → IsForest m.tree.nodes → IsShowing m s →
       window_of m leaf ≡ Some w → (q : Point) → (base client m leaf).visible q ≡ true →
       (leaf_base (on_tree m s) leaf).known q ≡ (base client m leaf).known q
-  same_known m s leaf w forest is at q seen = ap (λ b. cond b None (Some (pixel_of s.screen p))) (is.bad p) ∙ by_bad (m.bad p) refl
+  same_known m s leaf w forest is at q seen = ap (λ b. cond b None (Some (pixel_of s.screen p))) (bad_state m s is p) ∙ by_bad (m.bad p) refl
     where
       p : Point
       p = placed (leaf_corner m.tree leaf) q

@@ -10,7 +10,7 @@ use Rattle.tr_region.specs.Points.{holds}
 use Rattle.tr_client.specs.declared.clients.Client.{Ghosts}
 use Rattle.tr_tree.specs.Trees.{Seen}
 use Rattle.tr_spot.specs.Spots.{spot}
-use Rattle.tr_surface.specs.Surfaces.{Shown, IsShown, is_on}
+use Rattle.tr_surface.specs.Surfaces.{Shown, IsShown, is_on, is_bad}
 use Rattle.tr_mail.specs.Mails.{Mails}
 use Rattle.tr_journal.specs.declared.items.Item.{Item}
 use Rattle.tr_journal.specs.Openings.{tree_of}
@@ -62,7 +62,7 @@ module _ {C M : Type 0} (client : Ghosts C M) where
   mail_shows m s mail is = record { tree = is.tree; bad = is.bad; agrees = record { size = is.agrees.size; kind = is.agrees.kind; good = is.agrees.good } }
 
   -- at the start every point is bad, and the screen may have any pixels
-  pub start_shows : (items : List (Item C)) (s : Shown) → IsShown s → s.tree ≡ tree_of items → ((p : Point) → holds s.bad p ≡ is_on s.tree p) →
+  pub start_shows : (items : List (Item C)) (s : Shown) → IsShown s → s.tree ≡ tree_of items → ((p : Point) → is_bad s p ≡ is_on s.tree p) →
       IsShowing client (start items) s
   start_shows items s is tree bad = record {
     tree = tree;

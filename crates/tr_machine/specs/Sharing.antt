@@ -73,7 +73,3 @@ module _ {C M : Type 0} (client : Ghosts C M) where
       let flushed = after_steps client m (flushing m) in
       let shown = repainted_each flushed (all_bad_leaves flushed) in
       under (Mu ∷ []) (flushing m) ++ (at_shares (all_bad_leaves flushed) ++ under (Mu ∷ []) (frame_steps shown))
-
-  -- their lines: the painter's
-  abbrev pub sharing_lines : State C M → List (JournalLine M)
-  sharing_lines m = lines_by client Painter m (sharing m)

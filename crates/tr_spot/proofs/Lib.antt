@@ -6,3 +6,5 @@ pub mod SpotLemmas
 pub mod GainLemmas
 pub mod LeafLemmas
 pub mod ChangeLemmas
+pub mod CoverLemmas
+pub mod PartLemmas

@@ -1,5 +1,5 @@
 -- The walk to the owner: one step of it, that 16 levels are enough, and that it ends where no child has the point.
-use Rattle.std.proofs.Common.{◌≡◌, ℕ, zero, suc, ◌+◌, ◌≤◌, Option, Some, None, refl, sym, ap, ◌∙◌, arith}
+use Rattle.std.proofs.Common.{◌≡◌, ℕ, zero, suc, ◌+◌, ◌≤◌, List, Option, Some, None, refl, sym, ap, ◌∙◌, arith}
 use Rattle.tr_base.specs.declared.Point.{Point}
 use Rattle.tr_base.specs.declared.NodeId.{NodeId}
 use Rattle.tr_base.specs.Rects.{has_point}
@@ -10,7 +10,6 @@ use Rattle.tr_tree.specs.Trees.{Seen}
 use Rattle.tr_tree.specs.Places.{domain}
 use Rattle.tr_spot.specs.Spots.{followed, owner, owner_within}
 use Rattle.tr_spot.specs.Ways.{front}
-use Rattle.tr_spot.specs.Gains.{owner_among}
 use Rattle.tr_spot.proofs.NodeLemmas.{IsBelow, child_below, find_among}
 
 pub followed_same : (n : NodeId) (o : Option NodeId) (u v : NodeId → NodeId) → ((c : NodeId) → o ≡ Some c → u c ≡ v c) → followed n u o ≡ followed n v o
@@ -36,6 +35,10 @@ owner_enough (suc f) t forest n p h =
     (λ c. owner_within (suc f) t c p) (λ c. owner_within f t c p) (λ c e.
     let below : IsBelow t.nodes n c = front_below t forest n c p e in
     owner_enough f t forest c p (omega (arith, below.deeper)))
+
+-- the owner at a node with these children
+abbrev owner_among : Seen → NodeId → List NodeId → Point → NodeId
+owner_among t n cs p = followed n (λ c. owner t c p) (front t p cs)
 
 owner_next : (t : Seen) (n : NodeId) (p : Point) → owner_within (suc levels) t n p ≡ owner_among t n (node t.nodes n).children p
 unfolding owner_within

@@ -44,9 +44,6 @@ pub it_is : (n : NodeId) (o : Option NodeId) → is_it n o ≡ true → o ≡ So
 it_is n None h = absurd (false-true h)
 it_is n (Some m) h = ap (λ (k : NodeId). Some k) (by_number m n (equal_numbers m.0 n.0 h))
 
-pub is_it_itself : (n : NodeId) (o : Option NodeId) → o ≡ Some n → is_it n o ≡ true
-is_it_itself n o e = rw e (equal_test n.0 n.0 refl)
-
 nobody_is : (o : Option NodeId) → is_nobody o ≡ true → o ≡ None
 nobody_is None h = refl
 nobody_is (Some m) h = absurd (false-true h)
@@ -126,7 +123,7 @@ leads_root : (t : Seen) (p : Point) (n : NodeId) (below : Bool) → (below ≡ t
 leads_root t p n below up true is k = record { screen = k; root = n; is_root = root_is t.nodes.root n is; owner = refl }
 leads_root t p n below up false is k = up k
 
-leads : (f : ℕ) (t : Seen) → IsForest t.nodes → (p : Point) (n : NodeId) → comes_within f t p n ≡ true → Leads t p n
+pub leads : (f : ℕ) (t : Seen) → IsForest t.nodes → (p : Point) (n : NodeId) → comes_within f t p n ≡ true → Leads t p n
 unfolding comes_within
 leads zero t forest p n h = absurd (false-true h)
 leads (suc f) t forest p n h =

@@ -1,5 +1,5 @@
 pub mod Spots
 pub mod Leaves
 pub mod Ways
-pub mod Gains
 pub mod Changes
+pub mod Covers

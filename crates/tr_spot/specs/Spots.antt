@@ -1,5 +1,5 @@
 -- Who owns a point of the screen.
-use Rattle.std.specs.Prelude.{◌≡◌, ◌<◌, ⊤, ℕ, zero, suc, ◌-ℤ◌, Bool, true, false, ◌==◌, if◌then◌else◌, List, [], Option, Some, None, IsSome, get_or, length}
+use Rattle.std.specs.Prelude.{◌<◌, ⊤, ℕ, zero, suc, ◌-ℤ◌, Bool, false, ◌==◌, if◌then◌else◌, List, [], Option, Some, None, IsSome, get_or}
 use Rattle.std.specs.List.{find}
 use Rattle.tr_base.specs.declared.Point.{Point}
 use Rattle.tr_base.specs.declared.Size.{Size}
@@ -8,7 +8,6 @@ use Rattle.tr_base.specs.declared.LeafId.{LeafId}
 use Rattle.tr_base.specs.declared.Spot.{Spot}
 use Rattle.tr_base.specs.declared.Spot.TheVariants as spots
 use Rattle.tr_base.specs.Rects.{Edges, has_point, sides_of, whole_of}
-use Rattle.tr_region.specs.Points.{holds}
 use Rattle.tr_forest.specs.declared.NodeKind.{NodeKind}
 use Rattle.tr_forest.specs.declared.NodeKind.TheVariants as kinds
 use Rattle.tr_forest.specs.Nodes.{node}
@@ -84,9 +83,3 @@ is_spot_of t n spot = is_spot_as (node t.nodes n).kind n spot
 -- the region of a node in a list of one for each node
 abbrev pub region_of : List (List Edges) → NodeId → List Edges
 region_of regions n = get_or regions n.0 []
-
--- regions of nodes, and a rectangle whose points they have, each of them once
-pub record CoverOnce (screen : Edges) (regions : List (List Edges)) : Type 0 where
-  pub each : (p : Point) → has_point screen p ≡ true → (n : NodeId) × ((n.0 < length regions) × (holds (region_of regions n) p ≡ true))
-  pub once : (m n : NodeId) (p : Point) → holds (region_of regions m) p ≡ true → holds (region_of regions n) p ≡ true → m.0 ≡ n.0
-  pub within : (n : NodeId) (p : Point) → holds (region_of regions n) p ≡ true → has_point screen p ≡ true

@@ -1,4 +1,4 @@
--- For the crate's own functions: the nodes to which the walk from the root to a point's owner comes.
+-- The nodes to which the walk from the root to a point's owner comes.
 use Rattle.std.specs.Prelude.{ℕ, zero, suc, Bool, true, false, ◌&&◌, ◌==◌, if◌then◌else◌, List, Option, Some, None}
 use Rattle.std.specs.List.{find}
 use Rattle.tr_base.specs.declared.Point.{Point}

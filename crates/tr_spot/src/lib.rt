@@ -5,17 +5,13 @@
 //! front, and a child that reaches past its parent shows nothing there.
 #![tactic(auto)]
 
-mod changes;
-mod fills;
 mod leaves;
 mod owners;
 mod spots;
 mod windows;
 
-pub use changes::changed_points;
-pub use fills::{regions, regions_within};
 pub use leaves::{in_leaf, leaf_corner, leaf_size};
 pub use owners::levels_suffice;
 pub use spots::{from_corner, size_of, spot_at};
 pub use tr_base::Spot;
-pub use windows::{frame, visible};
+pub use windows::{frame, own_points, reached, visible};

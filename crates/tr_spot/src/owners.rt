@@ -1,18 +1,15 @@
-ghost use Rattle.std.specs.Prelude.{◌≡◌, IfOk};
+ghost use Rattle.std.specs.Prelude.{◌≡◌};
 ghost use Rattle.std.specs.List.{find};
 ghost use Rattle.tr_base.specs.declared.Point.{Point};
 ghost use Rattle.tr_base.specs.declared.NodeId.{NodeId};
 ghost use Rattle.tr_base.specs.Rects.{has_point};
-ghost use Rattle.tr_region.specs.Points.{holds};
 ghost use Rattle.tr_forest.specs.Nodes.{node, IsNode};
 ghost use Rattle.tr_forest.specs.Forests.{IsForest};
 ghost use Rattle.tr_tree.specs.Places.{domain};
 ghost use Rattle.tr_spot.specs.Spots.{owner, followed};
 ghost use Rattle.tr_spot.specs.Ways.{front};
 
-use std::alloc::Global;
-use tr_base::{NoMemory, NodeId, Point};
-use tr_region::Region;
+use tr_base::{NodeId, Point};
 use tr_tree::Tree;
 
 /// Sixteen levels are enough, so owners are those of trees of any depth: the owner of a point at a
@@ -23,14 +20,6 @@ pub fn levels_suffice(tree: &Tree)
         (find (λ c. has_point (domain tree.now c) p) (node tree.now.nodes n).children) }
 {
     let _ = tree.count();
-}
-
-/// The points of a node's domain.
-pub(crate) fn domain_of(alloc: Global, tree: &Tree, n: NodeId) -> Result<Region, NoMemory>
-    requires { IsNode tree.now.nodes n }
-    ensures { IfOk result (λ r. (p : Point) → holds r p ≡ has_point (domain tree.now n) p) }
-{
-    Region::of_rect(alloc, tree.domain(n))
 }
 
 /// The first child of a node whose domain has the point.

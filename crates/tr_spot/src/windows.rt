@@ -1,5 +1,6 @@
 ghost use Rattle.std.specs.Prelude.{◌≡◌, ◌<◌, ◌&&◌, IfOk};
 ghost use Rattle.tr_base.specs.declared.Point.{Point};
+ghost use Rattle.tr_base.specs.Rects.{has_point, whole_of};
 ghost use Rattle.tr_region.specs.Points.{holds};
 ghost use Rattle.tr_forest.specs.Nodes.{node, leaf_count, IsNode};
 ghost use Rattle.tr_forest.specs.Forests.{IsForest};
@@ -7,9 +8,8 @@ ghost use Rattle.tr_forest.specs.Edits.{is_root};
 ghost use Rattle.tr_spot.specs.Spots.{is_in_leaf, is_on_frame, is_spot_of, spot};
 ghost use Rattle.tr_spot.specs.Ways.{front, is_it, is_nobody, comes_to};
 
-use crate::owners::domain_of;
 use std::alloc::Global;
-use tr_base::{LeafId, NoMemory, NodeId, empty_place, whole};
+use tr_base::{LeafId, NoMemory, NodeId, whole};
 use tr_region::Region;
 use tr_tree::{NodeKind, Tree};
 
@@ -36,31 +36,68 @@ pub fn frame(alloc: Global, tree: &Tree, n: NodeId) -> Result<Region, NoMemory>
     owned(alloc, tree, n)
 }
 
-/// The points whose spot is that of the node: where the walk from the root comes to it, and finds
-/// no child to go on to.
+/// The points of a part of the plane that belong to a node: a leaf's visible ones, those of another
+/// node's frame.
+pub fn own_points(alloc: Global, tree: &Tree, n: NodeId, part: Region) -> Result<Region, NoMemory>
+    requires { IsNode tree.now.nodes n }
+    ensures { IfOk result (λ r. (p : Point) →
+        holds r p ≡ holds part p && is_spot_of tree.now n (spot tree.now p)) }
+{
+    // Called for what it tells the prover: that the nodes are a forest.
+    let _ = tree.count();
+    owned_in(alloc, tree, n, part)
+}
+
+/// The points at which the walk from the root to the owner comes to a node.
+pub fn reached(alloc: Global, tree: &Tree, n: NodeId) -> Result<Region, NoMemory>
+    requires { IsNode tree.now.nodes n }
+    ensures { IfOk result (λ r. (p : Point) → holds r p ≡ comes_to tree.now p n) }
+{
+    // Called for what it tells the prover: that the nodes are a forest.
+    let _ = tree.count();
+    let screen = Region::of_rect(alloc, whole(tree.size()))?;
+    reached_in(alloc, tree, n, screen)
+}
+
+/// The points whose spot is that of the node.
 fn owned(alloc: Global, tree: &Tree, n: NodeId) -> Result<Region, NoMemory>
     requires forest { IsForest tree.now.nodes }
     requires node { IsNode tree.now.nodes n }
     ensures { IfOk result (λ r. (p : Point) → holds r p ≡ is_spot_of tree.now n (spot tree.now p)) }
 {
-    let all = reached(alloc, tree, n)?;
+    let screen = Region::of_rect(alloc, whole(tree.size()))?;
+    owned_in(alloc, tree, n, screen)
+}
+
+/// The points of a part whose spot is that of the node: where the walk from the root comes to it, and
+/// finds no child to go on to.
+fn owned_in(alloc: Global, tree: &Tree, n: NodeId, part: Region) -> Result<Region, NoMemory>
+    requires forest { IsForest tree.now.nodes }
+    requires node { IsNode tree.now.nodes n }
+    ensures { IfOk result (λ r. (p : Point) →
+        holds r p ≡ holds part p && is_spot_of tree.now n (spot tree.now p)) }
+{
+    let all = reached_in(alloc, tree, n, part)?;
     uncovered(alloc, tree, n, all)
 }
 
-/// The points at which the walk from the root comes to the node.
-fn reached(alloc: Global, tree: &Tree, n: NodeId) -> Result<Region, NoMemory>
+/// The points of a part at which the walk from the root comes to the node.
+fn reached_in(alloc: Global, tree: &Tree, n: NodeId, part: Region) -> Result<Region, NoMemory>
     requires forest { IsForest tree.now.nodes }
     requires node { IsNode tree.now.nodes n }
-    ensures { IfOk result (λ r. (p : Point) → holds r p ≡ comes_to tree.now p n) }
+    ensures { IfOk result (λ r. (p : Point) → holds r p ≡ holds part p && comes_to tree.now p n) }
 {
     if is_root(tree, n) {
-        return Region::of_rect(alloc, whole(tree.size()));
+        return part.within(&whole(tree.size()));
     }
     match tree.parent(n) {
-        None => Region::of_rect(alloc, empty_place()),
+        None => {
+            drop(part);
+            Ok(Region::empty(alloc))
+        }
         Some(parent) => {
-            let above = reached(alloc, tree, parent)?;
-            passed_on(alloc, tree, parent, n, &above)
+            let above = reached_in(alloc, tree, parent, part)?;
+            passed_on(alloc, tree, parent, n, above)
         }
     }
 }
@@ -81,31 +118,21 @@ fn passed_on(
     tree: &Tree,
     parent: NodeId,
     child: NodeId,
-    part: &Region,
+    part: Region,
 ) -> Result<Region, NoMemory>
     requires forest { IsForest tree.now.nodes }
     requires parent { IsNode tree.now.nodes parent }
     requires child { IsNode tree.now.nodes child }
     ensures { IfOk result (λ r. (p : Point) →
         holds r p
-        ≡ holds part.now p && is_it child (front tree.now p (node tree.now.nodes parent).children)) }
+        ≡ holds part p && is_it child (front tree.now p (node tree.now.nodes parent).children)) }
 {
-    let domain = domain_of(alloc, tree, child)?;
-    let met = part.meet(&domain);
-    drop(domain);
-    let mut left = met?;
+    let mut left = part.within(&tree.domain(child))?;
     for sibling in tree.children(parent) {
         if sibling.0 == child.0 {
             return Ok(left);
         }
-        let Ok(in_front) = domain_of(alloc, tree, *sibling) else {
-            drop(left);
-            return Err(NoMemory);
-        };
-        let rest = left.minus(&in_front);
-        drop(in_front);
-        drop(left);
-        left = rest?;
+        left = left.outside(&tree.domain(*sibling))?;
     }
     drop(left);
     Ok(Region::empty(alloc))
@@ -120,8 +147,7 @@ fn uncovered(alloc: Global, tree: &Tree, n: NodeId, part: Region) -> Result<Regi
 {
     let mut left = part;
     for child in tree.children(n) {
-        let covered = domain_of(alloc, tree, *child)?;
-        left = left.minus(&covered)?;
+        left = left.outside(&tree.domain(*child))?;
     }
     Ok(left)
 }

@@ -1,9 +1,8 @@
 -- Regions of the screen: they lie in a square of 1024 points each way, and a region that isn't empty holds a point.
-use Rattle.std.proofs.Common.{◌≡◌, ℕ, ◌+◌, ◌<◌, ◌≤◌, ℤ, pos, ◌-ℤ◌, ◌≤ℤ◌, ◌<ℤ◌, Bool, true, false, ◌&&◌, ◌||◌, not, List, [], ◌∷◌, length, refl, sym, ap, ◌∙◌, inl, inr, arith}
+use Rattle.std.proofs.Common.{◌≡◌, ◌<◌, ◌≤◌, ℤ, pos, ◌-ℤ◌, ◌≤ℤ◌, ◌<ℤ◌, Bool, true, false, ◌&&◌, ◌||◌, not, List, [], ◌∷◌, length, refl, sym, ◌∙◌, arith}
 use Rattle.std.specs.Prelude.{IsTrue}
 use Rattle.std.specs.List.{AllByRecursion}
 use Rattle.std.proofs.lemmas.Int.{ints}
-use Rattle.std.proofs.lemmas.Bool.{cases_lt}
 use Rattle.tr_base.specs.declared.Point.{Point}
 use Rattle.tr_base.specs.declared.NodeId.{NodeId}
 use Rattle.tr_base.specs.Rects.{Edges, between, has_point, whole_of}
@@ -16,8 +15,7 @@ use Rattle.tr_exec.specs.Executions.{LiesOn, greatest_screen}
 use Rattle.tr_exec.proofs.SiteLemmas.{IsThere}
 use Rattle.tr_forest.specs.Forests.{IsForest}
 use Rattle.tr_spot.specs.Spots.{spot, is_on_frame}
-use Rattle.tr_spot.proofs.NodeLemmas.{by_number}
-use Rattle.tr_surface.specs.Surfaces.{Shown, is_frame}
+use Rattle.tr_surface.specs.Surfaces.{Shown, is_bad, is_frame}
 use Rattle.tr_surface.proofs.FrameLemmas.{framed}
 
 or_left : (a b : Bool) → a ≡ true → a || b ≡ true
@@ -85,24 +83,13 @@ square_count rects =
 
 -- no frame point is bad where none on a node's frame is
 pub none_framed : (s : Shown) → IsForest s.tree.nodes →
-    ((m : NodeId) (p : Point) → m.0 < length s.tree.nodes.entries → (holds s.bad p && is_on_frame m (spot s.tree p)) ≡ false) →
-    (p : Point) → is_frame (spot s.tree p) ≡ true → holds s.bad p ≡ false
+    ((m : NodeId) (p : Point) → m.0 < length s.tree.nodes.entries → (is_bad s p && is_on_frame m (spot s.tree p)) ≡ false) →
+    (p : Point) → is_frame (spot s.tree p) ≡ true → is_bad s p ≡ false
 none_framed s forest none p h =
     let at = framed s.tree forest p h in
-    by_test (holds s.bad p) (is_on_frame at.node_at (spot s.tree p)) at.on (none at.node_at p at.is_node.within)
+    by_test (is_bad s p) (is_on_frame at.node_at (spot s.tree p)) at.on (none at.node_at p at.is_node.within)
   where
     by_test : (b c : Bool) → c ≡ true → b && c ≡ false → b ≡ false
     by_test true true e k = k
     by_test true false e k = sym e
     by_test false c e k = refl
-
--- the nodes before the next one
-pub none_next : (s : Shown) (n : ℕ) (frame : List Edges) → ((m : NodeId) (p : Point) → m.0 < n → (holds s.bad p && is_on_frame m (spot s.tree p)) ≡ false) →
-    ((p : Point) → holds frame p ≡ (holds s.bad p && is_on_frame (record { 0 = n }) (spot s.tree p))) → ((p : Point) → holds frame p ≡ false) →
-    (m : NodeId) (p : Point) → m.0 < n + 1 → (holds s.bad p && is_on_frame m (spot s.tree p)) ≡ false
-none_next s n frame were is none m p lt = elim (cases_lt m.0 n) [
-  | inl before ↦ were m p before
-  | inr not_before ↦
-      let same : m.0 ≡ n = omega (arith, lt, not_before) in
-      ap (λ (k : NodeId). holds s.bad p && is_on_frame k (spot s.tree p)) (by_number m (record { 0 = n }) same) ∙ sym (is p) ∙ none p
-]

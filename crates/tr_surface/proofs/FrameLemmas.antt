@@ -1,5 +1,5 @@
 -- What is painted of the frames, and which points of them are bad.
-use Rattle.std.proofs.Common.{◌≡◌, ℕ, zero, suc, ◌+◌, ◌<◌, Bool, true, false, ◌&&◌, not, cond, List, [], ◌∷◌, ◌++◌, Option, Some, None, length, get_or, length-append, inl, inr, refl, sym, ap, ◌∙◌, arith}
+use Rattle.std.proofs.Common.{◌≡◌, ℕ, zero, suc, ◌+◌, ◌<◌, Bool, true, false, ◌&&◌, ◌||◌, not, cond, List, [], ◌∷◌, ◌++◌, Option, Some, None, length, get_or, length-append, inl, inr, refl, sym, ap, ◌∙◌, arith}
 use Rattle.std.proofs.lemmas.List.Folds.{list_any_at, list_any_none}
 use Rattle.std.proofs.lemmas.List.{get_or_append_left, get_or_push}
 use Rattle.std.proofs.lemmas.Bool.{cases_lt, and_from}
@@ -18,7 +18,7 @@ use Rattle.tr_screen.specs.Runs.{Repaints}
 use Rattle.tr_exec.specs.Walks.{in_area}
 use Rattle.tr_forest.specs.declared.NodeKind.{NodeKind}
 use Rattle.tr_forest.specs.declared.NodeKind.TheVariants as kinds
-use Rattle.tr_forest.specs.Nodes.{node, IsNode}
+use Rattle.tr_forest.specs.Nodes.{node, is_leaf, IsNode}
 use Rattle.tr_forest.specs.Families.{levels}
 use Rattle.tr_forest.specs.Forests.{IsForest}
 use Rattle.tr_tree.specs.Trees.{Seen}
@@ -28,9 +28,12 @@ use Rattle.tr_spot.specs.Spots.{followed, owner, owner_within, spot, spot_on, sp
 use Rattle.tr_spot.specs.Ways.{front}
 use Rattle.tr_spot.proofs.NodeLemmas.{by_number, find_passes}
 use Rattle.tr_spot.proofs.OwnerLemmas.{front_below}
+use Rattle.tr_spot.proofs.SpotLemmas.{frame_spot, no_frame}
 use Rattle.tr_spot.proofs.WayLemmas.{equal_numbers, equal_test, and_left, and_right, same_tests}
-use Rattle.tr_surface.specs.Surfaces.{Shown, IsShown, is_on, is_frame, frame_colour}
-use Rattle.tr_surface.specs.Frames.{any_holds, AreBadFrames}
+use Rattle.tr_surface.specs.Surfaces.{AreOwn, IsShown, Shown, any_holds, is_bad, is_on, is_frame, frame_colour}
+use Rattle.tr_surface.specs.Frames.{AreBadFrames, AreGoodFrames}
+use Rattle.tr_surface.proofs.SurvivorLemmas.{IsOf, owns_point}
+use Rattle.tr_surface.proofs.GoodLemmas.{HasOwner, bad_here, bad_off, bad_on, has_owner}
 
 false-true : false ≡ true → ⊥
 false-true h = cc h
@@ -139,79 +142,124 @@ framed t forest p h = by_root t.nodes.root refl
 
 -- the bad points of all frames
 pub any_bad : (s : Shown) (frames : List (List Edges)) → IsForest s.tree.nodes → AreBadFrames s frames → (p : Point) →
-    any_holds frames p ≡ (holds s.bad p && is_frame (spot s.tree p))
+    any_holds frames p ≡ (is_bad s p && is_frame (spot s.tree p))
 any_bad s frames forest are p = same_tests _ _ there back
   where
-    back : (holds s.bad p && is_frame (spot s.tree p)) ≡ true → any_holds frames p ≡ true
+    back : (is_bad s p && is_frame (spot s.tree p)) ≡ true → any_holds frames p ≡ true
     back h =
-        let bad : holds s.bad p ≡ true = and_left (holds s.bad p) (is_frame (spot s.tree p)) h in
-        let at = framed s.tree forest p (and_right (holds s.bad p) (is_frame (spot s.tree p)) h) in
+        let bad : is_bad s p ≡ true = and_left (is_bad s p) (is_frame (spot s.tree p)) h in
+        let at = framed s.tree forest p (and_right (is_bad s p) (is_frame (spot s.tree p)) h) in
         list_any_at (λ r. holds r p) frames at.node_at.0 [] (omega (arith, are.count, at.is_node.within))
         (are.points at.node_at p at.is_node ∙ and_from _ _ bad at.on)
 
-    none : (holds s.bad p && is_frame (spot s.tree p)) ≡ false → (i : ℕ) → i < length frames → holds (get_or frames i []) p ≡ false
+    none : (is_bad s p && is_frame (spot s.tree p)) ≡ false → (i : ℕ) → i < length frames → holds (get_or frames i []) p ≡ false
     none h i lt =
         let n : NodeId = record { 0 = i } in
-        are.points n p (record { within = omega (arith, are.count, lt) }) ∙ by_test (holds s.bad p) (is_on_frame n (spot s.tree p)) refl h
+        are.points n p (record { within = omega (arith, are.count, lt) }) ∙ by_test (is_bad s p) (is_on_frame n (spot s.tree p)) refl h
       where
         by_test : (b c : Bool) → is_on_frame (record { 0 = i }) (spot s.tree p) ≡ c → (b && is_frame (spot s.tree p)) ≡ false → b && c ≡ false
         by_test false c e k = refl
         by_test true false e k = refl
         by_test true true e k = absurd (false-true (sym k ∙ on_frame (record { 0 = i }) (spot s.tree p) e))
 
-    there : any_holds frames p ≡ true → (holds s.bad p && is_frame (spot s.tree p)) ≡ true
-    there h = by_test (holds s.bad p && is_frame (spot s.tree p)) refl
+    there : any_holds frames p ≡ true → (is_bad s p && is_frame (spot s.tree p)) ≡ true
+    there h = by_test (is_bad s p && is_frame (spot s.tree p)) refl
       where
-        by_test : (b : Bool) → (holds s.bad p && is_frame (spot s.tree p)) ≡ b → b ≡ true
+        by_test : (b : Bool) → (is_bad s p && is_frame (spot s.tree p)) ≡ b → b ≡ true
         by_test true e = refl
         by_test false e = sym (list_any_none (λ r. holds r p) frames (All-from_get_or (λ r. holds r p ≡ false) frames [] (none e))) ∙ h
 
-pub count_push : (frames more : List (List Edges)) (n : ℕ) (frame : List Edges) → length frames ≡ n → more ≡ frames ++ frame ∷ [] → length more ≡ n + 1
-count_push frames more n frame count is = ap length is ∙ length-append frames (frame ∷ []) ∙ ap (λ k. k + 1) count
-
--- the list with the bad frame points of one more node
-pub frames_push : (s : Shown) (frames more : List (List Edges)) (n : ℕ) (frame : List Edges) → length frames ≡ n → more ≡ frames ++ frame ∷ [] →
-    ((m : NodeId) (p : Point) → m.0 < n → holds (region_of frames m) p ≡ (holds s.bad p && is_on_frame m (spot s.tree p))) →
-    ((p : Point) → holds frame p ≡ (holds s.bad p && is_on_frame (record { 0 = n }) (spot s.tree p))) →
-    (m : NodeId) (p : Point) → m.0 < n + 1 → holds (region_of more m) p ≡ (holds s.bad p && is_on_frame m (spot s.tree p))
-frames_push s frames more n frame count is were next m p lt =
-    ap (λ (rs : List (List Edges)). holds (region_of rs m) p) is ∙ elim (cases_lt m.0 n) [
-      | inl before ↦ ap (λ (r : List Edges). holds r p) (get_or_append_left frames (frame ∷ []) [] m.0 (omega (arith, count, before))) ∙ were m p before
-      | inr not_before ↦
-          let same : m.0 ≡ n = omega (arith, lt, not_before) in
-          ap (λ (r : List Edges). holds r p) (get_or_push frames frame [] m.0 (count ∙ sym same)) ∙ next p
-          ∙ ap (λ (k : NodeId). holds s.bad p && is_on_frame k (spot s.tree p)) (sym (by_number m (record { 0 = n }) same))
-    ]
-
 -- what is repaired of a surface where its frames are painted, as the contract has it
-pub record AreRepaired (s : Shown) (screen : Picture) (bad : List Edges) : Type 0 where
-  pub bad_is : (p : Point) → holds bad p ≡ (holds s.bad p && not (is_frame (spot s.tree p)))
-  pub painted : (p : Point) → holds s.bad p ≡ true → is_frame (spot s.tree p) ≡ true → pixel_of screen p ≡ frame_colour (spot s.tree p)
-  pub others : (p : Point) → is_on s.tree p ≡ true → (holds s.bad p && is_frame (spot s.tree p)) ≡ false → pixel_of screen p ≡ pixel_of s.screen p
+pub record AreRepaired (s new : Shown) : Type 0 where
+  pub bad_is : (p : Point) → is_bad new p ≡ (is_bad s p && not (is_frame (spot s.tree p)))
+  pub painted : (p : Point) → is_bad s p ≡ true → is_frame (spot s.tree p) ≡ true → pixel_of new.screen p ≡ frame_colour (spot s.tree p)
+  pub others : (p : Point) → is_on s.tree p ≡ true → (is_bad s p && is_frame (spot s.tree p)) ≡ false → pixel_of new.screen p ≡ pixel_of s.screen p
 
-pub repaired : (s : Shown) → IsShown s → (frames : List (List Edges)) → AreBadFrames s frames → (screen : Picture) (rest : List Edges) →
-    ((p : Point) → holds rest p ≡ (holds s.bad p && not (any_holds frames p))) →
-    Repaints (any_holds frames) (λ p. frame_colour (spot s.tree p)) s.screen screen → AreRepaired s screen rest
-repaired s is frames are screen rest left painted = record {
-  bad_is = λ p. left p ∙ ap (λ b. holds s.bad p && not b) (all p) ∙ but (holds s.bad p) (is_frame (spot s.tree p));
+-- a point of a node lies on its frame where it lies on a frame
+frame_here : (t : Seen) → IsForest t.nodes → (n : NodeId) (p : Point) → IsOf t n p ≡ true → is_on_frame n (spot t p) ≡ is_frame (spot t p)
+frame_here t forest n p mine =
+    ap (λ (s : Spot). is_on_frame n s) at ∙ by_kind (node t.nodes n).kind ∙ sym (ap (λ (s : Spot). is_frame s) at)
+  where
+    at : spot t p ≡ spot_on t p n (node t.nodes n).kind
+    at = (owns_point t forest n p mine).spot
+
+    by_kind : (kind : NodeKind) → is_on_frame n (spot_on t p n kind) ≡ is_frame (spot_on t p n kind)
+    by_kind (kinds.Leaf leaf shapes) = refl
+    by_kind kind = equal_test n.0 n.0 refl
+
+-- and belongs to the node where it lies on the node's frame
+frame_own : (t : Seen) (n : NodeId) (p : Point) → is_on_frame n (spot t p) ≡ true → IsOf t n p ≡ true
+frame_own t n p h = by_leaf (is_leaf (node t.nodes n).kind) refl
+  where
+    by_leaf : (b : Bool) → is_leaf (node t.nodes n).kind ≡ b → IsOf t n p ≡ true
+    by_leaf true e = absurd (false-true (no_frame t p n e ∙ h))
+    by_leaf false e = frame_spot (node t.nodes n).kind n (spot t p) e ∙ h
+
+-- the bad points of a node's frame are those that aren't among its good ones
+pub frame_bad : (s : Shown) → IsShown s → (n : NodeId) → IsNode s.tree.nodes n → (p : Point) →
+    (is_on_frame n (spot s.tree p) && not (holds (region_of s.good n) p)) ≡ (is_bad s p && is_on_frame n (spot s.tree p))
+frame_bad s is n inside p = by_frame (is_on_frame n (spot s.tree p)) refl
+  where
+    and_true : (b : Bool) → (b && true) ≡ b
+    and_true true = refl
+    and_true false = refl
+
+    and_false : (b : Bool) → (b && false) ≡ false
+    and_false true = refl
+    and_false false = refl
+
+    by_frame : (b : Bool) → is_on_frame n (spot s.tree p) ≡ b →
+        (is_on_frame n (spot s.tree p) && not (holds (region_of s.good n) p)) ≡ (is_bad s p && is_on_frame n (spot s.tree p))
+    by_frame true e =
+        ap (λ b. b && not (holds (region_of s.good n) p)) e
+        ∙ sym (bad_here s is n inside p (frame_own s.tree n p e))
+        ∙ sym (ap (λ b. is_bad s p && b) e ∙ and_true (is_bad s p))
+    by_frame false e = ap (λ b. b && not (holds (region_of s.good n) p)) e ∙ sym (ap (λ b. is_bad s p && b) e ∙ and_false (is_bad s p))
+
+-- the good points with those of the frames are each node's own
+pub frames_own : (s : Shown) → IsShown s → (good : List (List Edges)) → AreGoodFrames s good → AreOwn s.tree good
+frames_own s is good are = record {
+  count = are.count;
+  points = λ n p inside h. by_good n p inside (holds (region_of s.good n) p) refl (sym (are.points n p inside) ∙ h);
+}
+  where
+    by_good : (n : NodeId) (p : Point) → IsNode s.tree.nodes n → (b : Bool) → holds (region_of s.good n) p ≡ b →
+        (holds (region_of s.good n) p || is_on_frame n (spot s.tree p)) ≡ true → IsOf s.tree n p ≡ true
+    by_good n p inside true e h = is.own.points n p inside e
+    by_good n p inside false e h = frame_own s.tree n p (sym (ap (λ b. b || is_on_frame n (spot s.tree p)) e) ∙ h)
+
+pub repaired : (s new : Shown) → IsShown s → IsShown new → new.tree ≡ s.tree → AreGoodFrames s new.good →
+    (frames : List (List Edges)) → AreBadFrames s frames →
+    Repaints (any_holds frames) (λ p. frame_colour (spot s.tree p)) s.screen new.screen → AreRepaired s new
+repaired s new is after tree good frames are painted = record {
+  bad_is = λ p. by_screen p (is_on s.tree p) refl;
   painted = λ p bad framed.
-      painted.points p (on p ∙ is.bad p bad)
+      painted.points p (on p ∙ bad_on s p bad)
       ∙ ap (λ b. cond b (frame_colour (spot s.tree p)) (pixel_of s.screen p)) (all p ∙ and_from _ _ bad framed);
   others = λ p here none.
       painted.points p (on p ∙ here) ∙ ap (λ b. cond b (frame_colour (spot s.tree p)) (pixel_of s.screen p)) (all p ∙ none);
 }
   where
-    all : (p : Point) → any_holds frames p ≡ (holds s.bad p && is_frame (spot s.tree p))
+    all : (p : Point) → any_holds frames p ≡ (is_bad s p && is_frame (spot s.tree p))
     all p = any_bad s frames is.forest are p
 
     on : (p : Point) → has_point (whole_of s.screen.size) p ≡ is_on s.tree p
     on p = ap (λ (size : Size). has_point (whole_of size) p) is.size
 
-    but : (a f : Bool) → a && not (a && f) ≡ a && not f
-    but true f = refl
-    but false f = refl
+    not_either : (a b : Bool) → not (a || b) ≡ (not a && not b)
+    not_either true b = refl
+    not_either false b = refl
 
--- where fewer points are bad, they stay on the screen
-pub fewer_on : (t : Seen) (old new : List Edges) (test : Point → Bool) → ((p : Point) → holds old p ≡ true → is_on t p ≡ true) →
-    ((p : Point) → holds new p ≡ (holds old p && not (test p))) → (p : Point) → holds new p ≡ true → is_on t p ≡ true
-fewer_on t old new test were left p h = were p (and_left (holds old p) (not (test p)) (sym (left p) ∙ h))
+    by_screen : (p : Point) (b : Bool) → is_on s.tree p ≡ b → is_bad new p ≡ (is_bad s p && not (is_frame (spot s.tree p)))
+    by_screen p false off =
+        bad_off new p (ap (λ (t : Seen). is_on t p) tree ∙ off)
+        ∙ sym (ap (λ b. b && not (is_frame (spot s.tree p))) (bad_off s p off))
+    by_screen p true here =
+        let at : HasOwner s.tree p = has_owner s.tree is.forest is.root p here in
+        let n : NodeId = at.node_at in
+        bad_here new after n (record { within = omega (arith, at.is_node.within, ap (λ (t : Seen). length t.nodes.entries) tree) }) p
+        (ap (λ (t : Seen). IsOf t n p) tree ∙ at.mine)
+        ∙ ap not (good.points n p at.is_node)
+        ∙ not_either (holds (region_of s.good n) p) (is_on_frame n (spot s.tree p))
+        ∙ ap (λ b. b && not (is_on_frame n (spot s.tree p))) (sym (bad_here s is n at.is_node p at.mine))
+        ∙ ap (λ b. is_bad s p && not b) (frame_here s.tree is.forest n p at.mine)

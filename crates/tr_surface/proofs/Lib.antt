@@ -1,4 +1,5 @@
 pub mod SurvivorLemmas
+pub mod GoodLemmas
 pub mod TreeChangeLemmas
 pub mod KnownLemmas
 pub mod NearLemmas
@@ -7,6 +8,7 @@ pub mod FrameLemmas
 pub mod BadLemmas
 pub mod PixelLemmas
 pub mod EditLemmas
-pub mod TintLemmas
 pub mod PutLemmas
 pub mod PlacedLemmas
+pub mod CoverLemmas
+pub mod CountLemmas

@@ -1,13 +1,13 @@
 -- Corners that are moved, and points that can be.
-use Rattle.std.proofs.Common.{◌≡◌, ◌≤◌, ℕ, pos, neg_ℤ, ◌≤ℤ◌, true, ℤ, ◌-ℤ◌, sym, ap, ◌∙◌, arith, nat_eq, w32, to_z, of_z, SFits, rules}
+use Rattle.std.proofs.Common.{◌≡◌, ◌≤◌, ℕ, pos, neg_ℤ, ◌≤ℤ◌, ◌+ℤ◌, Bool, true, false, cond, ◌&&◌, ℤ, ◌-ℤ◌, sym, ap, ◌∙◌, arith, nat_eq, w32, to_z, of_z, SFits, rules}
 use Rattle.std.specs.Ordering.{int_eq}
 use Rattle.std.proofs.lemmas.Int.{ints, to_z-of_z}
 use Rattle.std.proofs.lemmas.Bool.Decides.{Decides-int_eq, Decides-eqb, same_from_decides, Decides-like}
-use Rattle.std.specs.Prelude.{unsigned_abs, negsuc}
+use Rattle.std.specs.Prelude.{unsigned_abs, negsuc, int_lt}
 use Rattle.std.proofs.lemmas.Bool.{and_parts}
 use Rattle.tr_base.specs.declared.Point.{Point}
 use Rattle.tr_base.specs.declared.Size.{Size}
-use Rattle.tr_base.specs.Rects.{Edges, InReach, between, has_point, whole_of}
+use Rattle.tr_base.specs.Rects.{AreInReach, Edges, InReach, between, empty_rect, has_point, shifted, whole_of}
 use Rattle.tr_base.specs.Layouts.{IsDomain}
 use Rattle.tr_base.proofs.RectLemmas.{has_point-rect_of}
 use Rattle.tr_repair.specs.Near.{IsAround, IsStep}
@@ -71,3 +71,39 @@ corner_step e d =
     let w : e.west ≤ℤ pos 69632 = corner_most e.west e.east d.east d.wide in
     let n : e.north ≤ℤ pos 69632 = corner_most e.north e.south d.south d.high in
     record { west = omega (arith, ints); east = omega (arith, ints); north = omega (arith, ints); south = omega (arith, ints) }
+
+-- a window's rectangle can be moved by a step
+reach_within : (x : ℤ) → neg_ℤ (pos 1048576) ≤ℤ x → x ≤ℤ pos 1048576 → InReach x
+reach_within x low high = record { low = low; high = high }
+
+pub shifted_reach : (e : Edges) (d : Point) → IsDomain e → IsStep d → AreInReach (shifted e d)
+shifted_reach e d is step = by_test (int_lt (e.west +ℤ d.h) (e.east +ℤ d.h) && int_lt (e.north +ℤ d.v) (e.south +ℤ d.v))
+  where
+    west_most : e.west ≤ℤ pos 69632
+    west_most = corner_most e.west e.east is.east is.wide
+
+    north_most : e.north ≤ℤ pos 69632
+    north_most = corner_most e.north e.south is.south is.high
+
+    least : (low high : ℤ) → neg_ℤ (pos 65536) ≤ℤ low → unsigned_abs (high -ℤ low) ≤ 4096 → neg_ℤ (pos 69632) ≤ℤ high
+    least low high begin side = let most = abs_most (high -ℤ low) 4096 side in omega (arith, ints, most)
+
+    east_least : neg_ℤ (pos 69632) ≤ℤ e.east
+    east_least = least e.west e.east is.west is.wide
+
+    south_least : neg_ℤ (pos 69632) ≤ℤ e.south
+    south_least = least e.north e.south is.north is.high
+
+    by_test : (b : Bool) → AreInReach (cond b (record { west = e.west +ℤ d.h; east = e.east +ℤ d.h; north = e.north +ℤ d.v; south = e.south +ℤ d.v }) empty_rect)
+    by_test true = record {
+      west = reach_within (e.west +ℤ d.h) (omega (arith, ints)) (omega (arith, ints));
+      east = reach_within (e.east +ℤ d.h) (omega (arith, ints)) (omega (arith, ints));
+      north = reach_within (e.north +ℤ d.v) (omega (arith, ints)) (omega (arith, ints));
+      south = reach_within (e.south +ℤ d.v) (omega (arith, ints)) (omega (arith, ints));
+    }
+    by_test false = record {
+      west = reach_within (pos 0) (omega (arith, ints)) (omega (arith, ints));
+      east = reach_within (pos 0) (omega (arith, ints)) (omega (arith, ints));
+      north = reach_within (pos 0) (omega (arith, ints)) (omega (arith, ints));
+      south = reach_within (pos 0) (omega (arith, ints)) (omega (arith, ints));
+    }

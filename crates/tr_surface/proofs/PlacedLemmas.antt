@@ -1,8 +1,7 @@
 -- But for one child an edit leaves each node the children that it had, in their order.
-use Rattle.std.proofs.Common.{◌≡◌, Bool, true, false, cond, not, ◌==◌, List, [], ◌∷◌, ◌++◌, Option, Some, None, length, refl, sym, ap, ◌∙◌, arith}
+use Rattle.std.proofs.Common.{◌≡◌, Bool, true, false, cond, not, ◌==◌, List, [], ◌∷◌, ◌++◌, Option, Some, None, length, ◌⊎◌, inl, inr, refl, sym, ap, ◌∙◌}
 use Rattle.tr_base.specs.declared.Point.{Point}
 use Rattle.tr_base.specs.declared.NodeId.{NodeId}
-use Rattle.tr_base.specs.Rects.{Edges}
 use Rattle.tr_forest.specs.declared.Edit.{Edit}
 use Rattle.tr_forest.specs.declared.Edit.TheVariants as edits
 use Rattle.tr_forest.specs.declared.NodeKind.TheVariants as kinds
@@ -13,10 +12,15 @@ use Rattle.tr_forest.proofs.FamilyLemmas.{by_id, parent_is_node, test_same}
 use Rattle.tr_forest.proofs.Lists.{joined}
 use Rattle.tr_forest.proofs.Keeping.{changed_part, still_node}
 use Rattle.tr_forest.proofs.Hanging.{IsHung, hung_is}
+use Rattle.tr_base.specs.Layouts.{has_points}
 use Rattle.tr_tree.specs.Trees.{Seen, edited_tree}
-use Rattle.tr_spot.specs.Changes.{AreAlikeBut, AreRegionsOutside, AreSameOutside, without_child}
-use Rattle.tr_surface.specs.Surfaces.{AreRegions}
-use Rattle.tr_surface.specs.Survivors.{IsLike, placed_child}
+use Rattle.tr_tree.specs.Places.{domain}
+use Rattle.tr_spot.specs.Changes.{AreAlikeBut, without_child}
+use Rattle.tr_surface.specs.TreeSteps.{child_of, first_node, if_placed, moved_child}
+use Rattle.tr_surface.specs.Survivors.{IsLike, carried_child, is_hanging, placed_child}
+
+true-false : true ≡ false → ⊥
+true-false h = cc
 
 -- ---- a list without one child
 
@@ -122,11 +126,29 @@ pub alike_edited : (was : Seen) (edit : Edit) → IsForest was.nodes → IsEdit 
     AreAlikeBut (placed_child edit) was (edited_tree was edit)
 alike_edited was edit forest is like size = record { count = like.count; root = like.root; size = size; children = same_but was.nodes edit forest is }
 
--- outside of what changes the old regions are the new ones
-pub regions_outside : (was is : Seen) (region : List Edges) (regions : List (List Edges)) →
-    length is.nodes.entries ≡ length was.nodes.entries → AreRegions was regions → AreSameOutside region was is →
-    AreRegionsOutside region is regions
-regions_outside was is region regions count owned same = record {
-  count = owned.count ∙ sym count;
-  points = λ n p inside h. owned.points n p (record { within = omega (arith, inside.within, count) }) ∙ sym (same.points n p h);
-}
+-- what is the same for all children is so but for one
+alike_with : (was is : Seen) (child : Option NodeId) → AreAlikeBut None was is → AreAlikeBut child was is
+alike_with was is child a = record { count = a.count; root = a.root; size = a.size; children = λ n. ap (without_child child) (a.children n) }
+
+-- an edit that hangs no child and takes none away leaves the children but for the one that it moves or brings to the front
+pub alike_carried : (was : Seen) (edit : Edit) → is_hanging edit ≡ false → AreAlikeBut (placed_child edit) was (edited_tree was edit) →
+    AreAlikeBut (carried_child was.nodes edit) was (edited_tree was edit)
+alike_carried was (edits.Attach child parent at) h a = absurd (true-false h)
+alike_carried was (edits.Detach child) h a = absurd (true-false h)
+alike_carried was (edits.Lift child) h a = a
+alike_carried was (edits.Move child at) h a = alike_with was (edited_tree was (edits.Move child at)) (Some child) a
+alike_carried was (edits.Offset n by) h a = alike_with was (edited_tree was (edits.Offset n by)) (first_node (node was.nodes n).children) a
+alike_carried was edit h a = a
+
+-- what it moves is that child, if it moves one
+moved_part : (was : Seen) (o : Option NodeId) → (if_placed was o ≡ None) ⊎ (if_placed was o ≡ o)
+moved_part was None = inl refl
+moved_part was (Some n) = by_test (has_points (domain was n))
+  where
+    by_test : (b : Bool) → (cond b (Some n) None ≡ None) ⊎ (cond b (Some n) None ≡ Some n)
+    by_test true = inr refl
+    by_test false = inl refl
+
+pub moved_carried : (was : Seen) (edit : Edit) → (moved_child was edit ≡ None) ⊎ (moved_child was edit ≡ carried_child was.nodes edit)
+moved_carried was (edits.Lift child) = inl refl
+moved_carried was edit = moved_part was (child_of was.nodes edit)

@@ -1,17 +1,19 @@
 -- The pixels that are put at a region's points, and those that are read there.
-use Rattle.std.proofs.Common.{◌≡◌, ℕ, ◌+◌, ◌-◌, ◌<◌, ◌≤◌, pos, ◌+ℤ◌, ◌-ℤ◌, ◌≤ℤ◌, ◌<ℤ◌, Bool, true, false, ◌&&◌, cond, List, [], ◌∷◌, ◌++◌, length, get_or, take, drop, refl, sym, ap, ◌∙◌, arith}
-use Rattle.std.specs.Prelude.{slice_index, unsigned_abs}
+use Rattle.std.proofs.Common.{◌≡◌, ℕ, ◌+◌, ◌-◌, ◌<◌, ◌≤◌, pos, ◌+ℤ◌, ◌-ℤ◌, ◌≤ℤ◌, ◌<ℤ◌, Bool, true, false, ◌&&◌, cond, ℤ, List, [], ◌∷◌, ◌++◌, inl, inr, length, get_or, take, drop, refl, sym, ap, ◌∙◌, arith}
+use Rattle.std.specs.Prelude.{int_lt, slice_index, unsigned_abs}
 use Rattle.std.proofs.lemmas.Int.{ints}
 use Rattle.std.proofs.lemmas.Bool.{and_parts}
 use Rattle.std.proofs.lemmas.List.{get_or-take, get_or-drop, get_or_append_left, get_or-append-add, length-append}
 use Rattle.std.proofs.lemmas.List.Sums.{sum_by-cons}
 use Rattle.tr_base.specs.declared.Point.{Point}
 use Rattle.tr_base.specs.declared.Size.{Size}
-use Rattle.tr_base.specs.Rects.{Edges, between, has_point, whole_of}
-use Rattle.tr_base.proofs.RectLemmas.{false-true}
+use Rattle.tr_base.specs.Rects.{Edges, IsRect, before_shift, between, empty_rect, has_point, shifted, whole_of}
+use Rattle.tr_base.proofs.RectFacts.{rect_of-full}
+use Rattle.tr_base.proofs.RectLemmas.{false-true, rect_cases}
 use Rattle.tr_region.specs.Areas.{area_of, total_area}
 use Rattle.tr_region.specs.Places.{place_in, place_within}
 use Rattle.tr_region.specs.Points.{holds}
+use Rattle.tr_region.proofs.OrderLemmas.{IsFull}
 use Rattle.tr_region.proofs.PlaceLemmas.{IsRectAt, abs_is, between_parts, held_first, holds-push_other, holds-push_own, place_in-before, place_in-first, place_in-held, place_in-last, place_within-lt, row_and_column, take-rect}
 use Rattle.tr_screen.specs.Pictures.{Picture, pixel_of}
 use Rattle.tr_screen.specs.declared.Run.{Run}
@@ -78,15 +80,96 @@ put_in part r f old new all paints = record {
     same p true h = ap (λ b. b && has_point r p) (all p h)
     same p false h = ap (λ b. holds part p && b) h ∙ and_false (holds part p) ∙ sym h
 
+-- ---- a rectangle that is moved
+
+-- a rectangle with points moves edge by edge
+pub moved_rect : (d : Point) (r : Edges) → IsFull r →
+    shifted r d ≡ record { west = r.west +ℤ d.h; east = r.east +ℤ d.h; north = r.north +ℤ d.v; south = r.south +ℤ d.v }
+moved_rect d r full =
+    let across : r.west <ℤ r.east = full.across in
+    let down : r.north <ℤ r.south = full.down in
+    rect_of-full (r.west +ℤ d.h) (r.east +ℤ d.h) (r.north +ℤ d.v) (r.south +ℤ d.v) (omega (arith, ints)) (omega (arith, ints))
+
+-- how far two edges are from each other
+moved_side : (a b by : ℤ) → unsigned_abs ((a +ℤ by) -ℤ (b +ℤ by)) ≡ unsigned_abs (a -ℤ b)
+moved_side a b by = let same : (a +ℤ by) -ℤ (b +ℤ by) ≡ a -ℤ b = omega (arith, ints) in ap unsigned_abs same
+
+-- how far a coordinate is from an edge
+moved_edge : (x edge by : ℤ) → unsigned_abs (x -ℤ (edge +ℤ by)) ≡ unsigned_abs ((x -ℤ by) -ℤ edge)
+moved_edge x edge by = let same : x -ℤ (edge +ℤ by) ≡ (x -ℤ by) -ℤ edge = omega (arith, ints) in ap unsigned_abs same
+
+-- it has as many points
+pub area-moved : (d : Point) (r : Edges) → IsFull r → area_of (shifted r d) ≡ area_of r
+area-moved d r full = ap area_of (moved_rect d r full) ∙ rw (moved_side r.east r.west d.h, moved_side r.south r.north d.v) refl
+
+-- and each stands where it stood
+pub place-moved : (d : Point) (r : Edges) (q : Point) → IsFull r → place_within (shifted r d) q ≡ place_within r (before_shift q d)
+place-moved d r q full =
+    ap (λ (e : Edges). place_within e q) (moved_rect d r full)
+    ∙ rw (moved_edge q.v r.north d.v, moved_side r.east r.west d.h, moved_edge q.h r.west d.h) refl
+
+-- the empty rectangle stays itself
+empty-moved : (d : Point) → shifted empty_rect d ≡ empty_rect
+empty-moved d =
+    let flat : int_lt (pos 0 +ℤ d.h) (pos 0 +ℤ d.h) ≡ false = grind (arith, ints) in
+    rw flat refl
+
+-- so any rectangle has as many points
+pub area-shifted : (d : Point) (r : Edges) → IsRect r → area_of (shifted r d) ≡ area_of r
+area-shifted d r is = elim (rect_cases r is) [
+  | inl none ↦ ap (λ (e : Edges). area_of (shifted e d)) none ∙ ap area_of (empty-moved d) ∙ sym (ap area_of none)
+  | inr both ↦ area-moved d r (record { across = both.0; down = both.1 })
+]
+
+-- and a point that the moved one has stands where it stood
+pub place-shifted : (d : Point) (r : Edges) (p : Point) → IsRect r → has_point r (before_shift p d) ≡ true →
+    place_within (shifted r d) p ≡ place_within r (before_shift p d)
+place-shifted d r p is has = place-moved d r p (full_at r (before_shift p d) has)
+  where
+    order : (low high x : ℤ) → between low high x ≡ true → low <ℤ high
+    order low high x h = let at = between_parts low high x h in omega (arith, ints, at.0, at.1)
+
+    full_at : (e : Edges) (q : Point) → has_point e q ≡ true → IsFull e
+    full_at e q h =
+        let both = and_parts (between e.west e.east q.h) (between e.north e.south q.v) h in
+        record { across = order e.west e.east q.h both.0; down = order e.north e.south q.v both.1 }
+
+-- pixels that are put in an area of what is seen, by the clip that was moved there
+pub put_moved : (region : List Edges) (clip area : Edges) (d : Point) (pixels : List ℕ) (seen : Point → Bool) (old new : Picture) → IsRect clip →
+    area ≡ shifted clip d → ((p : Point) → has_point area p ≡ has_point clip (before_shift p d)) → ((p : Point) → holds region p ≡ seen p) →
+    Repaints (in_area (holds region) area) (λ p. slice_index pixels (place_within area p)) old new →
+    Repaints (λ p. seen p && has_point clip (before_shift p d)) (λ p. slice_index pixels (place_within clip (before_shift p d))) old new
+put_moved region clip area d pixels seen old new rect is points are paints = record {
+  size = paints.size;
+  kind = paints.kind;
+  points = λ p on.
+      paints.points p on ∙ by_area p (has_point area p) refl
+      ∙ ap (λ b. cond b (slice_index pixels (place_within clip (before_shift p d))) (pixel_of old p)) (same p);
+}
+  where
+    and_false : (b : Bool) → (b && false) ≡ false
+    and_false true = refl
+    and_false false = refl
+
+    same : (p : Point) → (holds region p && has_point area p) ≡ (seen p && has_point clip (before_shift p d))
+    same p = ap (λ b. b && has_point area p) (are p) ∙ ap (λ b. seen p && b) (points p)
+
+    nothing : (p : Point) (n : ℕ) → cond (holds region p && false) (slice_index pixels n) (pixel_of old p) ≡ pixel_of old p
+    nothing p n = ap (λ b. cond b (slice_index pixels n) (pixel_of old p)) (and_false (holds region p))
+
+    by_area : (p : Point) (b : Bool) → has_point area p ≡ b →
+        cond (holds region p && b) (slice_index pixels (place_within area p)) (pixel_of old p)
+        ≡ cond (holds region p && b) (slice_index pixels (place_within clip (before_shift p d))) (pixel_of old p)
+    by_area p true h =
+        ap (λ n. cond (holds region p && true) (slice_index pixels n) (pixel_of old p))
+        (ap (λ (e : Edges). place_within e p) is ∙ place-shifted d clip p rect (sym (points p) ∙ h))
+    by_area p false h = nothing p (place_within area p) ∙ sym (nothing p (place_within clip (before_shift p d)))
+
 -- ---- putting
 
 -- the pixel of a point among those of a list
 abbrev pub pixel_at : List ℕ → List Edges → Point → ℕ
 pixel_at pixels rects p = slice_index pixels (place_in rects p)
-
--- nothing is put yet
-pub put_none : (pixels : List ℕ) (old : Picture) → Repaints (holds []) (pixel_at pixels []) old old
-put_none pixels old = record { size = refl; kind = refl; points = λ p on. refl }
 
 -- pixels in one rectangle more
 pub put_more : (rects : List Edges) (k : ℕ) (r : Edges) (pixels part : List ℕ) (from : ℕ) (old mid new : Picture) → IsRectAt rects k r →

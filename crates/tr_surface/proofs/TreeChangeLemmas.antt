@@ -1,5 +1,6 @@
--- Which points are bad when a tree step has seen to the nodes one after the other.
-use Rattle.std.proofs.Common.{◌≡◌, ℕ, ℤ, ◌+◌, ◌-ℤ◌, pos, add-one, Bool, true, false, cond, not, ◌&&◌, ◌||◌, List, [], Option, Some, None, get_or, refl, sym, ap, ◌∙◌, arith}
+-- Which points are good after a change of the tree, told node by node, and which of them follow the child that is moved.
+use Rattle.std.proofs.Common.{◌≡◌, ℕ, zero, suc, ℤ, ◌+◌, ◌-ℤ◌, ◌<◌, pos, add-one, Bool, true, false, cond, not, ◌&&◌, ◌||◌, List, [], Option, Some, None, length, get_or, inl, inr, refl, sym, ap, ◌∙◌, arith}
+use Rattle.std.proofs.lemmas.Bool.{cases_eq}
 use Rattle.std.proofs.lemmas.Int.{ints}
 use Rattle.tr_base.specs.declared.Point.{Point}
 use Rattle.tr_base.specs.declared.NodeId.{NodeId}
@@ -7,20 +8,21 @@ use Rattle.tr_base.specs.declared.LeafId.{LeafId}
 use Rattle.tr_base.specs.declared.Spot.{Spot}
 use Rattle.tr_base.specs.Rects.{Edges, before_shift}
 use Rattle.tr_region.specs.Points.{holds}
-use Rattle.tr_forest.specs.Nodes.{node, node_of, IsNode, leaf_of}
+use Rattle.tr_forest.specs.Nodes.{Nodes, node, node_of, IsNode, leaf_of}
 use Rattle.tr_forest.specs.Families.{is_under}
 use Rattle.tr_forest.specs.Forests.{IsForest}
 use Rattle.tr_forest.proofs.LeafLemmas.{leaf_is_node_of}
 use Rattle.tr_tree.specs.Trees.{Seen}
 use Rattle.tr_tree.specs.Places.{domain}
-use Rattle.tr_spot.specs.Spots.{spot, spot_on, from_corner, region_of}
+use Rattle.tr_spot.specs.Spots.{HasRoot, spot, spot_on, from_corner, region_of}
 use Rattle.tr_spot.proofs.NodeLemmas.{by_number}
+use Rattle.tr_spot.proofs.WayLemmas.{and_right}
 use Rattle.tr_surface.specs.declared.survivors.Survivors.{Survivors}
-use Rattle.tr_surface.specs.declared.survivors.Survivors.TheVariants as variants
-use Rattle.tr_surface.specs.Surfaces.{is_on}
+use Rattle.tr_surface.specs.Surfaces.{AreOwn, IsShown, Shown, any_holds, is_bad, is_on}
 use Rattle.tr_surface.specs.TreeSteps.{Keeping, is_below, source_by, survives, way_of}
-use Rattle.tr_surface.specs.Survivors.{AreSides, IsAlike, bad_below, bad_so_far, change, good_by, has_survivor, in_first, stays_good, survivors_from, unmoved, way_from}
+use Rattle.tr_surface.specs.Survivors.{AreGoodAfter, IsLike, change, change_to, follows, follows_by, goes_on, good_at, good_by, has_survivor, in_moved, survivors_from, unmoved, way_from}
 use Rattle.tr_surface.proofs.SurvivorLemmas.{AreForests, IsOf, owns_point, leaf_on, frame_on, there, apart}
+use Rattle.tr_surface.proofs.GoodLemmas.{HasOwner, any_here, any_off, good_own, has_owner, one_owner}
 
 -- ---- where the points of a node come from
 
@@ -58,14 +60,21 @@ and_false : (b : Bool) → (b && false) ≡ false
 and_false true = refl
 and_false false = refl
 
-pub node_good : (k : Keeping) (was is : Seen) (before after : List (List Edges)) → AreForests was is → AreSides was is before after →
-    (moved : Option NodeId) (bad : Point → Bool) (n : NodeId) → IsNode is.nodes n → (p : Point) → holds (region_of after n) p ≡ true →
-    good_by k (change was is moved bad) p ≡ stays_good k (change was is moved bad) (region_of before n) n (way_from was is moved n) p
-node_good k was is before after forests sides moved bad n inside p h =
-    ap (λ (s : Point). is_on is p && is_on was s && not (bad s) && survives k (spot was s) (spot is p)) (source_is was is forests.after moved n p mine)
-    ∙ ap (λ b. b && is_on was from && not (bad from) && survives k (spot was from) (spot is p)) (owns_point is forests.after n p mine).on
+-- what an edit leaves of two trees whose kind is the same
+pub record AreKin (was is : Seen) : Type 0 where
+  pub forests : AreForests was is
+  pub like : IsLike was is
+  pub kind : is.kind ≡ was.kind
+
+-- a point of a node is good where it comes from a good point of the node, which survives
+pub node_good : (k : Keeping) (was is : Seen) → AreKin was is → (moved : Option NodeId) (bad : Point → Bool) (n : NodeId) (p : Point) → IsOf is n p ≡ true →
+    let by = way_from was is moved n in
+    good_by k (change was is moved bad) p
+    ≡ (IsOf was n (before_shift p by) && not (bad (before_shift p by)) && has_survivor k (survivors_from was is by n) (from_corner (domain is n) p))
+node_good k was is kin moved bad n p mine =
+    ap (λ (s : Point). is_on is p && is_on was s && not (bad s) && survives k (spot was s) (spot is p)) (source_is was is kin.forests.after moved n p mine)
+    ∙ ap (λ b. b && is_on was from && not (bad from) && survives k (spot was from) (spot is p)) (owns_point is kin.forests.after n p mine).on
     ∙ by_case (IsOf was n from) refl
-    ∙ ap (λ b. b && not (bad from) && has_survivor k (survivors_from was is by n) (from_corner (domain is n) p)) (sym (sides.was_regions.points n from in_old))
   where
     by : Point
     by = way_from was is moved n
@@ -73,147 +82,162 @@ node_good k was is before after forests sides moved bad n inside p h =
     from : Point
     from = before_shift p by
 
-    mine : IsOf is n p ≡ true
-    mine = sym (sides.is_regions.points n p inside) ∙ h
-
-    in_old : IsNode was.nodes n
-    in_old = record { within = omega (arith, inside.within, sides.count) }
-
     by_case : (b : Bool) → IsOf was n from ≡ b →
         (true && is_on was from && not (bad from) && survives k (spot was from) (spot is p))
         ≡ (IsOf was n from && not (bad from) && has_survivor k (survivors_from was is by n) (from_corner (domain is n) p))
     by_case true e =
-        ap (λ b. true && b && not (bad from) && survives k (spot was from) (spot is p)) (owns_point was forests.before n from e).on
+        ap (λ b. true && b && not (bad from) && survives k (spot was from) (spot is p)) (owns_point was kin.forests.before n from e).on
         ∙ ap (λ b. true && true && not (bad from) && b)
-        (there k was is forests sides.kind n (leaf_of (node was.nodes n).kind) (sides.leaves n) refl by p e mine)
+        (there k was is kin.forests kin.kind n (leaf_of (node was.nodes n).kind) (kin.like.leaves n) refl by p e mine)
         ∙ sym (ap (λ b. b && not (bad from) && has_survivor k (survivors_from was is by n) (from_corner (domain is n) p)) e)
     by_case false e =
-        ap (λ b. true && is_on was from && not (bad from) && b) (apart k was is n (sides.leaves n) from p e mine)
+        ap (λ b. true && is_on was from && not (bad from) && b) (apart k was is n (kin.like.leaves n) from p e mine)
         ∙ and_false (true && is_on was from && not (bad from))
         ∙ sym (ap (λ b. b && not (bad from) && has_survivor k (survivors_from was is by n) (from_corner (domain is n) p)) e)
 
--- ---- one region more
+-- ---- the good points of all nodes
 
-pub first_none : (regions : List (List Edges)) (p : Point) → in_first 0 regions p ≡ false
-unfolding in_first
-first_none regions p = refl
+and_true : (b : Bool) → (b && true) ≡ b
+and_true true = refl
+and_true false = refl
 
-pub first_more : (n : ℕ) (regions : List (List Edges)) (p : Point) → in_first (n + 1) regions p ≡ (in_first n regions p || holds (get_or regions n []) p)
-unfolding in_first
-first_more n regions p = ap (λ m. in_first m regions p) (add-one n)
-
--- a node whose points are seen to anew
-pub seen_anew : (on seen held good bad stays : Bool) → (held ≡ true → on ≡ true) → (held ≡ true → good ≡ stays) →
-    ((bad_so_far on seen good bad && not held) || (held && not (held && stays))) ≡ bad_so_far on (seen || held) good bad
-seen_anew on seen true good bad stays h k = rw (h refl, k refl) (by_tests seen stays bad)
+-- a point of a node is good where it goes on
+goes_good : (k : Keeping) (s : Shown) (is : Seen) → IsShown s → AreKin s.tree is → (moved : Option NodeId) (n : NodeId) → IsNode is.nodes n → (p : Point) →
+    IsOf is n p ≡ true → goes_on k s.tree is moved s.good n p ≡ good_by k (change_to s is moved) p
+goes_good k s is shown kin moved n inside p mine =
+    ap (λ b. b && has_survivor k (survivors_from s.tree is by n) (from_corner (domain is n) p)) (good_own s shown n old from)
+    ∙ sym (node_good k s.tree is kin moved (is_bad s) n p mine)
   where
-    by_tests : (seen stays bad : Bool) → ((bad_so_far true seen stays bad && false) || (true && not (true && stays))) ≡ bad_so_far true (seen || true) stays bad
-    by_tests true true bad = refl
-    by_tests true false bad = refl
-    by_tests false true true = refl
-    by_tests false true false = refl
-    by_tests false false true = refl
-    by_tests false false false = refl
-seen_anew on seen false good bad stays h k = by_tests on seen good bad
+    by : Point
+    by = way_from s.tree is moved n
+
+    from : Point
+    from = before_shift p by
+
+    old : IsNode s.tree.nodes n
+    old = record { within = omega (arith, inside.within, kin.like.count) }
+
+-- a list of regions has the good points of all nodes
+pub record AreFound (k : Keeping) (s : Shown) (is : Seen) (moved : Option NodeId) (good : List (List Edges)) : Type 0 where
+  pub count : length good ≡ length is.nodes.entries
+  pub each : (n : NodeId) (p : Point) → IsNode is.nodes n → holds (region_of good n) p ≡ good_at k s.tree is moved s.good n p
+
+pub found_own : (k : Keeping) (s : Shown) (is : Seen) (moved : Option NodeId) (good : List (List Edges)) → AreFound k s is moved good → AreOwn is good
+found_own k s is moved good found = record {
+  count = found.count;
+  points = λ n p inside h. and_right (goes_on k s.tree is moved s.good n p) (IsOf is n p) (sym (found.each n p inside) ∙ h);
+}
+
+-- a good point of a node
+found_here : (k : Keeping) (s : Shown) (is : Seen) → IsShown s → AreKin s.tree is → (moved : Option NodeId) (good : List (List Edges)) →
+    AreFound k s is moved good → (n : NodeId) → IsNode is.nodes n → (p : Point) → IsOf is n p ≡ true →
+    holds (region_of good n) p ≡ good_by k (change_to s is moved) p
+found_here k s is shown kin moved good found n inside p mine =
+    found.each n p inside
+    ∙ ap (λ b. goes_on k s.tree is moved s.good n p && b) mine
+    ∙ and_true (goes_on k s.tree is moved s.good n p)
+    ∙ goes_good k s is shown kin moved n inside p mine
+
+pub good_found : (k : Keeping) (s : Shown) (is : Seen) → IsShown s → AreKin s.tree is → HasRoot is → (moved : Option NodeId) (good : List (List Edges)) →
+    AreFound k s is moved good → AreGoodAfter k (change_to s is moved) good
+good_found k s is shown kin root moved good found = record { own = own; any = λ p. by_screen p (is_on is p) refl }
   where
-    by_tests : (on seen good bad : Bool) → ((bad_so_far on seen good bad && true) || false) ≡ bad_so_far on (seen || false) good bad
-    by_tests false seen good bad = refl
-    by_tests true true true bad = refl
-    by_tests true true false bad = refl
-    by_tests true false good true = refl
-    by_tests true false good false = refl
+    own : AreOwn is good
+    own = found_own k s is moved good found
 
--- a node whose points are as before
-pub seen_alike : (on seen held good bad : Bool) → (held ≡ true → good ≡ not bad) → bad_so_far on seen good bad ≡ bad_so_far on (seen || held) good bad
-seen_alike on true held good bad h = refl
-seen_alike on false false good bad h = refl
-seen_alike on false true good bad h = rw (h refl) (by_test bad)
+    by_screen : (p : Point) (b : Bool) → is_on is p ≡ b → any_holds good p ≡ good_by k (change_to s is moved) p
+    by_screen p false off =
+        let from : Point = source_by s.tree is moved p in
+        any_off is kin.forests.after good own p off
+        ∙ sym (ap (λ b. b && is_on s.tree from && not (is_bad s from) && survives k (spot s.tree from) (spot is p)) off)
+    by_screen p true on =
+        let at : HasOwner is p = has_owner is kin.forests.after root p on in
+        any_here is kin.forests.after good own at.node_at at.is_node p at.mine
+        ∙ found_here k s is shown kin moved good found at.node_at at.is_node p at.mine
+
+-- where a node's good points come to, told by its own way and survivors
+pub goes_on_is : (k : Keeping) (was is : Seen) (moved : Option NodeId) (good : List (List Edges)) (n : NodeId) (by : Point) (survivors : Survivors) (left : Bool) (p : Point) →
+    by ≡ way_from was is moved n → survivors ≡ survivors_from was is by n →
+    left ≡ (holds (region_of good n) (before_shift p by) && has_survivor k survivors (from_corner (domain is n) p)) → left ≡ goes_on k was is moved good n p
+goes_on_is k was is moved good n by survivors left p way its e =
+    e ∙ ap (λ (w : Survivors). holds (region_of good n) (before_shift p by) && has_survivor k w (from_corner (domain is n) p)) its
+    ∙ ap (λ (d : Point). holds (region_of good n) (before_shift p d) && has_survivor k (survivors_from was is d n) (from_corner (domain is n) p)) way
+
+-- ---- those that follow the child that is moved
+
+pub moved_none : (t : Nodes) (child : NodeId) (regions : List (List Edges)) (p : Point) → in_moved 0 t child regions p ≡ false
+unfolding in_moved
+moved_none t child regions p = refl
+
+pub moved_more : (n : NodeId) (t : Nodes) (child : NodeId) (regions : List (List Edges)) (p : Point) →
+    in_moved (n.0 + 1) t child regions p ≡ (in_moved n.0 t child regions p || (is_under t child n && holds (region_of regions n) p))
+unfolding in_moved
+moved_more n t child regions p = ap (λ m. in_moved m t child regions p) (add-one n.0)
+
+or_true : (b : Bool) → (b || true) ≡ true
+or_true true = refl
+or_true false = refl
+
+moved_at : (n i : ℕ) (t : Nodes) (child : NodeId) (regions : List (List Edges)) (p : Point) → i < n →
+    (is_under t child (record { 0 = i }) && holds (get_or regions i []) p) ≡ true → in_moved n t child regions p ≡ true
+unfolding in_moved
+moved_at zero i t child regions p lt h = absurd (omega arith)
+moved_at (suc n) i t child regions p lt h = elim (cases_eq i n) [
+  | inl e ↦ ap (λ (m : ℕ). in_moved n t child regions p || (is_under t child (record { 0 = m }) && holds (get_or regions m []) p)) (sym e)
+      ∙ ap (λ b. in_moved n t child regions p || b) h ∙ or_true (in_moved n t child regions p)
+  | inr ne ↦ ap (λ b. b || (is_under t child (record { 0 = n }) && holds (get_or regions n []) p)) (moved_at n i t child regions p (omega (arith, ne)) h)
+]
+
+moved_off : (n : ℕ) (t : Nodes) (child : NodeId) (regions : List (List Edges)) (p : Point) →
+    ((i : ℕ) → i < n → (is_under t child (record { 0 = i }) && holds (get_or regions i []) p) ≡ false) → in_moved n t child regions p ≡ false
+unfolding in_moved
+moved_off zero t child regions p none = refl
+moved_off (suc n) t child regions p none = rw (moved_off n t child regions p (λ i h. none i (omega arith)), none n (omega arith)) refl
+
+-- of a point of a node: it does where the node lies below the child, and the point is one of the node's
+moved_here : (t : Seen) → IsForest t.nodes → (good : List (List Edges)) → AreOwn t good → (child n : NodeId) → IsNode t.nodes n → (p : Point) →
+    IsOf t n p ≡ true → in_moved (length t.nodes.entries) t.nodes child good p ≡ (is_under t.nodes child n && holds (region_of good n) p)
+moved_here t forest good own child n inside p mine = by_test (is_under t.nodes child n && holds (region_of good n) p) refl
   where
-    by_test : (b : Bool) → (on && b) ≡ (on && not (not b))
-    by_test true = refl
-    by_test false = refl
+    other : (is_under t.nodes child n && holds (region_of good n) p) ≡ false → (i : ℕ) → i < length t.nodes.entries → (b : Bool) →
+        holds (get_or good i []) p ≡ b → (is_under t.nodes child (record { 0 = i }) && holds (get_or good i []) p) ≡ false
+    other none i lt true h =
+        let at : NodeId = record { 0 = i } in
+        let same : at ≡ n = one_owner t forest at n p (own.points at p (record { within = lt }) h) mine in
+        ap (λ (m : NodeId). is_under t.nodes child m && holds (region_of good m) p) same ∙ none
+    other none i lt false h = ap (λ b. is_under t.nodes child (record { 0 = i }) && b) h ∙ and_false (is_under t.nodes child (record { 0 = i }))
 
--- no node is seen to, and all are
-pub seen_none : (on good bad : Bool) → (bad && on) ≡ bad_so_far on false good bad
-seen_none true good true = refl
-seen_none true good false = refl
-seen_none false good true = refl
-seen_none false good false = refl
+    by_test : (b : Bool) → (is_under t.nodes child n && holds (region_of good n) p) ≡ b →
+        in_moved (length t.nodes.entries) t.nodes child good p ≡ (is_under t.nodes child n && holds (region_of good n) p)
+    by_test true h = moved_at (length t.nodes.entries) n.0 t.nodes child good p inside.within h ∙ sym h
+    by_test false h =
+        moved_off (length t.nodes.entries) t.nodes child good p (λ i lt. other h i lt (holds (get_or good i []) p) refl) ∙ sym h
 
-pub seen_all : (on good bad : Bool) → bad_so_far on on good bad ≡ (on && not good)
-seen_all true good bad = refl
-seen_all false good bad = refl
-
--- where a node doesn't move, all of its points survive, and its region is as before, the good points are those that weren't bad
-pub still_good : (k : Keeping) (was is : Seen) (moved : Option NodeId) (region : List Edges) (bad : Point → Bool) (n : NodeId) (by p : Point) →
-    by ≡ unmoved → survivors_from was is by n ≡ variants.All →
-    holds region p ≡ true → stays_good k (change was is moved bad) region n by p ≡ not (bad p)
-still_good k was is moved region bad n by p none all h =
-    ap (λ (s : Point). holds region s && not (bad s) && has_survivor k (survivors_from was is by n) (from_corner (domain is n) p))
-    (ap (λ (d : Point). before_shift p d) none ∙ before_none p)
-    ∙ ap (λ b. b && not (bad p) && has_survivor k (survivors_from was is by n) (from_corner (domain is n) p)) h
-    ∙ ap (λ (w : Survivors). not (bad p) && has_survivor k w (from_corner (domain is n) p)) all
-    ∙ and_true (not (bad p))
+pub follows_found : (k : Keeping) (s : Shown) (is : Seen) → IsShown s → AreKin s.tree is → HasRoot is → (moved : Option NodeId) (good : List (List Edges)) →
+    AreFound k s is moved good → (p : Point) → follows is.nodes moved good p ≡ follows_by k (change_to s is moved) p
+follows_found k s is shown kin root None good found p = refl
+follows_found k s is shown kin root (Some child) good found p = by_screen (is_on is p) refl
   where
-    and_true : (b : Bool) → (b && true) ≡ b
-    and_true true = refl
-    and_true false = refl
+    own : AreOwn is good
+    own = found_own k s is (Some child) good found
 
--- a point that a node had was on the old screen
-pub old_on : (was is : Seen) (before after : List (List Edges)) → AreForests was is → AreSides was is before after →
-    (n : NodeId) → IsNode is.nodes n → (p : Point) → holds (region_of before n) p ≡ true → is_on was p ≡ true
-old_on was is before after forests sides n inside p h =
-    (owns_point was forests.before n p (sym (sides.was_regions.points n p (record { within = omega (arith, inside.within, sides.count) })) ∙ h)).on
+    after : AreGoodAfter k (change_to s is (Some child)) good
+    after = good_found k s is shown kin root (Some child) good found
 
-pub new_on : (was is : Seen) (before after : List (List Edges)) → AreForests was is → AreSides was is before after →
-    (n : NodeId) → IsNode is.nodes n → (p : Point) → holds (region_of after n) p ≡ true → is_on is p ≡ true
-new_on was is before after forests sides n inside p h = (owns_point is forests.after n p (sym (sides.is_regions.points n p inside) ∙ h)).on
+    none : is_on is p ≡ false → (i : ℕ) → i < length is.nodes.entries → (b : Bool) → holds (get_or good i []) p ≡ b → b ≡ false
+    none off i lt true h = sym (owns_point is kin.forests.after (record { 0 = i }) p (own.points (record { 0 = i }) p (record { within = lt }) h)).on ∙ off
+    none off i lt false h = refl
 
--- one node more is seen to: its points are as before
-pub alike_more : (k : Keeping) (was is : Seen) (before after : List (List Edges)) → AreForests was is → AreSides was is before after →
-    (moved : Option NodeId) (bad : Point → Bool) (n : NodeId) → IsNode is.nodes n →
-    (survivors : Survivors) → survivors ≡ survivors_from was is (way_from was is moved n) n →
-    IsAlike (way_from was is moved n) survivors (region_of before n) (region_of after n) →
-    (p : Point) → bad_below k (change was is moved bad) after n.0 p ≡ bad_below k (change was is moved bad) after (n.0 + 1) p
-alike_more k was is before after forests sides moved bad n inside survivors its alike p =
-    seen_alike (is_on is p) (in_first n.0 after p) (holds (region_of after n) p) (good_by k (change was is moved bad) p) (bad p)
-    (λ h. node_good k was is before after forests sides moved bad n inside p h
-    ∙ still_good k was is moved (region_of before n) bad n (way_from was is moved n) p alike.still (sym its ∙ alike.all)
-    (ap (λ (r : List Edges). holds r p) (sym alike.same) ∙ h))
-    ∙ sym (ap (λ b. bad_so_far (is_on is p) b (good_by k (change was is moved bad) p) (bad p)) (first_more n.0 after p))
-
--- or they are found anew
-pub anew_more : (k : Keeping) (was is : Seen) (before after : List (List Edges)) → AreForests was is → AreSides was is before after →
-    (moved : Option NodeId) (bad : Point → Bool) (n : NodeId) → IsNode is.nodes n → (p : Point) →
-    let held = holds (region_of after n) p in
-    ((bad_below k (change was is moved bad) after n.0 p && not held)
-    || (held && not (held && stays_good k (change was is moved bad) (region_of before n) n (way_from was is moved n) p)))
-    ≡ bad_below k (change was is moved bad) after (n.0 + 1) p
-anew_more k was is before after forests sides moved bad n inside p =
-    seen_anew (is_on is p) (in_first n.0 after p) (holds (region_of after n) p) (good_by k (change was is moved bad) p) (bad p)
-    (stays_good k (change was is moved bad) (region_of before n) n (way_from was is moved n) p)
-    (λ h. new_on was is before after forests sides n inside p h) (λ h. node_good k was is before after forests sides moved bad n inside p h)
-    ∙ sym (ap (λ b. bad_so_far (is_on is p) b (good_by k (change was is moved bad) p) (bad p)) (first_more n.0 after p))
-
--- the good points of a node of which none survives, or all, or a part
-pub good_none : (a b c x : Bool) → x ≡ false → false ≡ (c && (a && b && x))
-good_none a b c x h = rw (h, and_false (a && b), and_false c) refl
-
-pub good_all : (a b c x : Bool) → x ≡ true → ((a && b) && c) ≡ (c && (a && b && x))
-good_all a b c x h = rw h (by_tests a b c)
-  where
-    by_tests : (a b c : Bool) → ((a && b) && c) ≡ (c && (a && b && true))
-    by_tests true true true = refl
-    by_tests true true false = refl
-    by_tests true false true = refl
-    by_tests true false false = refl
-    by_tests false b true = refl
-    by_tests false b false = refl
-
-pub good_part : (a b c x : Bool) → (((a && b) && c) && x) ≡ (c && (a && b && x))
-good_part true true true x = refl
-good_part true true false x = refl
-good_part true false true x = refl
-good_part true false false x = refl
-good_part false b true x = refl
-good_part false b false x = refl
+    by_screen : (b : Bool) → is_on is p ≡ b →
+        in_moved (length is.nodes.entries) is.nodes child good p ≡ (is_below is.nodes child (spot is p) && good_by k (change_to s is (Some child)) p)
+    by_screen false off =
+        moved_off (length is.nodes.entries) is.nodes child good p
+        (λ i lt. ap (λ b. is_under is.nodes child (record { 0 = i }) && b) (none off i lt (holds (get_or good i []) p) refl)
+        ∙ and_false (is_under is.nodes child (record { 0 = i })))
+        ∙ sym (ap (λ b. is_below is.nodes child (spot is p) && b) (sym (after.any p) ∙ any_off is kin.forests.after good own p off)
+        ∙ and_false (is_below is.nodes child (spot is p)))
+    by_screen true on =
+        let at : HasOwner is p = has_owner is kin.forests.after root p on in
+        moved_here is kin.forests.after good own child at.node_at at.is_node p at.mine
+        ∙ ap (λ b. b && holds (region_of good at.node_at) p) (sym (below_is is kin.forests.after child at.node_at p at.mine))
+        ∙ ap (λ b. is_below is.nodes child (spot is p) && b) (found_here k s is shown kin (Some child) good found at.node_at at.is_node p at.mine)

@@ -1,6 +1,5 @@
 -- Only private contracts cite this file. The frames of all nodes, each with the points of it that are to be painted.
-use Rattle.std.specs.Prelude.{◌≡◌, Bool, true, ◌&&◌, List, length}
-use Rattle.std.specs.List.{list_any}
+use Rattle.std.specs.Prelude.{◌≡◌, true, ◌&&◌, ◌||◌, List, length}
 use Rattle.tr_base.specs.declared.Point.{Point}
 use Rattle.tr_base.specs.declared.NodeId.{NodeId}
 use Rattle.tr_base.specs.Rects.{Edges}
@@ -8,11 +7,7 @@ use Rattle.tr_region.specs.Points.{holds}
 use Rattle.tr_forest.specs.Nodes.{IsNode}
 use Rattle.tr_tree.specs.Trees.{Seen}
 use Rattle.tr_spot.specs.Spots.{spot, is_on_frame, region_of}
-use Rattle.tr_surface.specs.Surfaces.{Shown}
-
--- one of the regions holds the point
-abbrev pub any_holds : List (List Edges) → Point → Bool
-any_holds regions p = list_any (λ r. holds r p) regions
+use Rattle.tr_surface.specs.Surfaces.{Shown, is_bad}
 
 -- the points of each region are on the frame of its node
 pub record AreOnFrames (t : Seen) (regions : List (List Edges)) : Type 0 where
@@ -23,4 +18,10 @@ pub record AreOnFrames (t : Seen) (regions : List (List Edges)) : Type 0 where
 pub record AreBadFrames (s : Shown) (regions : List (List Edges)) : Type 0 where
   pub count : length regions ≡ length s.tree.nodes.entries
   pub points : (n : NodeId) (p : Point) → IsNode s.tree.nodes n →
-      holds (region_of regions n) p ≡ (holds s.bad p && is_on_frame n (spot s.tree p))
+      holds (region_of regions n) p ≡ (is_bad s p && is_on_frame n (spot s.tree p))
+
+-- the points of each region are the good ones of its node, and those of its frame
+pub record AreGoodFrames (s : Shown) (regions : List (List Edges)) : Type 0 where
+  pub count : length regions ≡ length s.tree.nodes.entries
+  pub points : (n : NodeId) (p : Point) → IsNode s.tree.nodes n →
+      holds (region_of regions n) p ≡ (holds (region_of s.good n) p || is_on_frame n (spot s.tree p))

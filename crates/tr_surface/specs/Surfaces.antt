@@ -1,5 +1,6 @@
 -- The screen that a tree of windows is shown on, and which of its points are bad.
-use Rattle.std.specs.Prelude.{◌≡◌, ℕ, neg_ℤ, Bool, true, false, if◌then◌else◌, List, Some, None, length}
+use Rattle.std.specs.Prelude.{◌≡◌, ℕ, neg_ℤ, Bool, true, false, not, ◌&&◌, if◌then◌else◌, List, Some, None, length}
+use Rattle.std.specs.List.{list_any}
 use Rattle.tr_base.specs.declared.Point.{Point}
 use Rattle.tr_base.specs.declared.LeafId.{LeafId}
 use Rattle.tr_base.specs.declared.NodeId.{NodeId}
@@ -18,11 +19,11 @@ use Rattle.tr_tree.specs.Trees.{Seen}
 use Rattle.tr_spot.specs.Spots.{HasRoot, spot, is_in_leaf, is_spot_of, region_of}
 use Rattle.tr_spot.specs.Leaves.{leaf_corner}
 
--- what a contract sees of a surface: the tree of windows, the pixels of the screen, and the bad points, which need to be painted again
+-- what a contract sees of a surface: the tree of windows, the pixels of the screen, and of each node good points, which show what was painted last
 pub record Shown : Type 0 where
   pub tree : Seen
   pub screen : Picture
-  pub bad : List Edges
+  pub good : List (List Edges)
 
 -- the way back from the screen's coordinates to those of a window with this corner
 abbrev pub back_from : Point → Point
@@ -31,6 +32,14 @@ back_from corner = record { h = neg_ℤ corner.h; v = neg_ℤ corner.v }
 -- the point is on the screen
 abbrev pub is_on : Seen → Point → Bool
 is_on t p = has_point (whole_of t.size) p
+
+-- one of the regions holds the point
+abbrev pub any_holds : List (List Edges) → Point → Bool
+any_holds regions p = list_any (λ r. holds r p) regions
+
+-- the point is on the screen, and no good one: it needs to be painted again
+unfoldable pub is_bad : Shown → Point → Bool
+is_bad s p = is_on s.tree p && not (any_holds s.good p)
 
 -- the spot is on the frame of some node
 abbrev pub is_frame : Spot → Bool
@@ -47,29 +56,24 @@ abbrev pub leaf_base : Shown → LeafId → Base
 leaf_base s leaf = record {
   visible = λ q. is_in_leaf leaf (spot s.tree (placed (leaf_corner s.tree leaf) q));
   known = λ q.
-      if holds s.bad (placed (leaf_corner s.tree leaf) q) then None
+      if is_bad s (placed (leaf_corner s.tree leaf) q) then None
       else Some (pixel_of s.screen (placed (leaf_corner s.tree leaf) q));
 }
 
 -- the rectangle, in the coordinates of a leaf's window, has each bad visible point of the leaf
 abbrev pub HasBadPoints : Shown → LeafId → Edges → Type 0
-HasBadPoints s leaf r = (p : Point) → is_in_leaf leaf (spot s.tree p) ≡ true → holds s.bad p ≡ true →
+HasBadPoints s leaf r = (p : Point) → is_in_leaf leaf (spot s.tree p) ≡ true → is_bad s p ≡ true →
     has_point r (before_shift p (leaf_corner s.tree leaf)) ≡ true
 
--- the regions are those of the tree's nodes: of a leaf its visible points, of another node its frame
-pub record AreRegions (t : Seen) (regions : List (List Edges)) : Type 0 where
-  pub count : length regions ≡ length t.nodes.entries
-  pub points : (n : NodeId) (p : Point) → IsNode t.nodes n → holds (region_of regions n) p ≡ is_spot_of t n (spot t p)
+-- for each node a region of points that belong to it: of a leaf of its visible points, of another node of its frame
+pub record AreOwn (t : Seen) (good : List (List Edges)) : Type 0 where
+  pub count : length good ≡ length t.nodes.entries
+  pub points : (n : NodeId) (p : Point) → IsNode t.nodes n → holds (region_of good n) p ≡ true → is_spot_of t n (spot t p) ≡ true
 
--- the screen is the tree's, and bad points lie on it
+-- the screen is the tree's, and the good points of each node are its own
 pub record IsShown (s : Shown) : Type 0 where
   pub forest : IsForest s.tree.nodes
   pub root : HasRoot s.tree
   pub size : s.screen.size ≡ s.tree.size
   pub kind : s.screen.kind ≡ s.tree.kind
-  pub bad : (p : Point) → holds s.bad p ≡ true → is_on s.tree p ≡ true
-
--- what the parts of a surface keep
-pub record IsSurface (tree : Seen) (regions : List (List Edges)) (screen : Picture) (bad : List Edges) : Type 0 where
-  pub shown : IsShown (record { tree = tree; screen = screen; bad = bad })
-  pub owned : AreRegions tree regions
+  pub own : AreOwn s.tree s.good

@@ -14,12 +14,12 @@ use Rattle.tr_forest.specs.Nodes.{Nodes, node, leaf_of}
 use Rattle.tr_forest.specs.Families.{is_under}
 use Rattle.tr_tree.specs.Trees.{Seen}
 use Rattle.tr_tree.specs.Places.{domain}
-use Rattle.tr_spot.specs.Spots.{spot, from_corner, size_of}
+use Rattle.tr_spot.specs.Spots.{spot, from_corner, is_spot_of, region_of, size_of}
 use Rattle.tr_spot.specs.Leaves.{same_kind, same_size}
 use Rattle.tr_surface.specs.declared.survivors.Survivors.{Survivors}
 use Rattle.tr_surface.specs.declared.survivors.Survivors.TheVariants as variants
-use Rattle.tr_surface.specs.Surfaces.{AreRegions, Shown, is_on}
-use Rattle.tr_surface.specs.TreeSteps.{Keeping, is_below, is_kept, same_point, source_by, survives, way_of}
+use Rattle.tr_surface.specs.Surfaces.{AreOwn, Shown, any_holds, is_bad, is_on}
+use Rattle.tr_surface.specs.TreeSteps.{Keeping, child_of, is_below, is_kept, same_point, source_by, survives, way_of}
 
 -- where a rectangle begins
 abbrev pub corner_of : Edges → Point
@@ -49,7 +49,7 @@ change was is moved bad = record { was = was; is = is; moved = moved; bad = bad 
 
 -- the change of what is shown to another tree
 abbrev pub change_to : Shown → Seen → Option NodeId → Change
-change_to s is moved = change s.tree is moved (holds s.bad)
+change_to s is moved = change s.tree is moved (is_bad s)
 
 -- how far a node moves, if this child is moved
 abbrev pub way_from : Seen → Seen → Option NodeId → NodeId → Point
@@ -75,20 +75,21 @@ survivors_by was is by n None =
 abbrev pub survivors_from : Seen → Seen → Point → NodeId → Survivors
 survivors_from was is by n = survivors_by was is by n (leaf_of (node was.nodes n).kind)
 
-abbrev pub survivors_of : Change → Point → NodeId → Survivors
-survivors_of c by n = survivors_from c.was c.is by n
-
 -- a point is among the survivors, by its distance from the node's corner
 abbrev pub has_survivor : Keeping → Survivors → Point → Bool
 has_survivor k variants.Nothing q = false
 has_survivor k variants.All q = true
 has_survivor k (variants.Kept leaf from to) q = is_kept k leaf from to q
 
--- a point of a node was good where it comes from, which was a point of the node too, and survives
-abbrev pub stays_good : Keeping → Change → List Edges → NodeId → Point → Point → Bool
-stays_good k c region n by p =
-    holds region (before_shift p by) && not (c.bad (before_shift p by))
-    && has_survivor k (survivors_of c by n) (from_corner (domain c.is n) p)
+-- a point of a node was good where it comes from, and survives
+abbrev pub goes_on : Keeping → Seen → Seen → Option NodeId → List (List Edges) → NodeId → Point → Bool
+goes_on k was is moved good n p =
+    let by = way_from was is moved n in
+    holds (region_of good n) (before_shift p by) && has_survivor k (survivors_from was is by n) (from_corner (domain is n) p)
+
+-- a point is a good one of a node after a change
+abbrev pub good_at : Keeping → Seen → Seen → Option NodeId → List (List Edges) → NodeId → Point → Bool
+good_at k was is moved good n p = goes_on k was is moved good n p && is_spot_of is n (spot is p)
 
 -- a point is good after a change
 abbrev pub good_by : Keeping → Change → Point → Bool
@@ -96,28 +97,22 @@ good_by k c p =
     let s = source_by c.was c.is c.moved p in
     is_on c.is p && is_on c.was s && not (c.bad s) && survives k (spot c.was s) (spot c.is p)
 
--- one of the first n regions has the point
-unfoldable pub in_first : ℕ → List (List Edges) → Point → Bool
-in_first zero regions p = false
-in_first (suc n) regions p = in_first n regions p || holds (get_or regions n []) p
-
--- the tree before and after an edit, with the regions of its nodes, which cover the screen
-pub record AreSides (was is : Seen) (before after : List (List Edges)) : Type 0 where
+-- the tree before and after an edit that leaves the kind of the screen, with the good points of its nodes before it
+pub record AreSides (was is : Seen) (good : List (List Edges)) : Type 0 where
   pub leaves : (n : NodeId) → leaf_of (node is.nodes n).kind ≡ leaf_of (node was.nodes n).kind
   pub count : length is.nodes.entries ≡ length was.nodes.entries
   pub kind : is.kind ≡ was.kind
-  pub was_regions : AreRegions was before
-  pub is_regions : AreRegions is after
-  pub cover : (p : Point) → in_first (length is.nodes.entries) after p ≡ is_on is p
-
--- the bad points of a screen when those of some regions are seen to: of these the ones that aren't good, else the old ones
-abbrev pub bad_so_far : Bool → Bool → Bool → Bool → Bool
-bad_so_far on seen good bad = on && (if seen then not good else bad)
+  pub own : AreOwn was good
 
 -- one of the first n nodes that is a child, or lies below it, has the point in its region
 unfoldable pub in_moved : ℕ → Nodes → NodeId → List (List Edges) → Point → Bool
 in_moved zero t child regions p = false
 in_moved (suc n) t child regions p = in_moved n t child regions p || (is_under t child (record { 0 = n }) && holds (get_or regions n []) p)
+
+-- the same, if there is a child
+abbrev pub follows : Nodes → Option NodeId → List (List Edges) → Point → Bool
+follows t None good p = false
+follows t (Some child) good p = in_moved (length t.entries) t child good p
 
 -- the point lies below this child, if there is one
 abbrev pub is_below_moved : Seen → Option NodeId → Point → Bool
@@ -141,10 +136,6 @@ IsFitting leaves survivors = ⊤
 -- a point is bad after a change
 abbrev pub bad_by : Keeping → Change → Point → Bool
 bad_by k c p = is_on c.is p && not (good_by k c p)
-
--- which points are bad once the first n nodes are seen to
-abbrev pub bad_below : Keeping → Change → List (List Edges) → ℕ → Point → Bool
-bad_below k c after n p = bad_so_far (is_on c.is p) (in_first n after p) (good_by k c p) (c.bad p)
 
 -- a point is good after a change, and follows the child that is moved
 abbrev pub follows_by : Keeping → Change → Point → Bool
@@ -170,12 +161,18 @@ pub record IsFitted (t : Seen) (old new : Picture) : Type 0 where
   pub points : (p : Point) → same_kind old.kind t.kind ≡ true →
       has_point (whole_of old.size) p ≡ true → is_on t p ≡ true → pixel_of new p ≡ pixel_of old p
 
--- a node moves nowhere, keeps all that it shows, and has the same points
-pub record IsAlike (by : Point) (survivors : Survivors) (before after : List Edges) : Type 0 where
-  pub still : by ≡ unmoved
-  pub all : survivors ≡ variants.All
-  pub same : after ≡ before
+-- the good points of all nodes after a change: each node has some of its own
+pub record AreGoodAfter (k : Keeping) (c : Change) (good : List (List Edges)) : Type 0 where
+  pub own : AreOwn c.is good
+  pub any : (p : Point) → any_holds good p ≡ good_by k c p
 
--- the points of a frame are bad too, unless its tint stays
-abbrev pub tint_bad : Bool → Bool → Bool → Bool
-tint_bad same bad held = if same then bad else bad || held
+-- the child that an edit moves with all that lies below it, or brings to the front
+abbrev pub carried_child : Nodes → Edit → Option NodeId
+carried_child t (edits.Lift child) = Some child
+carried_child t edit = child_of t edit
+
+-- an edit hangs a child below a node, or takes it away
+abbrev pub is_hanging : Edit → Bool
+is_hanging (edits.Attach child parent at) = true
+is_hanging (edits.Detach child) = true
+is_hanging edit = false

@@ -1,28 +1,26 @@
-ghost use Rattle.std.specs.Prelude.{◌≡◌, ◌==◌, true, false, length, None, IfOk, IfErr, IfSome, IsTrue, OnOk, OnErr};
+ghost use Rattle.std.specs.Prelude.{◌≡◌, true, false, None, IfOk, IfErr, IfSome, IsTrue, OnOk, OnErr};
 ghost use Rattle.tr_base.specs.declared.Point.{Point};
-ghost use Rattle.tr_base.specs.declared.NodeId.{NodeId};
-ghost use Rattle.tr_base.specs.Rects.{whole_of};
 ghost use Rattle.tr_region.specs.Points.{holds};
 ghost use Rattle.tr_screen.specs.Pictures.{pixel_of};
 ghost use Rattle.tr_forest.specs.Nodes.{IsNode, leaf_count, node};
 ghost use Rattle.tr_forest.specs.Edits.{IsCause, IsEdit, refusal};
 ghost use Rattle.tr_tree.specs.Trees.{edited_tree};
-ghost use Rattle.tr_spot.specs.Spots.{CoverOnce, is_spot_of, region_of, spot};
 ghost use Rattle.tr_spot.specs.Leaves.{same_kind};
-ghost use Rattle.tr_surface.specs.Surfaces.{AreRegions, is_on};
+ghost use Rattle.tr_surface.specs.Surfaces.{is_bad};
 ghost use Rattle.tr_surface.specs.TreeSteps.{bad_after, child_of as spec_child, first_node, good_after, moved_child as spec_moved, source};
+ghost use Rattle.tr_surface.specs.TreeChanges.{IsCover};
 ghost use Rattle.tr_surface.specs.Survivors as spec;
 
+use crate::covers::Cover;
 use crate::goods::way_of;
 use crate::keepers::Keeper;
-use crate::surfaces::Surface;
+use crate::surfaces::{Surface, empty_regions};
 use crate::tree_changes::{Known, TreeChange};
 use std::mem;
-use tr_base::{Kind, NoMemory, NodeId, Point, whole};
+use tr_base::{Kind, NoMemory, NodeId, Point};
 use tr_region::Region;
 use tr_repair::move_pixels;
 use tr_screen::Screen;
-use tr_spot::{changed_points, regions, regions_within};
 use tr_tree::{Edit, EditRefused, Tree};
 
 impl Surface {
@@ -34,10 +32,10 @@ impl Surface {
         requires leaves { K.leaves keeper.now ≡ leaf_count self.old.tree.nodes }
         ensures was { IfOk result (λ tree. tree ≡ self.old.tree) }
         ensures tree { OnOk result (self.new.tree ≡ edited_tree self.old.tree edit.now) }
-        ensures bad { OnOk result ((p : Point) → holds self.new.bad p ≡
-            bad_after (K.keeping keeper.now) self.old.tree self.new.tree edit.now (holds self.old.bad) p) }
+        ensures bad { OnOk result ((p : Point) → is_bad self.new p ≡
+            bad_after (K.keeping keeper.now) self.old.tree self.new.tree edit.now (is_bad self.old) p) }
         ensures pixels { OnOk result ((p : Point) →
-            good_after (K.keeping keeper.now) self.old.tree self.new.tree edit.now (holds self.old.bad) p
+            good_after (K.keeping keeper.now) self.old.tree self.new.tree edit.now (is_bad self.old) p
             ≡ true →
             pixel_of self.new.screen p
             ≡ pixel_of self.old.screen (source self.old.tree self.new.tree edit.now p)) }
@@ -48,33 +46,17 @@ impl Surface {
         // Called for what it tells the prover: that the nodes are a forest.
         let _ = self.tree.count();
         let is = self.edited(edit)?;
-        if let Edit::Tint { node, .. } = edit {
-            // No node moves: the regions stay.
-            let Ok(bad) = self.bad_tinted(&is, *node) else {
-                drop(is);
-                return Err(EditRefused::NoMemory);
-            };
-            self.bad = bad;
-            return Ok(mem::replace(&mut self.tree, is));
-        }
-        let moved = moved_child(&self.tree, edit);
-        let Ok(after) = self.regions_after(&is, edit) else {
+        let Ok(known) = self.known(&is, edit, keeper) else {
             drop(is);
             return Err(EditRefused::NoMemory);
         };
-        let Ok(known) = self.known(&is, &after, moved, keeper) else {
-            drop((is, after));
-            return Err(EditRefused::NoMemory);
-        };
-        let way = way_of_moved(&self.tree, &is, moved);
+        let way = way_of_moved(&self.tree, &is, moved_child(&self.tree, edit));
         let Ok(()) = fit_screen(&mut self.screen, &is) else {
-            drop((is, after));
-            drop(known);
+            drop((is, known));
             return Err(EditRefused::NoMemory);
         };
         move_pixels(&mut self.screen, &known.follows, way);
-        self.regions = after;
-        self.bad = known.bad;
+        self.good = known.good;
         Ok(mem::replace(&mut self.tree, is))
     }
 
@@ -98,81 +80,68 @@ impl Surface {
         }
     }
 
-    /// The regions of the nodes once the tree is what the edit makes of it. On a screen of the same size
-    /// only the points of the domains that it changes are looked at.
-    fn regions_after(&self, is: &Tree, edit: &Edit) -> Result<Vec<Region>, NoMemory>
+    /// What is known once the tree is what the edit makes of it.
+    fn known<K: Keeper>(&self, is: &Tree, edit: &Edit, keeper: &K) -> Result<Known, NoMemory>
         requires edit { IsEdit self.now.tree.nodes edit.now }
         requires allowed { refusal self.now.tree.nodes edit.now ≡ None }
         requires is { is.now ≡ edited_tree self.now.tree edit.now }
-        ensures count { IfOk result (λ r. length r.items ≡ length is.now.nodes.entries) }
-        ensures points { IfOk result (λ r. (n : NodeId) (p : Point) → IsNode is.now.nodes n →
-            holds (region_of r.items n) p ≡ is_spot_of is.now n (spot is.now p)) }
-        ensures cover { IfOk result (λ r. CoverOnce (whole_of is.now.size) r.items) }
+        requires leaves { K.leaves keeper.now ≡ leaf_count self.now.tree.nodes }
+        ensures good { let c = spec.change_to self.now is.now (spec_moved self.now.tree edit.now) in
+            IfOk result (λ r. spec.AreGoodAfter (K.keeping keeper.now) c r.good.items) }
+        ensures follows { let c = spec.change_to self.now is.now (spec_moved self.now.tree edit.now) in
+            IfOk result (λ r. (p : Point) → holds r.follows p ≡ spec.follows_by (K.keeping keeper.now) c p) }
     {
         // Called for what it tells the prover: that the nodes are a forest.
         let _ = self.tree.count();
-        if self.tree.size() != is.size() {
-            return regions(self.alloc, is);
+        let count = is.count();
+        if is_other(self.tree.kind(), is.kind()) {
+            let good = empty_regions(self.alloc, count)?;
+            let follows = Region::empty(self.alloc);
+            return Ok(Known { good, follows });
         }
-        let changed = changed_points(self.alloc, &self.tree, is, placed_child(edit))?;
-        let after = regions_within(self.alloc, is, &changed, &self.regions);
-        drop(changed);
-        after
-    }
-
-    /// The bad points once the frame of a node has the tint of another tree.
-    fn bad_tinted(&self, is: &Tree, n: NodeId) -> Result<Region, NoMemory>
-        requires was { IsNode self.now.tree.nodes n }
-        requires is { IsNode is.now.nodes n }
-        ensures { let t = self.now.tree in
-            let same = (node t.nodes n).tint == (node is.now.nodes n).tint in
-            IfOk result (λ r. (p : Point) → holds r p
-            ≡ spec.tint_bad same (holds self.now.bad p) (is_spot_of t n (spot t p))) }
-    {
-        if self.tree.tint_of(n) == is.tint_of(n) {
-            let bad = self.bad.copy()?;
-            return Ok(bad);
-        }
-        let bad = self.bad.union(self.region(n))?;
-        Ok(bad)
-    }
-
-    /// What is known once the tree is another one, with these regions.
-    fn known<K: Keeper>(
-        &self,
-        is: &Tree,
-        after: &[Region],
-        moved: Option<NodeId>,
-        keeper: &K,
-    ) -> Result<Known, NoMemory>
-        requires like { spec.IsLike self.now.tree is.now }
-        requires regions { AreRegions is.now after.now }
-        requires cover { (p : Point) →
-            spec.in_first (length is.now.nodes.entries) after.now p ≡ is_on is.now p }
-        requires moved { IfSome moved (IsNode self.now.tree.nodes) }
-        requires leaves { K.leaves keeper.now ≡ leaf_count self.now.tree.nodes }
-        ensures bad { let c = spec.change_to self.now is.now moved in
-            IfOk result (λ r. (p : Point) → holds r.bad p ≡ spec.bad_by (K.keeping keeper.now) c p) }
-        ensures follows { let c = spec.change_to self.now is.now moved in
-            IfOk result (λ r. (p : Point) → holds r.follows p ≡ spec.follows_by (K.keeping keeper.now) c p) }
-    {
-        let (alloc, was) = (self.alloc, &self.tree);
-        if is_other(was.kind(), is.kind()) {
-            let bad = Region::of_rect(alloc, whole(is.size()))?;
-            let follows = Region::empty(alloc);
-            return Ok(Known { bad, follows });
-        }
+        let moved = moved_child(&self.tree, edit);
         let change = TreeChange {
-            alloc,
-            was,
+            alloc: self.alloc,
+            was: &self.tree,
             is,
-            before: &self.regions,
-            after,
-            bad: &self.bad,
+            good: &self.good,
             moved,
         };
-        change.known(keeper)
+        let cover = cover_of(&change, edit)?;
+        let known = change.known(keeper, &cover);
+        drop(cover);
+        let known = known?;
+        Ok(known)
     }
+}
+
+/// What the child covers that an edit moves or brings to the front, if nothing is good that could want it,
+/// and all other nodes stay where they are. With no child nothing is covered.
+fn cover_of(change: &TreeChange<'_>, edit: &Edit) -> Result<Option<Cover>, NoMemory>
+    requires edit { IsEdit change.now.was.now.nodes edit.now }
+    requires allowed { refusal change.now.was.now.nodes edit.now ≡ None }
+    requires is { change.now.is.now ≡ edited_tree change.now.was.now edit.now }
+    requires moved { change.now.moved ≡ spec_moved change.now.was.now edit.now }
+    ensures { let s = change.now in
+        IfOk result (λ o. IfSome o (IsCover s.was.now s.is.now s.moved)) }
+{
+    // Called for what it tells the prover: that the nodes are a forest.
+    let _ = change.was.count();
+    let same_size = change.was.size() == change.is.size();
+    if is_hanging(edit) || !same_size || are_empty(change.good) {
+        return Ok(None);
+    }
+    change.cover(carried_child(change.was, edit))
+}
+
+/// Whether no region has a point. Contracts don't speak of it: where that is so, nothing is to be found.
+fn are_empty(regions: &[Region]) -> bool {
+    for region in regions {
+        if !region.is_empty() {
+            return false;
+        }
+    }
+    true
 }
 
 /// Whether the two kinds differ.
@@ -181,18 +150,6 @@ fn is_other(was: Kind, is: Kind) -> bool
     ensures same { result ≡ false → is ≡ was }
 {
     was != is
-}
-
-/// The child whose place among the children of a node an edit changes.
-fn placed_child(edit: &Edit) -> Option<NodeId>
-    ensures { result ≡ spec.placed_child edit.now }
-{
-    match edit {
-        Edit::Attach { child, .. } => Some(*child),
-        Edit::Detach { child } => Some(*child),
-        Edit::Lift { child } => Some(*child),
-        _ => None,
-    }
 }
 
 /// How far the moved child comes, if one is moved.
@@ -261,5 +218,28 @@ fn first_child(tree: &Tree, n: NodeId) -> Option<NodeId>
     match tree.children(n) {
         [child, ..] => Some(*child),
         [] => None,
+    }
+}
+
+/// The child that an edit moves with all that lies below it, or brings to the front.
+fn carried_child(was: &Tree, edit: &Edit) -> Option<NodeId>
+    requires { IsEdit was.now.nodes edit.now }
+    ensures child { result ≡ spec.carried_child was.now.nodes edit.now }
+    ensures node { IfSome result (IsNode was.now.nodes) }
+{
+    match edit {
+        Edit::Lift { child } => Some(*child),
+        _ => child_of(was, edit),
+    }
+}
+
+/// Whether an edit hangs a child below a node, or takes it away.
+fn is_hanging(edit: &Edit) -> bool
+    ensures { result ≡ spec.is_hanging edit.now }
+{
+    match edit {
+        Edit::Attach { .. } => true,
+        Edit::Detach { .. } => true,
+        _ => false,
     }
 }

@@ -2,38 +2,55 @@ ghost use Rattle.std.specs.Prelude.{◌≡◌, ◌<◌, ◌&&◌, not, true, fal
 ghost use Rattle.tr_base.specs.declared.Point.{Point};
 ghost use Rattle.tr_base.specs.Rects.{Edges};
 ghost use Rattle.tr_base.specs.Layouts.{IsPartOf};
-ghost use Rattle.tr_region.specs.Points.{holds, count_in_square};
+ghost use Rattle.tr_region.specs.Points.{holds};
 ghost use Rattle.tr_forest.specs.Nodes.{leaf_count};
 ghost use Rattle.tr_spot.specs.Spots.{spot, is_in_leaf};
 ghost use Rattle.tr_repair.specs.Near.{IsStep};
 ghost use Rattle.tr_exec.specs.Executions.{IsOrigin};
-ghost use Rattle.tr_surface.specs.Surfaces.{HasBadPoints, is_frame, back_from};
+ghost use Rattle.tr_surface.specs.Counts.{count_on};
+ghost use Rattle.tr_surface.specs.Surfaces.{HasBadPoints, is_bad, is_frame, back_from};
 
 use crate::executes::origin_of;
 use crate::surfaces::Surface;
-use tr_base::{LeafId, NoMemory, NodeId, Point, Rect};
+use tr_base::{LeafId, NoMemory, NodeId, Point, Rect, whole};
 use tr_region::Region;
 use tr_repair::shifted;
 
 impl Surface {
-    /// How many points of the screen are bad.
+    /// How many points of the screen are bad: all but the good ones.
     pub fn bad_count(&self) -> u32
-        ensures { result ≡ count_in_square 1024 self.now.bad }
+        ensures { result ≡ count_on self.now.tree.size (is_bad self.now) }
     {
-        // Called for what they tell the prover: that the screen has a size, and that the list of a
-        // region is canonical.
+        // Called for what it tells the prover: that the nodes are a forest, and the screen has a size.
         let _ = self.tree.count();
-        let _ = self.bad.rects();
-        self.bad.count() as u32
+        let size = self.tree.size();
+        let mut count = u32::from(size.wide) * u32::from(size.high);
+        for region in &self.good {
+            // Called for what it tells the prover: that the list of a region is canonical.
+            let _ = region.rects();
+            count -= region.count() as u32;
+        }
+        count
+    }
+
+    /// The bad points of the screen: all but the good ones.
+    pub fn bad(&self) -> Result<Region, NoMemory>
+        ensures { IfOk result (λ r. (p : Point) → holds r p ≡ is_bad self.now p) }
+    {
+        let mut bad = Region::of_rect(self.alloc, whole(self.tree.size()))?;
+        for good in &self.good {
+            bad = bad.less(good)?;
+        }
+        Ok(bad)
     }
 
     /// Whether a visible point of the leaf is bad.
     pub fn is_bad(&self, leaf: LeafId) -> Result<bool, NoMemory>
         requires { leaf.0 < leaf_count self.now.tree.nodes }
         ensures some { IfOk result (λ b. IsTrue b → (p : Point) ×
-            ((is_in_leaf leaf (spot self.now.tree p) ≡ true) × (holds self.now.bad p ≡ true))) }
+            ((is_in_leaf leaf (spot self.now.tree p) ≡ true) × (is_bad self.now p ≡ true))) }
         ensures none { IfOk result (λ b. IsTrue (not b) → (p : Point) →
-            is_in_leaf leaf (spot self.now.tree p) ≡ true → holds self.now.bad p ≡ false) }
+            is_in_leaf leaf (spot self.now.tree p) ≡ true → is_bad self.now p ≡ false) }
     {
         Ok(holds_some(self.bad_of(leaf)?))
     }
@@ -41,9 +58,9 @@ impl Surface {
     /// Whether a point of a frame is bad.
     pub fn is_frame_bad(&self) -> Result<bool, NoMemory>
         ensures some { IfOk result (λ b. IsTrue b → (p : Point) ×
-            ((is_frame (spot self.now.tree p) ≡ true) × (holds self.now.bad p ≡ true))) }
+            ((is_frame (spot self.now.tree p) ≡ true) × (is_bad self.now p ≡ true))) }
         ensures none { IfOk result (λ b. IsTrue (not b) → (p : Point) →
-            is_frame (spot self.now.tree p) ≡ true → holds self.now.bad p ≡ false) }
+            is_frame (spot self.now.tree p) ≡ true → is_bad self.now p ≡ false) }
     {
         let count = self.tree().count();
         for n in 0..count {
@@ -80,9 +97,10 @@ impl Surface {
     pub fn bad_of(&self, leaf: LeafId) -> Result<Region, NoMemory>
         requires { leaf.0 < leaf_count self.now.tree.nodes }
         ensures { IfOk result (λ r. (p : Point) →
-            holds r p ≡ holds self.now.bad p && is_in_leaf leaf (spot self.now.tree p)) }
+            holds r p ≡ is_bad self.now p && is_in_leaf leaf (spot self.now.tree p)) }
     {
-        self.bad().meet(self.visible(leaf))
+        let visible = self.visible(leaf)?;
+        visible.less(self.good_of(leaf))
     }
 }
 

@@ -1,7 +1,6 @@
 ghost use Rattle.std.specs.Prelude.{◌≡◌, ◌<◌, ℕ, true, false, is_none, Some, OnOk, OnErr};
 ghost use Rattle.tr_base.specs.declared.Point.{Point};
 ghost use Rattle.tr_base.specs.Rects.{before_shift};
-ghost use Rattle.tr_region.specs.Points.{holds};
 ghost use Rattle.tr_screen.specs.Pictures.{pixel_of};
 ghost use Rattle.tr_paint.specs.Batches.{touches};
 ghost use Rattle.tr_paint.specs.Traces.{look_of};
@@ -9,11 +8,11 @@ ghost use Rattle.tr_exec.specs.Executions.{IsOrigin, colour_after};
 ghost use Rattle.tr_forest.specs.Nodes.{leaf_count};
 ghost use Rattle.tr_spot.specs.Spots.{spot, is_in_leaf};
 ghost use Rattle.tr_spot.specs.Leaves.{leaf_corner};
-ghost use Rattle.tr_surface.specs.Surfaces.{is_on, leaf_base};
+ghost use Rattle.tr_surface.specs.Surfaces.{is_bad, is_on, leaf_base};
 
-use crate::surfaces::{Surface, visible};
+use crate::surfaces::Surface;
 use tr_base::{Env, Font, LeafId, NoMemory, Point};
-use tr_exec::execute;
+use tr_exec::execute_known;
 use tr_paint::Batch;
 use tr_tree::Tree;
 
@@ -33,7 +32,7 @@ impl Surface {
         // Of the visible points those are bad whose colour isn't known.
         ensures unknown { let t = self.old.tree in
             let look = look_of t.kind font.now in
-            OnOk result ((p : Point) → is_in_leaf leaf (spot t p) ≡ true → holds self.new.bad p ≡
+            OnOk result ((p : Point) → is_in_leaf leaf (spot t p) ≡ true → is_bad self.new p ≡
             is_none (colour_after look (leaf_base self.old leaf) batch.now (leaf_corner t leaf) p)) }
 
         // A visible point that no command touches keeps its pixel, known or not.
@@ -48,23 +47,29 @@ impl Surface {
             pixel_of self.new.screen p ≡ pixel_of self.old.screen p) }
         ensures others { let t = self.old.tree in
             OnOk result ((p : Point) → is_in_leaf leaf (spot t p) ≡ false →
-            holds self.new.bad p ≡ holds self.old.bad p) }
+            is_bad self.new p ≡ is_bad self.old p) }
         ensures tree { self.new.tree ≡ self.old.tree }
         ensures err { OnErr result (self.new ≡ self.old) }
     {
+        // Called for what it tells the prover: that the nodes are a forest.
+        let _ = self.tree.count();
         let kind = self.tree.kind();
         let env = Env { kind, font };
         let origin = origin_of(&self.tree, leaf);
-        let visible = visible(&self.tree, &self.regions, leaf);
-        execute(
+        let n = self.tree.node_of(leaf);
+        let visible = self.visible(leaf)?;
+        let known = execute_known(
             self.alloc,
             batch,
             &env,
             origin,
-            visible,
+            &visible,
+            &self.good[usize::from(n.0)],
             &mut self.screen,
-            &mut self.bad,
-        )?;
+        );
+        drop(visible);
+        let known = known?;
+        self.good[usize::from(n.0)] = known;
         Ok(())
     }
 }

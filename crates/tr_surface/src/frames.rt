@@ -1,12 +1,12 @@
-ghost use Rattle.std.specs.Prelude.{◌≡◌, ◌&&◌, ◌<◌, not, true, false, length, IsTrue, IfOk, OnOk, OnErr};
+ghost use Rattle.std.specs.Prelude.{◌≡◌, ◌&&◌, ◌||◌, not, true, false, length, IfOk, OnOk, OnErr};
 ghost use Rattle.tr_base.specs.declared.Point.{Point};
 ghost use Rattle.tr_region.specs.Points.{holds};
 ghost use Rattle.tr_screen.specs.Pictures.{pixel_of};
 ghost use Rattle.tr_screen.specs.Runs.{Repaints};
 ghost use Rattle.tr_forest.specs.Nodes.{IsNode};
-ghost use Rattle.tr_spot.specs.Spots.{spot, is_on_frame};
-ghost use Rattle.tr_surface.specs.Surfaces.{is_on, is_frame, frame_colour};
-ghost use Rattle.tr_surface.specs.Frames.{any_holds, AreOnFrames, AreBadFrames};
+ghost use Rattle.tr_spot.specs.Spots.{spot, is_on_frame, region_of};
+ghost use Rattle.tr_surface.specs.Surfaces.{any_holds, is_bad, is_on, is_frame, frame_colour};
+ghost use Rattle.tr_surface.specs.Frames.{AreBadFrames, AreGoodFrames, AreOnFrames};
 
 use crate::fills::Fill;
 use crate::surfaces::Surface;
@@ -14,7 +14,8 @@ use tr_base::{NoMemory, NodeId, Op, eff};
 use tr_exec::paint_within;
 use tr_region::Region;
 use tr_screen::Screen;
-use tr_tree::{NodeKind, Tree};
+use tr_spot::frame;
+use tr_tree::Tree;
 
 impl Surface {
     /// Gives each bad point of a frame its colour, and makes it good. All memory is taken before the
@@ -22,27 +23,27 @@ impl Surface {
     pub fn paint_frame(&mut self) -> Result<(), NoMemory>
         // No point of a frame is bad any more.
         ensures bad { OnOk result ((p : Point) →
-            holds self.new.bad p ≡ holds self.old.bad p && not (is_frame (spot self.old.tree p))) }
+            is_bad self.new p ≡ is_bad self.old p && not (is_frame (spot self.old.tree p))) }
         ensures painted { let t = self.old.tree in
-            OnOk result ((p : Point) → holds self.old.bad p ≡ true → is_frame (spot t p) ≡ true →
+            OnOk result ((p : Point) → is_bad self.old p ≡ true → is_frame (spot t p) ≡ true →
             pixel_of self.new.screen p ≡ frame_colour (spot t p)) }
 
         // All other points of the screen keep their pixels.
         ensures others { let t = self.old.tree in
             OnOk result ((p : Point) → is_on t p ≡ true →
-            holds self.old.bad p && is_frame (spot t p) ≡ false →
+            is_bad self.old p && is_frame (spot t p) ≡ false →
             pixel_of self.new.screen p ≡ pixel_of self.old.screen p) }
         ensures tree { self.new.tree ≡ self.old.tree }
         ensures err { OnErr result (self.new ≡ self.old) }
     {
         let frames = self.bad_frames()?;
-        let Ok(rest) = without(&self.bad, &frames) else {
+        let Ok(good) = self.good_frames() else {
             drop(frames);
             return Err(NoMemory);
         };
         paint_frames(&mut self.screen, &self.tree, &frames);
         drop(frames);
-        self.bad = rest;
+        self.good = good;
         Ok(())
     }
 
@@ -65,41 +66,46 @@ impl Surface {
         Ok(frames)
     }
 
+    /// Of each node the good points once its frame is good, by the nodes' numbers.
+    fn good_frames(&self) -> Result<Vec<Region>, NoMemory>
+        ensures { IfOk result (λ good. AreGoodFrames self.now good.items) }
+    {
+        let count = self.tree.count();
+        let mut all = Vec::with_capacity(self.alloc, count)?;
+        for n in 0..count {
+            let Ok(good) = self.good_frame(NodeId(n as u16)) else {
+                drop(all);
+                return Err(NoMemory);
+            };
+            let Ok(()) = all.push(good) else {
+                drop(all);
+                return Err(NoMemory);
+            };
+        }
+        Ok(all)
+    }
+
+    /// The good points of a node once its frame is good.
+    fn good_frame(&self, n: NodeId) -> Result<Region, NoMemory>
+        requires { IsNode self.now.tree.nodes n }
+        ensures { let s = self.now in IfOk result (λ r. (p : Point) →
+            holds r p ≡ holds (region_of s.good n) p || is_on_frame n (spot s.tree p)) }
+    {
+        let frame = frame(self.alloc, self.tree(), n)?;
+        let all = self.good(n).union(&frame);
+        drop(frame);
+        all
+    }
+
     /// The bad points of a node's frame. A leaf has none.
     pub(crate) fn bad_frame(&self, n: NodeId) -> Result<Region, NoMemory>
         requires { IsNode self.now.tree.nodes n }
         ensures { IfOk result (λ r. (p : Point) →
-            holds r p ≡ holds self.now.bad p && is_on_frame n (spot self.now.tree p)) }
+            holds r p ≡ is_bad self.now p && is_on_frame n (spot self.now.tree p)) }
     {
-        if let NodeKind::Leaf { .. } = self.tree().kind_of(n) {
-            return Ok(Region::empty(self.alloc));
-        }
-        self.bad().meet(self.region(n))
+        let frame = frame(self.alloc, self.tree(), n)?;
+        frame.less(self.good(n))
     }
-}
-
-/// The points of a region that none of the others holds.
-fn without(region: &Region, others: &[Region]) -> Result<Region, NoMemory>
-    ensures { IfOk result (λ r. (p : Point) →
-        holds r p ≡ holds region.now p && not (any_holds others.now p)) }
-{
-    let mut rest = region.copy()?;
-    for other in others {
-        rest = less(rest, other)?;
-    }
-    Ok(rest)
-}
-
-/// The points of a region that another one doesn't hold. An empty one costs no more than the test.
-fn less(region: Region, other: &Region) -> Result<Region, NoMemory>
-    ensures { IfOk result (λ r. (p : Point) → holds r p ≡ holds region p && not (holds other.now p)) }
-{
-    if other.is_empty() {
-        return Ok(region);
-    }
-    let rest = region.minus(other);
-    drop(region);
-    rest
 }
 
 /// Gives the points of each region, which are on the frame of its node, the frame's colour.

@@ -1,5 +1,6 @@
 ghost use Rattle.std.specs.Prelude.{◌≡◌, ◌↔◌, ◌<◌, ◌+◌, ◌&&◌, ◌||◌, ℕ, not, true, length, IfOk, IfSome, IsTrue};
 ghost use Rattle.tr_base.specs.declared.Point.{Point};
+ghost use Rattle.tr_base.specs.declared.NodeId.{NodeId};
 ghost use Rattle.tr_base.specs.Rects.{InReach, before_shift, has_point};
 ghost use Rattle.tr_base.specs.Layouts.{IsDomain};
 ghost use Rattle.tr_region.specs.Points.{holds};
@@ -7,46 +8,111 @@ ghost use Rattle.tr_repair.specs.Near.{IsAround, IsStep};
 ghost use Rattle.tr_paint.specs.Batches.{touches};
 ghost use Rattle.tr_forest.specs.Nodes.{IsNode, leaf_count, leaf_of, node};
 ghost use Rattle.tr_tree.specs.Places.{domain};
-ghost use Rattle.tr_spot.specs.Spots.{region_of, from_corner as spec_from, size_of as spec_size};
-ghost use Rattle.tr_surface.specs.Surfaces.{is_on};
+ghost use Rattle.tr_spot.specs.Spots.{is_spot_of, region_of, spot, from_corner as spec_from, size_of as spec_size};
 ghost use Rattle.tr_surface.specs.TreeSteps.{is_kept, same_point, way_of};
 ghost use Rattle.tr_surface.specs.declared.survivors.Survivors.TheVariants as variants;
-ghost use Rattle.tr_surface.specs.Survivors.{IsAlike, IsFitting, bad_below, bad_by, follows_by, stays_good};
-ghost use Rattle.tr_surface.specs.Survivors.{corner_of, in_moved, is_carried, leaf_survivors, survivors_of, unmoved, way_by};
-ghost use Rattle.tr_surface.specs.TreeChanges.{change_of};
+ghost use Rattle.tr_surface.specs.Survivors.{IsFitting, corner_of, follows, good_at, has_survivor, in_moved};
+ghost use Rattle.tr_surface.specs.Survivors.{leaf_survivors, survivors_from, unmoved, way_from};
+ghost use Rattle.tr_surface.specs.TreeChanges.{IsCover};
 
+use crate::covers::Cover;
 use crate::keepers::Keeper;
 use crate::survivors::Survivors;
 use crate::tree_changes::{Known, TreeChange};
 use std::alloc::Global;
-use tr_base::{LeafId, NoMemory, NodeId, Point, Rect, Size, whole};
+use tr_base::{LeafId, NoMemory, NodeId, Point, Rect, Size};
 use tr_paint::Batch;
 use tr_region::Region;
 use tr_repair::shifted;
-use tr_spot::{from_corner, size_of};
+use tr_spot::{from_corner, own_points, size_of};
 use tr_tree::{NodeKind, Tree};
 
 impl TreeChange<'_> {
-    /// The region of a node before the edit.
-    fn region_before(&self, n: NodeId) -> &Region
-        requires { IsNode self.now.is.now.nodes n }
-        ensures { result.now ≡ region_of self.now.before.now n }
+    /// The good points of each node after the edit, and those that follow the child that is moved.
+    pub fn known<K: Keeper>(&self, keeper: &K, cover: &Option<Cover>) -> Result<Known, NoMemory>
+        requires leaves { K.leaves keeper.now ≡ leaf_count self.now.was.now.nodes }
+        requires cover { let s = self.now in IfSome cover.now (IsCover s.was.now s.is.now s.moved) }
+        ensures count { IfOk result (λ r. length r.good.items ≡ length self.now.is.now.nodes.entries) }
+        ensures good { let s = self.now in
+            IfOk result (λ r. (n : NodeId) (p : Point) → IsNode s.is.now.nodes n →
+            holds (region_of r.good.items n) p
+            ≡ good_at (K.keeping keeper.now) s.was.now s.is.now s.moved s.good.now n p) }
+        ensures follows { let s = self.now in IfOk result (λ r. (p : Point) →
+            holds r.follows p ≡ follows s.is.now.nodes s.moved r.good.items p) }
     {
-        &self.before[usize::from(n.0)]
+        let good = self.all_good(keeper, cover)?;
+        let Ok(follows) = self.follows(&good) else {
+            drop(good);
+            return Err(NoMemory);
+        };
+        Ok(Known { good, follows })
     }
 
-    /// Its region after it.
-    fn region_after(&self, n: NodeId) -> &Region
-        requires { IsNode self.now.is.now.nodes n }
-        ensures { result.now ≡ region_of self.now.after.now n }
+    /// The good points of each node after the edit, by the nodes' numbers.
+    fn all_good<K: Keeper>(
+        &self,
+        keeper: &K,
+        cover: &Option<Cover>,
+    ) -> Result<Vec<Region>, NoMemory>
+        requires leaves { K.leaves keeper.now ≡ leaf_count self.now.was.now.nodes }
+        requires cover { let s = self.now in IfSome cover.now (IsCover s.was.now s.is.now s.moved) }
+        ensures count { IfOk result (λ r. length r.items ≡ length self.now.is.now.nodes.entries) }
+        ensures good { let s = self.now in
+            IfOk result (λ r. (n : NodeId) (p : Point) → IsNode s.is.now.nodes n →
+            holds (region_of r.items n) p
+            ≡ good_at (K.keeping keeper.now) s.was.now s.is.now s.moved s.good.now n p) }
     {
-        &self.after[usize::from(n.0)]
+        let count = self.is.count();
+        let mut good = Vec::with_capacity(self.alloc, count)?;
+        for i in 0..count {
+            let Ok(region) = self.good_after(keeper, cover, NodeId(i as u16)) else {
+                drop(good);
+                return Err(NoMemory);
+            };
+            let Ok(()) = good.push(region) else {
+                drop(good);
+                return Err(NoMemory);
+            };
+        }
+        Ok(good)
+    }
+
+    /// The good points of a node after the edit. Where none was good, it looks at nothing.
+    fn good_after<K: Keeper>(
+        &self,
+        keeper: &K,
+        cover: &Option<Cover>,
+        n: NodeId,
+    ) -> Result<Region, NoMemory>
+        requires node { IsNode self.now.is.now.nodes n }
+        requires leaves { K.leaves keeper.now ≡ leaf_count self.now.was.now.nodes }
+        requires cover { let s = self.now in IfSome cover.now (IsCover s.was.now s.is.now s.moved) }
+        ensures { let s = self.now in IfOk result (λ r. (p : Point) → holds r p
+            ≡ good_at (K.keeping keeper.now) s.was.now s.is.now s.moved s.good.now n p) }
+    {
+        // Called for what it tells the prover: that the nodes are a forest.
+        let _ = self.was.count();
+        if self.good_before(n).is_empty() {
+            return Ok(Region::empty(self.alloc));
+        }
+        let by = self.way(n);
+        let survivors = self.survivors(n, by);
+        let left = self.surviving(keeper, n, by, survivors)?;
+        self.own(cover, n, left)
+    }
+
+    /// The points of a node that were good.
+    fn good_before(&self, n: NodeId) -> &Region
+        requires { IsNode self.now.is.now.nodes n }
+        ensures { result.now ≡ region_of self.now.good.now n }
+    {
+        &self.good[usize::from(n.0)]
     }
 
     /// How far the points of a node move.
-    fn way(&self, n: NodeId) -> Point
+    pub fn way(&self, n: NodeId) -> Point
         requires { IsNode self.now.is.now.nodes n }
-        ensures value { result ≡ way_by (change_of self.now) n }
+        ensures value { let s = self.now in result ≡ way_from s.was.now s.is.now s.moved n }
         ensures near { IsStep result }
     {
         match self.moved {
@@ -59,7 +125,7 @@ impl TreeChange<'_> {
     fn survivors(&self, n: NodeId, by: Point) -> Survivors
         requires node { IsNode self.now.is.now.nodes n }
         requires by { IsStep by }
-        ensures value { result ≡ survivors_of (change_of self.now) by n }
+        ensures value { result ≡ survivors_from self.now.was.now self.now.is.now by n }
         ensures fits { IsFitting (leaf_count self.now.was.now.nodes) result }
     {
         match leaf_in(self.was, n) {
@@ -69,8 +135,8 @@ impl TreeChange<'_> {
         }
     }
 
-    /// The points of a node that are good.
-    fn good_points<K: Keeper>(
+    /// Where the good points of a node come to that survive.
+    fn surviving<K: Keeper>(
         &self,
         keeper: &K,
         n: NodeId,
@@ -79,26 +145,42 @@ impl TreeChange<'_> {
     ) -> Result<Region, NoMemory>
         requires node { IsNode self.now.is.now.nodes n }
         requires by { IsStep by }
-        requires survivors { survivors ≡ survivors_of (change_of self.now) by n }
         requires fits { IsFitting (K.leaves keeper.now) survivors }
-        ensures { let s = self.now in
-            IfOk result (λ r. (p : Point) → holds r p ≡ (holds (region_of s.after.now n) p
-            && stays_good (K.keeping keeper.now) (change_of s) (region_of s.before.now n) n by p)) }
+        ensures { let s = self.now in IfOk result (λ r. (p : Point) →
+            holds r p ≡ holds (region_of s.good.now n) (before_shift p by)
+            && has_survivor (K.keeping keeper.now) survivors (spec_from (domain s.is.now n) p)) }
     {
         match survivors {
             Survivors::Nothing => Ok(Region::empty(self.alloc)),
-            Survivors::All => self.known_points(n, by),
+            Survivors::All => self.moved_along(n, by),
             Survivors::Kept { leaf, from, to } => {
                 let kept = self.kept_points(keeper, n, leaf, from, to)?;
-                let Ok(known) = self.known_points(n, by) else {
+                let Ok(moved) = self.moved_along(n, by) else {
                     drop(kept);
                     return Err(NoMemory);
                 };
-                let good = known.meet(&kept);
-                drop((known, kept));
-                good
+                let both = moved.meet(&kept);
+                drop((moved, kept));
+                both
             }
         }
+    }
+
+    /// Where the good points of a node come to.
+    fn moved_along(&self, n: NodeId, by: Point) -> Result<Region, NoMemory>
+        requires node { IsNode self.now.is.now.nodes n }
+        requires by { IsStep by }
+        ensures { IfOk result (λ r. (p : Point) →
+            holds r p ≡ holds (region_of self.now.good.now n) (before_shift p by)) }
+    {
+        // Called for what it tells the prover: that the nodes are a forest, and how large the screen is.
+        let _ = self.was.count();
+        let good = self.good_before(n);
+        if is_nowhere(by) {
+            let same = good.copy()?;
+            return Ok(same);
+        }
+        shifted(good, by)
     }
 
     /// The points of the screen that a leaf keeps, which is node n, and that no command waits for.
@@ -123,142 +205,54 @@ impl TreeChange<'_> {
         kept
     }
 
-    /// The points of a node that were points of it before it moved, and good.
-    fn known_points(&self, n: NodeId, by: Point) -> Result<Region, NoMemory>
+    /// Of points that belonged to a node before they moved those that belong to it afterwards.
+    fn own(&self, cover: &Option<Cover>, n: NodeId, part: Region) -> Result<Region, NoMemory>
         requires node { IsNode self.now.is.now.nodes n }
-        requires by { IsStep by }
-        ensures { let s = self.now in
-            IfOk result (λ r. (p : Point) → holds r p ≡ (holds (region_of s.before.now n) (before_shift p by)
-            && not (holds s.bad.now (before_shift p by)) && holds (region_of s.after.now n) p)) }
+        requires cover { let s = self.now in IfSome cover.now (IsCover s.was.now s.is.now s.moved) }
+        requires part { let s = self.now in (p : Point) → holds part p ≡ true → is_spot_of s.was.now n
+            (spot s.was.now (before_shift p (way_from s.was.now s.is.now s.moved n))) ≡ true }
+        ensures { let t = self.now.is.now in IfOk result (λ r. (p : Point) →
+            holds r p ≡ holds part p && is_spot_of t n (spot t p)) }
     {
-        // Called for what it tells the prover: that the nodes are forests, and how large the screen is.
-        let _ = self.was.count();
-        let _ = self.is.count();
-        let good = self.region_before(n).minus(self.bad)?;
-        let came = shifted(&good, by);
-        drop(good);
-        let came = came?;
-        let known = came.meet(self.region_after(n));
-        drop(came);
-        known
-    }
-
-    /// The bad points once node n is seen to, by those before.
-    fn with_node<K: Keeper>(&self, keeper: &K, bad: Region, n: NodeId) -> Result<Region, NoMemory>
-        requires node { IsNode self.now.is.now.nodes n }
-        requires leaves { K.leaves keeper.now ≡ leaf_count self.now.was.now.nodes }
-        requires bad { let s = self.now in (p : Point) →
-            holds bad p ≡ bad_below (K.keeping keeper.now) (change_of s) s.after.now n.0 p }
-        ensures { let s = self.now in IfOk result (λ r. (p : Point) →
-            holds r p ≡ bad_below (K.keeping keeper.now) (change_of s) s.after.now (n.0 + 1) p) }
-    {
-        // Called for what it tells the prover: that the nodes are forests.
-        let _ = self.was.count();
-        let _ = self.is.count();
-        let by = self.way(n);
-        let survivors = self.survivors(n, by);
-        if self.is_alike(n, by, survivors) {
-            return Ok(bad);
+        match cover {
+            Some(cover) => cover.left_of(self.is, n, part),
+            None => own_points(self.alloc, self.is, n, part),
         }
-        let Ok(good) = self.good_points(keeper, n, by, survivors) else {
-            drop(bad);
-            return Err(NoMemory);
-        };
-        let anew = self.seen_to(&bad, n, &good);
-        drop((bad, good));
-        anew
     }
 
-    /// The bad points where those of node n are all but its good ones.
-    fn seen_to(&self, bad: &Region, n: NodeId, good: &Region) -> Result<Region, NoMemory>
-        requires { IsNode self.now.is.now.nodes n }
-        ensures { let held = holds (region_of self.now.after.now n) in
-            IfOk result (λ r. (p : Point) →
-            holds r p ≡ ((holds bad.now p && not (held p)) || (held p && not (holds good.now p)))) }
-    {
-        let region = self.region_after(n);
-        let lost = region.minus(good)?;
-        let Ok(others) = bad.minus(region) else {
-            drop(lost);
-            return Err(NoMemory);
-        };
-        let bad = others.union(&lost);
-        drop((others, lost));
-        bad
-    }
-
-    /// Whether a node moves nowhere, keeps all that it shows, and has the same points.
-    fn is_alike(&self, n: NodeId, by: Point, survivors: Survivors) -> bool
-        requires { IsNode self.now.is.now.nodes n }
-        ensures { let s = self.now in
-            IsTrue result ↔ IsAlike by survivors (region_of s.before.now n) (region_of s.after.now n) }
-    {
-        is_nowhere(by) && survivors.is_all() && self.region_after(n).same(self.region_before(n))
-    }
-
-    /// The points that are bad after the edit.
-    pub fn bad_after<K: Keeper>(&self, keeper: &K) -> Result<Region, NoMemory>
-        requires { K.leaves keeper.now ≡ leaf_count self.now.was.now.nodes }
+    /// The good points of the child that is moved, and of the nodes below it, by those of all nodes.
+    fn follows(&self, good: &[Region]) -> Result<Region, NoMemory>
+        requires { length good.now ≡ length self.now.is.now.nodes.entries }
         ensures { IfOk result (λ r. (p : Point) →
-            holds r p ≡ bad_by (K.keeping keeper.now) (change_of self.now) p) }
-    {
-        let screen = Region::of_rect(self.alloc, whole(self.is.size()))?;
-        let old = self.bad.meet(&screen);
-        drop(screen);
-        let mut bad = old?;
-        for i in 0..self.is.count() {
-            bad = self.with_node(keeper, bad, NodeId(i as u16))?;
-        }
-        Ok(bad)
-    }
-
-    /// What is known after the edit.
-    pub fn known<K: Keeper>(&self, keeper: &K) -> Result<Known, NoMemory>
-        requires { K.leaves keeper.now ≡ leaf_count self.now.was.now.nodes }
-        ensures bad { IfOk result (λ r. (p : Point) →
-            holds r.bad p ≡ bad_by (K.keeping keeper.now) (change_of self.now) p) }
-        ensures follows { IfOk result (λ r. (p : Point) →
-            holds r.follows p ≡ follows_by (K.keeping keeper.now) (change_of self.now) p) }
-    {
-        let bad = self.bad_after(keeper)?;
-        let Ok(carried) = self.carried_points() else {
-            drop(bad);
-            return Err(NoMemory);
-        };
-        let follows = carried.minus(&bad);
-        drop(carried);
-        let Ok(follows) = follows else {
-            drop(bad);
-            return Err(NoMemory);
-        };
-        Ok(Known { bad, follows })
-    }
-
-    /// The points of the child that is moved, and of the nodes below it.
-    fn carried_points(&self) -> Result<Region, NoMemory>
-        ensures { let c = change_of self.now in
-            IfOk result (λ r. (p : Point) → holds r p ≡ (is_on c.is p && is_carried c p)) }
+            holds r p ≡ follows self.now.is.now.nodes self.now.moved good.now p) }
     {
         let mut points = Region::empty(self.alloc);
         let Some(child) = self.moved else {
             return Ok(points);
         };
         for i in 0..self.is.count() {
-            points = self.with_carried(points, child, NodeId(i as u16))?;
+            points = self.with_node(points, child, good, NodeId(i as u16))?;
         }
         Ok(points)
     }
 
-    /// The same points, and those of node n where it is the child or lies below it.
-    fn with_carried(&self, points: Region, child: NodeId, n: NodeId) -> Result<Region, NoMemory>
+    /// The same points, and the good ones of node n where it is the child or lies below it.
+    fn with_node(
+        &self,
+        points: Region,
+        child: NodeId,
+        good: &[Region],
+        n: NodeId,
+    ) -> Result<Region, NoMemory>
         requires node { IsNode self.now.is.now.nodes n }
-        requires points { let s = self.now in (p : Point) →
-            holds points p ≡ in_moved n.0 s.is.now.nodes child s.after.now p }
-        ensures { let s = self.now in IfOk result (λ r. (p : Point) →
-            holds r p ≡ in_moved (n.0 + 1) s.is.now.nodes child s.after.now p) }
+        requires count { length good.now ≡ length self.now.is.now.nodes.entries }
+        requires points { (p : Point) →
+            holds points p ≡ in_moved n.0 self.now.is.now.nodes child good.now p }
+        ensures { IfOk result (λ r. (p : Point) →
+            holds r p ≡ in_moved (n.0 + 1) self.now.is.now.nodes child good.now p) }
     {
         if self.is.is_under(child, n) {
-            let more = points.union(self.region_after(n));
+            let more = points.union(&good[usize::from(n.0)]);
             drop(points);
             more
         } else {

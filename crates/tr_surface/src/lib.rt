@@ -1,9 +1,10 @@
-//! The screen that a tree of windows is shown on: the tree, the pixels, which points each node owns,
-//! and which points are bad and need to be painted again.
+//! The screen that a tree of windows is shown on: the tree, the pixels, and which points of each node are
+//! good; all others are bad and need to be painted again.
 #![tactic(auto)]
 
 mod alters;
 mod bads;
+mod covers;
 mod executes;
 mod fills;
 mod frames;

@@ -1,38 +1,77 @@
-ghost use Rattle.std.specs.Prelude.{◌≡◌, ◌≤◌, ◌+◌, ◌&&◌, ◌<ℤ◌, not, true, length, slice_index, IfOk, OnOk, OnErr};
+ghost use Rattle.std.specs.Prelude.{◌≡◌, ◌≤◌, ◌<◌, ◌+◌, ◌&&◌, ◌<ℤ◌, not, true, false, length, slice_index, IfOk, OnOk, OnErr};
 ghost use Rattle.tr_base.specs.declared.Point.{Point};
-ghost use Rattle.tr_base.specs.Rects.{has_point};
+ghost use Rattle.tr_base.specs.Rects.{before_shift, has_point};
 ghost use Rattle.tr_region.specs.Areas.{area_of, total_area};
 ghost use Rattle.tr_region.specs.Places.{place_in, place_within};
 ghost use Rattle.tr_region.specs.Points.{holds};
 ghost use Rattle.tr_screen.specs.Pictures.{pixel_of};
 ghost use Rattle.tr_screen.specs.Runs.{Repaints, in_run, point_in, width_of};
+ghost use Rattle.tr_paint.specs.Paints.{IsNearRect};
 ghost use Rattle.tr_exec.specs.Walks.{AreOn};
-ghost use Rattle.tr_surface.specs.Surfaces.{is_on};
+ghost use Rattle.tr_forest.specs.Nodes.{leaf_count};
+ghost use Rattle.tr_spot.specs.Spots.{spot, is_in_leaf};
+ghost use Rattle.tr_spot.specs.Leaves.{leaf_corner};
+ghost use Rattle.tr_surface.specs.Surfaces.{is_bad};
 
+use crate::executes::origin_of;
 use crate::surfaces::Surface;
-use tr_base::{NoMemory, Rect};
+use tr_base::{LeafId, NoMemory, Rect};
 use tr_exec::{Brush, paint_within};
 use tr_kernel::copy_row;
 use tr_region::Region;
 use tr_screen::{Run, Screen};
 
 impl Surface {
-    /// Gives the points of a region these pixels, by the region's rectangles in order and by rows within
+    /// Gives visible points of a leaf these pixels, by the region's rectangles in order and by rows within
     /// each, and makes these points good.
-    pub fn put(&mut self, part: &Region, pixels: &[u8]) -> Result<(), NoMemory>
-        requires on { (p : Point) → holds part.now p ≡ true → is_on self.old.tree p ≡ true }
+    pub fn put(&mut self, leaf: LeafId, part: &Region, pixels: &[u8]) -> Result<(), NoMemory>
+        requires leaf { leaf.0 < leaf_count self.old.tree.nodes }
+        requires part { (p : Point) → holds part.now p ≡ true → is_in_leaf leaf (spot self.old.tree p) ≡ true }
         requires many { length pixels.now ≡ total_area part.now }
         ensures pixels { OnOk result (Repaints (holds part.now)
             (λ p. slice_index pixels.now (place_in part.now p)) self.old.screen self.new.screen) }
         ensures bad { OnOk result ((p : Point) →
-            holds self.new.bad p ≡ holds self.old.bad p && not (holds part.now p)) }
+            is_bad self.new p ≡ is_bad self.old p && not (holds part.now p)) }
         ensures tree { self.new.tree ≡ self.old.tree }
         ensures err { OnErr result (self.new ≡ self.old) }
     {
-        let rest = self.bad.minus(part)?;
+        // Called for what it tells the prover: that the nodes are a forest.
+        let _ = self.tree.count();
+        let n = self.tree.node_of(leaf);
+        let more = self.good[usize::from(n.0)].union(part)?;
         put_pixels(&mut self.screen, part, pixels);
-        self.bad = rest;
+        self.good[usize::from(n.0)] = more;
         Ok(())
+    }
+
+    /// Gives the visible points of a leaf that lie in a clip these pixels, by rows of the clip, which is in
+    /// the leaf's coordinates; none of its visible points is bad. It takes no memory, and which points are
+    /// bad stays as it is.
+    pub fn put_visible(&mut self, leaf: LeafId, clip: &Rect, pixels: &[u8])
+        requires leaf { leaf.0 < leaf_count self.old.tree.nodes }
+        requires good { (p : Point) → is_in_leaf leaf (spot self.old.tree p) ≡ true →
+            is_bad self.old p ≡ false }
+        requires near { IsNearRect clip.now }
+        requires many { length pixels.now ≡ area_of clip.now }
+        ensures pixels { let t = self.old.tree in let corner = leaf_corner t leaf in
+            Repaints (λ p. is_in_leaf leaf (spot t p) && has_point clip.now (before_shift p corner))
+            (λ p. slice_index pixels.now (place_within clip.now (before_shift p corner)))
+            self.old.screen self.new.screen }
+        ensures bad { (p : Point) → is_bad self.new p ≡ is_bad self.old p }
+        ensures tree { self.new.tree ≡ self.old.tree }
+    {
+        // Both are called for what they tell the prover: that the nodes are a forest, and that the edges
+        // are those of a rectangle.
+        let _ = self.tree.count();
+        let _ = clip.is_empty();
+        let n = self.tree.node_of(leaf);
+        let origin = origin_of(&self.tree, leaf);
+        let area = clip.shift(origin);
+        paint_within(
+            &mut self.screen,
+            &self.good[usize::from(n.0)],
+            &Raster { area, pixels },
+        );
     }
 }
 

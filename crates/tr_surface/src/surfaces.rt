@@ -1,17 +1,17 @@
-ghost use Rattle.std.specs.Prelude.{◌≡◌, ◌<◌, IfOk};
+ghost use Rattle.std.specs.Prelude.{◌≡◌, ◌<◌, ◌&&◌, not, [], length, IfOk};
 ghost use Rattle.tr_base.specs.declared.Point.{Point};
+ghost use Rattle.tr_base.specs.declared.NodeId.{NodeId};
 ghost use Rattle.tr_region.specs.Points.{holds};
 ghost use Rattle.tr_screen.specs.Pictures.{blank_of};
 ghost use Rattle.tr_forest.specs.Nodes.{IsNode, leaf_count};
-ghost use Rattle.tr_spot.specs.Spots.{HasRoot, spot, is_in_leaf, is_spot_of};
-ghost use Rattle.tr_surface.specs.Surfaces.{AreRegions, IsShown, is_on};
+ghost use Rattle.tr_spot.specs.Spots.{HasRoot, spot, is_in_leaf, region_of};
+ghost use Rattle.tr_surface.specs.Surfaces.{IsShown, is_bad, is_on};
 
 use std::alloc::Global;
 use std::marker::Model;
-use tr_base::{LeafId, NoMemory, NodeId, whole};
+use tr_base::{LeafId, NoMemory, NodeId};
 use tr_region::Region;
 use tr_screen::Screen;
-use tr_spot::regions;
 use tr_tree::Tree;
 
 /// The screen of a tree of windows: its pixels, and the points that are bad, which need to be
@@ -20,20 +20,21 @@ use tr_tree::Tree;
 pub struct Surface {
     pub(crate) alloc: Global,
     pub(crate) tree: Tree,
-    /// The points of each node, by the nodes' numbers: a leaf's visible points, another node's frame.
-    pub(crate) regions: Vec<Region>,
+    /// Of each node points of its own that are good, by the nodes' numbers: visible ones of a leaf, those of
+    /// another node's frame. All others are bad.
+    pub(crate) good: Vec<Region>,
     pub(crate) screen: Screen,
-    pub(crate) bad: Region,
 }
 
 impl Model for Surface {
-    ghost use Rattle.tr_surface.specs.Surfaces.{Shown, IsSurface};
+    ghost use Rattle.tr_surface.specs.Surfaces.{Shown, IsShown};
 
     ghost Value = { Shown };
 
-    ghost view = { λ s. record { tree = s.tree; screen = s.screen; bad = s.bad } };
+    ghost view = { λ s. record { tree = s.tree; screen = s.screen; good = s.good.items } };
 
-    ghost invariant = { λ s. IsSurface s.tree s.regions.items s.screen s.bad };
+    ghost invariant = { λ s.
+        IsShown (record { tree = s.tree; screen = s.screen; good = s.good.items }) };
 }
 
 impl Surface {
@@ -42,29 +43,21 @@ impl Surface {
         requires { HasRoot tree }
         ensures tree { IfOk result (λ s. s.tree ≡ tree) }
         ensures screen { IfOk result (λ s. s.screen ≡ blank_of tree.size tree.kind) }
-        ensures bad_all { IfOk result (λ s. (p : Point) → holds s.bad p ≡ is_on s.tree p) }
+        ensures bad_all { IfOk result (λ s. (p : Point) → is_bad s p ≡ is_on s.tree p) }
     {
-        // Called for what it tells the prover: that the nodes are a forest, and the screen has a size.
-        let _ = tree.count();
-        let Ok(regions) = regions(alloc, &tree) else {
+        let Ok(good) = empty_regions(alloc, tree.count()) else {
             drop(tree);
             return Err(NoMemory);
         };
         let Ok(screen) = Screen::blank(alloc, tree.size(), tree.kind()) else {
-            drop((tree, regions));
-            return Err(NoMemory);
-        };
-        let Ok(bad) = Region::of_rect(alloc, whole(tree.size())) else {
-            drop((tree, regions));
-            drop(screen);
+            drop((tree, good));
             return Err(NoMemory);
         };
         Ok(Surface {
             alloc,
             tree,
-            regions,
+            good,
             screen,
-            bad,
         })
     }
 
@@ -83,35 +76,45 @@ impl Surface {
         &self.screen
     }
 
-    /// The points that need to be painted again.
-    pub fn bad(&self) -> &Region
-        ensures { result.now ≡ self.now.bad }
-    {
-        &self.bad
-    }
-
-    /// The points that belong to a node: a leaf's visible points, another node's frame.
-    pub fn region(&self, n: NodeId) -> &Region
-        requires { IsNode self.now.tree.nodes n }
-        ensures { (p : Point) → holds result.now p ≡ is_spot_of self.now.tree n (spot self.now.tree p) }
-    {
-        &self.regions[usize::from(n.0)]
-    }
-
     /// The visible points of a leaf.
-    pub fn visible(&self, leaf: LeafId) -> &Region
+    pub fn visible(&self, leaf: LeafId) -> Result<Region, NoMemory>
         requires { leaf.0 < leaf_count self.now.tree.nodes }
-        ensures { (p : Point) → holds result.now p ≡ is_in_leaf leaf (spot self.now.tree p) }
+        ensures { IfOk result (λ r. (p : Point) → holds r p ≡ is_in_leaf leaf (spot self.now.tree p)) }
     {
-        visible(&self.tree, &self.regions, leaf)
+        tr_spot::visible(self.alloc, &self.tree, leaf)
+    }
+
+    /// The visible points of a leaf that aren't bad.
+    pub fn good_of(&self, leaf: LeafId) -> &Region
+        requires { leaf.0 < leaf_count self.now.tree.nodes }
+        ensures { (p : Point) →
+            holds result.now p ≡ is_in_leaf leaf (spot self.now.tree p) && not (is_bad self.now p) }
+    {
+        // Called for what it tells the prover: that the nodes are a forest.
+        let _ = self.tree.count();
+        self.good(self.tree.node_of(leaf))
+    }
+
+    /// The good points of a node.
+    pub(crate) fn good(&self, n: NodeId) -> &Region
+        requires { IsNode self.now.tree.nodes n }
+        ensures { result.now ≡ region_of self.now.good n }
+    {
+        &self.good[usize::from(n.0)]
     }
 }
 
-/// The visible points of a leaf, by the regions of all nodes.
-pub(crate) fn visible<'a>(tree: &Tree, regions: &'a [Region], leaf: LeafId) -> &'a Region
-    requires leaf { leaf.0 < leaf_count tree.now.nodes }
-    requires regions { AreRegions tree.now regions.now }
-    ensures { (p : Point) → holds result.now p ≡ is_in_leaf leaf (spot tree.now p) }
+/// As many regions with no point.
+pub(crate) fn empty_regions(alloc: Global, count: usize) -> Result<Vec<Region>, NoMemory>
+    ensures count { IfOk result (λ r. length r.items ≡ count) }
+    ensures empty { IfOk result (λ r. (n : NodeId) → region_of r.items n ≡ []) }
 {
-    &regions[usize::from(tree.node_of(leaf).0)]
+    let mut regions = Vec::with_capacity(alloc, count)?;
+    for _n in 0..count {
+        let Ok(()) = regions.push(Region::empty(alloc)) else {
+            drop(regions);
+            return Err(NoMemory);
+        };
+    }
+    Ok(regions)
 }

@@ -8,25 +8,23 @@ use tr_base::NodeId;
 use tr_region::Region;
 use tr_tree::Tree;
 
-/// What is known of a screen after an edit of its tree: the bad points, and of the good ones those that
+/// What is known of a screen after an edit of its tree: the good points of each node, and all those that
 /// follow the child that is moved.
 #[derive(Drop)]
 pub(crate) struct Known {
-    pub bad: Region,
+    pub good: Vec<Region>,
     pub follows: Region,
 }
 
-/// A tree before and after an edit that leaves the kind of its screen, with the regions of its nodes,
-/// the points that were bad, and the child that the edit moves.
+/// A tree before and after an edit that leaves the kind of its screen, with the points of its nodes that
+/// were good, and the child that the edit moves.
 #[derive(Clone, Copy)]
 pub(crate) struct TreeChange<'a> {
     pub alloc: Global,
     pub was: &'a Tree,
     pub is: &'a Tree,
-    pub before: &'a [Region],
-    pub after: &'a [Region],
-    pub bad: &'a Region,
+    pub good: &'a [Region],
     pub moved: Option<NodeId>,
-    pub ghost sides: { AreSides was.now is.now before.now after.now },
+    pub ghost sides: { AreSides was.now is.now good.now },
     pub ghost child: { IfSome moved (IsNode was.now.nodes) } by { Prim.hlevel props },
 }

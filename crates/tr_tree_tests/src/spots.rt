@@ -1,17 +1,15 @@
-//! Whose each point is, by its spot and by the regions of nodes.
+//! Whose each point is, by its spot and by the points of each node.
 ghost use Rattle.std.specs.Prelude.{◌≡◌, ◌<◌, ◌≤◌, false, length, None, IfOk, OnOk};
 ghost use Rattle.tr_base.specs.Layouts.{IsOffset, farthest};
 ghost use Rattle.tr_forest.specs.Nodes.{IsNode, IsNodeKind, shown_by, is_leaf};
-ghost use Rattle.tr_forest.specs.Edits.{IsEdit, IsScreenSize, refusal};
-ghost use Rattle.tr_tree.specs.Trees.{edited_tree};
+ghost use Rattle.tr_forest.specs.Edits.{IsEdit, IsScreenSize};
 ghost use Rattle.tr_spot.specs.Spots.{HasRoot};
-ghost use Rattle.tr_surface.specs.Survivors as spec;
 
 use std::process::Abort;
 use std::test::Fail;
-use tr_base::{Kind, LeafId, NoMemory, NodeId, Point, Shape, Shapes, Size};
+use tr_base::{Kind, LeafId, NoMemory, NodeId, Point, Rect, Shape, Shapes, Size, whole};
 use tr_region::Region;
-use tr_spot::{Spot, changed_points, frame, regions, regions_within, spot_at, visible};
+use tr_spot::{Spot, frame, own_points, reached, spot_at, visible};
 use tr_testing::Numbers;
 use tr_tree::{Edit, NodeKind, Tree};
 
@@ -211,13 +209,14 @@ fn is_leaf_of(spot: Spot, kind: NodeKind) -> bool {
     }
 }
 
-/// Whether the regions of all nodes agree with the spots.
+/// Whether the points of all nodes agree with the spots.
 fn all_agree(rt: &(impl Abort + AllocGlobal), tree: &Tree) -> Result<bool, NoMemory> {
     assert!(rt; tree.root().is_some());
-    let all = regions(rt.alloc(), tree)?;
     for n in 0..11 {
-        assert!(rt; usize::from(n) < all.len());
-        if !agrees(rt, tree, NodeId(n), &all[usize::from(n)])? {
+        assert!(rt; usize::from(n) < tree.count());
+        let screen = Region::of_rect(rt.alloc(), whole(tree.size()))?;
+        let own = own_points(rt.alloc(), tree, NodeId(n), screen)?;
+        if !agrees(rt, tree, NodeId(n), &own)? {
             return Ok(false);
         }
     }
@@ -242,7 +241,7 @@ fn agrees_after_each_edit(
 }
 
 #[test]
-fn regions_agree_with_spots(rt: HostRuntime) -> Result<(), Fail> {
+fn points_of_nodes_agree_with_spots(rt: HostRuntime) -> Result<(), Fail> {
     let mut numbers = Numbers::new(1);
     for count in 0..20 {
         assert!(rt; agrees_after_each_edit(&rt, &mut numbers)?, "tree {count}");
@@ -250,100 +249,87 @@ fn regions_agree_with_spots(rt: HostRuntime) -> Result<(), Fail> {
     Ok(())
 }
 
-/// The child whose place among the children of a node an edit changes.
-fn placed_child(edit: &Edit) -> Option<NodeId>
-    ensures { result ≡ spec.placed_child edit.now }
-{
-    match edit {
-        Edit::Attach { child, .. } | Edit::Detach { child } | Edit::Lift { child } => Some(*child),
-        _ => None,
+/// Whether a spot is a point of the node, or of one below it.
+fn lies_below(rt: &impl Abort, tree: &Tree, top: NodeId, spot: Spot) -> bool {
+    for k in 0..11 {
+        let n = NodeId(k);
+        assert!(rt; usize::from(k) < tree.count());
+        let is_own = is_frame(spot, n) || is_leaf_of(spot, tree.kind_of(n));
+        if is_own && tree.is_under(top, n) {
+            return true;
+        }
     }
+    false
 }
 
-fn are_same(some: &[Region], others: &[Region]) -> bool {
-    some.len() == others.len() && some.iter().zip(others).all(|(a, b)| a.same(b))
-}
-
-/// Whether each point of the screen has the same spot in both trees, but for some points.
-fn spots_stay(rt: &impl Abort, was: &Tree, is: &Tree, changed: &Region) -> bool {
-    assert!(rt; was.root().is_some() && is.root().is_some());
-    let size = is.size();
+/// Whether the walk from the root comes to a node at just the points that are its own or of a node below
+/// it, and the node's points within a box are those of its own that lie there.
+fn agrees_in_box(
+    rt: &(impl Abort + AllocGlobal),
+    tree: &Tree,
+    n: NodeId,
+    part: Rect,
+) -> Result<bool, NoMemory>
+    requires root { HasRoot tree.now }
+    requires node { IsNode tree.now.nodes n }
+{
+    let all = reached(rt.alloc(), tree, n)?;
+    let inside = Region::of_rect(rt.alloc(), part)?;
+    let own = own_points(rt.alloc(), tree, n, inside)?;
+    let size = tree.size();
     for v in 0..size.high {
         for h in 0..size.wide {
             let (h, v) = (i32::from(h), i32::from(v));
             let p = Point { h, v };
-            if spot_at(was, p) != spot_at(is, p) && !changed.has(p) {
-                return false;
+            let spot = spot_at(tree, p);
+            let is_own = is_frame(spot, n) || is_leaf_of(spot, tree.kind_of(n));
+            if all.has(p) != lies_below(rt, tree, n, spot)
+                || own.has(p) != (is_own && part.has(p))
+            {
+                return Ok(false);
             }
         }
     }
-    true
+    Ok(true)
 }
 
-/// Whether the regions after an edit are those of a walk over the whole screen where only the points are
-/// looked at that it may change, and all others have the spot that they had.
-fn is_seen_in_box(
-    rt: &(impl Abort + AllocGlobal),
-    was: &Tree,
-    is: &Tree,
-    edit: &Edit,
-) -> Result<bool, NoMemory>
-    requires edit { IsEdit was.now.nodes edit.now }
-    requires allowed { refusal was.now.nodes edit.now ≡ None }
-    requires is { is.now ≡ edited_tree was.now edit.now }
-{
-    // Called for what it tells the prover: that the nodes are a forest.
-    let _ = was.count();
-    if was.size() != is.size() {
-        return Ok(true);
-    }
-    assert!(rt; was.root().is_some() && is.root().is_some());
-    let before = regions(rt.alloc(), was)?;
-    let changed = changed_points(rt.alloc(), was, is, placed_child(edit))?;
-    let after = regions_within(rt.alloc(), is, &changed, &before)?;
-    let all = regions(rt.alloc(), is)?;
-    Ok(are_same(&after, &all) && spots_stay(rt, was, is, &changed))
+/// A box that may reach beyond the screen, or hold nothing.
+fn any_box(numbers: &mut Numbers) -> Rect {
+    let west = i32::from(numbers.below(12)) - 2;
+    let north = i32::from(numbers.below(12)) - 2;
+    let east = west + i32::from(numbers.below(12));
+    let south = north + i32::from(numbers.below(12));
+    Rect::edges(west, east, north, south)
 }
 
-/// Whether that is so of an edit, unless it is refused. Then the tree is as it says.
-fn edits_in_box(
-    rt: &(impl Abort + AllocGlobal),
-    tree: &mut Tree,
-    edit: Edit,
-) -> Result<bool, NoMemory>
-    requires { IsEdit tree.old.nodes edit }
-    ensures { OnOk result (length tree.new.nodes.entries ≡ length tree.old.nodes.entries) }
-{
-    let was = tree.copy()?;
-    match tree.edit(&edit) {
-        Ok(()) => is_seen_in_box(rt, &was, tree, &edit),
-        Err(_refused) => Ok(true),
-    }
-}
-
-/// Whether that is so of each of 40 edits on a screen of any small size.
-fn walks_in_boxes(
+/// Whether that is so of all nodes after each of 20 edits on a screen of any small size.
+fn agrees_in_boxes(
     rt: &(impl Abort + AllocGlobal),
     numbers: &mut Numbers,
 ) -> Result<bool, NoMemory> {
-    let wide = numbers.below(24) + 1;
-    let high = numbers.below(24) + 1;
+    let wide = numbers.below(12) + 1;
+    let high = numbers.below(12) + 1;
     let mut tree = loose(rt, Size { wide, high })?;
-    for _edit in 0..40 {
+    for _edit in 0..20 {
         assert!(rt; tree.count() == 11);
         let edit = drawn(numbers, &tree);
-        if !edits_in_box(rt, &mut tree, edit)? {
-            return Ok(false);
+        change(&mut tree, edit);
+        let part = any_box(numbers);
+        for n in 0..11 {
+            assert!(rt; tree.root().is_some() && usize::from(n) < tree.count());
+            if !agrees_in_box(rt, &tree, NodeId(n), part)? {
+                return Ok(false);
+            }
         }
     }
     Ok(true)
 }
 
 #[test]
-fn a_walk_in_a_box_finds_what_one_over_the_screen_does(rt: HostRuntime) -> Result<(), Fail> {
+fn points_in_a_box_are_those_of_the_screen(rt: HostRuntime) -> Result<(), Fail> {
     let mut numbers = Numbers::new(26);
-    for count in 0..5 {
-        assert!(rt; walks_in_boxes(&rt, &mut numbers)?, "tree {count}");
+    for count in 0..10 {
+        assert!(rt; agrees_in_boxes(&rt, &mut numbers)?, "tree {count}");
     }
     Ok(())
 }

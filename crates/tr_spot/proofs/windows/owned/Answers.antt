@@ -1,16 +1,15 @@
 use Rattle.std.proofs.Common.{◌&&◌, ap, ◌∙◌}
+use Rattle.tr_base.specs.Rects.{Edges, has_point, whole_of}
 use Rattle.tr_region.specs.Points.{holds}
-use Rattle.tr_forest.specs.Nodes.{node}
 use Rattle.tr_spot.specs.Spots.{spot, is_spot_of}
-use Rattle.tr_spot.specs.Ways.{front, is_nobody}
 use Rattle.tr_spot.proofs.ChildLemmas.{holds_as}
-use Rattle.tr_spot.proofs.WayLemmas.{owns_is}
-use Rattle.tr_spot.proofs.SpotLemmas.{spot_is}
+use Rattle.tr_spot.proofs.PartLemmas.{own_on}
 use Rattle.tr_spot.proofs.windows.owned.Goals as goal
 
 pub returns : goal.returns
-returns c = holds_as c.uncovered.result
-    (λ p. holds c.in_ok-all.all p && is_nobody (front c.args.tree.now p (node c.args.tree.now.nodes c.args.n).children))
+returns c = holds_as c.owned_in.result
+    (λ p. holds c.in_ok-screen.screen p && is_spot_of c.args.tree.now c.args.n (spot c.args.tree.now p))
     (λ p. is_spot_of c.args.tree.now c.args.n (spot c.args.tree.now p))
-    (λ p. ap (λ b. b && is_nobody (front c.args.tree.now p (node c.args.tree.now.nodes c.args.n).children)) (c.in_ok-all.ensures p)
-    ∙ owns_is c.args.tree.now c.requires.forest p c.args.n ∙ spot_is c.args.tree.now c.requires.forest p c.args.n) c.uncovered.ensures
+    (λ p. ap (λ b. b && is_spot_of c.args.tree.now c.args.n (spot c.args.tree.now p))
+    (c.in_ok-screen.ensures.points p ∙ ap (λ (e : Edges). has_point e p) (c.whole.ensures.edges ∙ ap whole_of c.size.ensures))
+    ∙ own_on c.args.tree.now c.requires.forest c.args.n p) c.owned_in.ensures

@@ -11,5 +11,5 @@ abbrev pub invariant-loop-sibling : goal.invariant-loop-sibling
 invariant-loop-sibling l = record {
   inside : (p : Point) → holds l.left p ≡ true → has_point (domain l.tree l.child) p ≡ true;
   rest : (p : Point) → (holds l.left p && is_it l.child (front l.tree p (drop l.sibling-index l.sibling-items)))
-      ≡ (holds l.part p && is_it l.child (front l.tree p l.sibling-items));
+      ≡ (holds l.fn.part p && is_it l.child (front l.tree p l.sibling-items));
 }

@@ -1,8 +1,7 @@
 use Rattle.std.proofs.Common.{take}
 use Rattle.tr_screen.specs.Runs.{Repaints}
 use Rattle.tr_spot.specs.Spots.{spot}
-use Rattle.tr_surface.specs.Surfaces.{frame_colour}
-use Rattle.tr_surface.specs.Frames.{any_holds}
+use Rattle.tr_surface.specs.Surfaces.{any_holds, frame_colour}
 use Rattle.tr_surface.proofs.frames.paint_frames.Given as goal
 
 -- the frames of the nodes before n are painted

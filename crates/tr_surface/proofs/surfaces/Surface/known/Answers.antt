@@ -1,42 +1,139 @@
-use Rattle.std.proofs.Common.{◌≡◌, ◌&&◌, not, true, false, List, refl, sym, ap, subst, ◌∙◌}
-use Rattle.tr_base.specs.declared.Size.{Size}
+use Rattle.std.proofs.Common.{◌≡◌, ℕ, ◌<◌, Bool, true, false, ◌&&◌, List, [], Option, None, length, get_or, refl, sym, ap, subst, ◌∙◌, arith}
+use Rattle.tr_base.specs.declared.Point.{Point}
+use Rattle.tr_base.specs.declared.NodeId.{NodeId}
 use Rattle.tr_base.specs.declared.Kind.{Kind}
-use Rattle.tr_base.specs.Rects.{Edges, has_point, whole_of}
+use Rattle.tr_base.specs.Rects.{Edges}
 use Rattle.tr_region.specs.Points.{holds}
-use Rattle.tr_spot.specs.Spots.{HasRoot}
+use Rattle.tr_forest.specs.Forests.{IsForest}
+use Rattle.tr_tree.specs.Trees.{Seen, edited_tree}
+use Rattle.tr_spot.specs.Spots.{HasRoot, region_of}
 use Rattle.tr_spot.specs.Leaves.{same_kind}
-use Rattle.tr_surface.specs.Surfaces.{Shown, is_on}
-use Rattle.tr_surface.specs.Survivors.{change, good_by, is_below_moved}
+use Rattle.tr_surface.specs.Surfaces.{AreOwn, IsShown, Shown, any_holds, is_bad, is_on}
+use Rattle.tr_surface.specs.TreeSteps.{moved_child}
+use Rattle.tr_surface.specs.Survivors.{AreGoodAfter, AreSides, IsLike, change_to, follows_by, good_at, good_by, is_below_moved}
+use Rattle.tr_surface.proofs.GoodLemmas.{any_none}
 use Rattle.tr_surface.proofs.KnownLemmas.{none_good, and_false}
-use Rattle.tr_surface.proofs.EditLemmas.{rooted}
+use Rattle.tr_surface.proofs.EditLemmas.{like_edited, rooted}
+use Rattle.tr_surface.proofs.TreeChangeLemmas.{AreFound, AreKin, good_found, follows_found}
 use Rattle.tr_surface.proofs.surfaces.Surface.known.Goals as goal
 
-and_true : (b : _) → (b && true) ≡ b
-and_true true = refl
-and_true false = refl
+-- regions without points are each node's own
+empty_own : (t : Seen) (regions : List (List Edges)) → length regions ≡ length t.nodes.entries → ((n : NodeId) → region_of regions n ≡ []) → AreOwn t regions
+empty_own t regions count none = record {
+  count = count;
+  points = λ n p inside h. absurd (no_point (sym (ap (λ (r : List Edges). holds r p) (none n)) ∙ h));
+}
+  where
+    no_point : false ≡ true → ⊥
+    no_point h = cc
 
-pub returns-then-is_other-clause-bad : goal.returns-then-is_other-clause-bad
-returns-then-is_other-clause-bad g c = λ p.
+empty_none : (regions : List (List Edges)) → ((n : NodeId) → region_of regions n ≡ []) → (p : Point) → any_holds regions p ≡ false
+empty_none regions none p = any_none regions p (λ i lt. ap (λ (r : List Edges). holds r p) (none (record { 0 = i })))
+
+pub returns-then-is_other-clause-good : goal.returns-then-is_other-clause-good
+returns-then-is_other-clause-good g c =
     let s = c.args.self.now in
     let is = c.args.is.now in
+    let edit = c.args.edit.now in
     let k = g.K.Keeper.keeping c.args.keeper.now in
-    let root : HasRoot is = rooted s.tree is c.requires.like (subst (λ (w : Shown). HasRoot w.tree) c.self.view_is c.self.invariant.shown.root) in
+    let at : c.self.inside.tree ≡ s.tree = ap (λ (w : Shown). w.tree) c.self.view_is in
+    let forest : IsForest s.tree.nodes = subst (λ (u : Seen). IsForest u.nodes) at c.count.ensures.invariant in
+    let like : IsLike s.tree is = subst (λ (u : Seen). IsLike s.tree u) (sym c.requires.is) (like_edited s.tree edit forest c.requires.edit c.requires.allowed) in
+    let root : HasRoot is = rooted s.tree is like (subst (λ (u : Seen). HasRoot u) at c.self.invariant.root) in
     let other : same_kind s.tree.kind is.kind ≡ false =
-    ap (λ (x : Kind). same_kind x is.kind) (sym (c.kind.ensures ∙ ap (λ (w : Shown). w.tree.kind) c.self.view_is))
+    ap (λ (x : Kind). same_kind x is.kind) (sym (c.kind.ensures ∙ ap (λ (u : Seen). u.kind) at))
     ∙ ap (λ (x : Kind). same_kind c.kind.result x) (sym c.kind-2.ensures) ∙ c.is_other.ensures.other c.if-is_other.true in
-    let none : good_by k (change s.tree is c.args.moved (holds s.bad)) p ≡ false = none_good k s.tree is c.args.moved (holds s.bad) root other p in
-    c.in_ok-bad.ensures.points p ∙ ap (λ (e : Edges). has_point e p) c.whole.ensures.edges ∙ ap (λ (z : Size). has_point (whole_of z) p) c.size.ensures
-    ∙ sym (ap (λ b. is_on is p && not b) none ∙ and_true (is_on is p))
+    let after : AreGoodAfter k (change_to s is (moved_child s.tree edit)) c.in_ok-good.good.items = record {
+      own = empty_own is c.in_ok-good.good.items (c.in_ok-good.ensures.count ∙ c.count-count.ensures.count) c.in_ok-good.ensures.empty;
+      any = λ p. empty_none c.in_ok-good.good.items c.in_ok-good.ensures.empty p
+          ∙ sym (none_good k s.tree is (moved_child s.tree edit) (is_bad s) root other p);
+    } in
+    after
 
 pub returns-then-is_other-clause-follows : goal.returns-then-is_other-clause-follows
 returns-then-is_other-clause-follows g c = λ p.
     let s = c.args.self.now in
     let is = c.args.is.now in
+    let edit = c.args.edit.now in
     let k = g.K.Keeper.keeping c.args.keeper.now in
-    let root : HasRoot is = rooted s.tree is c.requires.like (subst (λ (w : Shown). HasRoot w.tree) c.self.view_is c.self.invariant.shown.root) in
+    let at : c.self.inside.tree ≡ s.tree = ap (λ (w : Shown). w.tree) c.self.view_is in
+    let forest : IsForest s.tree.nodes = subst (λ (u : Seen). IsForest u.nodes) at c.count.ensures.invariant in
+    let like : IsLike s.tree is = subst (λ (u : Seen). IsLike s.tree u) (sym c.requires.is) (like_edited s.tree edit forest c.requires.edit c.requires.allowed) in
+    let root : HasRoot is = rooted s.tree is like (subst (λ (u : Seen). HasRoot u) at c.self.invariant.root) in
     let other : same_kind s.tree.kind is.kind ≡ false =
-    ap (λ (x : Kind). same_kind x is.kind) (sym (c.kind.ensures ∙ ap (λ (w : Shown). w.tree.kind) c.self.view_is))
+    ap (λ (x : Kind). same_kind x is.kind) (sym (c.kind.ensures ∙ ap (λ (u : Seen). u.kind) at))
     ∙ ap (λ (x : Kind). same_kind c.kind.result x) (sym c.kind-2.ensures) ∙ c.is_other.ensures.other c.if-is_other.true in
-    let none : good_by k (change s.tree is c.args.moved (holds s.bad)) p ≡ false = none_good k s.tree is c.args.moved (holds s.bad) root other p in
+    let none : good_by k (change_to s is (moved_child s.tree edit)) p ≡ false =
+    none_good k s.tree is (moved_child s.tree edit) (is_bad s) root other p in
     ap (λ (r : List Edges). holds r p) c.empty-follows.ensures
-    ∙ sym (ap (λ b. is_below_moved is c.args.moved p && b) none ∙ and_false (is_below_moved is c.args.moved p))
+    ∙ sym (ap (λ b. is_below_moved is (moved_child s.tree edit) p && b) none ∙ and_false (is_below_moved is (moved_child s.tree edit) p))
+
+pub invariant_of-change : goal.invariant_of-change
+invariant_of-change g c =
+    let s = c.args.self.now in
+    let is = c.args.is.now in
+    let edit = c.args.edit.now in
+    let at : c.self.inside.tree ≡ s.tree = ap (λ (w : Shown). w.tree) c.self.view_is in
+    let forest : IsForest s.tree.nodes = subst (λ (u : Seen). IsForest u.nodes) at c.count.ensures.invariant in
+    let like : IsLike c.self.inside.tree is = subst (λ (u : Seen). IsLike u is) (sym at)
+    (subst (λ (u : Seen). IsLike s.tree u) (sym c.requires.is) (like_edited s.tree edit forest c.requires.edit c.requires.allowed)) in
+    let kind : is.kind ≡ c.self.inside.tree.kind = sym c.kind-2.ensures ∙ c.is_other.ensures.same c.if-is_other.false ∙ c.kind.ensures in
+    let sides : AreSides c.self.inside.tree is c.self.inside.good.items =
+    record { leaves = like.leaves; count = like.count; kind = kind; own = c.self.invariant.own } in
+    record {
+      sides = subst (λ (gs : List (List Edges)). AreSides c.self.inside.tree is gs) (sym c.deref.ensures.value) sides;
+      child = c.moved_child-moved.ensures.node;
+    }
+
+pub returns-clause-good : goal.returns-clause-good
+returns-clause-good g c =
+    let s = c.args.self.now in
+    let is = c.args.is.now in
+    let edit = c.args.edit.now in
+    let k = g.K.Keeper.keeping c.args.keeper.now in
+    let moved = c.moved_child-moved.result in
+    let good = c.in_ok-known.known.good.items in
+    let in_it : Shown = record { tree = c.self.inside.tree; screen = c.self.inside.screen; good = c.self.inside.good.items } in
+    let at : c.self.inside.tree ≡ s.tree = ap (λ (w : Shown). w.tree) c.self.view_is in
+    let forest : IsForest s.tree.nodes = subst (λ (u : Seen). IsForest u.nodes) at c.count.ensures.invariant in
+    let like : IsLike c.self.inside.tree is = subst (λ (u : Seen). IsLike u is) (sym at)
+    (subst (λ (u : Seen). IsLike s.tree u) (sym c.requires.is) (like_edited s.tree edit forest c.requires.edit c.requires.allowed)) in
+    let kind : is.kind ≡ c.self.inside.tree.kind = sym c.kind-2.ensures ∙ c.is_other.ensures.same c.if-is_other.false ∙ c.kind.ensures in
+    let kin : AreKin c.self.inside.tree is =
+    record { forests = record { before = c.count.ensures.invariant; after = c.count-count.ensures.invariant }; like = like; kind = kind } in
+    let found : AreFound k in_it is moved good = record {
+      count = c.in_ok-known.ensures.count;
+      each = λ n p inside. c.in_ok-known.ensures.good n p inside
+          ∙ ap (λ (gs : List (List Edges)). good_at k c.self.inside.tree is moved gs n p) c.deref.ensures.value;
+    } in
+    let after : AreGoodAfter k (change_to in_it is moved) good =
+    good_found k in_it is c.self.invariant kin (rooted c.self.inside.tree is like c.self.invariant.root) moved good found in
+    subst (λ (w : Shown). AreGoodAfter k (change_to w is (moved_child w.tree edit)) good) c.self.view_is
+    (subst (λ (o : Option NodeId). AreGoodAfter k (change_to in_it is o) good) c.moved_child-moved.ensures.child after)
+
+pub returns-clause-follows : goal.returns-clause-follows
+returns-clause-follows g c = λ p.
+    let s = c.args.self.now in
+    let is = c.args.is.now in
+    let edit = c.args.edit.now in
+    let k = g.K.Keeper.keeping c.args.keeper.now in
+    let moved = c.moved_child-moved.result in
+    let good = c.in_ok-known.known.good.items in
+    let in_it : Shown = record { tree = c.self.inside.tree; screen = c.self.inside.screen; good = c.self.inside.good.items } in
+    let at : c.self.inside.tree ≡ s.tree = ap (λ (w : Shown). w.tree) c.self.view_is in
+    let forest : IsForest s.tree.nodes = subst (λ (u : Seen). IsForest u.nodes) at c.count.ensures.invariant in
+    let like : IsLike c.self.inside.tree is = subst (λ (u : Seen). IsLike u is) (sym at)
+    (subst (λ (u : Seen). IsLike s.tree u) (sym c.requires.is) (like_edited s.tree edit forest c.requires.edit c.requires.allowed)) in
+    let kind : is.kind ≡ c.self.inside.tree.kind = sym c.kind-2.ensures ∙ c.is_other.ensures.same c.if-is_other.false ∙ c.kind.ensures in
+    let kin : AreKin c.self.inside.tree is =
+    record { forests = record { before = c.count.ensures.invariant; after = c.count-count.ensures.invariant }; like = like; kind = kind } in
+    let found : AreFound k in_it is moved good = record {
+      count = c.in_ok-known.ensures.count;
+      each = λ n q inside. c.in_ok-known.ensures.good n q inside
+          ∙ ap (λ (gs : List (List Edges)). good_at k c.self.inside.tree is moved gs n q) c.deref.ensures.value;
+    } in
+    let its : holds c.in_ok-known.known.follows p ≡ follows_by k (change_to in_it is moved) p =
+    c.in_ok-known.ensures.follows p
+    ∙ follows_found k in_it is c.self.invariant kin (rooted c.self.inside.tree is like c.self.invariant.root) moved good found p in
+    subst (λ (w : Shown). holds c.in_ok-known.known.follows p ≡ follows_by k (change_to w is (moved_child w.tree edit)) p) c.self.view_is
+    (subst (λ (o : Option NodeId). holds c.in_ok-known.known.follows p ≡ follows_by k (change_to in_it is o) p) c.moved_child-moved.ensures.child its)
