@@ -6,6 +6,7 @@ ghost use Rattle.tr_book.specs.Books.{view_of};
 
 use std::alloc::Global;
 use std::marker::Model;
+use std::mem;
 use tr_base::{Font, Kind, NoMemory, Size};
 use tr_client::{Client, Prepared};
 use tr_levels::Held;
@@ -121,6 +122,45 @@ impl<C: Client> Book<C> {
         let more = self.waiting() as u64;
         start_over(&mut self.prepared, &mut self.levels, from);
         self.handed += more;
+    }
+
+    /// Gives the waiting commands away, as they are prepared, with their levels; the next ones are prepared over
+    /// what `fresh` has. They aren't counted until `count` is told of them: where they can't be handed over,
+    /// `take_back` lets them wait again.
+    pub fn give(&mut self, fresh: Prepared<C>) -> (Prepared<C>, Vec<Held>)
+        requires { fresh.commands.items ≡ [] }
+        ensures prepared { self.new.prepared ≡ view_of fresh }
+        ensures levels { self.new.levels ≡ [] }
+        ensures handed { self.new.handed ≡ self.old.handed }
+        ensures given { view_of result.0 ≡ self.old.prepared }
+        ensures given_levels { result.1.items ≡ self.old.levels }
+        ensures invariant { HaveLevels result.0.commands.items result.1.items }
+    {
+        let alloc = *self.levels.allocator();
+        let prepared = mem::replace(&mut self.prepared, fresh);
+        let levels = mem::replace(&mut self.levels, Vec::new(alloc));
+        (prepared, levels)
+    }
+
+    /// Commands wait again that were given away, in place of those that wait now.
+    pub fn take_back(&mut self, prepared: Prepared<C>, levels: Vec<Held>)
+        requires { HaveLevels prepared.commands.items levels.items }
+        ensures prepared { self.new.prepared ≡ view_of prepared }
+        ensures levels { self.new.levels ≡ levels.items }
+        ensures handed { self.new.handed ≡ self.old.handed }
+    {
+        self.prepared = prepared;
+        self.levels = levels;
+    }
+
+    /// So many commands that were given away were handed over.
+    pub fn count(&mut self, number: u64)
+        requires { self.old.handed + number < 2 ^ 64 }
+        ensures prepared { self.new.prepared ≡ self.old.prepared }
+        ensures levels { self.new.levels ≡ self.old.levels }
+        ensures handed { self.new.handed ≡ self.old.handed + number }
+    {
+        self.handed += number;
     }
 
     /// How many commands wait.

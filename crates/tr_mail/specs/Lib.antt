@@ -1,2 +1,3 @@
 pub mod Mails
 pub mod Deliveries
+pub mod Bounds

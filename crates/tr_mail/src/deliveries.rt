@@ -1,4 +1,4 @@
-ghost use Rattle.std.specs.Prelude.{◌≡◌, ◌<◌, ◌≤◌, ◌+◌, length, IfOk, IfErr, OnOk, OnErr};
+ghost use Rattle.std.specs.Prelude.{◌≡◌, ◌<◌, ◌≤◌, ◌+◌, length, [], IfErr, OnOk, OnErr};
 ghost use Rattle.tr_forest.specs.Nodes.{leaf_count};
 ghost use Rattle.tr_spot.specs.Spots.{HasRoot};
 ghost use Rattle.tr_desk.specs.Faults.{time_fault, mouse_fault, own_fault, disown_fault};
@@ -23,22 +23,24 @@ impl Mail {
         time: u32,
         button: u8,
         down: bool,
-    ) -> Result<Outbox, DeskFault>
+        out: &mut Outbox,
+    ) -> Result<(), DeskFault>
         requires root { HasRoot tree.now }
         requires leaves { leaf_count tree.now.nodes ≡ length self.old.inboxes }
         requires first { 1 ≤ button }
         requires last { button ≤ 5 }
-        ensures ok { IfOk result (λ sent.
-            record { mail = self.new; sent = sent } ≡ spec.moused tree.now time button down self.old) }
-        ensures few { IfOk result (λ sent. length sent ≤ 1) }
+        ensures ok { OnOk result
+            (record { mail = self.new; sent = out.new } ≡ spec.moused tree.now time button down self.old) }
+        ensures few { length out.new ≤ 1 }
         ensures allowed { OnOk result (mouse_fault self.old.desk time button down ≡ None) }
         ensures fault { IfErr result (λ e. mouse_fault self.old.desk time button down ≡ Some e) }
         ensures err { OnErr result (self.new ≡ self.old) }
+        ensures nothing { OnErr result (out.new ≡ []) }
     {
+        out.clear();
         let cursor = self.desk.cursor();
         let spot = spot_at(tree, cursor);
         let (receiver, click) = self.desk.mouse(time, button, down, &spot)?;
-        let mut out = Outbox::new();
         if let Some(leaf) = receiver {
             let at = in_leaf(tree, leaf, cursor);
             let event = Event::Mouse {
@@ -47,26 +49,27 @@ impl Mail {
                 button,
                 at,
             };
-            self.send_input(leaf, time, event, &mut out);
+            self.send_input(leaf, time, event, out);
         }
-        Ok(out)
+        Ok(())
     }
 
     /// A key is struck, by the keyboard's number for it: the owner of the selection Key is told.
-    pub fn key(&mut self, time: u32, code: u8) -> Result<Outbox, DeskFault>
-        ensures ok { IfOk result (λ sent.
-            record { mail = self.new; sent = sent } ≡ spec.keyed time code self.old) }
-        ensures few { IfOk result (λ sent. length sent ≤ 1) }
+    pub fn key(&mut self, time: u32, code: u8, out: &mut Outbox) -> Result<(), DeskFault>
+        ensures ok { OnOk result
+            (record { mail = self.new; sent = out.new } ≡ spec.keyed time code self.old) }
+        ensures few { length out.new ≤ 1 }
         ensures allowed { OnOk result (time_fault self.old.desk time ≡ None) }
         ensures fault { IfErr result (λ e. time_fault self.old.desk time ≡ Some e) }
         ensures err { OnErr result (self.new ≡ self.old) }
+        ensures nothing { OnErr result (out.new ≡ []) }
     {
+        out.clear();
         let receiver = self.desk.key(time)?;
-        let mut out = Outbox::new();
         if let Some(leaf) = receiver {
-            self.send_input(leaf, time, Event::Key { time, code }, &mut out);
+            self.send_input(leaf, time, Event::Key { time, code }, out);
         }
-        Ok(out)
+        Ok(())
     }
 
     /// A leaf takes a selection, at the time of the last event, which reached it: the owner before
@@ -76,33 +79,41 @@ impl Mail {
         leaf: LeafId,
         selection: Selection,
         time: u32,
-    ) -> Result<Outbox, DeskFault>
+        out: &mut Outbox,
+    ) -> Result<(), DeskFault>
         requires { leaf.0 < length self.old.inboxes }
-        ensures ok { IfOk result (λ sent.
-            record { mail = self.new; sent = sent } ≡ spec.owned leaf selection self.old) }
-        ensures few { IfOk result (λ sent. length sent ≤ 1) }
+        ensures ok { OnOk result
+            (record { mail = self.new; sent = out.new } ≡ spec.owned leaf selection self.old) }
+        ensures few { length out.new ≤ 1 }
         ensures allowed { OnOk result (own_fault self.old.desk leaf time ≡ None) }
         ensures fault { IfErr result (λ e. own_fault self.old.desk leaf time ≡ Some e) }
         ensures err { OnErr result (self.new ≡ self.old) }
+        ensures nothing { OnErr result (out.new ≡ []) }
     {
+        out.clear();
         let old = self.desk.own(leaf, selection, time)?;
-        let mut out = Outbox::new();
         if let Some(old) = old {
-            self.send(old, Event::Lost { selection }, &mut out);
+            self.send(old, Event::Lost { selection }, out);
         }
-        Ok(out)
+        Ok(())
     }
 
     /// The owner of a selection gives it up. Nothing is sent.
-    pub fn disown(&mut self, leaf: LeafId, selection: Selection) -> Result<Outbox, DeskFault>
-        ensures ok { IfOk result (λ sent.
-            record { mail = self.new; sent = sent } ≡ spec.disowned selection self.old) }
+    pub fn disown(
+        &mut self,
+        leaf: LeafId,
+        selection: Selection,
+        out: &mut Outbox,
+    ) -> Result<(), DeskFault>
+        ensures ok { OnOk result
+            (record { mail = self.new; sent = out.new } ≡ spec.disowned selection self.old) }
         ensures allowed { OnOk result (disown_fault self.old.desk leaf selection ≡ None) }
         ensures fault { IfErr result (λ e. disown_fault self.old.desk leaf selection ≡ Some e) }
         ensures err { OnErr result (self.new ≡ self.old) }
+        ensures nothing { out.new ≡ [] }
     {
-        self.desk.disown(leaf, selection)?;
-        Ok(Outbox::new())
+        out.clear();
+        self.desk.disown(leaf, selection)
     }
 
     /// Sends a mouse or key event to a leaf.

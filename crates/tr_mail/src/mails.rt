@@ -14,16 +14,21 @@ use tr_inbox::{CAPACITY, Inbox};
 pub struct Mail {
     pub(crate) desk: Desk,
     pub(crate) inboxes: Vec<Inbox>,
+    /// Whether some leaf's cage may be bounded, so that a motion asks no leaf where none is.
+    pub(crate) may_be_bounded: bool,
 }
 
 impl Model for Mail {
+    ghost use Rattle.std.specs.Prelude.{◌≡◌, false};
     ghost use Rattle.tr_mail.specs.Mails.{Mails, IsMail};
+    ghost use Rattle.tr_mail.specs.Bounds.{IsUnbounded};
 
     ghost Value = { Mails };
 
     ghost view = { λ m. record { desk = m.desk; inboxes = m.inboxes.items } };
 
-    ghost invariant = { λ m. IsMail (record { desk = m.desk; inboxes = m.inboxes.items }) };
+    ghost invariant = { λ m. IsMail (record { desk = m.desk; inboxes = m.inboxes.items })
+        × (m.may_be_bounded ≡ false → IsUnbounded m.desk) };
 }
 
 impl Mail {
@@ -35,6 +40,7 @@ impl Mail {
         Ok(Mail {
             desk: Desk::new(alloc, leaves)?,
             inboxes: empty_inboxes(alloc, leaves)?,
+            may_be_bounded: false,
         })
     }
 

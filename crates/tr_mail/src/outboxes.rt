@@ -1,46 +1,46 @@
-ghost use Rattle.std.specs.Prelude.{◌≡◌, ◌<◌, ◌≤◌, ◌++◌, ◌∷◌, [], length};
+ghost use Rattle.std.specs.Prelude.{◌≡◌, ◌<◌, ◌≤◌, ◌++◌, ◌∷◌, [], length, IfOk};
 
+use std::alloc::Global;
 use std::marker::Model;
-use tr_base::{Event, LeafId};
+use tr_base::NoMemory;
 use tr_inbox::Delivery;
 
 /// How many deliveries an outbox holds at most.
 const MOST: usize = 64;
 
-/// What stands where there is no delivery yet.
-const NOTHING: Delivery = Delivery {
-    leaf: LeafId(0),
-    event: Event::Key { time: 0, code: 0 },
-    dropped: false,
-};
-
-/// What one step sent, in order: at most 64 deliveries. It takes no memory.
+/// What one step sent, in order: at most 64 deliveries. Its block is allocated once, so that only
+/// `new` can want memory. A call of `Mail` that sends takes out what the step before it sent.
 #[derive(Debug, Drop)]
 pub struct Outbox {
-    deliveries: [Delivery; MOST],
-    count: usize,
+    deliveries: Vec<Delivery>,
 }
 
 impl Model for Outbox {
-    ghost use Rattle.std.specs.Prelude.{◌≤◌, List, take};
+    ghost use Rattle.std.specs.Prelude.{◌≤◌, List, length, vec_capacity};
     ghost use Rattle.tr_inbox.specs.declared.Delivery.{Delivery};
 
     ghost Value = { List Delivery };
 
-    ghost view = { λ o. take o.count o.deliveries };
+    ghost view = { λ o. o.deliveries.items };
 
-    ghost invariant = { λ o. o.count ≤ 64 };
+    ghost invariant = { λ o. (length o.deliveries.items ≤ 64) × (64 ≤ vec_capacity o.deliveries) };
 }
 
 impl Outbox {
-    /// Nothing was sent.
-    pub fn new() -> Outbox
-        ensures { result ≡ [] }
+    /// An outbox of which nothing was sent.
+    pub fn new(alloc: Global) -> Result<Outbox, NoMemory>
+        ensures { IfOk result (λ out. out ≡ []) }
     {
-        Outbox {
-            deliveries: [NOTHING; MOST],
-            count: 0,
-        }
+        Ok(Outbox {
+            deliveries: Vec::with_capacity(alloc, MOST)?,
+        })
+    }
+
+    /// Takes everything out.
+    pub fn clear(&mut self)
+        ensures { self.new ≡ [] }
+    {
+        self.deliveries.clear();
     }
 
     /// Something more was sent.
@@ -48,8 +48,7 @@ impl Outbox {
         requires { length self.old < MOST }
         ensures { self.new ≡ self.old ++ delivery ∷ [] }
     {
-        self.deliveries[self.count] = delivery;
-        self.count += 1;
+        self.deliveries.push_reserved(delivery);
     }
 
     /// What was sent, in order.
@@ -57,7 +56,7 @@ impl Outbox {
         ensures deliveries { result.now ≡ self.now }
         ensures limit { length self.now ≤ MOST }
     {
-        &self.deliveries[..self.count]
+        self.deliveries.as_slice()
     }
 
     /// How much was sent.
@@ -65,6 +64,6 @@ impl Outbox {
         ensures count { result ≡ length self.now }
         ensures limit { result ≤ MOST }
     {
-        self.as_slice().len()
+        self.deliveries.len()
     }
 }

@@ -1,10 +1,11 @@
-ghost use Rattle.std.specs.Prelude.{◌≡◌, ◌<◌, ◌≤◌, ◌+◌, length, IfOk, IfErr, OnOk, OnErr};
+ghost use Rattle.std.specs.Prelude.{◌≡◌, ◌<◌, ◌≤◌, ◌+◌, length, [], false, IfErr, OnOk, OnErr};
 ghost use Rattle.tr_base.specs.Rects.{InReach};
 ghost use Rattle.tr_forest.specs.Nodes.{leaf_count};
 ghost use Rattle.tr_spot.specs.Spots as spots;
 ghost use Rattle.tr_spot.specs.Leaves as leaves;
 ghost use Rattle.tr_desk.specs.Faults.{time_fault};
 ghost use Rattle.tr_mail.specs.Deliveries as spec;
+ghost use Rattle.tr_mail.specs.Bounds.{IsUnbounded, is_bounded};
 
 use crate::mails::Mail;
 use crate::outboxes::Outbox;
@@ -16,58 +17,64 @@ use tr_tree::Tree;
 
 impl Mail {
     /// The cursor moves. Each window whose cage doesn't hold it is told where it is.
-    pub fn motion(&mut self, tree: &Tree, time: u32, at: Point) -> Result<Outbox, DeskFault>
+    pub fn motion(
+        &mut self,
+        tree: &Tree,
+        time: u32,
+        at: Point,
+        out: &mut Outbox,
+    ) -> Result<(), DeskFault>
         requires root { spots.HasRoot tree.now }
         requires leaves { leaf_count tree.now.nodes ≡ length self.old.inboxes }
         requires across { InReach at.h }
         requires down { InReach at.v }
-        ensures ok { IfOk result (λ sent.
-            record { mail = self.new; sent = sent } ≡ spec.moved tree.now time at self.old) }
-        ensures few { IfOk result (λ sent. length sent ≤ length self.old.inboxes) }
+        ensures ok { OnOk result
+            (record { mail = self.new; sent = out.new } ≡ spec.moved tree.now time at self.old) }
+        ensures few { length out.new ≤ length self.old.inboxes }
         ensures allowed { OnOk result (time_fault self.old.desk time ≡ None) }
         ensures fault { IfErr result (λ e. time_fault self.old.desk time ≡ Some e) }
         ensures err { OnErr result (self.new ≡ self.old) }
+        ensures nothing { OnErr result (out.new ≡ []) }
     {
+        out.clear();
         self.desk.motion(time, at)?;
-        let mut out = Outbox::new();
-        self.tell_all(tree, &mut out);
-        Ok(out)
+        self.tell_all(tree, out);
+        Ok(())
     }
 
     /// A leaf asks for another cage. Each window whose cage doesn't hold the cursor is told where
     /// it is.
-    pub fn set_cage(&mut self, tree: &Tree, leaf: LeafId, cage: Cage) -> Outbox
+    pub fn set_cage(&mut self, tree: &Tree, leaf: LeafId, cage: Cage, out: &mut Outbox)
         requires root { spots.HasRoot tree.now }
         requires leaves { leaf_count tree.now.nodes ≡ length self.old.inboxes }
         requires leaf { leaf.0 < length self.old.inboxes }
-        ensures sent { record { mail = self.new; sent = result } ≡ spec.caged tree.now leaf cage self.old }
-        ensures few { length result ≤ length self.old.inboxes }
+        ensures sent { record { mail = self.new; sent = out.new } ≡ spec.caged tree.now leaf cage self.old }
+        ensures few { length out.new ≤ length self.old.inboxes }
     {
+        out.clear();
         self.desk.set_cage(leaf, cage);
-        let mut out = Outbox::new();
-        self.tell_all(tree, &mut out);
-        out
+        self.may_be_bounded = true;
+        self.tell_all(tree, out);
     }
 
     /// The tree was edited: each window that has another size or kind of pixels is told so, and
     /// then each window whose cage doesn't hold the cursor where that is.
-    pub fn edited(&mut self, was: &Tree, is: &Tree) -> Outbox
+    pub fn edited(&mut self, was: &Tree, is: &Tree, out: &mut Outbox)
         requires root { spots.HasRoot is.now }
         requires before { leaf_count was.now.nodes ≡ length self.old.inboxes }
         requires leaves { leaf_count is.now.nodes ≡ length self.old.inboxes }
-        ensures sent { record { mail = self.new; sent = result } ≡ spec.edited was.now is.now self.old }
-        ensures few { length result ≤ length self.old.inboxes + length self.old.inboxes }
+        ensures sent { record { mail = self.new; sent = out.new } ≡ spec.edited was.now is.now self.old }
+        ensures few { length out.new ≤ length self.old.inboxes + length self.old.inboxes }
     {
         // Called for what it tells the prover: that there are at most 32 leaves.
         let _ = self.leaves();
-        let mut out = Outbox::new();
-        self.reshape_all(was, is, &mut out);
-        self.tell_all(is, &mut out);
-        out
+        out.clear();
+        self.reshape_all(was, is, out);
+        self.tell_all(is, out);
     }
 
     /// Tells each leaf, in the order of their numbers, where the cursor is, if its cage doesn't hold
-    /// it. The cursor's spot is found once.
+    /// it. The cursor's spot is found once, and only where some cage may be bounded.
     fn tell_all(&mut self, tree: &Tree, out: &mut Outbox)
         requires root { spots.HasRoot tree.now }
         requires leaves { leaf_count tree.now.nodes ≡ length self.old.inboxes }
@@ -76,10 +83,26 @@ impl Mail {
             spec.told tree.now (record { mail = self.old; sent = out.old }) }
         ensures few { length out.new ≤ length out.old + length self.old.inboxes }
     {
+        if !self.may_be_bounded {
+            return;
+        }
         let spot = spot_at(tree, self.cursor());
         for n in 0..self.leaves() {
             self.tell(tree, &spot, LeafId(n), out);
         }
+        self.may_be_bounded = self.is_any_bounded();
+    }
+
+    /// Whether some leaf's cage is bounded. Where none is, nobody is told where the cursor is.
+    fn is_any_bounded(&self) -> bool
+        ensures { result ≡ false → IsUnbounded self.now.desk }
+    {
+        for n in 0..self.leaves() {
+            if is_bounded(&self.desk.cage(LeafId(n))) {
+                return true;
+            }
+        }
+        false
     }
 
     /// Where the cursor is.
@@ -102,9 +125,13 @@ impl Mail {
         ensures cursor { self.new.desk.cursor ≡ self.old.desk.cursor }
         ensures inboxes { length self.new.inboxes ≡ length self.old.inboxes }
     {
+        let cage = self.desk.cage(leaf);
+        if !is_bounded(&cage) {
+            return;
+        }
         let at = in_leaf(tree, leaf, self.desk.cursor());
         let gone = !is_in_leaf(leaf, spot);
-        if holds(&self.desk.cage(leaf), at, gone) {
+        if holds(&cage, at, gone) {
             return;
         }
         let time = self.desk.time();
@@ -146,6 +173,16 @@ impl Mail {
         let size = leaf_size(is, leaf);
         let kind = is.kind();
         self.send(leaf, Event::Reshape { size, kind }, out);
+    }
+}
+
+/// Whether the cage isn't everywhere. It is asked before the cursor's position in the leaf is computed.
+fn is_bounded(cage: &Cage) -> bool
+    ensures { result ≡ is_bounded cage.now }
+{
+    match cage {
+        Cage::Everywhere => false,
+        Cage::Only { .. } => true,
     }
 }
 

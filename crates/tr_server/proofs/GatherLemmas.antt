@@ -1,9 +1,8 @@
 -- How the steps of passes come into lists, the last pass first.
-use Rattle.std.proofs.Common.{◌≡◌, ℕ, zero, suc, ◌+◌, List, [], ◌∷◌, ◌++◌, length, map, set, take, get_or, sum_by, refl, sym, ap, subst, ◌∙◌, arith, append-nil}
+use Rattle.std.proofs.Common.{◌≡◌, ℕ, zero, suc, ◌+◌, List, [], ◌∷◌, ◌++◌, length, map, set, sum_by, refl, ap, subst, ◌∙◌, arith}
 use Rattle.std.specs.Prelude.{replicate}
 use Rattle.std.proofs.lemmas.List.{append_assoc, length-append}
 use Rattle.std.proofs.lemmas.List.Sums.{sum_by-append}
-use Rattle.std.proofs.Math.Seq.{take-append_seam, get_or-append_seam}
 use Rattle.tr_journal.specs.declared.steps.Step.{Step}
 use Rattle.tr_journal.specs.declared.steps.Actor.TheVariants.{Leaf}
 use Rattle.tr_journal.specs.Lists.{ListsView, with_list}
@@ -29,16 +28,6 @@ sum_more pass passes =
     let made = λ (p : PassView _). p.made in
     let one : sum_by made (pass ∷ []) ≡ 0 + pass.made = refl in
     sum_by-append made (pass ∷ []) passes ∙ omega (arith, one)
-
--- none was taken back yet, and no list has a step
-pub none_gathered : {M : Type 0} (all : List (PassView M)) (leaves : List (List (Step M))) (before : ℕ) → leaves ≡ replicate (length all) [] →
-    HasGathered all all leaves before before
-none_gathered all leaves before blank = record {
-  taken = [];
-  passes = sym (append-nil all);
-  lists = blank ∙ sym (append-nil (replicate (length all) []));
-  made = omega arith;
-}
 
 -- one more is taken back
 pub more_gathered : {M : Type 0} (all left : List (PassView M)) (pass : PassView M) (leaves : List (List (Step M))) (before counted : ℕ) →
@@ -69,30 +58,3 @@ taken_into all passes left steps old new n before counted more is takes put last
     rw (lists, takes.counted)
     (more_gathered all left takes.pass old.leaves before counted
     (subst (λ (ps : List (PassView _)). HasGathered all ps old.leaves before counted) takes.passes is))
-
--- all are
-pub all_gathered : {M : Type 0} (all left : List (PassView M)) (leaves : List (List (Step M))) (before counted : ℕ) →
-    HasGathered all left leaves before counted → length left ≡ 0 →
-    (leaves ≡ map (λ (pass : PassView M). pass.mine) all) × (counted ≡ before + sum_by (λ (pass : PassView M). pass.made) all)
-all_gathered all [] leaves before counted is none = (
-  is.lists ∙ ap (map (λ (pass : PassView _). pass.mine)) (sym is.passes),
-  is.made ∙ ap (λ (ps : List (PassView _)). before + sum_by (λ (pass : PassView _). pass.made) ps) (sym is.passes),
-)
-all_gathered all (p ∷ left) leaves before counted is none = absurd (omega arith)
-
--- of two passes behind others: those before them, and the first of the two
-pub before_last_two : {A : Type 0} (left : List A) (x y : A) → take (length left) ((left ++ x ∷ []) ++ y ∷ []) ≡ left
-before_last_two left x y = ap (take (length left)) (append_assoc left (x ∷ []) (y ∷ [])) ∙ take-append_seam left (x ∷ y ∷ [])
-
-pub first_of_two : {A : Type 0} (left : List A) (x y d : A) → get_or ((left ++ x ∷ []) ++ y ∷ []) (length left) d ≡ x
-first_of_two left x y d =
-    ap (λ xs. get_or xs (length left) d) (append_assoc left (x ∷ []) (y ∷ [])) ∙ get_or-append_seam left x (y ∷ []) d
-
--- what the last two count
-pub sum_of_two : {M : Type 0} (left : List (PassView M)) (x y : PassView M) →
-    sum_by (λ (pass : PassView M). pass.made) ((left ++ x ∷ []) ++ y ∷ []) ≡ sum_by (λ (pass : PassView M). pass.made) left + (x.made + y.made)
-sum_of_two left x y =
-    let made = λ (pass : PassView _). pass.made in
-    let one : sum_by made (x ∷ []) ≡ 0 + x.made = refl in
-    let two : sum_by made (y ∷ []) ≡ 0 + y.made = refl in
-    omega (arith, one, two, sum_by-append made (left ++ x ∷ []) (y ∷ []), sum_by-append made left (x ∷ []))

@@ -1,5 +1,4 @@
 pub mod CountLemmas
-pub mod LevelLemmas
 pub mod GatherLemmas
 pub mod PassLemmas
 pub mod ResultLemmas
@@ -8,3 +7,4 @@ pub mod CloseLemmas
 pub mod HandingLemmas
 pub mod MadeLemmas
 pub mod ShareLemmas
+pub mod DrawLemmas

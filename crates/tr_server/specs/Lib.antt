@@ -5,3 +5,4 @@ pub mod Handing
 pub mod Differing
 pub mod Closing
 pub mod Shares
+pub mod Drawings

@@ -1,29 +1,33 @@
 ghost use Rattle.std.specs.Prelude.{◌≡◌, length};
 ghost use Rattle.tr_levels.specs.Levels.{HaveLevels};
 
+use crate::drawings::{Drawn, drawn_of};
 use crate::sessions::Session;
 use std::marker::Model;
 use std::sync::ledger::Share;
 use tr_book::Book;
 use tr_client::Client;
 
-/// What lies behind a window's lock: its book, and the part of the ledger that counts what was handed
-/// over. Contracts see the book.
+/// What lies behind a window's lock: its book, the part of the ledger that counts what was handed over, and what
+/// was drawn of what waits, if that was. Contracts see the book.
 #[derive(Drop)]
 pub(crate) struct Basket<C: Client, L: Session> {
     pub(crate) book: Book<C>,
     pub(crate) share: Share<L>,
+    pub(crate) drawn: Option<Drawn<C>>,
 }
 
 impl<C: Client, L: Session> Model for Basket<C, L> {
-    ghost use Rattle.std.specs.Prelude.{◌≡◌};
+    ghost use Rattle.std.specs.Prelude.{◌≡◌, IfSome};
     ghost use Rattle.tr_book.specs.Books.{BookView};
+    ghost use Rattle.tr_server.specs.Drawings.{IsDrawnOf};
 
     ghost Value = { BookView C C.Cmd };
 
     ghost view = { λ b. b.book };
 
-    ghost invariant = { λ b. (b.share.parts ≡ 1) × (b.share.amount ≡ b.book.handed) };
+    ghost invariant = { λ b. (b.share.parts ≡ 1) × (b.share.amount ≡ b.book.handed)
+        × IfSome b.drawn (λ d. IsDrawnOf C.Client b.book.prepared d.sketch) };
 }
 
 impl<C: Client, L: Session> Basket<C, L> {
@@ -33,7 +37,18 @@ impl<C: Client, L: Session> Basket<C, L> {
         requires book { book.handed ≡ 0 }
         ensures { result ≡ book }
     {
-        Basket { book, share }
+        Basket {
+            book,
+            share,
+            drawn: None,
+        }
+    }
+
+    /// Draws what waits, as a hint.
+    pub(crate) fn draw(&mut self)
+        ensures { self.new ≡ self.old }
+    {
+        self.drawn = drawn_of(self.book.prepared());
     }
 
     /// How many commands wait.

@@ -4,6 +4,7 @@
 
 mod baskets;
 mod closing;
+mod drawings;
 mod locked;
 mod passes;
 mod repaints;

@@ -1,16 +1,18 @@
-ghost use Rattle.std.specs.Prelude.{◌≡◌, ◌+◌, ◌<◌, ◌≤◌, ◌++◌, ◌∷◌, ◌⊎◌, [], true, false, Some, IsTrue, length, IfOk, OnOk, OnErr};
+ghost use Rattle.std.specs.Prelude.{◌≡◌, ◌+◌, ◌<◌, ◌≤◌, ◌++◌, ◌∷◌, ◌⊎◌, [], true, false, Some, IsTrue, length, IfOk, IfSome, OnOk, OnErr};
 ghost use Rattle.tr_forest.specs.Nodes.{leaf_count};
 ghost use Rattle.tr_spot.specs.Leaves.{leaf_size};
 ghost use Rattle.tr_journal.specs.declared.Actor.TheVariants.{Leaf};
 ghost use Rattle.tr_journal.specs.Openings.{tree_of};
-ghost use Rattle.tr_journal.specs.Steps.{AreLevels, IsStep, may, covers};
+ghost use Rattle.tr_journal.specs.Steps.{AreLevels, IsLeaf, IsStep, may, covers};
 ghost use Rattle.tr_machine.specs.States.{content_of};
+ghost use Rattle.tr_stage.specs.Sketching.{IsSketchOf};
 ghost use Rattle.tr_stage.specs.Stages.{KeepsOthers, line, paints, state};
 ghost use Rattle.tr_server.specs.Handing.{with_acts};
 ghost use Rattle.tr_server.specs.Passes.{both_locks};
 ghost use Rattle.tr_server.specs.Sessions.{HasIds};
 
 use crate::baskets::Basket;
+use crate::drawings::Drawn;
 use crate::passes::Pass;
 use crate::sessions::Session;
 use std::alloc::Global;
@@ -21,6 +23,7 @@ use tr_book::Book;
 use tr_client::{Client, Prepared};
 use tr_journal::{Reply, Step};
 use tr_levels::{Held, Level};
+use tr_sketch::Sketch;
 use tr_stage::Stage;
 
 /// What lies behind the tree's lock: the stage, and the total of the session's ledger, which is the number
@@ -131,6 +134,85 @@ impl<C: Client, L: Session> Locked<C, L> {
         }
     }
 
+    /// The same, where somebody may have a sketch of a leaf's present content: a flush of that leaf puts it.
+    fn step_with(
+        &mut self,
+        pass: &mut Pass<C, L>,
+        level: Held,
+        step: Step<C::Cmd>,
+        sketch: (LeafId, Option<Sketch<C>>),
+    ) -> Result<Reply, NoMemory>
+        requires may { may pass.old.actor step ≡ true }
+        requires covers { covers level step ≡ true }
+        requires levels { AreLevels (tree_of self.old.opening).nodes level }
+        requires values { IsStep (tree_of self.old.opening).nodes step }
+        requires sketch { IfSome sketch.1 (IsSketchOf C.Client (state C.Client self.old) sketch.0) }
+        ensures opening { self.new.opening ≡ self.old.opening }
+        ensures ok { OnOk result (self.new.journal ≡
+            self.old.journal ++ line C.Client self.old pass.old.actor level step ∷ []) }
+        ensures reply { IfOk result (λ r.
+            r ≡ (line C.Client self.old pass.old.actor level step).entry.reply) }
+        ensures mine { OnOk result (pass.new ≡ record pass.old {
+          mine = pass.old.mine ++ step ∷ [];
+          made = pass.old.made + 1;
+        }) }
+        ensures err_journal { OnErr result (self.new.journal ≡ self.old.journal) }
+        ensures err_screen { OnErr result (self.new.screen ≡ self.old.screen) }
+        ensures err_pass { OnErr result (pass.new ≡ pass.old) }
+    {
+        let (leaf, sketch) = sketch;
+        let Some(sketch) = sketch else {
+            return self.step(pass, level, step);
+        };
+        match step {
+            Step::Flush { leaf: at } if at == leaf => self.flush_with(pass, level, leaf, &sketch),
+            step => self.step(pass, level, step),
+        }
+    }
+
+    /// The actor of a pass flushes a leaf, of whose present content there is a sketch. For want of memory nothing
+    /// is made.
+    fn flush_with(
+        &mut self,
+        pass: &mut Pass<C, L>,
+        level: Held,
+        leaf: LeafId,
+        sketch: &Sketch<C>,
+    ) -> Result<Reply, NoMemory>
+        requires may { may {M = C.Cmd} pass.old.actor (Step.Flush leaf) ≡ true }
+        requires covers { covers {M = C.Cmd} level (Step.Flush leaf) ≡ true }
+        requires levels { AreLevels (tree_of self.old.opening).nodes level }
+        requires leaf { IsLeaf (tree_of self.old.opening).nodes leaf }
+        requires sketch { IsSketchOf C.Client (state C.Client self.old) leaf sketch.now }
+        ensures opening { self.new.opening ≡ self.old.opening }
+        ensures ok { let made = Step.Flush leaf in OnOk result (self.new.journal ≡
+            self.old.journal ++ line C.Client self.old pass.old.actor level made ∷ []) }
+        ensures reply { let made = Step.Flush leaf in IfOk result (λ r.
+            r ≡ (line C.Client self.old pass.old.actor level made).entry.reply) }
+        ensures mine { OnOk result (pass.new ≡ record pass.old {
+          mine = pass.old.mine ++ Step.Flush leaf ∷ [];
+          made = pass.old.made + 1;
+        }) }
+        ensures err_journal { OnErr result (self.new.journal ≡ self.old.journal) }
+        ensures err_screen { OnErr result (self.new.screen ≡ self.old.screen) }
+        ensures err_pass { OnErr result (pass.new ≡ pass.old) }
+    {
+        if let Err(refused) = pass.mine.push(Step::Flush { leaf }) {
+            drop(refused);
+            return Err(NoMemory);
+        }
+        match self.stage.flush_with(pass.actor, level, leaf, sketch) {
+            Ok(reply) => {
+                self.counted.add(&mut pass.share, 1);
+                Ok(reply)
+            }
+            Err(e) => {
+                drop(pass.mine.pop());
+                Err(e)
+            }
+        }
+    }
+
     /// Hands over what waits in a leaf's book: one entry for each command, in their order, at the level
     /// with which it was posted and the window's. For want of memory the stage is as before, and the same
     /// commands wait.
@@ -153,10 +235,67 @@ impl<C: Client, L: Session> Locked<C, L> {
         ensures err_levels { OnErr result (basket.new.levels ≡ basket.old.levels) }
         ensures err_handed { OnErr result (basket.new.handed ≡ basket.old.handed) }
     {
+        let sketch = self.hand_over_drawn(leaf, basket)?;
+        drop(sketch);
+        Ok(())
+    }
+
+    /// The same. Where what waited was drawn, the sketch is handed out: it is one of the leaf's present content.
+    fn hand_over_drawn(
+        &mut self,
+        leaf: LeafId,
+        basket: &mut Basket<C, L>,
+    ) -> Result<Option<Sketch<C>>, NoMemory>
+        requires leaf { leaf.0 < leaf_count (tree_of self.old.opening).nodes }
+        ensures opening { self.new.opening ≡ self.old.opening }
+        ensures screen { self.new.screen ≡ self.old.screen }
+        ensures ok { OnOk result (self.new.journal ≡
+            (with_acts C.Client self.old leaf basket.old.prepared.commands basket.old.levels).journal) }
+        ensures sketch { IfOk result (λ o. IfSome o (IsSketchOf C.Client (state C.Client self.new) leaf)) }
+        ensures none { OnOk result (basket.new.prepared.commands ≡ []) }
+        ensures no_levels { OnOk result (basket.new.levels ≡ []) }
+        ensures handed { OnOk result (basket.new.handed ≡
+            basket.old.handed + length basket.old.prepared.commands) }
+        ensures err_journal { OnErr result (self.new.journal ≡ self.old.journal) }
+        ensures err_commands { OnErr result (basket.new.prepared.commands ≡ basket.old.prepared.commands) }
+        ensures err_levels { OnErr result (basket.new.levels ≡ basket.old.levels) }
+        ensures err_handed { OnErr result (basket.new.handed ≡ basket.old.handed) }
+    {
         // For most windows nothing waits, most of the time: then nothing is compared, and nothing copied.
         if basket.waiting() == 0 {
-            return Ok(());
+            return Ok(None);
         }
+        let Some(Drawn { sketch, spare }) = basket.drawn.take() else {
+            self.hand_over_copies(leaf, basket)?;
+            return Ok(None);
+        };
+        if fits(&self.stage, leaf, basket.book.prepared()) {
+            self.hand_over_all(leaf, basket, spare)?;
+            return Ok(Some(sketch));
+        }
+        drop((sketch, spare));
+        self.hand_over_copies(leaf, basket)?;
+        Ok(None)
+    }
+
+    /// Hands over copies of what waits.
+    fn hand_over_copies(&mut self, leaf: LeafId, basket: &mut Basket<C, L>) -> Result<(), NoMemory>
+        requires leaf { leaf.0 < leaf_count (tree_of self.old.opening).nodes }
+        ensures opening { self.new.opening ≡ self.old.opening }
+        ensures screen { self.new.screen ≡ self.old.screen }
+        ensures ok { OnOk result (self.new.journal ≡
+            (with_acts C.Client self.old leaf basket.old.prepared.commands basket.old.levels).journal) }
+        ensures none { OnOk result (basket.new.prepared.commands ≡ []) }
+        ensures no_levels { OnOk result (basket.new.levels ≡ []) }
+        ensures handed { OnOk result (basket.new.handed ≡
+            basket.old.handed + length basket.old.prepared.commands) }
+        ensures err_journal { OnErr result (self.new.journal ≡ self.old.journal) }
+        ensures err_commands { OnErr result (basket.new.prepared.commands ≡ basket.old.prepared.commands) }
+        ensures err_levels { OnErr result (basket.new.levels ≡ basket.old.levels) }
+        ensures err_handed { OnErr result (basket.new.handed ≡ basket.old.handed) }
+    {
+        // What was drawn is of what the commands left by then.
+        drop(basket.drawn.take());
         self.counted.audit(&mut basket.share);
         fit(self.alloc, &self.stage, leaf, &mut basket.book)?;
         let from = basket.book.prepared().to.copy(self.alloc)?;
@@ -172,6 +311,49 @@ impl<C: Client, L: Session> Locked<C, L> {
         let _ = self.stage.journal().len();
         self.counted.add(&mut basket.share, more);
         basket.book.restart(from);
+        Ok(())
+    }
+
+    /// Hands over what waits, which fits the leaf's present content, by moving it.
+    fn hand_over_all(
+        &mut self,
+        leaf: LeafId,
+        basket: &mut Basket<C, L>,
+        spare: Prepared<C>,
+    ) -> Result<(), NoMemory>
+        requires leaf { leaf.0 < leaf_count (tree_of self.old.opening).nodes }
+        requires spare { spare.commands.items ≡ [] }
+        requires from { content_of C.Client (state C.Client self.old) leaf
+            ≡ Some basket.old.prepared.from }
+        requires font { basket.old.prepared.font ≡ (state C.Client self.old).font }
+        requires size { basket.old.prepared.size ≡ leaf_size (state C.Client self.old).tree leaf }
+        requires kind { basket.old.prepared.kind ≡ (state C.Client self.old).tree.kind }
+        ensures opening { self.new.opening ≡ self.old.opening }
+        ensures screen { self.new.screen ≡ self.old.screen }
+        ensures ok { OnOk result (self.new.journal ≡
+            (with_acts C.Client self.old leaf basket.old.prepared.commands basket.old.levels).journal) }
+        ensures none { OnOk result (basket.new.prepared.commands ≡ []) }
+        ensures no_levels { OnOk result (basket.new.levels ≡ []) }
+        ensures handed { OnOk result (basket.new.handed ≡
+            basket.old.handed + length basket.old.prepared.commands) }
+        ensures err_journal { OnErr result (self.new.journal ≡ self.old.journal) }
+        ensures err_commands { OnErr result (basket.new.prepared.commands ≡ basket.old.prepared.commands) }
+        ensures err_levels { OnErr result (basket.new.levels ≡ basket.old.levels) }
+        ensures err_handed { OnErr result (basket.new.handed ≡ basket.old.handed) }
+    {
+        drop(basket.drawn.take());
+        self.counted.audit(&mut basket.share);
+        let more = basket.book.waiting() as u64;
+        let (prepared, levels) = basket.book.give(spare);
+        if let Err(prepared) = self.stage.take_all(leaf, prepared, &levels) {
+            basket.book.take_back(prepared, levels);
+            return Err(NoMemory);
+        }
+        drop(levels);
+        // Called for what it tells the prover: that the entries can be counted.
+        let _ = self.stage.journal().len();
+        self.counted.add(&mut basket.share, more);
+        basket.book.count(more);
         Ok(())
     }
 
@@ -215,14 +397,16 @@ impl<C: Client, L: Session> Locked<C, L> {
             ⊎ ((self.new.journal ≡ (with_acts C.Client self.old leaf cmds levels).journal)
             × (basket.new.prepared.commands ≡ []) × (basket.new.levels ≡ []))) }
     {
-        let Ok(()) = self.hand_over(leaf, basket) else {
+        let Ok(sketch) = self.hand_over_drawn(leaf, basket) else {
             drop(step);
             return Err(NoMemory);
         };
         let level = Held::none().with(Level::Mu).with(Level::Win(leaf));
         let is_changed = may_change(&step);
-        let reply = self.step(pass, level, step)?;
+        let reply = self.step_with(pass, level, step, (leaf, sketch))?;
         pass.posted = 0;
+        // What was drawn of no commands is of the content before the step.
+        drop(basket.drawn.take());
         fit_if(is_changed, self.alloc, &self.stage, leaf, &mut basket.book);
         Ok(reply)
     }
@@ -231,6 +415,20 @@ impl<C: Client, L: Session> Locked<C, L> {
 /// Whether a step may change the content of its client's window.
 fn may_change<M>(step: &Step<M>) -> bool {
     matches!(step, Step::Act { .. } | Step::Take { .. })
+}
+
+/// Whether commands are prepared over the leaf's present content.
+fn fits<C: Client>(stage: &Stage<C>, leaf: LeafId, prepared: &Prepared<C>) -> bool
+    requires leaf { leaf.0 < leaf_count (tree_of stage.now.opening).nodes }
+    ensures from { IsTrue result → content_of C.Client (state C.Client stage.now) leaf
+        ≡ Some prepared.now.from }
+    ensures font { IsTrue result → prepared.now.font ≡ (state C.Client stage.now).font }
+    ensures size { IsTrue result → prepared.now.size ≡ leaf_size (state C.Client stage.now).tree leaf }
+    ensures kind { IsTrue result → prepared.now.kind ≡ (state C.Client stage.now).tree.kind }
+{
+    let content = stage.content(leaf);
+    let kind = stage.tree().kind();
+    is_current(prepared, content, stage.font(), stage.leaf_size(leaf), kind)
 }
 
 /// Sees to it that a book's commands are prepared over the leaf's present content.

@@ -111,6 +111,8 @@ impl<C: Client, L: Session> Pass<C, L> {
     {
         let copy = cmd.copy(*self.mine.allocator())?;
         self.mine.push(Step::Act { leaf, cmd: copy })?;
+        // What was drawn is of fewer commands.
+        drop(basket.drawn.take());
         match basket.book.post(level, cmd) {
             Ok(()) => {
                 self.posted += 1;

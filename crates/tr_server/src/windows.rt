@@ -76,6 +76,14 @@ impl<C: Client, L: Session> Window<C, L> {
         pass.post_into(self.leaf, &mut *basket, level, cmd)
     }
 
+    /// Draws what waits, under the window's lock alone: then it is handed over without being copied, and a flush that
+    /// follows puts what was drawn. It is a hint, and promises nothing.
+    pub fn draw<R: Wait>(&self, rt: &R) {
+        let mut guard = self.basket.lock(rt);
+        let basket = &mut *guard;
+        basket.draw();
+    }
+
     /// Hands over what waits in the window, and makes a command of its client, at the tree's lock and the
     /// window's. For want of memory the command isn't made; what was handed over stays handed over.
     pub fn act_under<R: Wait>(

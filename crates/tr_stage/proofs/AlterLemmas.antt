@@ -16,7 +16,7 @@ use Rattle.tr_forest.specs.Forests.{IsForest}
 use Rattle.tr_forest.proofs.Editing.{follows_edited}
 use Rattle.tr_tree.specs.Trees.{Seen, edited_tree}
 use Rattle.tr_spot.specs.Leaves.{leaf_size}
-use Rattle.tr_surface.specs.Surfaces.{IsShown}
+use Rattle.tr_surface.specs.Surfaces.{IsShown, is_bad}
 use Rattle.tr_surface.specs.TreeSteps.{bad_after, good_after, source}
 use Rattle.tr_inbox.specs.declared.Delivery.{Delivery}
 use Rattle.tr_mail.specs.Mails.{Mails, Sending}
@@ -77,9 +77,9 @@ module _ {C M : Type 0} (client : Ghosts C M) where
     pub allowed : refusal old.surface.tree.nodes edit ≡ None
     pub tree : new.surface.tree ≡ edited_tree old.surface.tree edit
     pub bad : (p : Point) →
-        holds new.surface.bad p ≡ bad_after (kept_by client old.windows) old.surface.tree new.surface.tree edit (holds old.surface.bad) p
+        is_bad new.surface p ≡ bad_after (kept_by client old.windows) old.surface.tree new.surface.tree edit (is_bad old.surface) p
     pub pixels : (p : Point) →
-        good_after (kept_by client old.windows) old.surface.tree new.surface.tree edit (holds old.surface.bad) p ≡ true →
+        good_after (kept_by client old.windows) old.surface.tree new.surface.tree edit (is_bad old.surface) p ≡ true →
         pixel_of new.surface.screen p ≡ pixel_of old.surface.screen (source old.surface.tree new.surface.tree edit p)
     pub before : Seen
     pub after : Seen

@@ -1,5 +1,5 @@
 -- Points of a leaf that are painted on a screen of their own, which is as large as their extents: where they lie there, and where their pixels stand.
-use Rattle.std.proofs.Common.{◌≡◌, ◌≤◌, ℤ, pos, ◌+ℤ◌, ◌-ℤ◌, ◌≤ℤ◌, ◌<ℤ◌, true, ⊎_elim, List, [], ◌∷◌, map, refl, sym, ap, subst, ◌∙◌, arith}
+use Rattle.std.proofs.Common.{◌≡◌, ◌≤◌, ℤ, pos, ◌-ℤ◌, ◌≤ℤ◌, ◌<ℤ◌, true, ⊎_elim, List, [], ◌∷◌, map, refl, sym, ap, subst, ◌∙◌, arith}
 use Rattle.std.specs.Prelude.{unsigned_abs}
 use Rattle.std.proofs.lemmas.Int.{ints}
 use Rattle.std.proofs.lemmas.Bool.{and_from, and_parts}
@@ -9,12 +9,11 @@ use Rattle.tr_base.specs.declared.Size.{Size}
 use Rattle.tr_base.specs.declared.LeafId.{LeafId}
 use Rattle.tr_base.specs.Layouts.{IsBetween, IsDomain}
 use Rattle.tr_base.specs.Rects.{Edges, IsRect, before_shift, between, empty_rect, has_point, shifted, sides_of, whole_of}
-use Rattle.tr_base.proofs.RectFacts.{rect_of-full}
 use Rattle.tr_base.proofs.RectLemmas.{has_point-rect_of}
 use Rattle.tr_region.specs.Areas.{area_of, total_area}
 use Rattle.tr_region.specs.Bands.{IsCanonical}
 use Rattle.tr_region.specs.Extents.{extents_of}
-use Rattle.tr_region.specs.Places.{place_in, place_within}
+use Rattle.tr_region.specs.Places.{place_in}
 use Rattle.tr_region.specs.Points.{holds}
 use Rattle.tr_region.proofs.ExtentsLemmas.{IsFull-some, extents_least, no_extents}
 use Rattle.tr_region.proofs.OrderLemmas.{AreInOrder, AreInOrder-canonical, IsFull}
@@ -30,6 +29,7 @@ use Rattle.tr_forest.specs.Forests.{IsForest}
 use Rattle.tr_tree.specs.Trees.{Seen}
 use Rattle.tr_spot.specs.Leaves.{in_leaf, leaf_domain}
 use Rattle.tr_spot.specs.Spots.{from_corner, is_in_leaf, size_of, spot}
+use Rattle.tr_surface.proofs.PutLemmas.{area-moved, place-moved}
 use Rattle.tr_machine.specs.Paintings.{is_visible}
 use Rattle.tr_machine.proofs.BaseLemmas.{leaf_within, placed-in_leaf}
 use Rattle.tr_stage.specs.Stages.{StageView, state}
@@ -38,30 +38,6 @@ use Rattle.tr_stage.proofs.SharingLemmas.{part_on}
 use Rattle.tr_stage.proofs.WholeLemmas.{in_domain}
 
 -- ---- a list that is moved
-
--- a rectangle with points moves edge by edge
-moved_rect : (d : Point) (r : Edges) → IsFull r →
-    shifted r d ≡ record { west = r.west +ℤ d.h; east = r.east +ℤ d.h; north = r.north +ℤ d.v; south = r.south +ℤ d.v }
-moved_rect d r full =
-    let across : r.west <ℤ r.east = full.across in
-    let down : r.north <ℤ r.south = full.down in
-    rect_of-full (r.west +ℤ d.h) (r.east +ℤ d.h) (r.north +ℤ d.v) (r.south +ℤ d.v) (omega (arith, ints)) (omega (arith, ints))
-
--- how far two edges are from each other
-moved_side : (a b by : ℤ) → unsigned_abs ((a +ℤ by) -ℤ (b +ℤ by)) ≡ unsigned_abs (a -ℤ b)
-moved_side a b by = let same : (a +ℤ by) -ℤ (b +ℤ by) ≡ a -ℤ b = omega (arith, ints) in ap unsigned_abs same
-
--- how far a coordinate is from an edge
-moved_edge : (x edge by : ℤ) → unsigned_abs (x -ℤ (edge +ℤ by)) ≡ unsigned_abs ((x -ℤ by) -ℤ edge)
-moved_edge x edge by = let same : x -ℤ (edge +ℤ by) ≡ (x -ℤ by) -ℤ edge = omega (arith, ints) in ap unsigned_abs same
-
-area-moved : (d : Point) (r : Edges) → IsFull r → area_of (shifted r d) ≡ area_of r
-area-moved d r full = ap area_of (moved_rect d r full) ∙ rw (moved_side r.east r.west d.h, moved_side r.south r.north d.v) refl
-
-place-moved : (d : Point) (r : Edges) (q : Point) → IsFull r → place_within (shifted r d) q ≡ place_within r (before_shift q d)
-place-moved d r q full =
-    ap (λ (e : Edges). place_within e q) (moved_rect d r full)
-    ∙ rw (moved_edge q.v r.north d.v, moved_side r.east r.west d.h, moved_edge q.h r.west d.h) refl
 
 -- it has as many points
 pub total_area-moved : (d : Point) (rects : List Edges) → AreInOrder rects → total_area (map (λ e. shifted e d) rects) ≡ total_area rects

@@ -1,6 +1,6 @@
 -- A stage after a step of its input devices: only the mail and the journal change, or the journal alone.
 use Rattle.std.proofs.Common.{◌≡◌, ℕ, Bool, List, [], ◌∷◌, ◌++◌, Option, Some, None, length, refl, sym, ap, subst, ◌∙◌}
-use Rattle.std.specs.Prelude.{Result, Ok, Err, IfErr, IfOk, OnErr, OnOk}
+use Rattle.std.specs.Prelude.{Result, Ok, Err, IfErr, OnErr, OnOk}
 use Rattle.tr_base.specs.declared.Point.{Point}
 use Rattle.tr_base.specs.declared.LeafId.{LeafId}
 use Rattle.tr_base.specs.declared.Selection.{Selection}
@@ -125,12 +125,12 @@ pub record IsRefused {C : Type 0} (old : Parts C) (d : Device) : Type 0 where
   pub same : mail ≡ old.mail
 
 -- what the desk makes of a step, as it is told
-pub record IsTold {C : Type 0} (old : Parts C) (d : Device) (tree : Seen) (mail : Mails) (told : Result (List Delivery) DeskFault) : Type 0 where
+pub record IsTold {C : Type 0} (old : Parts C) (d : Device) (tree : Seen) (after : Sending) (told : Result Unit DeskFault) : Type 0 where
   pub same : tree ≡ old.surface.tree
-  pub ok : IfOk told (λ sent. (let s : Sending = record { mail = mail; sent = sent } in s ≡ d.makes tree old.mail))
+  pub ok : OnOk told (after ≡ d.makes tree old.mail)
   pub allowed : OnOk told (d.fault old.mail ≡ None)
   pub fault : IfErr told (λ fault. d.fault old.mail ≡ Some fault)
-  pub err : OnErr told (mail ≡ old.mail)
+  pub err : OnErr told (after.mail ≡ old.mail)
 
 module _ {C M : Type 0} (client : Ghosts C M) where
   -- the machine makes the step so, and it leaves as many inboxes
@@ -203,24 +203,24 @@ module _ {C M : Type 0} (client : Ghosts C M) where
       })
 
   -- a step of which the desk tells that it is done, or refused
-  pub device_told : (b : Before C M) (step : Step M) (d : Device) (tree : Seen) (mail : Mails) (told : Result (List Delivery) DeskFault) →
-      IsMaking client b step → IsDevice step d → IsTold b.parts d tree mail told →
-      IsStage client b.opening (b.lines ++ line_told b.actor b.held step told ∷ []) (with_mail b.parts mail)
-  device_told b step d tree mail (Ok sent) making is x =
-      device_sent b step d making is (record { tree = tree; mail = mail; sent = sent; same = x.same; allowed = x.allowed; makes = x.ok })
-  device_told b step d tree mail (Err fault) making is x =
-      device_refused b step d making is (record { mail = mail; fault = fault; refused = x.fault; same = x.err })
+  pub device_told : (b : Before C M) (step : Step M) (d : Device) (tree : Seen) (after : Sending) (told : Result Unit DeskFault) →
+      IsMaking client b step → IsDevice step d → IsTold b.parts d tree after told →
+      IsStage client b.opening (b.lines ++ line_told b.actor b.held step told after.sent ∷ []) (with_mail b.parts after.mail)
+  device_told b step d tree after (Ok done) making is x =
+      device_sent b step d making is (record { tree = tree; mail = after.mail; sent = after.sent; same = x.same; allowed = x.allowed; makes = x.ok })
+  device_told b step d tree after (Err fault) making is x =
+      device_refused b step d making is (record { mail = after.mail; fault = fault; refused = x.fault; same = x.err })
 
   -- the machine's line of it
-  pub device_line : (b : Before C M) (step : Step M) (d : Device) (tree : Seen) (mail : Mails) (told : Result (List Delivery) DeskFault) →
-      IsMaking client b step → IsDevice step d → IsTold b.parts d tree mail told →
-      line_of client (state_before client b) b.actor b.held step ≡ line_told b.actor b.held step told
-  device_line b step d tree mail (Ok sent) making is x =
+  pub device_line : (b : Before C M) (step : Step M) (d : Device) (tree : Seen) (after : Sending) (told : Result Unit DeskFault) →
+      IsMaking client b step → IsDevice step d → IsTold b.parts d tree after told →
+      line_of client (state_before client b) b.actor b.held step ≡ line_told b.actor b.held step told after.sent
+  device_line b step d tree after (Ok done) making is x =
       ap (λ (o : Outcome C M). line_with b.actor b.held step o.answer o.sent)
-      (sent_out b step d making is (record { tree = tree; mail = mail; sent = sent; same = x.same; allowed = x.allowed; makes = x.ok }))
-  device_line b step d tree mail (Err fault) making is x =
+      (sent_out b step d making is (record { tree = tree; mail = after.mail; sent = after.sent; same = x.same; allowed = x.allowed; makes = x.ok }))
+  device_line b step d tree after (Err fault) making is x =
       ap (λ (o : Outcome C M). line_with b.actor b.held step o.answer o.sent)
-      (refused_out b step d making is (record { mail = mail; fault = fault; refused = x.fault; same = x.err }))
+      (refused_out b step d making is (record { mail = after.mail; fault = fault; refused = x.fault; same = x.err }))
 
   -- a stage that has the machine's line more, and nothing else of what is seen but its spare room
   pub makes_line : {s v n : StageView C M} {actor : Actor} {held : List Level} {step : Step M} {r : Reply} (l : JournalLine M) → s ≡ v →

@@ -55,6 +55,16 @@ entries_more leaf (x ∷ cmds) (y ∷ levels) (suc k) c l within same here there
     let e : suc k + 1 ≡ suc (k + 1) = omega arith in
     rw e (ap (λ es. act_entry leaf (y ++ Win leaf ∷ [], Act leaf x) ∷ es) (entries_more leaf cmds levels k c l (omega arith) (omega arith) here there))
 
+-- the same of commands that came one by one
+pub entries_pushed : {M : Type 0} (leaf : LeafId) (cmds : List M) (levels : List (List Level)) (c : M) (l : List Level) → length cmds < length levels →
+    l ≡ get_or levels (length cmds) l → act_entries leaf (cmds ++ c ∷ []) (take (length cmds + 1) levels)
+    ≡ act_entries leaf cmds (take (length cmds) levels) ++ act_entry leaf (l ++ Win leaf ∷ [], Act leaf c) ∷ []
+entries_pushed leaf cmds [] c l within there = absurd (omega arith)
+entries_pushed leaf [] (y ∷ levels) c l within there = ap (λ b. act_entry leaf (b ++ Win leaf ∷ [], Act leaf c) ∷ []) (sym there)
+entries_pushed leaf (x ∷ cmds) (y ∷ levels) c l within there =
+    let e : suc (length cmds) + 1 ≡ suc (length cmds + 1) = omega arith in
+    rw e (ap (λ es. act_entry leaf (y ++ Win leaf ∷ [], Act leaf x) ∷ es) (entries_pushed leaf cmds levels c l (omega arith) there))
+
 -- they sent nothing
 pub entries_quiet : {M : Type 0} (leaf : LeafId) (cmds : List M) (levels : List (List Level)) → All (λ e. e.reply.sent ≡ 0) (act_entries leaf cmds levels)
 entries_quiet leaf [] levels i d within = absurd (omega arith)

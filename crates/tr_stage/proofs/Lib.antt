@@ -14,3 +14,4 @@ pub mod HandingLemmas
 pub mod SharingLemmas
 pub mod SharedLemmas
 pub mod ApartLemmas
+pub mod SketchLemmas

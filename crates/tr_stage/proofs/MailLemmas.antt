@@ -14,8 +14,8 @@ use Rattle.tr_spot.specs.Spots.{spot}
 use Rattle.tr_spot.specs.Leaves.{in_leaf, leaf_size}
 use Rattle.tr_inbox.specs.Inboxes.{Contents}
 use Rattle.tr_mail.specs.Mails.{Mails, Sending, dated, inbox_of, is_full, put_into, send, send_input, unsent, with_inbox}
-use Rattle.tr_mail.specs.Deliveries.{caged, disowned, edited, is_caged, is_gone, is_reshaped, keyed, later, moused, moved, owned}
-use Rattle.tr_mail.specs.Deliveries.{reshape, reshape_below, send_lost, taken, tell, tell_below, told, with_cage}
+use Rattle.tr_mail.specs.Deliveries.{caged, disowned, edited, is_caged, is_gone, is_reshaped, keyed, moused, moved, owned}
+use Rattle.tr_mail.specs.Deliveries.{reshape, reshape_below, send_lost, tell, tell_below, told, with_cage}
 
 -- another inbox for a leaf
 with_inbox-count : (leaf : LeafId) (inbox : Contents) (m : Mails) → length (with_inbox leaf inbox m).inboxes ≡ length m.inboxes
@@ -116,7 +116,3 @@ owned-count leaf selection m =
 -- no owner any more
 pub disowned-count : (selection : Selection) (m : Mails) → length (disowned selection m).mail.inboxes ≡ length m.inboxes
 disowned-count selection m = refl
-
--- an event that is taken
-pub taken-count : (leaf : LeafId) (m : Mails) → length (taken leaf m).inboxes ≡ length m.inboxes
-taken-count leaf m = with_inbox-count leaf (record (inbox_of m leaf) { events = later (inbox_of m leaf).events }) m

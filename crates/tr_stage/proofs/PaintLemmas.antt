@@ -15,7 +15,7 @@ use Rattle.tr_forest.specs.Nodes.{leaf_count}
 use Rattle.tr_forest.specs.Forests.{IsForest}
 use Rattle.tr_tree.specs.Trees.{Seen}
 use Rattle.tr_spot.specs.Leaves.{in_leaf, leaf_size}
-use Rattle.tr_surface.specs.Surfaces.{IsShown}
+use Rattle.tr_surface.specs.Surfaces.{IsShown, is_bad}
 use Rattle.tr_surface.proofs.ShownLemmas.{IsExecuted}
 use Rattle.tr_surface.proofs.FrameLemmas.{AreRepaired}
 use Rattle.tr_journal.specs.declared.items.Item.{Item}
@@ -29,7 +29,7 @@ use Rattle.tr_machine.specs.Paintings.{flushed, framed, is_visible, repainted}
 use Rattle.tr_machine.specs.Machines.{done}
 use Rattle.tr_machine.proofs.ListLemmas.{slice_get-some}
 use Rattle.tr_machine.proofs.SoundLemmas.{fits}
-use Rattle.tr_machine.proofs.ShownLemmas.{IsShowing, on_tree}
+use Rattle.tr_machine.proofs.ShownLemmas.{bad_tree, IsShowing, on_tree}
 use Rattle.tr_machine.proofs.FlushLemmas.{flush_shows}
 use Rattle.tr_machine.proofs.RepaintLemmas.{repaint_shows}
 use Rattle.tr_machine.proofs.FrameLemmas.{frame_shows}
@@ -67,7 +67,7 @@ module _ {C M : Type 0} (client : Ghosts C M) where
     pub font : List (List ℕ)
     pub font_is : font ≡ font_of b.opening
     pub batch : List Paint
-    pub executed : IsExecuted b.parts.surface font leaf batch new.surface.screen new.surface.bad
+    pub executed : IsExecuted b.parts.surface new.surface font leaf batch
     pub windows : new.windows ≡ changed_at leaf.0 cleared b.parts.windows
     pub mail : new.mail ≡ b.parts.mail
 
@@ -132,8 +132,11 @@ module _ {C M : Type 0} (client : Ghosts C M) where
       -- how the window stands, by the state's tree
       stands : IsExposure (on_tree client m b.parts.surface) leaf e
       stands =
-          subst (λ (t : Seen). IsExposure (record { tree = t; screen = b.parts.surface.screen; bad = b.parts.surface.bad }) leaf e)
+          subst (λ (t : Seen). IsExposure (record { tree = t; screen = b.parts.surface.screen; good = b.parts.surface.good }) leaf e)
           ready.is.kept.tree given
+
+      same_bad : (p : Point) → is_bad (on_tree client m b.parts.surface) p ≡ is_bad b.parts.surface p
+      same_bad p = bad_tree client m b.parts.surface ready.is.kept.tree p
 
       -- a painting is executed
       by_painting : IsByPainting client (look m) e own x.batch → IsShowing client (repainted client leaf m) new.surface
@@ -157,16 +160,16 @@ module _ {C M : Type 0} (client : Ghosts C M) where
             paints =
                 subst (λ (size : Size). IsPainting (look m) (meet_of (whole_of size) y.clip) x.batch (client.pic (look m) size own.content))
                 stands.size y.paints;
-            bad = λ p seen is_bad. y.has_bad (in_leaf m.tree leaf p) (stands.has_bad p seen is_bad);
+            bad = λ p seen bad. y.has_bad (in_leaf m.tree leaf p) (stands.has_bad p seen (same_bad p ∙ bad));
             waiting = λ q touched. y.has_touched q (ap (λ (cs : List Paint). touches cs q) waits ∙ touched);
           })
 
       -- where nothing is bad, no visible point is
-      good : ((q : Point) → has_point e.bad q ≡ false) → (p : Point) → is_visible m leaf p ≡ true → holds b.parts.surface.bad p ≡ false
-      good none p seen = by_test (holds b.parts.surface.bad p) refl
+      good : ((q : Point) → has_point e.bad q ≡ false) → (p : Point) → is_visible m leaf p ≡ true → is_bad b.parts.surface p ≡ false
+      good none p seen = by_test (is_bad b.parts.surface p) refl
         where
-          by_test : (is_bad : Bool) → holds b.parts.surface.bad p ≡ is_bad → is_bad ≡ false
-          by_test true h = sym (stands.has_bad p seen h) ∙ none (in_leaf m.tree leaf p)
+          by_test : (bad : Bool) → is_bad b.parts.surface p ≡ bad → bad ≡ false
+          by_test true h = sym (stands.has_bad p seen (same_bad p ∙ h)) ∙ none (in_leaf m.tree leaf p)
           by_test false h = refl
 
       -- if the waiting commands lose nothing, too, a flush comes to the same as a repaint
@@ -283,7 +286,7 @@ module _ {C M : Type 0} (client : Ghosts C M) where
   pub record IsFramed (old new : Parts C) : Type 0 where
     pub shown : IsShown new.surface
     pub tree : new.surface.tree ≡ old.surface.tree
-    pub repaired : AreRepaired old.surface new.surface.screen new.surface.bad
+    pub repaired : AreRepaired old.surface new.surface
     pub windows : new.windows ≡ old.windows
     pub mail : new.mail ≡ old.mail
 

@@ -17,7 +17,7 @@ use Rattle.tr_forest.specs.Forests.{IsForest}
 use Rattle.tr_tree.specs.Trees.{Seen}
 use Rattle.tr_spot.specs.Spots.{HasRoot, spot, is_in_leaf}
 use Rattle.tr_spot.proofs.WayLemmas.{other_test}
-use Rattle.tr_surface.specs.Surfaces.{IsShown, is_frame}
+use Rattle.tr_surface.specs.Surfaces.{IsShown, is_frame, is_bad}
 use Rattle.tr_surface.specs.Counts.{any_on}
 use Rattle.tr_levels.specs.declared.Level.{Level}
 use Rattle.tr_levels.specs.declared.Level.TheVariants.{Mu}
@@ -105,8 +105,8 @@ module _ {C M : Type 0} (client : Ghosts C M) where
 
   -- what a surface tells of the bad points among some is told of the machine's
   bad_is : (m : State C M) (parts : Parts C) (seen : Seen → Point → Bool) (b : Bool) → IsAt client m parts →
-      (IsTrue b → (p : Point) × ((seen parts.surface.tree p ≡ true) × (holds parts.surface.bad p ≡ true))) →
-      (IsTrue (not b) → (p : Point) → seen parts.surface.tree p ≡ true → holds parts.surface.bad p ≡ false) →
+      (IsTrue b → (p : Point) × ((seen parts.surface.tree p ≡ true) × (is_bad parts.surface p ≡ true))) →
+      (IsTrue (not b) → (p : Point) → seen parts.surface.tree p ≡ true → is_bad parts.surface p ≡ false) →
       b ≡ any_on m.tree.size (λ p. m.bad p && seen m.tree p)
   bad_is m parts seen b at some none =
       bad_among m.tree.size m.bad (seen parts.surface.tree) b at.sound.bad
@@ -116,15 +116,15 @@ module _ {C M : Type 0} (client : Ghosts C M) where
 
   -- whether a visible point of the leaf is bad
   pub bad_visible : (m : State C M) (parts : Parts C) (leaf : LeafId) (b : Bool) → IsAt client m parts →
-      (IsTrue b → (p : Point) × ((is_in_leaf leaf (spot parts.surface.tree p) ≡ true) × (holds parts.surface.bad p ≡ true))) →
-      (IsTrue (not b) → (p : Point) → is_in_leaf leaf (spot parts.surface.tree p) ≡ true → holds parts.surface.bad p ≡ false) →
+      (IsTrue b → (p : Point) × ((is_in_leaf leaf (spot parts.surface.tree p) ≡ true) × (is_bad parts.surface p ≡ true))) →
+      (IsTrue (not b) → (p : Point) → is_in_leaf leaf (spot parts.surface.tree p) ≡ true → is_bad parts.surface p ≡ false) →
       b ≡ any_on m.tree.size (λ p. m.bad p && is_visible m leaf p)
   bad_visible m parts leaf b at some none = bad_is m parts (λ t p. is_in_leaf leaf (spot t p)) b at some none
 
   -- whether a point of a frame is bad
   pub frame_bad : (m : State C M) (parts : Parts C) (b : Bool) → IsAt client m parts →
-      (IsTrue b → (p : Point) × ((is_frame (spot parts.surface.tree p) ≡ true) × (holds parts.surface.bad p ≡ true))) →
-      (IsTrue (not b) → (p : Point) → is_frame (spot parts.surface.tree p) ≡ true → holds parts.surface.bad p ≡ false) →
+      (IsTrue b → (p : Point) × ((is_frame (spot parts.surface.tree p) ≡ true) × (is_bad parts.surface p ≡ true))) →
+      (IsTrue (not b) → (p : Point) → is_frame (spot parts.surface.tree p) ≡ true → is_bad parts.surface p ≡ false) →
       b ≡ is_frame_bad m
   frame_bad m parts b at some none = bad_is m parts (λ t p. is_frame (spot t p)) b at some none
 

@@ -1,31 +1,30 @@
 -- The bad leaves are painted side by side and put one after another: what the stage is then.
-use Rattle.std.proofs.Common.{◌≡◌, ℕ, zero, suc, ◌+◌, ◌<◌, cond, List, [], ◌∷◌, ◌++◌, true, false, length, get_or, take, refl, sym, ap, subst, ◌∙◌, add-one, append_assoc, arith}
+use Rattle.std.proofs.Common.{◌≡◌, ℕ, zero, suc, ◌+◌, ◌<◌, cond, List, [], ◌∷◌, ◌++◌, true, false, length, get_or, take, refl, sym, ap, subst, ◌∙◌, add-one, arith}
 use Rattle.std.specs.Prelude.{All}
 use Rattle.std.specs.List.{AllByRecursion}
-use Rattle.std.proofs.lemmas.List.{append-nil, take_more}
+use Rattle.std.proofs.lemmas.List.{append-nil}
 use Rattle.tr_base.specs.declared.Point.{Point}
 use Rattle.tr_base.specs.declared.LeafId.{LeafId}
 use Rattle.tr_client.specs.declared.clients.Client.{Ghosts}
 use Rattle.tr_forest.specs.Nodes.{Nodes, leaf_count}
 use Rattle.tr_tree.specs.Trees.{Seen}
 use Rattle.tr_spot.specs.Spots.{spot, is_in_leaf}
-use Rattle.tr_levels.specs.declared.Level.TheVariants.{Mu, Share}
+use Rattle.tr_levels.specs.declared.Level.TheVariants.{Mu}
 use Rattle.tr_journal.specs.declared.items.Item.{Item}
 use Rattle.tr_journal.specs.declared.steps.Actor.TheVariants.{Painter}
 use Rattle.tr_journal.specs.declared.steps.Step.{Step}
-use Rattle.tr_journal.specs.declared.steps.Step.TheVariants.{Repaint}
 use Rattle.tr_journal.specs.Journals.{JournalLine}
 use Rattle.tr_journal.specs.Openings.{tree_of}
 use Rattle.tr_journal.specs.Steps.{IsFor}
 use Rattle.tr_machine.specs.States.{State, batch_of}
-use Rattle.tr_machine.specs.Paintings.{is_visible, repainted}
+use Rattle.tr_machine.specs.Paintings.{is_visible}
 use Rattle.tr_machine.specs.Pictures.{render}
-use Rattle.tr_machine.specs.Replays.{after_steps, line_of, lines_of, replay}
+use Rattle.tr_machine.specs.Replays.{after_steps, lines_of, replay}
 use Rattle.tr_machine.specs.Settling.{frame_steps}
-use Rattle.tr_machine.specs.Sharing.{IsPaintedOf, all_bad_leaves, bad_leaves, flushes_below, flushing, has_bad, repainted_each, share_lines, sharing_lines}
+use Rattle.tr_machine.specs.Sharing.{IsPaintedOf, all_bad_leaves, bad_leaves, flushes_below, flushing, has_bad, repainted_each, share_lines}
 use Rattle.tr_machine.proofs.JournalLemmas.{all_at}
 use Rattle.tr_machine.proofs.RenderLemmas.{idle_screen}
-use Rattle.tr_machine.proofs.SharingLemmas.{AreApart, AreBelow, AreOthers, bad_apart, bad_below, each_batch, each_tree, flushed_all, flushing-for, framing_batch, framing_good, painted_each, repainted_good, share_lines-more, sharing-parts, state_shared}
+use Rattle.tr_machine.proofs.SharingLemmas.{AreApart, AreBelow, AreOthers, bad_apart, bad_below, each_batch, each_tree, flushed_all, flushing-for, framing_batch, framing_good, painted_each, repainted_good, state_shared}
 use Rattle.tr_machine.proofs.SoundLemmas.{fits}
 use Rattle.tr_stage.specs.declared.sharing.Painted.{Painted}
 use Rattle.tr_stage.specs.Stages.{IsPainters, IsStage, Parts, StageView, state}
@@ -33,21 +32,6 @@ use Rattle.tr_stage.specs.Standings.{Stands}
 use Rattle.tr_stage.specs.Sharing.{ArePainted}
 use Rattle.tr_stage.proofs.SettleLemmas.{IsView, state_after}
 use Rattle.tr_stage.proofs.StaleLemmas.{windows_seen}
-
--- the first of some elements are the first of them and more
-first_more : {A : Type 0} (xs ys : List A) (n : ℕ) → (k : ℕ) × (take n xs ≡ take k (xs ++ ys))
-first_more xs ys zero = (0, refl)
-first_more [] ys (suc n) = (0, refl)
-first_more {A} (x ∷ xs) ys (suc n) =
-    let (k, is) = first_more xs ys n in
-    (suc k, ap (λ (zs : List A). x ∷ zs) is)
-
--- so are some with the first of those behind them
-first_behind : {A : Type 0} (xs ys : List A) (n : ℕ) → (k : ℕ) × (xs ++ take n ys ≡ take k (xs ++ ys))
-first_behind [] ys n = (n, refl)
-first_behind {A} (x ∷ xs) ys n =
-    let (k, is) = first_behind xs ys n in
-    (suc k, ap (λ (zs : List A). x ∷ zs) is)
 
 module _ {C M : Type 0} (client : Ghosts C M) where
   -- ---- a row of painted parts
@@ -146,30 +130,6 @@ module _ {C M : Type 0} (client : Ghosts C M) where
   put_idle old now leaves k leaf has none =
       ap (λ (s : State C M). batch_of client s leaf) (put_state old now leaves k has) ∙ each_batch client (state client old) (take k leaves) none leaf
 
-  -- the journal with its line
-  pub put_more : (old now : StageView C M) (leaves : List LeafId) (all : List Painted) (k : ℕ) (x : Painted) → HasPut old now leaves k →
-      ArePainted client (state client old) leaves all → AreApart leaves → (k < length all) × (x ≡ get_or all k x) →
-      now.journal ++ line_of client (state client now) Painter (Share x.leaf ∷ []) (Repaint x.leaf) ∷ []
-      ≡ old.journal ++ share_lines client (state client old) (take (k + 1) leaves)
-  put_more old now leaves all k x has are apart at =
-      let here = painted_at (state client old) leaves all k x are apart at.0 at.1 in
-      let m : State C M = state client old in
-      let line : State C M → List (JournalLine M) = λ s. line_of client s Painter (Share x.leaf ∷ []) (Repaint x.leaf) ∷ [] in
-      let next_one : take (k + 1) leaves ≡ take k leaves ++ x.leaf ∷ [] =
-      take_more leaves k x.leaf here.within ∙ ap (λ (l : LeafId). take k leaves ++ l ∷ []) (sym here.leaf) in
-      ap (λ (s : State C M). now.journal ++ line s) (put_state old now leaves k has)
-      ∙ ap (λ (ls : List (JournalLine M)). ls ++ line (repainted_each client m (take k leaves))) has.journal
-      ∙ append_assoc old.journal (share_lines client m (take k leaves)) (line (repainted_each client m (take k leaves)))
-      ∙ ap (λ (ls : List (JournalLine M)). old.journal ++ ls) (sym (share_lines-more client m (take k leaves) x.leaf))
-      ∙ ap (λ (ls : List LeafId). old.journal ++ share_lines client m ls) (sym next_one)
-
-  -- the first of the lines are those of the first leaves
-  pub shares_first : (m : State C M) (leaves : List LeafId) (k : ℕ) → share_lines client m (take k leaves) ≡ take k (share_lines client m leaves)
-  shares_first m leaves zero = refl
-  shares_first m [] (suc k) = refl
-  shares_first m (l ∷ leaves) (suc k) =
-      ap (λ (ls : List (JournalLine M)). line_of client m Painter (Share l ∷ []) (Repaint l) ∷ ls) (shares_first (repainted client l m) leaves k)
-
   -- the bad leaves are leaves
   get_below : (n k : ℕ) (d : LeafId) (leaves : List LeafId) → AreBelow n leaves → k < length leaves → (get_or leaves k d).0 < n
   get_below n k d [] all lt = absurd (omega (arith, lt))
@@ -227,24 +187,6 @@ module _ {C M : Type 0} (client : Ghosts C M) where
     three : state client s3 ≡ after_steps client (state client s2) (frame_steps (state client s2))
     three = after_lines s2 s3 (frame_steps (state client s2)) a.opening3 a.journal3
 
-    -- the lines
-    pub shared_lines : s3.journal ≡ s0.journal ++ sharing_lines client (state client s0)
-    shared_lines =
-        let m : State C M = state client s0 in
-        let f : State C M = after_steps client m (flushing client m) in
-        let r : State C M = repainted_each client f (all_bad_leaves f) in
-        let A : List (JournalLine M) = lines_of client Painter (Mu ∷ []) m (flushing client m) in
-        let B : List (JournalLine M) = share_lines client f (all_bad_leaves f) in
-        let Z : List (JournalLine M) = lines_of client Painter (Mu ∷ []) r (frame_steps r) in
-        let two_is : state client s2 ≡ r = two ∙ ap (λ (s : State C M). repainted_each client s (all_bad_leaves s)) one in
-        a.journal3
-        ∙ ap (λ (s : State C M). s2.journal ++ lines_of client Painter (Mu ∷ []) s (frame_steps s)) two_is
-        ∙ ap (λ (ls : List (JournalLine M)). ls ++ Z) (a.journal2
-        ∙ ap (λ (s : State C M). s1.journal ++ share_lines client s (all_bad_leaves s)) one
-        ∙ ap (λ (ls : List (JournalLine M)). ls ++ B) a.journal1)
-        ∙ append_assoc (s0.journal ++ A) B Z ∙ append_assoc s0.journal A (B ++ Z)
-        ∙ ap (λ (ls : List (JournalLine M)). s0.journal ++ ls) (sym (sharing-parts client m))
-
     -- nothing waits
     pub shared_idle : (leaf : LeafId) → batch_of client (state client s3) leaf ≡ []
     shared_idle leaf =
@@ -299,85 +241,3 @@ module _ {C M : Type 0} (client : Ghosts C M) where
   flushing_painters {opening} {lines} {parts} s steps is view =
       subst (λ (v : StageView C M). steps ≡ flushing client (state client v) → All (IsPainters (tree_of v.opening).nodes) steps) view.is
       (flushers opening lines parts steps is)
-
-  -- ---- want of memory on the way
-
-  -- the journal has the first of the lines
-  abbrev pub HasFirst : StageView C M → StageView C M → Type 0
-  HasFirst old now = (n : ℕ) × (now.journal ≡ old.journal ++ take n (sharing_lines client (state client old)))
-
-  -- a stage after the flushes
-  pub record AreFlushed (s0 s1 : StageView C M) : Type 0 where
-    pub opening : s1.opening ≡ s0.opening
-    pub journal : s1.journal ≡ s0.journal ++ lines_of client Painter (Mu ∷ []) (state client s0) (flushing client (state client s0))
-
-  pub flushed_is : (s0 s1 : StageView C M) (steps : List (Step M)) → s1.opening ≡ s0.opening → steps ≡ flushing client (state client s0) →
-      s1.journal ≡ s0.journal ++ lines_of client Painter (Mu ∷ []) (state client s0) steps → AreFlushed s0 s1
-  flushed_is s0 s1 steps opening are journal = record {
-    opening = opening;
-    journal = journal ∙ ap (λ (xs : List (Step M)). s0.journal ++ lines_of client Painter (Mu ∷ []) (state client s0) xs) are;
-  }
-
-  -- and after the shares
-  pub record ArePut (s1 s2 : StageView C M) : Type 0 where
-    pub opening : s2.opening ≡ s1.opening
-    pub journal : s2.journal ≡ s1.journal ++ share_lines client (state client s1) (all_bad_leaves (state client s1))
-
-  module _ (s0 : StageView C M) where
-    abbrev m0 : State C M
-    m0 = state client s0
-
-    abbrev flushed : State C M
-    flushed = after_steps client m0 (flushing client m0)
-
-    abbrev shown : State C M
-    shown = repainted_each client flushed (all_bad_leaves flushed)
-
-    abbrev flushes : List (JournalLine M)
-    flushes = lines_of client Painter (Mu ∷ []) m0 (flushing client m0)
-
-    abbrev shares : List (JournalLine M)
-    shares = share_lines client flushed (all_bad_leaves flushed)
-
-    abbrev frames : List (JournalLine M)
-    frames = lines_of client Painter (Mu ∷ []) shown (frame_steps shown)
-
-    first_of : (lines : List (JournalLine M)) (n : StageView C M) (k : ℕ) → lines ≡ take k (flushes ++ (shares ++ frames)) →
-        n.journal ≡ s0.journal ++ lines → HasFirst s0 n
-    first_of lines n k is at =
-        (k, at ∙ ap (λ (ls : List (JournalLine M)). s0.journal ++ ls) (is ∙ ap (take k) (sym (sharing-parts client m0))))
-
-    -- among the flushes
-    pub flushing_first : (n : StageView C M) (k : ℕ) → n.journal ≡ s0.journal ++ take k flushes → HasFirst s0 n
-    flushing_first n k at =
-        let (j, is) = first_more flushes (shares ++ frames) k in
-        first_of (take k flushes) n j is at
-
-    -- among the shares
-    pub putting_first : (s1 n : StageView C M) (k : ℕ) → AreFlushed s0 s1 →
-        n.journal ≡ s1.journal ++ take k (share_lines client (state client s1) (all_bad_leaves (state client s1))) → HasFirst s0 n
-    putting_first s1 n k a at =
-        let one : state client s1 ≡ flushed = after_lines s0 s1 (flushing client m0) a.opening a.journal in
-        let (i, some) = first_more shares frames k in
-        let (j, is) = first_behind flushes (shares ++ frames) i in
-        first_of (flushes ++ take k shares) n j (ap (λ (ls : List (JournalLine M)). flushes ++ ls) some ∙ is)
-        (at ∙ ap (λ (s : State C M). s1.journal ++ take k (share_lines client s (all_bad_leaves s))) one
-        ∙ ap (λ (ls : List (JournalLine M)). ls ++ take k shares) a.journal
-        ∙ append_assoc s0.journal flushes (take k shares))
-
-    -- behind them
-    pub framing_first : (s1 s2 n : StageView C M) (k : ℕ) → AreFlushed s0 s1 → ArePut s1 s2 →
-        n.journal ≡ s2.journal ++ take k (lines_of client Painter (Mu ∷ []) (state client s2) (frame_steps (state client s2))) → HasFirst s0 n
-    framing_first s1 s2 n k a b at =
-        let one : state client s1 ≡ flushed = after_lines s0 s1 (flushing client m0) a.opening a.journal in
-        let two : state client s2 ≡ shown =
-        after_shares s1 s2 (all_bad_leaves (state client s1)) b.opening b.journal
-        ∙ ap (λ (s : State C M). repainted_each client s (all_bad_leaves s)) one in
-        let (i, some) = first_behind shares frames k in
-        let (j, is) = first_behind flushes (shares ++ frames) i in
-        first_of (flushes ++ (shares ++ take k frames)) n j (ap (λ (ls : List (JournalLine M)). flushes ++ ls) some ∙ is)
-        (at ∙ ap (λ (s : State C M). s2.journal ++ take k (lines_of client Painter (Mu ∷ []) s (frame_steps s))) two
-        ∙ ap (λ (ls : List (JournalLine M)). ls ++ take k frames) (b.journal
-        ∙ ap (λ (s : State C M). s1.journal ++ share_lines client s (all_bad_leaves s)) one
-        ∙ ap (λ (ls : List (JournalLine M)). ls ++ shares) a.journal)
-        ∙ append_assoc (s0.journal ++ flushes) shares (take k frames) ∙ append_assoc s0.journal flushes (shares ++ take k frames))

@@ -20,7 +20,7 @@ use Rattle.tr_forest.specs.Forests.{IsForest}
 use Rattle.tr_tree.specs.Trees.{Seen}
 use Rattle.tr_spot.specs.Spots.{spot, is_in_leaf}
 use Rattle.tr_spot.specs.Leaves.{in_leaf, leaf_size}
-use Rattle.tr_surface.specs.Surfaces.{Shown, IsShown, is_on}
+use Rattle.tr_surface.specs.Surfaces.{Shown, IsShown, is_on, is_bad}
 use Rattle.tr_region.specs.Places.{place_in}
 use Rattle.tr_journal.specs.declared.answers.Answer.TheVariants as answers
 use Rattle.tr_journal.specs.declared.steps.Step.TheVariants as steps
@@ -31,13 +31,13 @@ use Rattle.tr_machine.specs.Pictures.{colour_in, shown, shown_of, want}
 use Rattle.tr_machine.specs.Promises.{Fits}
 use Rattle.tr_machine.specs.Machines.{done}
 use Rattle.tr_machine.proofs.BaseLemmas.{leaf_on}
-use Rattle.tr_machine.proofs.FlushLemmas.{apart, forest_of, now_shown}
+use Rattle.tr_machine.proofs.FlushLemmas.{apart, brought, forest_of, now_shown}
 use Rattle.tr_machine.proofs.ListLemmas.{window_there}
 use Rattle.tr_machine.proofs.ShownLemmas.{IsShowing, colour_in_leaf, colour_same, untouched_colour}
 use Rattle.tr_machine.proofs.SoundLemmas.{fits}
 use Rattle.tr_windows.specs.Presents.{Present, cleared}
 use Rattle.tr_windows.proofs.PresentLemmas.{presents-repainted}
-use Rattle.tr_stage.specs.Stages.{IsAt, Parts}
+use Rattle.tr_stage.specs.Stages.{Parts}
 use Rattle.tr_machine.specs.Sharing.{IsPaintedOf}
 use Rattle.tr_stage.proofs.StageLemmas.{holding}
 use Rattle.tr_stage.proofs.DeviceLemmas.{Before, IsAfter, IsMaking, forest_before, made_step, state_before}
@@ -79,24 +79,28 @@ module _ {C M : Type 0} (client : Ghosts C M) where
 
   -- ---- putting
 
-  -- a surface before and after the pixels of a leaf's bad points are put, as the contract has it; nothing waits for the leaf
-  pub record IsPut (m : State C M) (s n : Shown) (leaf : LeafId) : Type 0 where
+  -- A surface before and after some visible points of a leaf get the colours that they are to have. Each other visible point of the leaf is
+  -- good, and no waiting command touches it. These are the bad points then; they stay as they were outside of the leaf.
+  pub record IsPut (m : State C M) (s n : Shown) (leaf : LeafId) (bad : Point → Bool) : Type 0 where
     pub was : IsShown s
     pub is : IsShown n
     pub tree : n.tree ≡ s.tree
     pub showing : IsShowing client m s
     pub fits : Fits client m
-    pub idle : batch_of client m leaf ≡ []
-    pub part : List Edges
-    pub pixels : List ℕ
-    pub painted : IsPaintedOf client m leaf part pixels
-    pub puts : Repaints (holds part) (λ p. slice_index pixels (place_in part p)) s.screen n.screen
-    pub left : (p : Point) → holds n.bad p ≡ (holds s.bad p && not (holds part p))
+    pub put : Point → Bool
+    pub colour : Point → ℕ
+    pub puts : Repaints put colour s.screen n.screen
+    pub seen : (p : Point) → put p ≡ true → is_visible m leaf p ≡ true
+    pub wanted : (p : Point) → put p ≡ true → colour p ≡ want client m p
+    pub good : (p : Point) → is_visible m leaf p ≡ true → put p ≡ false → m.bad p ≡ false
+    pub still : (p : Point) → is_visible m leaf p ≡ true → put p ≡ false → touches (batch_of client m leaf) (in_leaf m.tree leaf p) ≡ false
+    pub left : (p : Point) → is_bad n p ≡ bad p
+    pub outside : (p : Point) → is_visible m leaf p ≡ false → bad p ≡ m.bad p
 
-  module _ (m : State C M) (s n : Shown) (leaf : LeafId) (r : IsPut m s n leaf) where
+  module _ (m : State C M) (s n : Shown) (leaf : LeafId) (bad : Point → Bool) (r : IsPut m s n leaf bad) where
     -- the state after it
     abbrev next_state : State C M
-    next_state = repainted client leaf m
+    next_state = brought client leaf bad m
 
     same_tree : n.tree ≡ m.tree
     same_tree = r.tree ∙ r.showing.tree
@@ -104,70 +108,52 @@ module _ {C M : Type 0} (client : Ghosts C M) where
     forest : IsForest m.tree.nodes
     forest = forest_of client m s r.was r.showing
 
-    -- the bad points then
-    bad_seen : (p : Point) → is_visible m leaf p ≡ true → next_state.bad p ≡ false
-    bad_seen p seen =
-        let found : Bool = is_none (after (look m) (base client m leaf) (batch_of client m leaf) (in_leaf m.tree leaf p)) in
-        ap (λ b. cond b found (m.bad p) && not b) seen ∙ and_false found
-
-    bad_hidden : (p : Point) → is_visible m leaf p ≡ false → next_state.bad p ≡ m.bad p
-    bad_hidden p hidden =
-        let found : Bool = is_none (after (look m) (base client m leaf) (batch_of client m leaf) (in_leaf m.tree leaf p)) in
-        ap (λ b. cond b found (m.bad p) && not b) hidden ∙ and_true (m.bad p)
-
-    bad_left : (p : Point) → holds n.bad p ≡ (m.bad p && not (m.bad p && is_visible m leaf p))
-    bad_left p = r.left p ∙ ap (λ b. b && not (holds r.part p)) (r.showing.bad p) ∙ ap (λ b. m.bad p && not b) (r.painted.points p)
-
-    bad_is : (p : Point) → holds n.bad p ≡ next_state.bad p
-    bad_is p = by_sight (is_visible m leaf p) refl
-      where
-        by_sight : (c : Bool) → is_visible m leaf p ≡ c → holds n.bad p ≡ next_state.bad p
-        by_sight true seen = bad_left p ∙ ap (λ b. m.bad p && not (m.bad p && b)) seen ∙ left_in (m.bad p) ∙ sym (bad_seen p seen)
-        by_sight false hidden = bad_left p ∙ ap (λ b. m.bad p && not (m.bad p && b)) hidden ∙ left_out (m.bad p) ∙ sym (bad_hidden p hidden)
-
     on_old : (p : Point) → is_on m.tree p ≡ true → has_point (whole_of s.screen.size) p ≡ true
     on_old p on = ap (λ (z : Size). has_point (whole_of z) p) (r.was.size ∙ ap (λ (t : Seen). t.size) r.showing.tree) ∙ on
 
     -- what is put has its pixel
-    put_pixel : (p : Point) → is_on m.tree p ≡ true → holds r.part p ≡ true → pixel_of n.screen p ≡ want client m p
-    put_pixel p on held =
-        r.puts.points p (on_old p on)
-        ∙ ap (λ b. cond b (slice_index r.pixels (place_in r.part p)) (pixel_of s.screen p)) held
-        ∙ r.painted.colours p held
+    put_pixel : (p : Point) → is_on m.tree p ≡ true → r.put p ≡ true → pixel_of n.screen p ≡ want client m p
+    put_pixel p on put = r.puts.points p (on_old p on) ∙ ap (λ b. cond b (r.colour p) (pixel_of s.screen p)) put ∙ r.wanted p put
 
     -- all else keeps its pixel
-    kept_pixel : (p : Point) → is_on m.tree p ≡ true → holds r.part p ≡ false → pixel_of n.screen p ≡ pixel_of s.screen p
-    kept_pixel p on out =
-        r.puts.points p (on_old p on) ∙ ap (λ b. cond b (slice_index r.pixels (place_in r.part p)) (pixel_of s.screen p)) out
+    kept_pixel : (p : Point) → is_on m.tree p ≡ true → r.put p ≡ false → pixel_of n.screen p ≡ pixel_of s.screen p
+    kept_pixel p on out = r.puts.points p (on_old p on) ∙ ap (λ b. cond b (r.colour p) (pixel_of s.screen p)) out
 
     -- a visible point of the leaf is to have the colour that the leaf shows then
     want_is : (p : Point) → is_visible m leaf p ≡ true → want client m p ≡ shown client next_state p
     want_is p seen =
         colour_in_leaf client (content_of client m) m leaf p forest seen
         ∙ sym (colour_in_leaf client (shown_of next_state) next_state leaf p forest seen
-        ∙ ap (λ (o : Option C). colour_in client m (leaf_size m.tree leaf) (in_leaf m.tree leaf p) o) (now_shown client m leaf next_state.bad))
+        ∙ ap (λ (o : Option C). colour_in client m (leaf_size m.tree leaf) (in_leaf m.tree leaf p) o) (now_shown client m leaf bad))
 
     -- a visible point of the leaf has its colour
     seen_good : (p : Point) → is_on m.tree p ≡ true → is_visible m leaf p ≡ true → pixel_of n.screen p ≡ shown client next_state p
-    seen_good p on seen = by_bad (m.bad p) refl
+    seen_good p on seen = by_put (r.put p) refl
       where
-        by_bad : (b : Bool) → m.bad p ≡ b → pixel_of n.screen p ≡ shown client next_state p
-        by_bad true bad =
-            put_pixel p on (r.painted.points p ∙ ap (λ b. b && is_visible m leaf p) bad ∙ seen) ∙ want_is p seen
-        by_bad false good =
-            kept_pixel p on (r.painted.points p ∙ ap (λ b. b && is_visible m leaf p) good)
-            ∙ r.showing.agrees.good p on good
+        by_put : (b : Bool) → r.put p ≡ b → pixel_of n.screen p ≡ shown client next_state p
+        by_put true put = put_pixel p on put ∙ want_is p seen
+        by_put false out =
+            kept_pixel p on out
+            ∙ r.showing.agrees.good p on (r.good p seen out)
             ∙ colour_in_leaf client (shown_of m) m leaf p forest seen
-            ∙ untouched_colour client m leaf p r.fits seen good (ap (λ (cs : List Paint). touches cs (in_leaf m.tree leaf p)) r.idle)
+            ∙ untouched_colour client m leaf p r.fits seen (r.good p seen out) (r.still p seen out)
             ∙ sym (colour_in_leaf client (content_of client m) m leaf p forest seen)
             ∙ want_is p seen
 
-    -- a good point of another leaf, or of a frame, has its pixel still
-    hidden_good : (p : Point) → is_on m.tree p ≡ true → is_visible m leaf p ≡ false → next_state.bad p ≡ false →
+    -- nothing is put at a point of another leaf, or of a frame
+    not_put : (p : Point) → is_visible m leaf p ≡ false → r.put p ≡ false
+    not_put p hidden = by_put (r.put p) refl
+      where
+        by_put : (b : Bool) → r.put p ≡ b → b ≡ false
+        by_put true put = sym (r.seen p put) ∙ hidden
+        by_put false out = refl
+
+    -- so a good one has its pixel still
+    hidden_good : (p : Point) → is_on m.tree p ≡ true → is_visible m leaf p ≡ false → bad p ≡ false →
         pixel_of n.screen p ≡ shown client next_state p
     hidden_good p on hidden good =
-        kept_pixel p on (r.painted.points p ∙ ap (λ b. m.bad p && b) hidden ∙ and_false (m.bad p))
-        ∙ r.showing.agrees.good p on (sym (bad_hidden p hidden) ∙ good)
+        kept_pixel p on (not_put p hidden)
+        ∙ r.showing.agrees.good p on (sym (r.outside p hidden) ∙ good)
         ∙ sym (colour_same client (shown_of m) (shown_of next_state) m next_state (spot m.tree p) refl stays)
       where
         stays : (other : LeafId) → is_in_leaf other (spot m.tree p) ≡ true → shown_of next_state other ≡ shown_of m other
@@ -175,11 +161,11 @@ module _ {C M : Type 0} (client : Ghosts C M) where
             ap (λ (o : Option (Window C M)). option_map (λ w. w.shown) o)
             (window_there leaf other (updated client) m (apart leaf other (spot m.tree p) hidden here))
 
-    -- after it the surface shows the machine's next state
-    pub put_shows : IsShowing client (repainted client leaf m) n
+    -- after it the surface shows the state in which the leaf shows its present content
+    pub put_shows : IsShowing client (brought client leaf bad m) n
     put_shows = record {
       tree = same_tree;
-      bad = bad_is;
+      bad = r.left;
       agrees = record {
         size = r.is.size ∙ ap (λ (t : Seen). t.size) same_tree;
         kind = r.is.kind ∙ ap (λ (t : Seen). t.kind) same_tree;
@@ -187,12 +173,34 @@ module _ {C M : Type 0} (client : Ghosts C M) where
       };
     }
       where
-        by_sight : (p : Point) → is_on m.tree p ≡ true → next_state.bad p ≡ false → (c : Bool) → is_visible m leaf p ≡ c →
+        by_sight : (p : Point) → is_on m.tree p ≡ true → bad p ≡ false → (c : Bool) → is_visible m leaf p ≡ c →
             pixel_of n.screen p ≡ shown client next_state p
         by_sight p on good true seen = seen_good p on seen
         by_sight p on good false hidden = hidden_good p on hidden good
 
-  -- the parts of a stage before and after it
+  -- ---- the bad points after a repaint
+
+  pub bad_seen : (m : State C M) (leaf : LeafId) (p : Point) → is_visible m leaf p ≡ true → (repainted client leaf m).bad p ≡ false
+  bad_seen m leaf p seen =
+      let found : Bool = is_none (after (look m) (base client m leaf) (batch_of client m leaf) (in_leaf m.tree leaf p)) in
+      ap (λ b. cond b found (m.bad p) && not b) seen ∙ and_false found
+
+  bad_hidden : (m : State C M) (leaf : LeafId) (p : Point) → is_visible m leaf p ≡ false → (repainted client leaf m).bad p ≡ m.bad p
+  bad_hidden m leaf p hidden =
+      let found : Bool = is_none (after (look m) (base client m leaf) (batch_of client m leaf) (in_leaf m.tree leaf p)) in
+      ap (λ b. cond b found (m.bad p) && not b) hidden ∙ and_true (m.bad p)
+
+  -- they are what is left of the bad points, once those of the leaf are put
+  bad_left : (m : State C M) (leaf : LeafId) (p : Point) → (m.bad p && not (m.bad p && is_visible m leaf p)) ≡ (repainted client leaf m).bad p
+  bad_left m leaf p = by_sight (is_visible m leaf p) refl
+    where
+      by_sight : (c : Bool) → is_visible m leaf p ≡ c → (m.bad p && not (m.bad p && is_visible m leaf p)) ≡ (repainted client leaf m).bad p
+      by_sight true seen = ap (λ b. m.bad p && not (m.bad p && b)) seen ∙ left_in (m.bad p) ∙ sym (bad_seen m leaf p seen)
+      by_sight false hidden = ap (λ b. m.bad p && not (m.bad p && b)) hidden ∙ left_out (m.bad p) ∙ sym (bad_hidden m leaf p hidden)
+
+  -- ---- a repaint by pixels
+
+  -- the parts of a stage before and after the pixels of a leaf's bad points are put; nothing waits for the leaf
   pub record IsPutOn (b : Before C M) (leaf : LeafId) (new : Parts C) : Type 0 where
     pub shown : IsShown new.surface
     pub tree : new.surface.tree ≡ b.parts.surface.tree
@@ -201,7 +209,7 @@ module _ {C M : Type 0} (client : Ghosts C M) where
     pub pixels : List ℕ
     pub painted : IsPaintedOf client (state_before client b) leaf part pixels
     pub puts : Repaints (holds part) (λ p. slice_index pixels (place_in part p)) b.parts.surface.screen new.surface.screen
-    pub left : (p : Point) → holds new.surface.bad p ≡ (holds b.parts.surface.bad p && not (holds part p))
+    pub left : (p : Point) → is_bad new.surface p ≡ (is_bad b.parts.surface p && not (holds part p))
     pub windows : new.windows ≡ changed_at leaf.0 cleared b.parts.windows
     pub mail : new.mail ≡ b.parts.mail
 
@@ -209,25 +217,29 @@ module _ {C M : Type 0} (client : Ghosts C M) where
   pub put_made : (b : Before C M) (leaf : LeafId) (new : Parts C) → IsMaking client b (steps.Repaint leaf) → (x : IsPutOn b leaf new) →
       IsAfter client b (steps.Repaint leaf) answers.Done [] new
   put_made b leaf new making x =
-      let m : State C M = state_before client b in
       made_step client b (steps.Repaint leaf) new making (record {
         obeys = tt;
         out = done (repainted client leaf m);
         is = refl;
         inboxes = refl;
         holds = record {
-          shows = put_shows m b.parts.surface new.surface leaf (record {
+          shows = put_shows m b.parts.surface new.surface leaf (repainted client leaf m).bad (record {
             was = making.shown;
             is = x.shown;
             tree = x.tree;
             showing = (holding client m b.parts making.is.kept).shows;
             fits = fits client m (forest_before client b (steps.Repaint leaf) making) making.is.kept.sound;
-            idle = x.idle;
-            part = x.part;
-            pixels = x.pixels;
-            painted = x.painted;
+            put = holds x.part;
+            colour = λ p. slice_index x.pixels (place_in x.part p);
             puts = x.puts;
-            left = x.left;
+            seen = λ p held. (and_parts (m.bad p) (is_visible m leaf p) (sym (x.painted.points p) ∙ held)).1;
+            wanted = x.painted.colours;
+            good = λ p seen out. sym (and_true (m.bad p)) ∙ ap (λ b. m.bad p && b) (sym seen) ∙ sym (x.painted.points p) ∙ out;
+            still = λ p seen out. ap (λ (cs : List Paint). touches cs (in_leaf m.tree leaf p)) x.idle;
+            left = λ p.
+                x.left p ∙ ap (λ b. b && not (holds x.part p)) (making.is.kept.bad p)
+                ∙ ap (λ b. m.bad p && not b) (x.painted.points p) ∙ bad_left m leaf p;
+            outside = bad_hidden m leaf;
           });
           windows =
               x.windows ∙ ap (λ (ws : List (Present C)). changed_at leaf.0 cleared ws) making.is.kept.windows
@@ -235,16 +247,11 @@ module _ {C M : Type 0} (client : Ghosts C M) where
           mail = x.mail ∙ making.is.kept.mail;
         };
       })
+    where
+      m : State C M
+      m = state_before client b
 
   -- ---- the bad points of a leaf
-
-  -- those that a surface tells are the machine's
-  pub bad_part : (m : State C M) (parts : Parts C) (leaf : LeafId) (part : List Edges) → IsAt client m parts →
-      ((p : Point) → holds part p ≡ (holds parts.surface.bad p && is_in_leaf leaf (spot parts.surface.tree p))) →
-      (p : Point) → holds part p ≡ (m.bad p && is_visible m leaf p)
-  bad_part m parts leaf part at is p =
-      is p ∙ ap (λ b. b && is_in_leaf leaf (spot parts.surface.tree p)) (at.bad p)
-      ∙ ap (λ (t : Seen). m.bad p && is_in_leaf leaf (spot t p)) at.tree
 
   -- they are visible points
   pub part_visible : (m : State C M) (leaf : LeafId) (part : List Edges) → ((p : Point) → holds part p ≡ (m.bad p && is_visible m leaf p)) →

@@ -16,7 +16,7 @@ use Rattle.tr_paint.specs.declared.paints.Paint.{Paint}
 use Rattle.tr_paint.specs.Batches.{touches}
 use Rattle.tr_paint.specs.Paintings.{IsPainting}
 use Rattle.tr_paint.specs.Traces.{Base, Look, after}
-use Rattle.tr_region.specs.Points.{count_in_square, holds}
+use Rattle.tr_region.specs.Points.{holds}
 use Rattle.tr_client.specs.declared.clients.Client.{Ghosts}
 use Rattle.tr_forest.specs.Forests.{IsForest}
 use Rattle.tr_tree.specs.Trees.{Seen}
@@ -24,6 +24,7 @@ use Rattle.tr_spot.specs.Spots.{spot, is_in_leaf}
 use Rattle.tr_spot.specs.Leaves.{in_leaf, leaf_size}
 use Rattle.tr_spot.proofs.WayLemmas.{and_left, and_right}
 use Rattle.tr_surface.specs.Counts.{count_on}
+use Rattle.tr_surface.specs.Surfaces.{is_bad}
 use Rattle.tr_journal.specs.declared.items.Item.{Item}
 use Rattle.tr_journal.specs.Journals.{JournalLine}
 use Rattle.tr_machine.specs.Windows.{Window}
@@ -33,7 +34,6 @@ use Rattle.tr_machine.specs.Pictures.{bad_count, colour_in, is_stale, shown, sta
 use Rattle.tr_machine.specs.Promises.{Agrees, Fits, IsAwaited}
 use Rattle.tr_machine.specs.Replays.{replay}
 use Rattle.tr_machine.proofs.BaseLemmas.{leaf_on, leaf_within}
-use Rattle.tr_machine.proofs.CountLemmas.{bad_count_is}
 use Rattle.tr_machine.proofs.LagLemmas.{stale_waits}
 use Rattle.tr_machine.proofs.FlushLemmas.{one_leaf}
 use Rattle.tr_machine.proofs.ShownLemmas.{colour_in_leaf}
@@ -222,13 +222,13 @@ module _ {C M : Type 0} (client : Ghosts C M) where
       within = has_point-meet_of (whole_of extent) (whole_of extent) q ∙ ap (λ b. b && has_point (whole_of extent) q) inside ∙ inside
 
   -- the points of a leaf that are good
-  pub good_is : (m : State C M) (parts : Parts C) (leaf : LeafId) (visible bad good : List Edges) → IsAt client m parts →
-      ((p : Point) → holds visible p ≡ is_in_leaf leaf (spot parts.surface.tree p)) → bad ≡ parts.surface.bad →
-      ((p : Point) → holds good p ≡ (holds visible p && not (holds bad p))) → (p : Point) → holds good p ≡ is_good_in m leaf p
-  good_is m parts leaf visible bad good at seen same is p =
+  pub good_is : (m : State C M) (parts : Parts C) (leaf : LeafId) (good : List Edges) → IsAt client m parts →
+      ((p : Point) → holds good p ≡ (is_in_leaf leaf (spot parts.surface.tree p) && not (is_bad parts.surface p))) →
+      (p : Point) → holds good p ≡ is_good_in m leaf p
+  good_is m parts leaf good at is p =
       is p
-      ∙ ap (λ b. b && not (holds bad p)) (seen p ∙ ap (λ (t : Seen). is_in_leaf leaf (spot t p)) at.tree)
-      ∙ ap (λ b. is_visible m leaf p && not b) (ap (λ es. holds es p) same ∙ at.bad p)
+      ∙ ap (λ (t : Seen). is_in_leaf leaf (spot t p) && not (is_bad parts.surface p)) at.tree
+      ∙ ap (λ b. is_visible m leaf p && not b) (at.bad p)
 
   -- ---- what a stage counts
 
@@ -242,17 +242,17 @@ module _ {C M : Type 0} (client : Ghosts C M) where
 
   -- the surface counts the machine's bad points
   pub bad_counted : {opening : List (Item C)} {lines : List (JournalLine M)} {parts : Parts C} (s : StageView C M) → IsStage client opening lines parts →
-      IsView client opening lines parts s → Stands client s → count_in_square 1024 parts.surface.bad ≡ bad_count (state client s)
+      IsView client opening lines parts s → Stands client s → count_on parts.surface.tree.size (is_bad parts.surface) ≡ bad_count (state client s)
   bad_counted {opening} {lines} {parts} s is view =
-      subst (λ (v : StageView C M). Stands client v → count_in_square 1024 parts.surface.bad ≡ bad_count (state client v)) view.is counted
+      subst (λ (v : StageView C M). Stands client v → count_on parts.surface.tree.size (is_bad parts.surface) ≡ bad_count (state client v)) view.is counted
     where
       seen : StageView C M
       seen = record { opening = opening; journal = lines; screen = parts.surface.screen; spare = view.spare }
 
-      counted : Stands client seen → count_in_square 1024 parts.surface.bad ≡ bad_count (replay client opening lines)
+      counted : Stands client seen → count_on parts.surface.tree.size (is_bad parts.surface) ≡ bad_count (replay client opening lines)
       counted stands =
-          let small = small_screen seen stands in
-          bad_count_is (replay client opening lines) parts.surface.bad small.wide small.high is.kept.bad is.kept.sound.bad
+          let m = replay client opening lines in
+          ap (λ (t : Seen). count_on t.size (is_bad parts.surface)) is.kept.tree ∙ count_on-same m.tree.size (is_bad parts.surface) m.bad is.kept.bad
 
   -- the windows count the commands that wait for the machine's
   pub waiting_counted : {opening : List (Item C)} {lines : List (JournalLine M)} {parts : Parts C} (s : StageView C M) → IsStage client opening lines parts →

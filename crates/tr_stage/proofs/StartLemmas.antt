@@ -6,7 +6,7 @@ use Rattle.tr_region.specs.Points.{holds}
 use Rattle.tr_client.specs.declared.clients.Client.{Ghosts}
 use Rattle.tr_forest.specs.Nodes.{leaf_count}
 use Rattle.tr_tree.specs.Trees.{Seen}
-use Rattle.tr_surface.specs.Surfaces.{Shown, IsShown, is_on}
+use Rattle.tr_surface.specs.Surfaces.{Shown, IsShown, is_on, is_bad}
 use Rattle.tr_mail.specs.Mails.{no_mail}
 use Rattle.tr_journal.specs.declared.items.Item.{Item}
 use Rattle.tr_journal.specs.Openings.{IsOpened, contents_of, tree_of}
@@ -22,7 +22,7 @@ use Rattle.tr_stage.specs.Stages.{IsStage, Parts}
 pub record IsBlank {C : Type 0} (items : List (Item C)) (s : Shown) : Type 0 where
   pub shown : IsShown s
   pub tree : s.tree ≡ tree_of items
-  pub bad : (p : Point) → holds s.bad p ≡ is_on (tree_of items) p
+  pub bad : (p : Point) → is_bad s p ≡ is_on (tree_of items) p
 
 module _ {C M : Type 0} (client : Ghosts C M) where
   -- the parts of a stage before any step

@@ -17,7 +17,7 @@ use Rattle.tr_exec.specs.Executions.{placed}
 use Rattle.tr_client.specs.declared.clients.Client.{Ghosts}
 use Rattle.tr_spot.specs.Spots.{size_of}
 use Rattle.tr_spot.specs.Leaves.{leaf_corner, leaf_size, in_leaf}
-use Rattle.tr_surface.specs.Surfaces.{IsShown, Shown}
+use Rattle.tr_surface.specs.Surfaces.{IsShown, Shown, is_bad}
 use Rattle.tr_machine.specs.Windows.{Window}
 use Rattle.tr_machine.specs.States.{State, base, batch_of, look, window_of}
 use Rattle.tr_machine.specs.Paintings.{flushed, is_visible, repainted}
@@ -74,7 +74,7 @@ module _ {C M : Type 0} (client : Ghosts C M) where
     pub at : window_of m leaf ≡ Some window
     pub size : e.size ≡ leaf_size m.tree leaf
     pub whole : e.is_whole ≡ true → IsWhole m leaf
-    pub good : (p : Point) → is_visible m leaf p ≡ true → holds s.bad p ≡ false
+    pub good : (p : Point) → is_visible m leaf p ≡ true → is_bad s p ≡ false
     pub keeps : LosesNothingOf e (look m) (batch_of client m leaf)
 
   module _ (m : State C M) (s : Shown) (leaf : LeafId) (e : Exposure) (k : IsAllKept m s leaf e) where

@@ -3,3 +3,4 @@ pub mod Standings
 pub mod Making
 pub mod Exposures
 pub mod Sharing
+pub mod Sketching

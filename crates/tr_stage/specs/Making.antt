@@ -21,9 +21,9 @@ line_with actor held step answer sent = record {
 }
 
 -- the line of a step that the desk lets be done, with what it sent, or refuses
-abbrev pub line_told : {M : Type 0} → Actor → List Level → Step M → Result (List Delivery) DeskFault → JournalLine M
-line_told actor held step (Ok sent) = line_with actor held step Done sent
-line_told actor held step (Err fault) = line_with actor held step (Desk fault) []
+abbrev pub line_told : {M : Type 0} → Actor → List Level → Step M → Result Unit DeskFault → List Delivery → JournalLine M
+line_told actor held step (Ok done) sent = line_with actor held step Done sent
+line_told actor held step (Err fault) sent = line_with actor held step (Desk fault) []
 
 -- an actor made a step: the journal has the machine's line of it more, and its reply is answered; for want of memory the journal and the
 -- screen are as they were

@@ -9,7 +9,7 @@ use Rattle.tr_client.specs.declared.clients.Client.{Ghosts}
 use Rattle.tr_forest.specs.Nodes.{Nodes, leaf_count}
 use Rattle.tr_tree.specs.Trees.{Seen}
 use Rattle.tr_spot.specs.Spots.{spot, is_in_leaf}
-use Rattle.tr_surface.specs.Surfaces.{Shown, is_on, is_frame}
+use Rattle.tr_surface.specs.Surfaces.{Shown, is_on, is_frame, is_bad}
 use Rattle.tr_mail.specs.Mails.{Mails}
 use Rattle.tr_levels.specs.declared.Level.{Level}
 use Rattle.tr_levels.specs.declared.Level.TheVariants.{Mu}
@@ -101,7 +101,7 @@ module _ {C M : Type 0} (client : Ghosts C M) where
   -- the parts are those of a state of the machine, and the screen agrees with it
   pub record IsAt (m : State C M) (parts : Parts C) : Type 0 where
     pub tree : parts.surface.tree ≡ m.tree
-    pub bad : (p : Point) → holds parts.surface.bad p ≡ m.bad p
+    pub bad : (p : Point) → is_bad parts.surface p ≡ m.bad p
     pub windows : parts.windows ≡ presents client m
     pub mail : parts.mail ≡ m.mail
     pub sound : IsSound client m

@@ -35,10 +35,10 @@ impl<C: Client> Stage<C> {
                 was.domains_are_small();
                 is.domains_are_small();
                 self.windows.refit(&was, is);
-                let sent = self.mail.edited(&was, is);
+                self.mail.edited(&was, is, &mut self.sent);
                 drop(was);
-                let entry = by.entry(Step::Alter { edit }, Answer::Done, sent.len());
-                Ok(write(&mut self.journal, entry, sent.as_slice()))
+                let entry = by.entry(Step::Alter { edit }, Answer::Done, self.sent.len());
+                Ok(write(&mut self.journal, entry, self.sent.as_slice()))
             }
             Err(EditRefused::Fault(fault)) => {
                 let entry = by.entry(Step::Alter { edit }, Answer::Tree(fault), 0);

@@ -21,9 +21,11 @@ impl<C: Client> Stage<C> {
         ensures screen { self.new.screen ≡ self.old.screen }
         ensures spare { self.old.spare ≤ self.new.spare + 1 }
     {
-        let told = self.mail.mouse(self.surface.tree(), time, button, down);
+        let told = self
+            .mail
+            .mouse(self.surface.tree(), time, button, down, &mut self.sent);
         let step = Step::Mouse { time, button, down };
-        write_told(&mut self.journal, by, step, told)
+        write_told(&mut self.journal, by, step, told, &self.sent)
     }
 
     /// The cursor moves.
@@ -36,9 +38,11 @@ impl<C: Client> Stage<C> {
         ensures screen { self.new.screen ≡ self.old.screen }
         ensures spare { self.old.spare ≤ self.new.spare + 1 }
     {
-        let told = self.mail.motion(self.surface.tree(), time, at);
+        let told = self
+            .mail
+            .motion(self.surface.tree(), time, at, &mut self.sent);
         let step = Step::Motion { time, at };
-        write_told(&mut self.journal, by, step, told)
+        write_told(&mut self.journal, by, step, told, &self.sent)
     }
 
     /// A key is struck.
@@ -53,9 +57,9 @@ impl<C: Client> Stage<C> {
     {
         // Called for what it tells the prover: that the nodes of the tree are a forest.
         let _ = self.surface.tree();
-        let told = self.mail.key(time, code);
+        let told = self.mail.key(time, code, &mut self.sent);
         let step = Step::Key { time, code };
-        write_told(&mut self.journal, by, step, told)
+        write_told(&mut self.journal, by, step, told, &self.sent)
     }
 
     /// A leaf asks for another cage.
@@ -68,11 +72,11 @@ impl<C: Client> Stage<C> {
         ensures screen { self.new.screen ≡ self.old.screen }
         ensures spare { self.old.spare ≤ self.new.spare + 1 }
     {
-        let sent = self
-            .mail
-            .set_cage(self.surface.tree(), leaf, same_cage(&cage));
-        let entry = by.entry(Step::SetCage { leaf, cage }, Answer::Done, sent.len());
-        write(&mut self.journal, entry, sent.as_slice())
+        let same = same_cage(&cage);
+        self.mail
+            .set_cage(self.surface.tree(), leaf, same, &mut self.sent);
+        let entry = by.entry(Step::SetCage { leaf, cage }, Answer::Done, self.sent.len());
+        write(&mut self.journal, entry, self.sent.as_slice())
     }
 
     /// A leaf takes a selection.
@@ -92,13 +96,13 @@ impl<C: Client> Stage<C> {
         // Called for what it tells the prover: that the nodes of the tree are a forest.
         let _ = self.surface.tree();
         self.journal.reserve(1)?;
-        let told = self.mail.own(leaf, selection, time);
+        let told = self.mail.own(leaf, selection, time, &mut self.sent);
         let step = Step::Own {
             leaf,
             selection,
             time,
         };
-        Ok(write_told(&mut self.journal, by, step, told))
+        Ok(write_told(&mut self.journal, by, step, told, &self.sent))
     }
 
     /// A leaf gives a selection up.
@@ -117,9 +121,9 @@ impl<C: Client> Stage<C> {
         // Called for what it tells the prover: that the nodes of the tree are a forest.
         let _ = self.surface.tree();
         self.journal.reserve(1)?;
-        let told = self.mail.disown(leaf, selection);
+        let told = self.mail.disown(leaf, selection, &mut self.sent);
         let step = Step::Disown { leaf, selection };
-        Ok(write_told(&mut self.journal, by, step, told))
+        Ok(write_told(&mut self.journal, by, step, told, &self.sent))
     }
 }
 

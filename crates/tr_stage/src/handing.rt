@@ -1,11 +1,11 @@
-ghost use Rattle.std.specs.Prelude.{◌≡◌, ◌<◌, ◌++◌, ◌∷◌, [], Some, IfOk, OnOk, OnErr};
+ghost use Rattle.std.specs.Prelude.{◌≡◌, ◌<◌, ◌≤◌, ◌++◌, ◌∷◌, [], Some, length, vec_capacity, IfErr, IfOk, OnOk, OnErr};
 ghost use Rattle.tr_forest.specs.Nodes.{leaf_count};
 ghost use Rattle.tr_spot.specs.Leaves.{leaf_size};
 ghost use Rattle.tr_levels.specs.declared.Level.TheVariants.{Win};
 ghost use Rattle.tr_levels.specs.Levels.{HaveLevels, HoldsNoLeaf};
 ghost use Rattle.tr_journal.specs.declared.Actor.TheVariants.{Leaf};
 ghost use Rattle.tr_journal.specs.Openings.{tree_of};
-ghost use Rattle.tr_machine.specs.States.{content_of};
+ghost use Rattle.tr_machine.specs.States.{batch_of, content_of};
 ghost use Rattle.tr_machine.specs.Replays.{lines_by};
 ghost use Rattle.tr_machine.specs.Handing.{act_entries, act_entry, acts};
 ghost use Rattle.tr_stage.specs.Stages.{state};
@@ -58,6 +58,89 @@ impl<C: Client> Stage<C> {
         self.journal.extend(entries).unwrap();
         Ok(())
     }
+
+    /// The same where what was prepared is given away. Where nothing waits for the leaf by now, nothing of it is
+    /// copied: the content, the commands and their patches are moved. For want of memory nothing is made, and what
+    /// was prepared is handed back.
+    pub fn take_all(
+        &mut self,
+        leaf: LeafId,
+        prepared: Prepared<C>,
+        levels: &[Held],
+    ) -> Result<(), Prepared<C>>
+        requires leaf { leaf.0 < leaf_count (tree_of self.old.opening).nodes }
+        requires from { content_of C.Client (state C.Client self.old) leaf ≡ Some prepared.from }
+        requires font { prepared.font ≡ (state C.Client self.old).font }
+        requires size { prepared.size ≡ leaf_size (state C.Client self.old).tree leaf }
+        requires kind { prepared.kind ≡ (state C.Client self.old).tree.kind }
+        requires levels { HaveLevels prepared.commands.items levels.now }
+        ensures opening { self.new.opening ≡ self.old.opening }
+        ensures ok { let m = state C.Client self.old in OnOk result (self.new.journal ≡ self.old.journal
+            ++ lines_by C.Client (Leaf leaf) m (acts leaf prepared.commands.items levels.now)) }
+        ensures err_journal { OnErr result (self.new.journal ≡ self.old.journal) }
+        ensures err_prepared { IfErr result (λ p. p ≡ prepared) }
+        ensures screen { self.new.screen ≡ self.old.screen }
+    {
+        if self.batch(leaf).is_empty() {
+            return self.take_moved(leaf, prepared, levels);
+        }
+        match self.take_over(leaf, &prepared, levels) {
+            Ok(()) => {
+                drop(prepared);
+                Ok(())
+            }
+            Err(_) => Err(prepared),
+        }
+    }
+
+    /// The same where nothing waits for the leaf.
+    fn take_moved(
+        &mut self,
+        leaf: LeafId,
+        prepared: Prepared<C>,
+        levels: &[Held],
+    ) -> Result<(), Prepared<C>>
+        requires leaf { leaf.0 < leaf_count (tree_of self.old.opening).nodes }
+        requires idle { batch_of C.Client (state C.Client self.old) leaf ≡ [] }
+        requires from { content_of C.Client (state C.Client self.old) leaf ≡ Some prepared.from }
+        requires font { prepared.font ≡ (state C.Client self.old).font }
+        requires size { prepared.size ≡ leaf_size (state C.Client self.old).tree leaf }
+        requires kind { prepared.kind ≡ (state C.Client self.old).tree.kind }
+        requires levels { HaveLevels prepared.commands.items levels.now }
+        ensures opening { self.new.opening ≡ self.old.opening }
+        ensures ok { let m = state C.Client self.old in OnOk result (self.new.journal ≡ self.old.journal
+            ++ lines_by C.Client (Leaf leaf) m (acts leaf prepared.commands.items levels.now)) }
+        ensures err_journal { OnErr result (self.new.journal ≡ self.old.journal) }
+        ensures err_prepared { IfErr result (λ p. p ≡ prepared) }
+        ensures screen { self.new.screen ≡ self.old.screen }
+    {
+        // Called for what they tell the prover: that the nodes are a forest, and that what the commands leave is
+        // a content.
+        let _ = self.surface.tree();
+        let _kept = prepared.to.keeps(prepared.size, prepared.size);
+        // Room is taken first, so that nothing can fail once the window has changed.
+        let Ok(room) = Vec::with_capacity(self.alloc, prepared.commands.len()) else {
+            return Err(prepared);
+        };
+        let Ok(()) = self.journal.reserve_silent(prepared.commands.len()) else {
+            drop(room);
+            return Err(prepared);
+        };
+        let Prepared {
+            from,
+            to,
+            font,
+            size: _,
+            kind: _,
+            commands,
+            batch,
+        } = prepared;
+        drop((from, font));
+        let entries = entries_in(room, leaf, commands, levels);
+        self.windows.take_all(leaf, to, batch);
+        self.journal.extend(entries).unwrap();
+        Ok(())
+    }
 }
 
 /// The entries of commands that are handed over.
@@ -76,6 +159,26 @@ fn entries_of<M: Command>(
         entries.push(entry_of(leaf, cmd, &levels[k]))?;
     }
     Ok(entries)
+}
+
+/// The entries of commands that are given away, in an empty list that has room for them.
+fn entries_in<M: Command>(
+    mut entries: Vec<Entry<M>>,
+    leaf: LeafId,
+    commands: Vec<M>,
+    levels: &[Held],
+) -> Vec<Entry<M>>
+    requires empty { entries.items ≡ [] }
+    requires room { length commands.items ≤ vec_capacity entries }
+    requires levels { HaveLevels commands.items levels.now }
+    ensures entries { result.items ≡ act_entries leaf commands.items levels.now }
+    ensures count { length result.items ≡ length commands.items }
+{
+    for cmd in commands {
+        let level = levels[entries.len()];
+        entries.push_reserved(entry_of(leaf, cmd, &level));
+    }
+    entries
 }
 
 /// The entry of a command that is handed over.

@@ -16,6 +16,7 @@ mod reads;
 mod settles;
 mod shared;
 mod sharing;
+mod sketching;
 mod stages;
 
 pub use sharing::Painted;

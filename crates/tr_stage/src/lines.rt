@@ -1,4 +1,4 @@
-ghost use Rattle.std.specs.Prelude.{◌≡◌, ◌+◌, ◌*◌, ◌<◌, ◌≤◌, ◌++◌, ◌∷◌, [], length, IfOk};
+ghost use Rattle.std.specs.Prelude.{◌≡◌, ◌+◌, ◌*◌, ◌<◌, ◌≤◌, ◌++◌, ◌∷◌, [], length};
 ghost use Rattle.tr_stage.specs.Making.{line_told};
 
 use tr_base::Command;
@@ -59,17 +59,18 @@ pub(crate) fn write_told<M: Command>(
     journal: &mut Journal<M>,
     by: &By,
     step: Step<M>,
-    told: Result<Outbox, DeskFault>,
+    told: Result<(), DeskFault>,
+    sent: &Outbox,
 ) -> Reply
     requires spare { 0 < journal.old.spare }
-    requires few { IfOk told (λ sent. length sent ≤ 32) }
-    ensures reply { result ≡ (line_told by.now.actor by.now.level step told).entry.reply }
+    requires few { length sent.now ≤ 32 }
+    ensures reply { result ≡ (line_told by.now.actor by.now.level step told sent.now).entry.reply }
     ensures lines { journal.new.lines ≡
-        journal.old.lines ++ line_told by.now.actor by.now.level step told ∷ [] }
+        journal.old.lines ++ line_told by.now.actor by.now.level step told sent.now ∷ [] }
     ensures spare { journal.old.spare ≤ journal.new.spare + 1 }
 {
     match told {
-        Ok(sent) => {
+        Ok(()) => {
             let entry = by.entry(step, Answer::Done, sent.len());
             write(journal, entry, sent.as_slice())
         }

@@ -134,16 +134,20 @@ fn either<'a>(painting: &'a Option<Batch>, waiting: &'a Batch) -> &'a Batch
 }
 
 /// How a leaf's window stands on the screen.
-fn exposure_of(surface: &Surface, leaf: LeafId) -> Result<Exposure, NoMemory>
+pub(crate) fn exposure_of(surface: &Surface, leaf: LeafId) -> Result<Exposure, NoMemory>
     requires { leaf.0 < leaf_count surface.now.tree.nodes }
     ensures stands { IfOk result (IsExposure surface.now leaf) }
     ensures size { IfOk result (λ e. IsWindowSize e.size) }
 {
     let tree = surface.tree();
+    let bad = surface.bad_extents(leaf)?;
+    let visible = surface.visible(leaf)?;
+    let is_whole = is_whole(tree, leaf, &visible);
+    drop(visible);
     Ok(Exposure {
         size: leaf_size(tree, leaf),
-        bad: surface.bad_extents(leaf)?,
-        is_whole: is_whole(tree, leaf, surface.visible(leaf)),
+        bad,
+        is_whole,
     })
 }
 

@@ -99,7 +99,7 @@ impl<C: Client> Stage<C> {
         ensures size { wanted.new.size ≡ wanted.old.size }
         ensures kind { wanted.new.kind ≡ wanted.old.kind }
     {
-        let good = self.surface.visible(leaf).minus(self.surface.bad())?;
+        let good = self.surface.good_of(leaf).copy()?;
         self.paint_part(leaf, &good, wanted)?;
         Ok(good)
     }

@@ -1,4 +1,4 @@
-ghost use Rattle.std.specs.Prelude.{◌≡◌, ◌<◌, Some};
+ghost use Rattle.std.specs.Prelude.{◌≡◌, ◌<◌, Some, IfOk};
 ghost use Rattle.tr_base.specs.declared.Point.{Point};
 ghost use Rattle.tr_region.specs.Points.{holds};
 ghost use Rattle.tr_client.specs.Laws.{IsWindowSize};
@@ -14,7 +14,7 @@ ghost use Rattle.tr_machine.specs.Replays.{IsLegal};
 ghost use Rattle.tr_stage.specs.Stages.{IsOf, state};
 
 use crate::stages::Stage;
-use tr_base::{Font, LeafId, Size};
+use tr_base::{Font, LeafId, NoMemory, Size};
 use tr_client::Client;
 use tr_desk::Desk;
 use tr_inbox::Inbox;
@@ -58,8 +58,8 @@ impl<C: Client> Stage<C> {
     }
 
     /// The points of the screen that need to be painted again.
-    pub fn bad(&self) -> &Region
-        ensures { (p : Point) → holds result.now p ≡ (state C.Client self.now).bad p }
+    pub fn bad(&self) -> Result<Region, NoMemory>
+        ensures { IfOk result (λ r. (p : Point) → holds r p ≡ (state C.Client self.now).bad p) }
     {
         self.surface.bad()
     }

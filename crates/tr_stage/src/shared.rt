@@ -1,13 +1,9 @@
-ghost use Rattle.std.specs.Prelude.{◌≡◌, ℕ, ◌<◌, ◌++◌, ◌∷◌, [], false, take, All, IfOk, OnOk, OnErr};
-ghost use Rattle.tr_base.specs.declared.LeafId.{LeafId};
-ghost use Rattle.tr_base.specs.declared.Point.{Point};
+ghost use Rattle.std.specs.Prelude.{◌≡◌, ◌<◌, [], All, IfOk, OnOk};
 ghost use Rattle.tr_forest.specs.Nodes.{leaf_count};
 ghost use Rattle.tr_journal.specs.Openings.{tree_of};
-ghost use Rattle.tr_machine.specs.States.{batch_of};
-ghost use Rattle.tr_machine.specs.Pictures.{render};
 ghost use Rattle.tr_machine.specs.Settling.{frame_steps};
 ghost use Rattle.tr_machine.specs.Sharing as spec;
-ghost use Rattle.tr_machine.specs.Sharing.{all_bad_leaves, flushing, share_lines, sharing_lines};
+ghost use Rattle.tr_machine.specs.Sharing.{all_bad_leaves, flushing};
 ghost use Rattle.tr_stage.specs.Sharing.{ArePainted};
 ghost use Rattle.tr_stage.specs.Stages.{IsPainters, state};
 
@@ -18,39 +14,6 @@ use tr_client::Client;
 use tr_journal::Step;
 
 impl<C: Client> Stage<C> {
-    /// Brings the screen up to date by way of shares, on one thread: each leaf is flushed for which
-    /// something waits; then the bad points of each leaf are painted apart from the screen, and put onto
-    /// it leaf by leaf, each at its share alone; then the frames are painted, if a point of one is bad. For
-    /// want of memory the steps made so far stand.
-    pub fn settle_shared(&mut self) -> Result<(), NoMemory>
-        ensures opening { self.new.opening ≡ self.old.opening }
-        ensures ok { OnOk result (self.new.journal ≡
-            self.old.journal ++ sharing_lines C.Client (state C.Client self.old)) }
-
-        // Then nothing waits, no point is bad, and the screen is as if it were painted from nothing.
-        ensures idle { let m = state C.Client self.new in
-            OnOk result ((leaf : LeafId) → batch_of C.Client m leaf ≡ []) }
-        ensures good { let m = state C.Client self.new in OnOk result ((p : Point) → m.bad p ≡ false) }
-        ensures screen { OnOk result (self.new.screen ≡ render C.Client (state C.Client self.new)) }
-
-        // For want of memory the journal has the first of these steps.
-        ensures err { OnErr result ((n : ℕ) × (self.new.journal ≡
-            self.old.journal ++ take n (sharing_lines C.Client (state C.Client self.old)))) }
-    {
-        // Called, here and below, for what it tells the prover.
-        self.stands();
-        let flushes = self.steps_to_flush()?;
-        self.paint_all(flushes)?;
-        self.stands();
-        let all = self.paint_each_bad()?;
-        self.put_all(all)?;
-        self.stands();
-        let frames = self.steps_to_frame()?;
-        self.paint_all(frames)?;
-        self.stands();
-        Ok(())
-    }
-
     /// Whether a visible point of a leaf is bad.
     pub fn has_bad(&self, leaf: LeafId) -> Result<bool, NoMemory>
         requires { leaf.0 < leaf_count (tree_of self.now.opening).nodes }
@@ -121,27 +84,6 @@ impl<C: Client> Stage<C> {
             if self.has_bad(leaf)? {
                 all.push(self.paint_bad(leaf)?)?;
             }
-        }
-        Ok(())
-    }
-
-    /// Puts the bad points of all leaves onto the screen, leaf by leaf. For want of memory those put so far
-    /// stand.
-    fn put_all(&mut self, all: Vec<Painted>) -> Result<(), NoMemory>
-        requires idle { let m = state C.Client self.old in (leaf : LeafId) → batch_of C.Client m leaf ≡ [] }
-        requires all { let m = state C.Client self.old in
-            ArePainted C.Client m (all_bad_leaves m) all.items }
-        ensures opening { self.new.opening ≡ self.old.opening }
-        ensures ok { let m = state C.Client self.old in OnOk result (self.new.journal ≡
-            self.old.journal ++ share_lines C.Client m (all_bad_leaves m)) }
-        ensures err { let m = state C.Client self.old in OnErr result ((n : ℕ) × (self.new.journal ≡
-            self.old.journal ++ take n (share_lines C.Client m (all_bad_leaves m)))) }
-    {
-        // Called for what they tell the prover: that the state has the opening's leaves.
-        self.stands();
-        let _ = self.tree();
-        for painted in all {
-            self.put_painted(painted)?;
         }
         Ok(())
     }

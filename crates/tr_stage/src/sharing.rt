@@ -211,7 +211,7 @@ impl<C: Client> Stage<C> {
         self.journal.reserve(1)?;
         // Called, here and below, for what it tells the prover: that the surface is one.
         let _ = self.surface.tree();
-        self.surface.put(part, pixels)?;
+        self.surface.put(leaf, part, pixels)?;
         let _ = self.surface.tree();
         self.windows.clear(leaf);
         let entry = by.entry(Step::Repaint { leaf }, Answer::Done, 0);

@@ -2,7 +2,7 @@ ghost use Rattle.std.specs.Prelude.{◌≡◌, ◌<◌, ◌≤◌, ◌+◌, ◌+
 ghost use Rattle.tr_base.specs.declared.Point.{Point};
 ghost use Rattle.tr_region.specs.Points.{holds};
 ghost use Rattle.tr_screen.specs.Pictures.{blank_of};
-ghost use Rattle.tr_surface.specs.Surfaces.{is_on};
+ghost use Rattle.tr_surface.specs.Surfaces.{is_on, is_bad};
 ghost use Rattle.tr_journal.specs.Openings.{tree_of};
 ghost use Rattle.tr_journal.specs.Steps.{AreLevels, IsFor, IsStep, may, covers};
 ghost use Rattle.tr_stage.specs.Stages as spec;
@@ -16,7 +16,7 @@ use tr_base::NoMemory;
 use tr_client::Client;
 use tr_journal::{Actor, Journal, Opening, Reply, Step};
 use tr_levels::Held;
-use tr_mail::Mail;
+use tr_mail::{Mail, Outbox};
 use tr_surface::Surface;
 use tr_windows::Windows;
 
@@ -33,6 +33,9 @@ pub struct Stage<C: Client> {
     pub(crate) surface: Surface,
     pub(crate) windows: Windows<C>,
     pub(crate) mail: Mail,
+    /// What the last step of the input devices, or the last edit, sent. The list is kept, so that no step
+    /// makes one.
+    pub(crate) sent: Outbox,
     pub(crate) journal: Journal<C::Cmd>,
 }
 
@@ -77,6 +80,10 @@ impl<C: Client> Stage<C> {
             drop((surface, windows));
             return Err(opening);
         };
+        let Ok(sent) = Outbox::new(alloc) else {
+            drop((surface, windows, mail));
+            return Err(opening);
+        };
         // Called for what it tells the prover: that the surface is one.
         let _ = surface.tree();
         let journal = Journal::new(alloc);
@@ -86,6 +93,7 @@ impl<C: Client> Stage<C> {
             surface,
             windows,
             mail,
+            sent,
             journal,
         })
     }
@@ -202,7 +210,7 @@ fn blank_surface<C: Client>(alloc: Global, opening: &Opening<C>) -> Result<Surfa
     ensures tree { IfOk result (λ s. s.tree ≡ tree_of opening.now) }
     ensures screen { let t = tree_of opening.now in
         IfOk result (λ s. s.screen ≡ blank_of t.size t.kind) }
-    ensures bad { IfOk result (λ s. (p : Point) → holds s.bad p ≡ is_on (tree_of opening.now) p) }
+    ensures bad { IfOk result (λ s. (p : Point) → is_bad s p ≡ is_on (tree_of opening.now) p) }
 {
     let tree = opening.tree().copy()?;
     Surface::new(alloc, tree)

@@ -11,15 +11,16 @@ use super::ends::made;
 use super::openings::{Part, Sample, opening_of};
 use super::traces::same_commands;
 use std::process::Abort;
-use tr_base::{Event, LeafId, Line, NoMemory, Point, Selection, Size, whole};
+use tr_base::{Env, Event, LeafId, Line, NoMemory, Point, Selection, Size, whole};
 use tr_book::Book;
-use tr_client::Client;
+use tr_client::{Client, Prepared};
 use tr_journal::{
     Actor, Delivery, Difference, Entry, Journal, Lists, Opening, Reply, Step, are_levels, covers,
     is_step, may,
 };
 use tr_levels::{Held, Level};
 use tr_paint::Batch;
+use tr_sketch::{Sketch, fits_screen};
 use tr_stage::{Peek, Stage, is_reservable};
 
 /// Ends the test where the step may not be made.
@@ -128,6 +129,50 @@ pub fn hand_over<C: Client>(
     // Called for what it tells the prover: that each command has a level.
     let _ = book.waiting();
     made(rt, stage.take_over(leaf, book.prepared(), book.levels()));
+}
+
+/// Gives a command away that was posted while the tree's lock was held.
+pub fn give<C: Client>(
+    rt: &(impl Abort + AllocGlobal),
+    stage: &mut Stage<C>,
+    leaf: LeafId,
+    cmd: C::Cmd,
+) {
+    allow_leaf(rt, stage, leaf);
+    let content = made(rt, stage.content(leaf).copy(rt.alloc()));
+    let (size, kind) = (stage.leaf_size(leaf), stage.tree().kind());
+    let mut book = made(
+        rt,
+        Book::fresh(rt.alloc(), content, stage.font(), size, kind),
+    );
+    made(rt, book.post(Held::none().with(Level::Mu), cmd));
+    let left = made(rt, book.prepared().to.copy(rt.alloc()));
+    let spare = made(
+        rt,
+        Prepared::fresh(rt.alloc(), left, stage.font(), size, kind),
+    );
+    let (prepared, levels) = book.give(spare);
+    made(rt, stage.take_all(leaf, prepared, &levels));
+}
+
+/// Flushes a leaf with a sketch of its present content, which has all of its window.
+pub fn flush_with<C: Client>(
+    rt: &(impl Abort + AllocGlobal),
+    stage: &mut Stage<C>,
+    by: &By,
+    leaf: LeafId,
+) -> Reply {
+    allow(rt, stage, by, &Step::Flush { leaf });
+    let size = stage.leaf_size(leaf);
+    let all = whole(size);
+    assert!(rt; fits_screen(size, &all));
+    let content = made(rt, stage.content(leaf).copy(rt.alloc()));
+    let env = Env {
+        kind: stage.tree().kind(),
+        font: stage.font(),
+    };
+    let sketch = made(rt, Sketch::paint(rt.alloc(), content, &env, size, &all));
+    made(rt, stage.flush_with(by.actor, by.level, leaf, &sketch))
 }
 
 /// Paints a leaf's bad points apart from the screen, and puts them there.
@@ -251,7 +296,10 @@ pub fn glyph<C: Client>(stage: &Stage<C>) -> [u8; 8] {
 }
 
 pub fn is_bad<C: Client>(stage: &Stage<C>, p: Point) -> bool {
-    stage.bad().has(p)
+    match stage.bad() {
+        Ok(bad) => bad.has(p),
+        Err(NoMemory) => false,
+    }
 }
 
 pub fn cursor<C: Client>(stage: &Stage<C>) -> Point {

@@ -36,6 +36,12 @@ pub trait Played: Sized + Drop {
     /// Hands a command over that was posted while the tree's lock was held.
     fn hand_over(&mut self, rt: &(impl Abort + AllocGlobal), leaf: LeafId, cmd: WidgetCmd);
 
+    /// Gives a command away that was posted while the tree's lock was held.
+    fn give(&mut self, rt: &(impl Abort + AllocGlobal), leaf: LeafId, cmd: WidgetCmd);
+
+    /// Flushes a leaf with a sketch of its present content, which has all of its window.
+    fn flush_with(&mut self, rt: &(impl Abort + AllocGlobal), by: &By, leaf: LeafId) -> Reply;
+
     /// Paints a leaf's bad points apart from the screen, and puts them there.
     fn repaint_apart(&mut self, rt: &impl Abort, leaf: LeafId);
 
@@ -142,6 +148,14 @@ impl Played for Stage<Widget> {
 
     fn hand_over(&mut self, rt: &(impl Abort + AllocGlobal), leaf: LeafId, cmd: WidgetCmd) {
         calls::hand_over(rt, self, leaf, cmd);
+    }
+
+    fn give(&mut self, rt: &(impl Abort + AllocGlobal), leaf: LeafId, cmd: WidgetCmd) {
+        calls::give(rt, self, leaf, cmd);
+    }
+
+    fn flush_with(&mut self, rt: &(impl Abort + AllocGlobal), by: &By, leaf: LeafId) -> Reply {
+        calls::flush_with(rt, self, by, leaf)
     }
 
     fn repaint_apart(&mut self, rt: &impl Abort, leaf: LeafId) {

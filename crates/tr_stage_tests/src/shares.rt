@@ -48,6 +48,25 @@ fn shared<P: Played>(rt: &(impl Abort + AllocGlobal)) {
     shows(rt, &mut stage, &[&[5, 5, 2, 2]]);
 }
 
+/// Commands are given away by one call: the first where nothing waits, the second where something does.
+fn given<P: Played>(rt: &(impl Abort + AllocGlobal)) {
+    let mut stage: P = two_beside(rt, 4);
+    settle(rt, &mut stage);
+    let before = stage.entries();
+    let [told, _] = entries();
+    stage.give(rt, A, TOLD);
+    stage.give(rt, A, TOLD);
+    assert!(rt; stage.has_entry(rt, before, &told) && stage.has_entry(rt, before + 1, &told));
+    has_rows(rt, &stage, &[&[1, 1, 2, 2]]);
+    peeks(rt, &stage, (0, 2, 2));
+    shows(rt, &mut stage, &[&[5, 5, 2, 2]]);
+}
+
+#[test]
+fn commands_are_given_away(rt: HostRuntime) {
+    given::<Tested>(&rt);
+}
+
 #[test]
 fn commands_are_handed_over_and_bad_points_put(rt: HostRuntime) {
     shared::<Tested>(&rt);

@@ -35,8 +35,3 @@ pub changed_below-first : {A : Type 0} (f : ℕ → A → A) (n : ℕ) (x : A) (
     changed_below (suc n) f (x ∷ xs) ≡ f zero x ∷ changed_below n (λ k. f (suc k)) xs
 changed_below-first f zero x xs = refl
 changed_below-first f (suc n) x xs = ap (λ ys. changed_at (suc n) (f (suc n)) ys) (changed_below-first f n x xs)
-
--- no element comes or goes
-pub changed_below-length : {A : Type 0} (f : ℕ → A → A) (n : ℕ) (xs : List A) → length (changed_below n f xs) ≡ length xs
-changed_below-length f zero xs = refl
-changed_below-length f (suc n) xs = changed-length (f n) (changed_below n f xs) n ∙ changed_below-length f n xs

@@ -18,7 +18,6 @@ use Rattle.tr_forest.specs.declared.Edit.{Edit}
 use Rattle.tr_tree.specs.Trees.{Seen, edited_tree}
 use Rattle.tr_spot.specs.Leaves.{leaf_size}
 use Rattle.tr_surface.specs.TreeSteps.{Keeping}
-use Rattle.tr_mail.specs.Mails.{Mails}
 use Rattle.tr_mail.specs.Deliveries.{is_reshaped}
 use Rattle.tr_journal.specs.declared.items.Item.{Item}
 use Rattle.tr_journal.specs.Openings.{contents_of}
@@ -26,7 +25,7 @@ use Rattle.tr_machine.specs.Windows as windows
 use Rattle.tr_machine.specs.Windows.{Change, Command, Mark, Window, fresh, with_change, updated, content, content_after, paints_of, paints_from}
 use Rattle.tr_machine.specs.States as states
 use Rattle.tr_machine.specs.States.{State, start, look, window_of, changed_at, content_of, batch_of}
-use Rattle.tr_machine.specs.Paintings.{acted, marked, flushed, repainted, framed}
+use Rattle.tr_machine.specs.Paintings.{acted, marked, flushed, repainted}
 use Rattle.tr_machine.specs.Edits.{altered, keeping, keeps_in, refitted_from}
 use Rattle.tr_machine.specs.Pictures.{waiting_count}
 use Rattle.tr_windows.specs.Presents.{Present, idle, cleared, mark_on, act_on, refitted, cleared_from, content_at, batch_in, batch_at, kept_in, kept_by, present, presents_from, presents}
@@ -273,15 +272,6 @@ presents-flushed client m leaf = changed-state client m leaf (updated client) cl
 pub presents-repainted : {C M : Type 0} (client : Ghosts C M) (m : State C M) (leaf : LeafId) →
     presents client (repainted client leaf m) ≡ changed_at leaf.0 cleared (presents client m)
 presents-repainted client m leaf = presents-flushed client m leaf
-
--- the frames are painted
-pub presents-framed : {C M : Type 0} (client : Ghosts C M) (m : State C M) → presents client (framed m) ≡ presents client m
-presents-framed client m = refl
-
--- only the mail changes
-pub presents-mail : {C M : Type 0} (client : Ghosts C M) (m : State C M) (mail : Mails) →
-    presents client (record m { mail = mail }) ≡ presents client m
-presents-mail client m mail = refl
 
 -- the tree is edited
 pub presents-altered : {C M : Type 0} (client : Ghosts C M) (m : State C M) (edit : Edit) →

@@ -1,20 +1,17 @@
 -- What the windows promise: their contents, what a batch flushes or repaints, and what a change of size leaves.
-use Rattle.std.specs.Prelude.{◌≡◌, ◌⊎◌, ℕ, ◌-◌, ◌≤◌, ◌^◌, Bool, true, false, List, length, min, sum_by, slice_get, Some, is_none}
+use Rattle.std.specs.Prelude.{◌≡◌, ◌⊎◌, ℕ, ◌-◌, ◌≤◌, ◌^◌, true, false, List, length, min, sum_by, slice_get, Some, is_none}
 use Rattle.tr_base.specs.declared.Point.{Point}
 use Rattle.tr_base.specs.declared.Size.{Size}
 use Rattle.tr_base.specs.Rects.{Edges, has_point, meet_of, whole_of}
 use Rattle.tr_paint.specs.declared.Paint.{Paint}
 use Rattle.tr_paint.specs.Batches.{touches}
+use Rattle.tr_paint.specs.Hulls.{HasAll}
 use Rattle.tr_paint.specs.Traces.{Look, Base, after}
 use Rattle.tr_paint.specs.Paintings.{IsPainting}
 use Rattle.tr_client.specs.declared.clients.Client.{Ghosts}
 use Rattle.tr_client.specs.Laws.{IsWindowSize, Survives}
 use Rattle.tr_windows.specs.declared.exposures.Exposure.{Exposure}
 use Rattle.tr_windows.specs.Presents.{Present}
-
--- the rectangle has all of these points
-abbrev pub HasAll : Edges → (Point → Bool) → Type 0
-HasAll e test = (q : Point) → test q ≡ true → has_point e q ≡ true
 
 -- all points of a window of this size are visible, no others are, and the colour of each is known
 pub record IsKnownWhole (size : Size) (base : Base) : Type 0 where
@@ -28,6 +25,13 @@ abbrev pub LosesNothingOf : Exposure → Look → List Paint → Type 0
 LosesNothingOf e look batch =
     (base : Base) → (e.is_whole ≡ true → IsKnownWhole e.size base) →
     (q : Point) → base.visible q ≡ true → is_none (base.known q) ≡ false → is_none (after look base batch q) ≡ false
+
+-- What waits for a window may be replaced by pixels of its present picture, one for each point of a clip: nothing is bad, the waiting
+-- commands would lose nothing, and each point of the window that they would touch lies in the clip.
+pub record IsCovered (look : Look) (e : Exposure) (clip : Edges) (batch : List Paint) : Type 0 where
+  pub good : (q : Point) → has_point e.bad q ≡ false
+  pub keeps : LosesNothingOf e look batch
+  pub touched : (q : Point) → has_point (whole_of e.size) q ≡ true → touches batch q ≡ true → has_point clip q ≡ true
 
 -- how many paint commands wait for all windows; the count stops at 2^64 - 1
 abbrev pub waiting_in : {C : Type 0} → List (Present C) → ℕ

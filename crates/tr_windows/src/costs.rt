@@ -1,17 +1,18 @@
-ghost use Rattle.std.specs.Prelude.{◌≡◌, false, IsTrue};
+ghost use Rattle.std.specs.Prelude.{◌≡◌, true, false, IsTrue};
 ghost use Rattle.tr_base.specs.declared.Point.{Point};
-ghost use Rattle.tr_base.specs.Rects.{has_point};
+ghost use Rattle.tr_base.specs.Rects.{has_point, whole_of};
+ghost use Rattle.tr_paint.specs.Batches.{touches};
 ghost use Rattle.tr_paint.specs.Paints.{IsNearPaint, IsNearPoint};
 ghost use Rattle.tr_paint.specs.Traces.{Look};
 ghost use Rattle.tr_client.specs.Laws.{IsWindowSize};
 ghost use Rattle.tr_windows.specs.Losses.{BringsOwn, Spares};
-ghost use Rattle.tr_windows.specs.Promises.{LosesNothingOf};
+ghost use Rattle.tr_windows.specs.Promises.{IsCovered, LosesNothingOf};
 
 use crate::areas::{part_in_window, spanned};
 use crate::exposures::Exposure;
 use tr_base::{Point, Rect, Size};
 use tr_client::window;
-use tr_paint::{Batch, Paint};
+use tr_paint::{Batch, Paint, Scrolls, points_in};
 
 /// Whether what waits for a window costs less than a painting of it and, as far as is looked at, does as
 /// well: nothing is bad, and no point is lost on the way. Where it is false, painting is right all the same.
@@ -20,7 +21,7 @@ pub(crate) fn is_cheaper(waiting: &Batch, painting: &Batch, exposure: &Exposure)
     ensures good { IsTrue result → (q : Point) → has_point exposure.now.bad q ≡ false }
     ensures keeps { IsTrue result → (look : Look) → LosesNothingOf exposure.now look waiting.now }
 {
-    keeps_all(waiting, exposure) && cost(waiting) < cost(painting)
+    keeps_all(waiting, exposure) && waiting.cost() < painting.cost()
 }
 
 /// Whether a painting may be made in place of what waits for a window, and may cost less: it costs at least
@@ -31,7 +32,26 @@ pub(crate) fn is_replaceable(waiting: &Batch, exposure: &Exposure) -> bool
     ensures keeps { IsTrue result → (look : Look) → LosesNothingOf exposure.now look waiting.now }
 {
     let clip = part_in_window(&spanned(exposure.bad, waiting), exposure.size);
-    area_of(&clip) < cost(waiting) && keeps_all(waiting, exposure)
+    points_in(&clip) < waiting.cost() && keeps_all(waiting, exposure)
+}
+
+/// Whether pixels of the present picture, one for each point of a clip, may be put in place of what waits for a
+/// window, as far as is looked at: nothing is bad, no point is lost on the way, and all that waits lies in the clip.
+pub(crate) fn is_covered(waiting: &Batch, exposure: &Exposure, clip: &Rect) -> bool
+    requires { IsWindowSize exposure.now.size }
+    ensures { IsTrue result → (look : Look) → IsCovered look exposure.now clip.now waiting.now }
+{
+    keeps_all(waiting, exposure) && has_touched(clip, waiting, exposure)
+}
+
+/// Whether a clip has each point of a window that commands touch, and all that is bad.
+fn has_touched(clip: &Rect, batch: &Batch, exposure: &Exposure) -> bool
+    requires { IsWindowSize exposure.now.size }
+    ensures { IsTrue result → (q : Point) → has_point (whole_of exposure.now.size) q ≡ true →
+        touches batch.now q ≡ true → has_point clip.now q ≡ true }
+{
+    let part = part_in_window(&spanned(exposure.bad, batch), exposure.size);
+    part.meet(clip) == part
 }
 
 /// Whether nothing of a window is bad, and what waits for it loses nothing, as far as is looked at.
@@ -43,8 +63,24 @@ fn keeps_all(waiting: &Batch, exposure: &Exposure) -> bool
     exposure.bad.is_empty() && loses_nothing(waiting, exposure)
 }
 
-/// Whether no command can make a point unknown.
+/// Whether no command can make a point unknown. Mostly the scrolls of a window are alike, and then one of
+/// them is looked at for all.
 fn loses_nothing(batch: &Batch, exposure: &Exposure) -> bool
+    requires { IsWindowSize exposure.now.size }
+    ensures { IsTrue result → (look : Look) → LosesNothingOf exposure.now look batch.now }
+{
+    if batch.has_spoil() {
+        return false;
+    }
+    match batch.scrolls() {
+        Scrolls::Absent => true,
+        Scrolls::Alike { clip, delta } => spares_scroll(&clip, delta, exposure),
+        Scrolls::Various => spares_all(batch, exposure),
+    }
+}
+
+/// The same, by a walk over the commands.
+fn spares_all(batch: &Batch, exposure: &Exposure) -> bool
     requires { IsWindowSize exposure.now.size }
     ensures { IsTrue result → (look : Look) → LosesNothingOf exposure.now look batch.now }
 {
@@ -63,12 +99,20 @@ fn spares(paint: &Paint, exposure: &Exposure) -> bool
     ensures { IsTrue result → Spares exposure.now paint.now }
 {
     match paint {
-        Paint::Scroll { clip, delta } => {
-            exposure.is_whole && brings_own(exposure.size, clip, *delta)
-        }
+        Paint::Scroll { clip, delta } => spares_scroll(clip, *delta, exposure),
         Paint::Spoil { .. } => false,
         _ => true,
     }
+}
+
+/// The same for a scroll.
+fn spares_scroll(clip: &Rect, delta: Point, exposure: &Exposure) -> bool
+    requires delta { IsNearPoint delta }
+    requires size { IsWindowSize exposure.now.size }
+    ensures whole { IsTrue result → exposure.now.is_whole ≡ true }
+    ensures own { IsTrue result → BringsOwn exposure.now.size clip.now delta }
+{
+    exposure.is_whole && brings_own(exposure.size, clip, delta)
 }
 
 /// Whether what a scroll brings into a window are points of the window.
@@ -80,28 +124,4 @@ fn brings_own(size: Size, clip: &Rect, delta: Point) -> bool
     let all = window(size);
     let part = clip.meet(&all);
     part.meet(&all.shift(delta)) == part
-}
-
-/// What executing commands costs: the sum of their areas, each by its weight, which stops at 2^64 - 1.
-pub(crate) fn cost(batch: &Batch) -> u64 {
-    let mut sum: u64 = 0;
-    for paint in batch.paints() {
-        sum = sum.saturating_add(area_of(&paint.area()).saturating_mul(weight(paint)));
-    }
-    sum
-}
-
-/// How many points a rectangle has.
-fn area_of(rect: &Rect) -> u64 {
-    let (wide, high) = rect.size();
-    u64::from(wide) * u64::from(high)
-}
-
-/// What a point of a command's area costs, as measured, beside a point that is filled.
-fn weight(paint: &Paint) -> u64 {
-    match paint {
-        Paint::Tint { .. } | Paint::Pixels { .. } | Paint::Spoil { .. } => 1,
-        Paint::Texture { .. } | Paint::Scroll { .. } => 2,
-        Paint::Text { .. } => 3,
-    }
 }

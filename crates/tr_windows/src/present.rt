@@ -1,11 +1,11 @@
-ghost use Rattle.std.specs.Prelude.{◌≡◌, IfOk, IfSome, OnOk, OnErr};
+ghost use Rattle.std.specs.Prelude.{◌≡◌, [], IfOk, IfSome, OnOk, OnErr};
 ghost use Rattle.tr_paint.specs.Traces.{look_of};
 ghost use Rattle.tr_client.specs.Laws.{IsWindowSize};
 ghost use Rattle.tr_windows.specs.Presents as spec;
 ghost use Rattle.tr_windows.specs.Promises.{FlushesByPainting, IsByPainting, Repaints};
 
 use crate::areas::{part_in_window, spanned};
-use crate::costs::{cost, is_cheaper, is_replaceable};
+use crate::costs::{is_cheaper, is_replaceable};
 use crate::exposures::Exposure;
 use std::alloc::Global;
 use std::marker::Model;
@@ -64,9 +64,7 @@ impl<C: Client> Window<C> {
             OnOk result (self.new ≡ spec.act_on C.Client look size cmd.now self.old) }
         ensures err { OnErr result (self.new ≡ self.old) }
     {
-        let (next, patch) = self.content.change(alloc, env, size, cmd)?;
-        self.batch.extend(patch)?;
-        self.content = next;
+        self.content.apply(alloc, env, size, cmd, &mut self.batch)?;
         Ok(())
     }
 
@@ -89,6 +87,15 @@ impl<C: Client> Window<C> {
         self.batch.append(batch)?;
         self.content = content;
         Ok(())
+    }
+
+    /// Nothing waits for it: it gets another content, and these commands wait. Nothing is copied.
+    pub fn take_all(&mut self, content: C, batch: Batch)
+        requires { self.old.batch ≡ [] }
+        ensures { self.new ≡ spec.taken_over content batch self.old }
+    {
+        self.content = content;
+        self.batch = batch;
     }
 
     /// What waits is let go.
@@ -135,7 +142,7 @@ impl<C: Client> Window<C> {
             return Ok(None);
         }
         let painting = self.painting(alloc, env, exposure)?;
-        if cost(&self.batch) <= cost(&painting) {
+        if self.batch.cost() <= painting.cost() {
             drop(painting);
             return Ok(None);
         }

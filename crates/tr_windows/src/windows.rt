@@ -1,4 +1,4 @@
-ghost use Rattle.std.specs.Prelude.{◌≡◌, ◌<◌, length, map, slice_get, Some, IfOk, IfSome, OnOk, OnErr};
+ghost use Rattle.std.specs.Prelude.{◌≡◌, ◌<◌, [], length, map, slice_get, Some, IsTrue, IfOk, IfSome, OnOk, OnErr};
 ghost use Rattle.tr_base.specs.declared.LeafId.{LeafId};
 ghost use Rattle.tr_paint.specs.Traces.{Look, look_of};
 ghost use Rattle.tr_paint.specs.Patches.{IsPatch};
@@ -7,8 +7,9 @@ ghost use Rattle.tr_forest.specs.Nodes.{leaf_count};
 ghost use Rattle.tr_journal.specs.Openings.{contents_of};
 ghost use Rattle.tr_machine.specs.States.{changed_at};
 ghost use Rattle.tr_windows.specs.Presents as spec;
-ghost use Rattle.tr_windows.specs.Promises.{AreWindows, FlushesByPainting, Keeps, Repaints, waiting_in};
+ghost use Rattle.tr_windows.specs.Promises.{AreWindows, FlushesByPainting, IsCovered, Keeps, Repaints, waiting_in};
 
+use crate::costs::is_covered;
 use crate::exposures::Exposure;
 use crate::present::Window;
 use std::alloc::Global;
@@ -116,6 +117,17 @@ impl<C: Client> Windows<C> {
         Ok(())
     }
 
+    /// The same for a leaf's window for which nothing waits: content and commands are moved, and it takes no
+    /// memory.
+    pub fn take_all(&mut self, leaf: LeafId, content: C, batch: Batch)
+        requires leaf { leaf.0 < length self.old }
+        requires valid { C.valid content }
+        requires idle { spec.batch_at self.old leaf ≡ [] }
+        ensures { self.new ≡ changed_at leaf.0 (spec.taken_over content batch) self.old }
+    {
+        take_all_at(&mut self.windows, leaf, content, batch);
+    }
+
     /// What waits for a leaf's window is let go.
     pub fn clear(&mut self, leaf: LeafId)
         requires { leaf.0 < length self.old }
@@ -182,6 +194,18 @@ impl<C: Client> Windows<C> {
     {
         let alloc = *self.windows.allocator();
         self.windows[usize::from(leaf.0)].flushing(alloc, env, exposure)
+    }
+
+    /// Whether pixels of a leaf's present picture, one for each point of a clip, may be put in place of what waits
+    /// for its window, as far as is looked at: nothing is bad, what waits would lose nothing, and all that it
+    /// would touch lies in the clip. The window stands so on the screen.
+    pub fn is_covered(&self, leaf: LeafId, exposure: &Exposure, clip: &Rect) -> bool
+        requires leaf { leaf.0 < length self.now }
+        requires size { IsWindowSize exposure.now.size }
+        ensures { IsTrue result → (look : Look) →
+            IsCovered look exposure.now clip.now (spec.batch_at self.now leaf) }
+    {
+        is_covered(self.batch(leaf), exposure, clip)
     }
 
     /// How many paint commands wait for all windows; the count stops at 2^64 - 1.
@@ -281,6 +305,16 @@ fn take_over_at<C: Client>(
     let window = &mut windows[usize::from(leaf.0)];
     window.take_over(content, batch)?;
     Ok(())
+}
+
+/// The window at a place, for which nothing waits, gets another content, and these commands wait.
+fn take_all_at<C: Client>(windows: &mut Vec<Window<C>>, leaf: LeafId, content: C, batch: Batch)
+    requires leaf { leaf.0 < length windows.old.items }
+    requires idle { spec.batch_at windows.old.items leaf ≡ [] }
+    ensures { windows.new.items ≡ changed_at leaf.0 (spec.taken_over content batch) windows.old.items }
+{
+    let window = &mut windows[usize::from(leaf.0)];
+    window.take_all(content, batch);
 }
 
 /// What waits for the window at a place is let go.

@@ -1,18 +1,20 @@
-use Rattle.std.proofs.Common.{List, take, get_or, subst, sym, arith}
-use Rattle.std.proofs.lemmas.List.{take_more}
-use Rattle.tr_paint.specs.declared.Paint.{Paint}
-use Rattle.tr_windows.specs.Losses.{Spares}
-use Rattle.tr_windows.specs.Promises.{LosesNothingOf}
-use Rattle.tr_windows.proofs.LossLemmas.{loses-more}
+use Rattle.std.proofs.Common.{◌≡◌, false, sym, subst, ◌∙◌}
+use Rattle.tr_paint.specs.declared.Scrolls.{Scrolls}
+use Rattle.tr_paint.specs.declared.Scrolls.TheVariants.{Absent, Alike}
+use Rattle.tr_paint.specs.Sums.{AreScrolls, has_spoil}
+use Rattle.tr_windows.proofs.LossLemmas.{loses-alike}
 use Rattle.tr_windows.proofs.costs.loses_nothing.Goals as goal
 
-pub loop-paint-preserved : goal.loop-paint-preserved
-loop-paint-preserved c =
-    let xs = c.paints-paint-items.result.now in
-    let i = c.loop-paint.paint-index in
-    let d = c.paint-item.result in
-    let e = c.args.exposure.now in
-    let spares : Spares e (get_or xs i d) =
-    subst (λ (p : Paint). Spares e p) c.paint-item.is (c.spares.ensures c.if-not-spares.false) in
-    λ look. subst (λ (cs : List Paint). LosesNothingOf e look cs) (sym (take_more xs i d (omega arith)))
-    (loses-more e look (take i xs) (c.loop-paint.invariant look) (get_or xs i d) spares)
+pub returns-in-Absent : goal.returns-in-Absent
+returns-in-Absent c = λ yes.
+    let cs = c.args.batch.now in
+    let none : has_spoil cs ≡ false = sym c.has_spoil.ensures ∙ c.if-has_spoil.false in
+    loses-alike c.args.exposure.now Absent cs tt none (subst (λ (s : Scrolls). AreScrolls s cs) c.in-Absent.is c.scrolls.ensures.scrolls)
+
+pub returns-in-Alike : goal.returns-in-Alike
+returns-in-Alike c = λ yes.
+    let cs = c.args.batch.now in
+    let none : has_spoil cs ≡ false = sym c.has_spoil.ensures ∙ c.if-has_spoil.false in
+    loses-alike c.args.exposure.now (Alike c.in-Alike.clip c.in-Alike.delta) cs
+    (c.spares_scroll.ensures.whole yes, c.spares_scroll.ensures.own yes) none
+    (subst (λ (s : Scrolls). AreScrolls s cs) c.in-Alike.is c.scrolls.ensures.scrolls)

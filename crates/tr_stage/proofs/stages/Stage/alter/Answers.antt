@@ -24,8 +24,8 @@ refit-requires-clause-leaves g c κs within =
     (c.tree-is.ensures.value ∙ c.in-Ok.ensures.tree)
     ∙ sym (windows_count g.C.Client c.self.invariant)
 
-pub edited-sent-requires-clause-leaves : goal.edited-sent-requires-clause-leaves
-edited-sent-requires-clause-leaves g c =
+pub edited-requires-clause-leaves : goal.edited-requires-clause-leaves
+edited-requires-clause-leaves g c =
     let made = seen_for (sym c.self.view_is) c.requires.allowed in
     leaves_after g.C.Client c.args.edit c.self.invariant c.tree.ensures.invariant.forest made.values c.in-Ok.ensures.allowed
     (c.tree-is.ensures.value ∙ c.in-Ok.ensures.tree)
@@ -36,7 +36,7 @@ invariant_of-self-in-Ok g c =
     let s = c.self.inside in
     let made = seen_for (sym c.self.view_is) c.requires.allowed in
     let old : Parts g.row.C.Denot = record { surface = s.surface; windows = s.windows; mail = s.mail } in
-    let new : Parts g.row.C.Denot = record { surface = c.alter.new.self; windows = c.refit.new.self; mail = c.edited-sent.new.self } in
+    let new : Parts g.row.C.Denot = record { surface = c.alter.new.self; windows = c.refit.new.self; mail = c.edited.new.self } in
     let e : IsEdited g.C.Client (replay g.C.Client s.opening s.journal.lines) c.args.edit old new = record {
       was = c.tree.ensures.invariant;
       is = c.tree-is.ensures.invariant;
@@ -52,8 +52,8 @@ invariant_of-self-in-Ok g c =
       old_sizes = window_size c.in-Ok.was c.domains_are_small.ensures;
       new_sizes = window_size c.tree-is.result.now c.domains_are_small-in-Ok.ensures;
       windows = c.refit.ensures;
-      sent = c.edited-sent.result;
-      sending = c.edited-sent.ensures.sent;
+      sent = c.edited.new.out;
+      sending = c.edited.ensures.sent;
     } in
     rw (c.write.ensures.lines, c.in_ok-reserve.ensures.lines, c.entry-entry.ensures, c.as_slice.ensures.deliveries, c.len.ensures.count)
     (altered_stage g.C.Client c.self.invariant made (edited_next g.C.Client c.self.invariant e)

@@ -1,4 +1,5 @@
 use Rattle.std.proofs.Common.{ap, refl}
+use Rattle.tr_mail.specs.Mails.{Sending}
 use Rattle.tr_journal.specs.declared.steps.Step.TheVariants.{Key}
 use Rattle.tr_stage.specs.Making.{line_told}
 use Rattle.tr_stage.proofs.DeviceLemmas.{Before, IsMaking, IsTold, device_line, device_told, key, is_key, makes_line}
@@ -21,7 +22,8 @@ invariant_of-self g c =
       same = ap (λ v. v.opening) c.self.view_is;
       allowed = c.requires.allowed;
     } in
-    let told : IsTold b.parts (key c.args.time c.args.code) c.tree.result.now c.key-told.new.self c.key-told.result = record {
+    let after : Sending = record { mail = c.key-told.new.self; sent = c.key-told.new.out } in
+    let told : IsTold b.parts (key c.args.time c.args.code) c.tree.result.now after c.key-told.result = record {
       same = c.tree.ensures.value;
       ok = c.key-told.ensures.ok;
       allowed = c.key-told.ensures.allowed;
@@ -29,7 +31,7 @@ invariant_of-self g c =
       err = c.key-told.ensures.err;
     } in
     rw (c.write_told.ensures.lines)
-    (device_told g.C.Client b (Key c.args.time c.args.code) (key c.args.time c.args.code) c.tree.result.now c.key-told.new.self c.key-told.result m
+    (device_told g.C.Client b (Key c.args.time c.args.code) (key c.args.time c.args.code) c.tree.result.now after c.key-told.result m
     (is_key g.C.Client c.args.time c.args.code) told)
 
 pub returns-clause-made : goal.returns-clause-made
@@ -49,14 +51,15 @@ returns-clause-made g c =
       same = ap (λ v. v.opening) c.self.view_is;
       allowed = c.requires.allowed;
     } in
-    let told : IsTold b.parts (key c.args.time c.args.code) c.tree.result.now c.key-told.new.self c.key-told.result = record {
+    let after : Sending = record { mail = c.key-told.new.self; sent = c.key-told.new.out } in
+    let told : IsTold b.parts (key c.args.time c.args.code) c.tree.result.now after c.key-told.result = record {
       same = c.tree.ensures.value;
       ok = c.key-told.ensures.ok;
       allowed = c.key-told.ensures.allowed;
       fault = c.key-told.ensures.fault;
       err = c.key-told.ensures.err;
     } in
-    makes_line g.C.Client (line_told b.actor b.held (Key c.args.time c.args.code) c.key-told.result) c.self.view_is
-    (device_line g.C.Client b (Key c.args.time c.args.code) (key c.args.time c.args.code) c.tree.result.now c.key-told.new.self c.key-told.result m
+    makes_line g.C.Client (line_told b.actor b.held (Key c.args.time c.args.code) c.key-told.result c.key-told.new.out) c.self.view_is
+    (device_line g.C.Client b (Key c.args.time c.args.code) (key c.args.time c.args.code) c.tree.result.now after c.key-told.result m
     (is_key g.C.Client c.args.time c.args.code) told)
     refl c.write_told.ensures.lines c.write_told.ensures.reply

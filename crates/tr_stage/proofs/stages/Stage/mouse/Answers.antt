@@ -1,4 +1,5 @@
 use Rattle.std.proofs.Common.{ap, refl}
+use Rattle.tr_mail.specs.Mails.{Sending}
 use Rattle.tr_journal.specs.declared.steps.Step.TheVariants.{Mouse}
 use Rattle.tr_stage.specs.Making.{line_told}
 use Rattle.tr_stage.proofs.DeviceLemmas.{Before, IsMaking, IsTold, device_line, device_told, mouse, is_mouse, makes_line}
@@ -21,7 +22,8 @@ invariant_of-self g c =
       same = ap (λ v. v.opening) c.self.view_is;
       allowed = c.requires.allowed;
     } in
-    let told : IsTold b.parts (mouse c.args.time c.args.button c.args.down) c.tree.result.now c.mouse-told.new.self c.mouse-told.result = record {
+    let after : Sending = record { mail = c.mouse-told.new.self; sent = c.mouse-told.new.out } in
+    let told : IsTold b.parts (mouse c.args.time c.args.button c.args.down) c.tree.result.now after c.mouse-told.result = record {
       same = c.tree.ensures.value;
       ok = c.mouse-told.ensures.ok;
       allowed = c.mouse-told.ensures.allowed;
@@ -30,7 +32,7 @@ invariant_of-self g c =
     } in
     rw (c.write_told.ensures.lines)
     (device_told g.C.Client b (Mouse c.args.time c.args.button c.args.down) (mouse c.args.time c.args.button c.args.down)
-    c.tree.result.now c.mouse-told.new.self c.mouse-told.result m
+    c.tree.result.now after c.mouse-told.result m
     (is_mouse g.C.Client c.args.time c.args.button c.args.down) told)
 
 pub returns-clause-made : goal.returns-clause-made
@@ -50,15 +52,16 @@ returns-clause-made g c =
       same = ap (λ v. v.opening) c.self.view_is;
       allowed = c.requires.allowed;
     } in
-    let told : IsTold b.parts (mouse c.args.time c.args.button c.args.down) c.tree.result.now c.mouse-told.new.self c.mouse-told.result = record {
+    let after : Sending = record { mail = c.mouse-told.new.self; sent = c.mouse-told.new.out } in
+    let told : IsTold b.parts (mouse c.args.time c.args.button c.args.down) c.tree.result.now after c.mouse-told.result = record {
       same = c.tree.ensures.value;
       ok = c.mouse-told.ensures.ok;
       allowed = c.mouse-told.ensures.allowed;
       fault = c.mouse-told.ensures.fault;
       err = c.mouse-told.ensures.err;
     } in
-    makes_line g.C.Client (line_told b.actor b.held (Mouse c.args.time c.args.button c.args.down) c.mouse-told.result) c.self.view_is
+    makes_line g.C.Client (line_told b.actor b.held (Mouse c.args.time c.args.button c.args.down) c.mouse-told.result c.mouse-told.new.out) c.self.view_is
     (device_line g.C.Client b (Mouse c.args.time c.args.button c.args.down) (mouse c.args.time c.args.button c.args.down)
-    c.tree.result.now c.mouse-told.new.self c.mouse-told.result m
+    c.tree.result.now after c.mouse-told.result m
     (is_mouse g.C.Client c.args.time c.args.button c.args.down) told)
     refl c.write_told.ensures.lines c.write_told.ensures.reply

@@ -2,7 +2,7 @@ use Rattle.std.proofs.Common.{ap, refl}
 use Rattle.std.proofs.lemmas.Bool.{and_right}
 use Rattle.tr_region.specs.Points.{holds}
 use Rattle.tr_spot.specs.Spots.{spot}
-use Rattle.tr_surface.specs.Surfaces.{is_frame}
+use Rattle.tr_surface.specs.Surfaces.{is_frame, is_bad}
 use Rattle.tr_journal.specs.declared.steps.Step.TheVariants.{PaintFrame}
 use Rattle.tr_stage.specs.Stages.{Parts}
 use Rattle.tr_stage.proofs.PartLemmas.{kept_others}
@@ -42,4 +42,4 @@ pub returns-clause-others : goal.returns-clause-others
 returns-clause-others g c =
     let was = c.self.inside.surface in
     kept_others g.C.Client PaintFrame c.paint_frame.new.self.screen c.self.view_is c.self.invariant
-    (λ p on still. c.in_ok-paint_frame.ensures.others p on (and_right (holds was.bad p) (is_frame (spot was.tree p)) still))
+    (λ p on still. c.in_ok-paint_frame.ensures.others p on (and_right (is_bad was p) (is_frame (spot was.tree p)) still))

@@ -1,11 +1,16 @@
-use Rattle.std.proofs.Common.{◌≡◌, [], sym, subst, ap, refl}
+use Rattle.std.proofs.Common.{◌≡◌, ◌<◌, ℕ, [], sym, subst, ap, refl, ◌∙◌}
+use Rattle.tr_forest.specs.Nodes.{leaf_count}
+use Rattle.tr_tree.specs.Trees.{Seen}
+use Rattle.tr_spot.specs.Spots.{is_in_leaf, spot}
+use Rattle.tr_journal.specs.Openings.{tree_of}
+use Rattle.tr_machine.specs.Replays.{replay}
 use Rattle.tr_journal.specs.declared.steps.Step.TheVariants.{Repaint}
 use Rattle.tr_machine.specs.States.{batch_of}
 use Rattle.tr_stage.specs.Stages.{Parts, StageView, state}
 use Rattle.tr_machine.specs.Sharing.{IsPaintedOf}
 use Rattle.tr_stage.proofs.DeviceLemmas.{Before, IsMaking}
 use Rattle.tr_stage.proofs.PaintLemmas.{leaf_within}
-use Rattle.tr_stage.proofs.SharingLemmas.{put_made}
+use Rattle.tr_stage.proofs.SharingLemmas.{part_visible, put_made}
 use Rattle.tr_stage.proofs.stages.Stage.put.Goals as goal
 
 pub clear-requires-after_bounds : goal.clear-requires-after_bounds
@@ -54,3 +59,19 @@ invariant_of-self-2 g c =
       windows = c.clear.ensures;
       mail = refl;
     }))
+
+pub put-requires-clause-part : goal.put-requires-clause-part
+put-requires-clause-part g c = λ p held.
+    let m = replay g.C.Client c.self.inside.opening c.self.inside.journal.lines in
+    let leaf = c.args.leaf in
+    let painted = subst (λ (v : StageView _ _). IsPaintedOf g.C.Client (state g.C.Client v) leaf c.args.part.now c.args.pixels.now)
+    (sym c.self.view_is) c.requires.painted in
+    ap (λ (t : Seen). is_in_leaf leaf (spot t p)) c.self.invariant.kept.tree ∙ part_visible g.C.Client m leaf c.args.part.now painted.points p held
+
+pub put-requires-clause-leaf : goal.put-requires-clause-leaf
+put-requires-clause-leaf g c =
+    let kept = c.self.invariant.kept in
+    subst (λ (n : ℕ). c.args.leaf.0 < n)
+    (sym (ap (λ (t : Seen). leaf_count t.nodes) kept.tree ∙ c.self.invariant.like.leaves
+    ∙ ap (λ (v : StageView _ _). leaf_count (tree_of v.opening).nodes) c.self.view_is))
+    c.requires.allowed.values.within

@@ -24,9 +24,9 @@ invariant_of-self g c =
     (device_sent g.C.Client b (SetCage c.args.leaf c.args.cage) (cage_of c.args.leaf c.args.cage) m
     (is_cage g.C.Client c.args.leaf c.args.cage) (record {
       tree = c.tree.result.now;
-      mail = c.set_cage-sent.new.self;
-      sent = c.set_cage-sent.result;
+      mail = c.set_cage.new.self;
+      sent = c.set_cage.new.out;
       same = c.tree.ensures.value;
       allowed = refl;
-      makes = rw c.same_cage.ensures at c.set_cage-sent.ensures.sent;
+      makes = rw c.same_cage-same.ensures at c.set_cage.ensures.sent;
     }))

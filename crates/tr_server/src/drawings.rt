@@ -1,0 +1,52 @@
+ghost use Rattle.std.specs.Prelude.{◌≡◌, [], IfOk, IfSome};
+ghost use Rattle.tr_book.specs.Books.{view_of};
+ghost use Rattle.tr_server.specs.Drawings.{IsDrawnOf};
+
+use std::alloc::Global;
+use tr_base::{Env, NoMemory};
+use tr_client::{Client, Prepared};
+use tr_sketch::{Sketch, fits_screen};
+
+/// What is drawn of waiting commands outside of the tree's lock: a sketch of what they leave, over what they
+/// touch, and no commands over that content, with which the next ones begin.
+#[derive(Drop)]
+pub(crate) struct Drawn<C: Client> {
+    pub(crate) sketch: Sketch<C>,
+    pub(crate) spare: Prepared<C>,
+    pub(crate) ghost none: { spare.commands.items ≡ [] },
+}
+
+/// What is drawn of prepared commands: nothing where a screen has no room for it, or for want of memory.
+pub(crate) fn drawn_of<C: Client>(prepared: &Prepared<C>) -> Option<Drawn<C>>
+    ensures { IfSome result (λ d. IsDrawnOf C.Client (view_of prepared.now) d.sketch) }
+{
+    let clip = prepared.batch.hull();
+    if !fits_screen(prepared.size, &clip) {
+        return None;
+    }
+    let alloc = *prepared.commands.allocator();
+    let Ok(spare) = spare_of(alloc, prepared) else {
+        return None;
+    };
+    let Ok(content) = prepared.to.copy(alloc) else {
+        drop(spare);
+        return None;
+    };
+    let env = Env {
+        kind: prepared.kind,
+        font: &prepared.font,
+    };
+    let Ok(sketch) = Sketch::paint(alloc, content, &env, prepared.size, &clip) else {
+        drop(spare);
+        return None;
+    };
+    Some(Drawn { sketch, spare })
+}
+
+/// No commands over what prepared commands leave.
+fn spare_of<C: Client>(alloc: Global, prepared: &Prepared<C>) -> Result<Prepared<C>, NoMemory>
+    ensures { IfOk result (λ p. p.commands.items ≡ []) }
+{
+    let left = prepared.to.copy(alloc)?;
+    Prepared::fresh(alloc, left, &prepared.font, prepared.size, prepared.kind)
+}

@@ -1,0 +1,103 @@
+ghost use Rattle.std.specs.Prelude.{◌≡◌, ◌<◌, ◌++◌, ◌∷◌, [], true, Some, IsTrue, IfOk, OnOk, OnErr};
+ghost use Rattle.tr_forest.specs.Nodes.{leaf_count};
+ghost use Rattle.tr_spot.specs.Leaves.{leaf_size};
+ghost use Rattle.tr_journal.specs.Openings.{tree_of};
+ghost use Rattle.tr_journal.specs.Steps.{AreLevels, IsFor, IsLeaf, may, covers};
+ghost use Rattle.tr_machine.specs.States.{content_of};
+ghost use Rattle.tr_stage.specs.Making.{Makes};
+ghost use Rattle.tr_stage.specs.Sketching.{IsSketchOf, MayBePut};
+ghost use Rattle.tr_stage.specs.Stages.{KeepsOthers, line, state};
+
+use crate::lines::{By, write};
+use crate::paints::exposure_of;
+use crate::stages::Stage;
+use tr_base::{LeafId, NoMemory, Rect};
+use tr_client::Client;
+use tr_journal::{Actor, Answer, Reply, Step};
+use tr_levels::Held;
+use tr_sketch::Sketch;
+
+impl<C: Client> Stage<C> {
+    /// Makes a flush of a leaf, of whose present content somebody has a sketch: where that comes to the same, its
+    /// pixels are put onto the screen, and else what waits is executed, as by `step`. For want of memory nothing
+    /// is made.
+    pub fn flush_with(
+        &mut self,
+        actor: Actor,
+        level: Held,
+        leaf: LeafId,
+        sketch: &Sketch<C>,
+    ) -> Result<Reply, NoMemory>
+        requires may { may {M = C.Cmd} actor (Step.Flush leaf) ≡ true }
+        requires covers { covers {M = C.Cmd} level (Step.Flush leaf) ≡ true }
+        requires levels { AreLevels (tree_of self.old.opening).nodes level }
+        requires leaf { IsLeaf (tree_of self.old.opening).nodes leaf }
+        requires content { content_of C.Client (state C.Client self.old) leaf ≡ Some sketch.now.content }
+        requires font { sketch.now.font ≡ (state C.Client self.old).font }
+        requires size { sketch.now.size ≡ leaf_size (state C.Client self.old).tree leaf }
+        requires kind { sketch.now.kind ≡ (state C.Client self.old).tree.kind }
+        ensures opening { self.new.opening ≡ self.old.opening }
+        ensures ok { let made = Step.Flush leaf in OnOk result (self.new.journal ≡
+            self.old.journal ++ line C.Client self.old actor level made ∷ []) }
+        ensures reply { let made = Step.Flush leaf in
+            IfOk result (λ r. r ≡ (line C.Client self.old actor level made).entry.reply) }
+        ensures err_journal { OnErr result (self.new.journal ≡ self.old.journal) }
+        ensures err_screen { OnErr result (self.new.screen ≡ self.old.screen) }
+        ensures others { let t = (state C.Client self.old).tree in
+            OnOk result (KeepsOthers {M = C.Cmd} t (Step.Flush leaf) self.old.screen self.new.screen) }
+    {
+        self.flush_by(&By { actor, level }, leaf, sketch)
+    }
+
+    /// The same, by who makes it.
+    fn flush_by(&mut self, by: &By, leaf: LeafId, sketch: &Sketch<C>) -> Result<Reply, NoMemory>
+        requires allowed { let t = (tree_of self.old.opening).nodes in
+            IsFor {M = C.Cmd} t by.now.actor by.now.level (Step.Flush leaf) }
+        requires shows { IsSketchOf C.Client (state C.Client self.old) leaf sketch.now }
+        ensures made { Makes C.Client self.old self.new by.now.actor by.now.level
+            (Step.Flush leaf) result }
+        ensures others { let t = (state C.Client self.old).tree in
+            OnOk result (KeepsOthers {M = C.Cmd} t (Step.Flush leaf) self.old.screen self.new.screen) }
+    {
+        let clip = sketch.clip();
+        if self.may_be_put(leaf, &clip)? {
+            self.put_sketch(by, leaf, sketch)
+        } else {
+            self.flush(by, leaf)
+        }
+    }
+
+    /// Whether the pixels of a clip of a leaf's window may be put in place of a flush, as far as is looked at.
+    fn may_be_put(&self, leaf: LeafId, clip: &Rect) -> Result<bool, NoMemory>
+        requires { leaf.0 < leaf_count (tree_of self.now.opening).nodes }
+        ensures { IfOk result (λ b. IsTrue b →
+            MayBePut C.Client (state C.Client self.now) leaf clip.now) }
+    {
+        // Called for what it tells the prover: that the surface is one.
+        let _ = self.surface.tree();
+        let exposure = exposure_of(&self.surface, leaf)?;
+        Ok(self.windows.is_covered(leaf, &exposure, clip))
+    }
+
+    /// Makes a flush by the pixels of a sketch, which may be put in its place.
+    fn put_sketch(&mut self, by: &By, leaf: LeafId, sketch: &Sketch<C>) -> Result<Reply, NoMemory>
+        requires allowed { let t = (tree_of self.old.opening).nodes in
+            IsFor {M = C.Cmd} t by.now.actor by.now.level (Step.Flush leaf) }
+        requires shows { IsSketchOf C.Client (state C.Client self.old) leaf sketch.now }
+        requires may { MayBePut C.Client (state C.Client self.old) leaf sketch.now.clip }
+        ensures made { Makes C.Client self.old self.new by.now.actor by.now.level
+            (Step.Flush leaf) result }
+        ensures others { let t = (state C.Client self.old).tree in
+            OnOk result (KeepsOthers {M = C.Cmd} t (Step.Flush leaf) self.old.screen self.new.screen) }
+    {
+        self.journal.reserve(1)?;
+        // Called, here and below, for what it tells the prover: that the surface is one.
+        let _ = self.surface.tree();
+        let clip = sketch.clip();
+        self.surface.put_visible(leaf, &clip, sketch.pixels());
+        let _ = self.surface.tree();
+        self.windows.clear(leaf);
+        let entry = by.entry(Step::Flush { leaf }, Answer::Done, 0);
+        Ok(write(&mut self.journal, entry, &[]))
+    }
+}
