@@ -42,12 +42,6 @@ kept_apart xs ys k x at apart so_far =
     (so_far ∙ sym (take-take k (length xs) ys (omega arith)))
     (λ e. apart (sym (slice_get-take (length xs) ys k low) ∙ sym e ∙ at))
 
--- up to the last
-pub kept_all : {A : Type 0} (xs ys : List A) (k : ℕ) → k ≡ length xs → take k xs ≡ take k ys → xs ≡ take (length xs) ys
-kept_all xs ys k all so_far =
-    let same : take (length xs) xs ≡ take (length xs) ys = rw (← all) so_far in
-    sym (take_all (length xs) xs (omega arith)) ∙ same
-
 through_up_to : {M : Type 0} (list steps : List (Step M)) (entries : List (Entry M)) (same : ℕ) (apart : Option ℕ) → IsUpTo list steps entries same apart
     → apart ≡ None → same ≡ length list → list ≡ steps
 through_up_to list steps entries same None first is all =

@@ -1,8 +1,7 @@
 -- What stands at the places of lists, and where two lists differ first.
-use Rattle.std.proofs.Common.{◌≡◌, ◌≢◌, ℕ, zero, suc, ◌+◌, ◌-◌, ◌<◌, ◌≤◌, List, [], ◌∷◌, ◌++◌, Option, Some, None, take, length}
-use Rattle.std.proofs.Common.{ap, inl, inr, refl, sym, ◌∙◌, arith}
+use Rattle.std.proofs.Common.{◌≡◌, ◌≢◌, ℕ, zero, suc, ◌+◌, ◌-◌, ◌<◌, List, [], ◌∷◌, ◌++◌, Option, Some, None, take, length}
+use Rattle.std.proofs.Common.{ap, refl, arith}
 use Rattle.std.specs.Prelude.{IsSome, slice_get}
-use Rattle.std.proofs.lemmas.Bool.{cases_order}
 use Rattle.tr_journal.specs.Openings.{DifferAt}
 use Rattle.tr_journal.proofs.OpeningLemmas.{some_within}
 use Rattle.tr_journal.specs.Differences.{DifferIn}
@@ -51,18 +50,3 @@ differ_in_here xs ys k x y first made found =
 -- lists that differ aren't the same
 pub differ_unlike : {A : Type 0} (xs ys : List A) (place : ℕ) → DifferAt xs ys place → xs ≡ ys → ⊥
 differ_unlike xs ys place differ is = differ.there (ap (λ l. slice_get l (place - 1)) is)
-
--- what lists with the same longer front have at a place
-front_same : {A : Type 0} (xs ys : List A) (k n : ℕ) → k < n → take n xs ≡ take n ys → slice_get xs k ≡ slice_get ys k
-front_same xs ys k n low same = sym (slice_get-take n xs k low) ∙ ap (λ l. slice_get l k) same ∙ slice_get-take n ys k low
-
--- lists differ first at one place
-pub one_place : {A : Type 0} (xs ys : List A) (p q : ℕ) → DifferAt xs ys p → DifferAt xs ys q → p ≡ q
-one_place xs ys p q first other =
-    let low : 1 ≤ p = first.counted in
-    let least : 1 ≤ q = other.counted in
-    elim (cases_order p q) [
-      | inl same ↦ same
-      | inr (inl less) ↦ absurd (first.there (front_same xs ys (p - 1) (q - 1) (omega arith) other.before))
-      | inr (inr less) ↦ absurd (other.there (front_same xs ys (q - 1) (p - 1) (omega arith) first.before))
-    ]

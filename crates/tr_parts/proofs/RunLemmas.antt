@@ -1,6 +1,5 @@
 -- Steps that are made one after another, and reports.
-use Rattle.std.proofs.Common.{◌≡◌, ℕ, ◌+◌, ◌<◌, Bool, true, false, List, [], ◌∷◌, ◌++◌, length, take, get_or, refl, sym, ap, subst, ◌∙◌, append_assoc}
-use Rattle.std.proofs.lemmas.List.{take_more}
+use Rattle.std.proofs.Common.{◌≡◌, ◌+◌, Bool, true, false, List, [], ◌∷◌, ◌++◌, length, refl, sym, ap, subst, ◌∙◌}
 use Rattle.tr_base.proofs.RectLemmas.{false-true}
 use Rattle.tr_client.specs.declared.clients.Client.{Ghosts}
 use Rattle.tr_forest.specs.Nodes.{leaf_count}
@@ -15,7 +14,6 @@ use Rattle.tr_journal.specs.declared.steps.Step.TheVariants as steps
 use Rattle.tr_journal.specs.Actors.{is_maker, steps_of}
 use Rattle.tr_journal.specs.Journals.{JournalLine}
 use Rattle.tr_journal.specs.Steps.{stated}
-use Rattle.tr_journal.proofs.ActorLemmas.{steps_of-append}
 use Rattle.tr_machine.specs.States.{State}
 use Rattle.tr_machine.specs.Replays.{line_of, lines_of, next, replay_from}
 use Rattle.tr_machine.specs.Settling.{settling, settling_lines}
@@ -24,11 +22,10 @@ use Rattle.tr_machine.proofs.SettleLemmas.{settles, legal_settling}
 use Rattle.tr_machine.proofs.SettleLemmas as below
 use Rattle.tr_interleaves.specs.Interleaves.{IsSettled, steps_in}
 use Rattle.tr_interleaves.specs.Stretches.{AreReports, HasNoMaker}
-use Rattle.tr_interleaves.proofs.StretchLemmas.{AreOthers, others, reports-append, steps_in-append}
+use Rattle.tr_interleaves.proofs.StretchLemmas.{AreOthers, others, reports-append}
 use Rattle.tr_stage.specs.Stages.{StageView, state}
 use Rattle.tr_stage.specs.Standings.{Stands}
 use Rattle.tr_run.specs.Runs.{reporting, run_lines}
-use Rattle.tr_parts.specs.Turns.{HasRun}
 
 -- ---- one step more
 
@@ -44,49 +41,12 @@ abbrev is_dump : {M : Type 0} → Step M → Bool
 is_dump (steps.Report queries.Dump) = true
 is_dump step = false
 
--- no step was made since
-pub run_same : {C M : Type 0} (s now new : StageView C M) (made : List (Actor × Step M)) → HasRun s now made → new.opening ≡ now.opening →
-    new.journal ≡ now.journal → HasRun s new made
-run_same s now new made so_far opening journal = record {
-  lines = so_far.lines;
-  opening = opening ∙ so_far.opening;
-  journal = journal ∙ so_far.journal;
-  made = so_far.made;
-  player = so_far.player;
-}
-
 module _ {C M : Type 0} (client : Ghosts C M) where
   -- from one stage to the next a step was made, by a leaf's actor or the desk
   pub record HasMade (now new : StageView C M) (made : Actor × Step M) : Type 0 where
     pub maker : is_maker made.0 ≡ true
     pub opening : new.opening ≡ now.opening
     pub journal : new.journal ≡ now.journal ++ line_of client (state client now) made.0 (stated made.1) made.1 ∷ []
-
-  pub run_more : (s now new : StageView C M) (before : List (Actor × Step M)) (made : Actor × Step M) → HasRun s now before →
-      HasMade now new made → HasRun s new (before ++ made ∷ [])
-  run_more s now new before made so_far is = record {
-    lines = so_far.lines ++ line ∷ [];
-    opening = is.opening ∙ so_far.opening;
-    journal = is.journal ∙ ap (λ (ls : List (JournalLine M)). ls ++ line ∷ []) so_far.journal ∙ append_assoc s.journal so_far.lines (line ∷ []);
-    made = λ other of.
-        steps_in-append other so_far.lines (line ∷ [])
-        ∙ ap (λ (xs : List (Step M)). xs ++ steps_in other (line ∷ [])) (so_far.made other of)
-        ∙ sym (steps_of-append other before (made ∷ []));
-    player = steps_in-append actors.Player so_far.lines (line ∷ [])
-        ∙ ap (λ (xs : List (Step M)). xs ++ steps_in actors.Player (line ∷ [])) so_far.player
-        ∙ no_player made.0 made.1 is.maker;
-  }
-    where
-      line : JournalLine M
-      line = line_of client (state client now) made.0 (stated made.1) made.1
-
-  -- the steps so far, and one more
-  pub run_next : (s now new : StageView C M) (all : List (Actor × Step M)) (k : ℕ) (made : Actor × Step M) →
-      (k < length all) × (made ≡ get_or all k made) → HasRun s now (take k all) → HasMade now new made → HasRun s new (take (k + 1) all)
-  run_next s now new all k made at so_far is =
-      subst (λ (xs : List (Actor × Step M)). HasRun s new xs)
-      (ap (λ (x : Actor × Step M). take k all ++ x ∷ []) at.1 ∙ sym (take_more all k made at.0))
-      (run_more s now new (take k all) made so_far is)
 
   -- ---- reports
 

@@ -1,5 +1,5 @@
 -- What becomes of a stage on which many actors take turns.
-use Rattle.std.specs.Prelude.{◌≡◌, ◌<◌, ℕ, true, List, [], ◌++◌, length, take}
+use Rattle.std.specs.Prelude.{◌≡◌, true, List, [], ◌++◌}
 use Rattle.tr_forest.specs.Nodes.{Nodes}
 use Rattle.tr_journal.specs.declared.steps.Actor.{Actor}
 use Rattle.tr_journal.specs.declared.steps.Actor.TheVariants.{Player}
@@ -24,9 +24,3 @@ pub record HasRun {C M : Type 0} (s n : StageView C M) (steps : List (Actor × S
   pub journal : n.journal ≡ s.journal ++ lines
   pub made : (actor : Actor) → is_maker actor ≡ true → steps_in actor lines ≡ steps_of actor steps
   pub player : steps_in Player lines ≡ []
-
--- memory was wanting for one of the steps: those before it were made, and no later one
-pub record HasRunSome {C M : Type 0} (s n : StageView C M) (steps : List (Actor × Step M)) : Type 0 where
-  pub count : ℕ
-  pub fewer : count < length steps
-  pub ran : HasRun s n (take count steps)

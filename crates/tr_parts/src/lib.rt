@@ -2,8 +2,6 @@
 //! come to, whoever makes their steps.
 #![tactic(auto)]
 
-mod orders;
 mod parts;
 
-pub use orders::make_in_order;
 pub use parts::{begin_part, finish, stands};

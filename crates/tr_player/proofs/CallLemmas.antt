@@ -30,7 +30,6 @@ use Rattle.tr_player.specs.declared.statuses.Status.{Status}
 use Rattle.tr_player.specs.declared.statuses.Status.TheVariants.{NoMemory, WriteFault}
 use Rattle.tr_player.specs.Statuses.{code}
 use Rattle.tr_player.specs.Checks.{check_refusal}
-use Rattle.tr_player.specs.Responses.{IsDueOfShow, IsDueOfText}
 use Rattle.tr_player.specs.Answers.{most_read, OfBytesRead, IsReadThrough, or_else, refusal_for, text_for, usage_text, read_fault_text, refused_text, faulty_text, IsReadBack, IsWritten, IsByThreads, Due, usage, read_fault, refused, faulty, played, threaded, shown, status_of, text_of, SourceChange, IsDueOfBytes, IsDueOfStream, IsDue, SinkChange, HasPlayed, IsStageOf, IsDifferenceOf, IsDelivered, IsAnswered, ReadsNone, Yields, OfReader, OfScriptRead, OfOneThread, OfThreads, OfStreamRead, OfNumber, IsAllowed, of_one_thread}
 
 -- ---- the bytes that were read
@@ -125,28 +124,6 @@ abbrev IsShown : List ℕ → List ℕ → Type 0
 IsShown text bytes = (first_fault bytes ≡ None) × (text ≡ shown_text bytes)
 
 -- ---- the response to what was read
-
--- what is due for the text that was read is due for its bytes
-pub due_of_text : (command : Command) (from : SourceChange) (items : List ℕ) (due : Due) → OfBytesRead command from.left (λ bytes. items ≡ bytes) →
-    IsReadThrough command from.left from.left_new → IsDueOfText command items due → IsDueOfBytes command from due
-due_of_text command from items (refused r) e t d =
-    (t, of_read command _ _ (λ bytes (same : items ≡ bytes). subst (λ (b : List ℕ). refusal_for command b ≡ Some r) same d) from.left e)
-due_of_text command from items (played s text) e t d =
-    let is : IsRead command s items = (d.0, d.1) in
-    (t, of_read command _ _ (λ bytes (same : items ≡ bytes). subst (λ (b : List ℕ). IsRead command s b) same is) from.left e, d.2)
-due_of_text command from items (threaded s end) e t d =
-    let is : IsRead command s items = (d.0, d.1) in
-    (t, of_read command _ _ (λ bytes (same : items ≡ bytes). subst (λ (b : List ℕ). IsRead command s b) same is) from.left e, d.2)
-due_of_text command from items due e t d = absurd d
-
--- the same of a stream
-pub due_of_show : (from : SourceChange) (items : List ℕ) (due : Due) → OfBytesRead commands.Show from.left (λ bytes. items ≡ bytes) →
-    IsReadThrough commands.Show from.left from.left_new → IsDueOfShow items due → IsDueOfStream from due
-due_of_show from items (faulty f) e t d =
-    (t, of_read commands.Show _ _ (λ bytes (same : items ≡ bytes). subst (λ (b : List ℕ). first_fault b ≡ Some f) same d) from.left e)
-due_of_show from items (shown text) e t d =
-    (t, of_read commands.Show _ _ (λ bytes (same : items ≡ bytes). subst (λ (b : List ℕ). IsShown text b) same d) from.left e)
-due_of_show from items due e t d = absurd d
 
 -- what one thread wrote
 written_text : (command : Command) (s : Script) (text : List ℕ) → IsWritten command s text → (text ≡ text_for command s) × IsReadBack command s
