@@ -56,7 +56,9 @@ fn given<P: Played>(rt: &(impl Abort + AllocGlobal)) {
     let [told, _] = entries();
     stage.give(rt, A, TOLD);
     stage.give(rt, A, TOLD);
-    assert!(rt; stage.has_entry(rt, before, &told) && stage.has_entry(rt, before + 1, &told));
+    assert!(rt;
+        stage.has_entry(rt, before, &told) && stage.has_entry(rt, before.saturating_add(1), &told)
+    );
     has_rows(rt, &stage, &[&[1, 1, 2, 2]]);
     peeks(rt, &stage, (0, 2, 2));
     shows(rt, &mut stage, &[&[5, 5, 2, 2]]);
