@@ -1,4 +1,5 @@
--- The parser of the words, and what it finds. Private contracts alone cite these.
+-- Private contracts alone cite this file.
+-- The parser of the words, and what it finds.
 use Rattle.std.specs.Prelude.{ℕ, ◌==◌, Bool, true, List, [], ◌∷◌, Option, Some, None, codes, slice_index, option_and_then}
 use Rattle.clap.specs.Walk.{Row, Rule, Text, first_of}
 use Rattle.clap.specs.Simple.{App, new_app, new_rule, new_shape, on_top, with_rule, with_subcommand}

@@ -1,4 +1,5 @@
--- Chunks: lines of a part that are read apart from those before them. Private contracts alone cite this file.
+-- Private contracts alone cite this file.
+-- Chunks: lines of a part that are read apart from the lines before them.
 use Rattle.std.specs.Prelude.{◌≡◌, ℕ, ◌+◌, ◌*◌, ◌/◌, ◌%◌, ◌<◌, min, ⊤, ◌⊎◌, Option, Some, None, List, All, ◌++◌, length, take, slice_index_or}
 use Rattle.std.specs.List.{flat_map}
 use Rattle.std.specs.Fork.{slice_chunk}

@@ -1,4 +1,5 @@
--- Only private contracts cite this file. What a command, and a batch, make of a screen.
+-- Private contracts alone cite this file.
+-- What a command, and a batch, make of a screen.
 use Rattle.std.specs.Prelude.{◌≡◌, ℕ, Bool, true, false, ◌&&◌, List, Some}
 use Rattle.tr_base.specs.declared.Point.{Point}
 use Rattle.tr_base.specs.Ops.{eff}

@@ -1,4 +1,5 @@
--- Only private contracts cite this file. What a command paints along a run of points.
+-- Private contracts alone cite this file.
+-- What a command paints along a run of points.
 use Rattle.std.specs.Prelude.{◌≡◌, ℕ, ◌+◌, ◌*◌, ◌<◌, pos, neg_ℤ, ◌+ℤ◌, ◌≤ℤ◌, ◌<ℤ◌, ◌/◌, ◌%◌, List, map, length, slice_index}
 use Rattle.std.specs.List.{range_with_len}
 use Rattle.tr_base.specs.declared.Point.{Point}

@@ -1,4 +1,5 @@
--- Only private contracts cite this file. Which visible points are unknown after a command, told with no pixels.
+-- Private contracts alone cite this file.
+-- Which visible points are unknown after a command, computed without pixels.
 use Rattle.std.specs.Prelude.{◌≡◌, Bool, true, false, ◌&&◌, ◌||◌, not, is_none, if◌then◌else◌, List}
 use Rattle.tr_base.specs.declared.Point.{Point}
 use Rattle.tr_base.specs.Rects.{Edges, before_shift, has_point}

@@ -1,4 +1,5 @@
--- The table of a forest's windows. Contracts of the crate's own functions alone cite it.
+-- Private contracts alone cite this file.
+-- The table of a forest's windows.
 use Rattle.std.specs.Prelude.{◌≡◌, ℕ, ◌<◌, List, Some, get_or, length}
 use Rattle.tr_base.specs.declared.NodeId.{NodeId}
 use Rattle.tr_forest.specs.Nodes.{Nodes, node, leaf_of, leaf_count}

@@ -1,4 +1,5 @@
--- How a text goes on with what is made with draws. Private contracts alone cite this.
+-- Private contracts alone cite this file.
+-- How a text is continued by what draws make.
 use Rattle.std.specs.Prelude.{ℕ, List, ◌++◌}
 use Rattle.tr_gen.specs.Draws.{Drawing, ◌>>=◌, Made, give}
 use Rattle.tr_gen.specs.Scripts.{text_of}

@@ -1,4 +1,5 @@
--- For the crate's own functions: how great sums of wishes are.
+-- Private contracts alone cite this file.
+-- How great sums of wishes can be.
 use Rattle.std.specs.Prelude.{ℕ, ◌≤◌}
 use Rattle.tr_hv.specs.declared.places.Wishes.{Wishes}
 

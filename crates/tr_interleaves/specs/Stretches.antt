@@ -1,4 +1,3 @@
--- Private contracts alone cite this file.
 -- What lines of a journal are while the parts of a script are played one after another.
 use Rattle.std.specs.Prelude.{◌≡◌, ⊤, false, List, [], ◌∷◌, map}
 use Rattle.tr_client.specs.declared.clients.Client.{Ghosts}

@@ -1,4 +1,5 @@
--- What an opening keeps beside its items. Contracts of the crate's own functions alone cite it.
+-- Private contracts alone cite this file.
+-- What an opening keeps beside its items.
 use Rattle.std.specs.Prelude.{◌≡◌, ℕ, suc, ◌+◌, ◌≤◌, List, [], ◌∷◌, All, is_none, map, count_by, length}
 use Rattle.tr_forest.specs.Nodes.{Nodes, leaf_count}
 use Rattle.tr_tree.specs.Trees.{Seen}

@@ -1,4 +1,5 @@
--- What lanes do to a pixel. Only contracts of private functions cite this.
+-- Private contracts alone cite this file.
+-- What lanes do to a pixel.
 use Rattle.std.specs.Prelude.{◌≡◌, ℕ, ◌<◌, ◌^◌, ◌==◌, ◌||◌, Bool, if◌then◌else◌, bit_and, bit_or, bit_xor}
 use Rattle.tr_kernel.specs.declared.lanes.Step.{Step}
 use Rattle.tr_kernel.specs.declared.lanes.Steps.{Steps}

@@ -1,4 +1,5 @@
--- Which cages are bounded. Contracts of the crate's own functions alone cite it.
+-- Private contracts alone cite this file.
+-- Which cages are bounded.
 use Rattle.std.specs.Prelude.{◌≡◌, Bool, true, false}
 use Rattle.tr_base.specs.declared.LeafId.{LeafId}
 use Rattle.tr_cage.specs.declared.Cage.{Cage}

@@ -1,4 +1,5 @@
--- For the crate's own functions: the running place.
+-- Private contracts alone cite this file.
+-- Where the next child goes while children are placed one after another.
 use Rattle.std.specs.Prelude.{ℕ, ◌+◌, min, max, nat_le, if◌then◌else◌}
 use Rattle.tr_pack.specs.declared.packs.Pen.{Pen}
 

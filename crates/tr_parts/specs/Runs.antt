@@ -1,4 +1,3 @@
--- Private contracts alone cite this file.
 -- What becomes of a run while parts are played in it.
 use Rattle.std.specs.Prelude.{◌≡◌, ℕ, Bool, if◌then◌else◌, List, [], ◌∷◌}
 use Rattle.tr_client.specs.declared.clients.Client.{Ghosts}

@@ -1,3 +1,4 @@
+-- Private contracts alone cite this file.
 -- What becomes of a stage on which many actors take turns.
 use Rattle.std.specs.Prelude.{◌≡◌, true, List, [], ◌++◌}
 use Rattle.tr_forest.specs.Nodes.{Nodes}

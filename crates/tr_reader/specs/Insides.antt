@@ -1,4 +1,5 @@
--- What a reader keeps. Contracts of the crate's own functions alone cite it.
+-- Private contracts alone cite this file.
+-- What a reader keeps.
 use Rattle.std.specs.Prelude.{◌≡◌, List, [], Option, Some, None}
 use Rattle.tr_journal.specs.declared.Item.{Item}
 use Rattle.tr_widget.specs.declared.Widget.{Widget}

@@ -1,3 +1,4 @@
+-- Private contracts alone cite this file.
 -- Which points an operation on two sets keeps.
 use Rattle.std.specs.Prelude.{Bool, not, ◌&&◌, ◌||◌}
 use Rattle.tr_region.specs.declared.operations.Operation.{Operation}

@@ -1,4 +1,5 @@
--- Only private contracts cite this file. The places of rectangles and points in a canonical list.
+-- Private contracts alone cite this file.
+-- The places of rectangles and points in a canonical list.
 use Rattle.std.specs.Prelude.{Bool, int_le, ◌&&◌, ◌||◌}
 use Rattle.tr_base.specs.declared.Point.{Point}
 use Rattle.tr_base.specs.Rects.{Edges}

@@ -1,4 +1,5 @@
--- Private contracts alone cite this: the order of a region's rectangles, and those of one row.
+-- Private contracts alone cite this file.
+-- The order of a region's rectangles, and those of one row.
 use Rattle.std.specs.Prelude.{◌≡◌, ℕ, ◌≤◌, ℤ, ◌⊎◌, ◌≤ℤ◌, ◌<ℤ◌, List, [], ◌∷◌, length}
 use Rattle.std.specs.List.{AllByRecursion, AllWithin}
 use Rattle.tr_base.specs.Rects.{Edges}

@@ -1,4 +1,5 @@
--- Only private contracts cite this file. How a region stores its list.
+-- Private contracts alone cite this file.
+-- How a region stores its list.
 use Rattle.std.specs.Prelude.{◌≡◌, int_lt, if◌then◌else◌, List, [], ◌∷◌}
 use Rattle.tr_base.specs.Rects.{Edges}
 use Rattle.tr_region.specs.Bands.{IsCanonical}

@@ -1,3 +1,4 @@
+-- Private contracts alone cite this file.
 -- Which points a walk over the rows of a region has met.
 use Rattle.std.specs.Prelude.{ℕ, pos, Bool, ◌&&◌, List}
 use Rattle.std.specs.Ordering.{int_eq}

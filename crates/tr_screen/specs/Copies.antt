@@ -1,4 +1,5 @@
--- Private contracts alone cite this: what a copy within a row of pixels does.
+-- Private contracts alone cite this file.
+-- What a copy within a row of pixels does.
 use Rattle.std.specs.Prelude.{◌≡◌, ℕ, ◌+◌, ◌<◌, ◌≤◌, List, slice_index}
 
 -- the n pixels at `to` are those that were at `from`, and all others stay

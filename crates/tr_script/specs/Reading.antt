@@ -1,4 +1,5 @@
--- What the readers of lines answer. Contracts of the crate's own functions alone cite this file.
+-- Private contracts alone cite this file.
+-- What the readers of lines answer.
 use Rattle.std.specs.Prelude.{◌≡◌, ℕ, List, [], ◌∷◌, ◌++◌, Bool, true, false, not, is_none, is_some, is_err, ◌||◌, if◌then◌else◌, codes, Option, Some, None, Result, Ok, Err, ⊤}
 use Rattle.tr_grammar.specs.declared.Code.{Code}
 use Rattle.tr_grammar.specs.declared.Code.TheVariants.{B1, B2, B3, B4, B5}

@@ -1,3 +1,4 @@
+-- Private contracts alone cite this file.
 -- What is drawn of the commands that wait in a window: a sketch of the content that they leave.
 use Rattle.std.specs.Prelude.{◌≡◌}
 use Rattle.tr_client.specs.declared.clients.Client.{Ghosts}

@@ -1,3 +1,4 @@
+-- Private contracts alone cite this file.
 -- Two trees of the same nodes.
 use Rattle.std.specs.Prelude.{◌≡◌, List, Option, Some, None, length}
 use Rattle.tr_base.specs.declared.NodeId.{NodeId}

@@ -1,4 +1,6 @@
--- Two trees between which a child has moved with all that lies below it, or has come in front of its siblings, and no other node has moved.
+-- Private contracts alone cite this file.
+-- Two trees between which a child has moved with all that lies below it, or has come in front of its siblings, and no other node has
+-- moved.
 use Rattle.std.specs.Prelude.{◌≡◌, Bool, true, false, Option, Some, None}
 use Rattle.tr_base.specs.declared.Point.{Point}
 use Rattle.tr_base.specs.declared.NodeId.{NodeId}

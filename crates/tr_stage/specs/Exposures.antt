@@ -1,4 +1,5 @@
--- For the crate's own functions: how a leaf's window stands on a screen, and a painting that may be executed in place of what waits for it.
+-- Private contracts alone cite this file.
+-- Where a leaf's window lies on a screen, and a painting that may be executed in place of the commands that wait for it.
 use Rattle.std.specs.Prelude.{◌≡◌, ℕ, true, List}
 use Rattle.tr_base.specs.declared.Point.{Point}
 use Rattle.tr_base.specs.declared.LeafId.{LeafId}

@@ -1,4 +1,5 @@
--- What a step makes of a stage. Contracts of the crate's own functions alone cite it.
+-- Private contracts alone cite this file.
+-- What a step makes of a stage.
 use Rattle.std.specs.Prelude.{◌≡◌, List, [], ◌∷◌, ◌++◌, length, Result, Ok, Err, OnOk, OnErr, IfOk}
 use Rattle.tr_base.specs.declared.errors.NoMemory.{NoMemory}
 use Rattle.tr_client.specs.declared.clients.Client.{Ghosts}

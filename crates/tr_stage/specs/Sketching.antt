@@ -1,3 +1,4 @@
+-- Private contracts alone cite this file.
 -- A sketch of a leaf's present content, and when its pixels may be put in place of what waits for the leaf.
 use Rattle.std.specs.Prelude.{◌≡◌, true, false, Some}
 use Rattle.tr_base.specs.declared.Point.{Point}

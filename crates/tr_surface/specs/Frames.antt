@@ -1,4 +1,5 @@
--- Only private contracts cite this file. The frames of all nodes, each with the points of it that are to be painted.
+-- Private contracts alone cite this file.
+-- The frames of all nodes, each with the points of it that are to be painted.
 use Rattle.std.specs.Prelude.{◌≡◌, true, ◌&&◌, ◌||◌, List, length}
 use Rattle.tr_base.specs.declared.Point.{Point}
 use Rattle.tr_base.specs.declared.NodeId.{NodeId}

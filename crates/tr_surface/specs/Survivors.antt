@@ -1,4 +1,5 @@
--- For the crate's own functions: what an edit of the tree leaves of the points of one node.
+-- Private contracts alone cite this file.
+-- What an edit of the tree leaves of the points of one node.
 use Rattle.std.specs.Prelude.{◌≡◌, ◌<◌, ⊤, ℕ, zero, suc, pos, Bool, true, false, not, ◌&&◌, ◌||◌, ◌==◌, if◌then◌else◌, List, [], Option, Some, None, length, get_or}
 use Rattle.tr_base.specs.declared.Point.{Point}
 use Rattle.tr_base.specs.declared.Size.{Size}

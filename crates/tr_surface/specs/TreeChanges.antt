@@ -1,4 +1,5 @@
--- Only private contracts cite this file. What a change of the tree covers.
+-- Private contracts alone cite this file.
+-- What a change of the tree covers.
 use Rattle.std.specs.Prelude.{◌≡◌, true, false, Option}
 use Rattle.tr_base.specs.declared.Point.{Point}
 use Rattle.tr_base.specs.declared.NodeId.{NodeId}

@@ -1,4 +1,5 @@
--- For the crate's own functions: filling the table of shapes from the lowest nodes upwards.
+-- Private contracts alone cite this file.
+-- Filling the table of shapes from the lowest nodes upwards.
 use Rattle.std.specs.Prelude.{◌≡◌, ◌⊎◌, true, List}
 use Rattle.tr_base.specs.declared.NodeId.{NodeId}
 use Rattle.tr_base.specs.declared.Shapes.{Shapes}

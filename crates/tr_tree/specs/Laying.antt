@@ -1,4 +1,5 @@
--- For the crate's own functions: a table of domains that is filled from the root downwards.
+-- Private contracts alone cite this file.
+-- A table of domains that is filled from the root downwards.
 use Rattle.std.specs.Prelude.{◌≡◌, ℕ, ◌*◌, ◌-◌, ◌<◌, ◌≤◌, pos, neg_ℤ, ◌≤ℤ◌, true, false, List, map, length, get_or, All}
 use Rattle.tr_base.specs.declared.NodeId.{NodeId}
 use Rattle.tr_base.specs.declared.Shapes.{Shapes}

@@ -1,4 +1,5 @@
--- For the crate's own functions: the tables of a tree.
+-- Private contracts alone cite this file.
+-- The tables of a tree.
 use Rattle.std.specs.Prelude.{◌≡◌, ℕ, ◌<◌, length, vec_len, vec_capacity}
 use Rattle.tr_base.specs.declared.NodeId.{NodeId}
 use Rattle.tr_base.specs.declared.Kind.{Kind}

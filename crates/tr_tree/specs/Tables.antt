@@ -1,4 +1,5 @@
--- For the crate's own functions: reading the tables of a tree.
+-- Private contracts alone cite this file.
+-- Reading the tables of a tree.
 use Rattle.std.specs.Prelude.{List, get_or}
 use Rattle.tr_base.specs.declared.NodeId.{NodeId}
 use Rattle.tr_base.specs.declared.Shapes.{Shapes}

@@ -1,4 +1,5 @@
--- For the crate's own functions: paint commands after which each point is known that was known before.
+-- Private contracts alone cite this file.
+-- Paint commands that keep known each point that was known before.
 use Rattle.std.specs.Prelude.{◌≡◌, ⊤, true}
 use Rattle.tr_base.specs.declared.Point.{Point}
 use Rattle.tr_base.specs.declared.Size.{Size}

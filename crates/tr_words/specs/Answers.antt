@@ -1,4 +1,4 @@
--- What the readers of words answer. BeginsNumber and Follows stand in private contracts alone.
+-- What the readers of words answer.
 use Rattle.std.specs.Prelude.{◌≡◌, ◌≤◌, ℕ, Bool, true, false, List, [], ◌∷◌, map, length, slice_index, Option, Some, None, Result, Ok, Err, ⊤}
 use Rattle.std.specs.Borrow.{Bor}
 use Rattle.tr_grammar.specs.declared.codes.Code.{Code}
@@ -26,11 +26,11 @@ abbrev pub Chooses : {X : Type 0} → List (List ℕ) → List ℕ → X → Opt
 Chooses ts w x None = is_one_of ts w ≡ false
 Chooses ts w x (Some y) = (is_one_of ts w ≡ true) × (y ≡ x)
 
--- a digit stands first, and 0 only alone
+-- the first byte is a digit, and a word that begins with 0 has no more bytes; cited in private contracts only
 abbrev pub BeginsNumber : List ℕ → Type 0
 BeginsNumber w = (48 ≤ slice_index w 0) × (slice_index w 0 ≤ 57) × (slice_index w 0 ≡ 48 → length w ≡ 1)
 
--- the text is what is left of a line when these words are
+-- these are the words of a text, which is the rest of a line; cited in private contracts only
 abbrev pub Follows : List (List ℕ) → List ℕ → Type 0
 Follows [] text = text ≡ []
 Follows (w ∷ ws) text = words_of text ≡ w ∷ ws
