@@ -124,9 +124,9 @@ impl<C: Client> Book<C> {
         self.handed += more;
     }
 
-    /// Gives the waiting commands away, as they are prepared, with their levels; the next ones are prepared over
-    /// what `fresh` has. They aren't counted until `count` is told of them: where they can't be handed over,
-    /// `take_back` lets them wait again.
+    /// Gives the waiting commands away, as they are prepared, with their levels. The next commands are
+    /// prepared over the content, font, size and kind of `fresh`. `count` counts the given commands once they
+    /// are handed over; if that fails, `take_back` lets them wait again.
     pub fn give(&mut self, fresh: Prepared<C>) -> (Prepared<C>, Vec<Held>)
         requires { fresh.commands.items ≡ [] }
         ensures prepared { self.new.prepared ≡ view_of fresh }

@@ -37,7 +37,8 @@ module _ {C M : Type 0} (client : Ghosts C M) where
     good p on h = by_tests (m.bad p) (is_frame (spot m.tree p)) refl refl h
       where
         by_tests : (b c : Bool) → m.bad p ≡ b → is_frame (spot m.tree p) ≡ c → (b && not c) ≡ false → pixel_of n.screen p ≡ shown client m p
-        by_tests true true bad frame k = done.painted p (bad_state client m s f.showing p ∙ bad) frame ∙ sym (colour_on_frame client (shown_of m) m (spot m.tree p) frame)
+        by_tests true true bad frame k =
+            done.painted p (bad_state client m s f.showing p ∙ bad) frame ∙ sym (colour_on_frame client (shown_of m) m (spot m.tree p) frame)
         by_tests true false bad frame k = absurd (false-true (sym k))
         by_tests false c fine frame k =
             done.others p on (ap (λ b. b && is_frame (spot m.tree p)) (bad_state client m s f.showing p ∙ fine)) ∙ f.showing.agrees.good p on fine

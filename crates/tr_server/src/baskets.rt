@@ -8,8 +8,8 @@ use std::sync::ledger::Share;
 use tr_book::Book;
 use tr_client::Client;
 
-/// What lies behind a window's lock: its book, the part of the ledger that counts what was handed over, and what
-/// was drawn of what waits, if that was. Contracts see the book.
+/// The data behind a window's lock: the book, the part of the ledger that counts the commands handed over,
+/// and a drawing of the commands that wait, if there is one. Contracts see the book.
 #[derive(Drop)]
 pub(crate) struct Basket<C: Client, L: Session> {
     pub(crate) book: Book<C>,

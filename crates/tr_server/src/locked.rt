@@ -170,8 +170,8 @@ impl<C: Client, L: Session> Locked<C, L> {
         }
     }
 
-    /// The actor of a pass flushes a leaf, of whose present content there is a sketch. For want of memory nothing
-    /// is made.
+    /// The actor of a pass flushes a leaf with a sketch of the leaf's present content. For want of memory no
+    /// step is made.
     fn flush_with(
         &mut self,
         pass: &mut Pass<C, L>,
@@ -240,7 +240,8 @@ impl<C: Client, L: Session> Locked<C, L> {
         Ok(())
     }
 
-    /// The same. Where what waited was drawn, the sketch is handed out: it is one of the leaf's present content.
+    /// Like `hand_over`. If the commands that waited were drawn, it also returns the sketch, which shows the
+    /// leaf's present content.
     fn hand_over_drawn(
         &mut self,
         leaf: LeafId,

@@ -76,8 +76,8 @@ impl<C: Client, L: Session> Window<C, L> {
         pass.post_into(self.leaf, &mut *basket, level, cmd)
     }
 
-    /// Draws what waits, under the window's lock alone: then it is handed over without being copied, and a flush that
-    /// follows puts what was drawn. It is a hint, and promises nothing.
+    /// Draws the waiting commands apart from the screen, under the window's lock alone. Handing over then
+    /// moves the commands, and a flush may put the drawn pixels. This is a hint: no clause promises anything.
     pub fn draw<R: Wait>(&self, rt: &R) {
         let mut guard = self.basket.lock(rt);
         let basket = &mut *guard;

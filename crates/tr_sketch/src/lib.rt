@@ -1,5 +1,5 @@
-//! The picture of a content over a part of its window, painted apart from any screen: whoever has one may put its
-//! pixels where the window lies, in place of paint commands that come to the same.
+//! The picture of a content over a part of its window, painted apart from any screen. Its owner may put the
+//! pixels into the window on a screen, in place of paint commands with the same effect.
 #![tactic(auto)]
 
 mod sketches;

@@ -23,8 +23,8 @@ use tr_surface::pixels_at;
 /// The longest side that a screen has.
 const LONGEST_SIDE: u32 = 1024;
 
-/// The picture of a content over a part of its window, for a font, the window's size and a kind of pixels. Its
-/// pixels are what they say: each is the colour of its point in the content's picture.
+/// The picture of a content over a part of its window, for a font, the window's size and a kind of pixels.
+/// Each pixel is the colour of its point in the content's picture.
 #[derive(Drop)]
 pub struct Sketch<C: Client> {
     content: C,

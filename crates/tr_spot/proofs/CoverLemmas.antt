@@ -42,7 +42,8 @@ skips test n (c ∷ cs) h = by_id c n
     off true e same = absurd (h (ap (λ b. cond b (Some c) (find test cs)) e ∙ ap (λ (k : NodeId). Some k) same))
     off false e same = e
 
-    here : c ≡ n → test c ≡ false → ((find test cs ≡ Some n → ⊥) → find test (without n cs) ≡ find test cs) → find test (without n (c ∷ cs)) ≡ find test (c ∷ cs)
+    here : c ≡ n → test c ≡ false → ((find test cs ≡ Some n → ⊥) → find test (without n cs) ≡ find test cs) →
+        find test (without n (c ∷ cs)) ≡ find test (c ∷ cs)
     here same none rest =
         ap (λ b. find test (cond (not b) (c ∷ without n cs) (without n cs))) (test_same c n same)
         ∙ rest (λ e. h (ap (λ b. cond b (Some c) (find test cs)) none ∙ e))
@@ -141,8 +142,8 @@ other_child f t new forest child hang p n out d e found =
     ∙ walk_stays f t new forest child hang p d (child_under new child d e))
 
 -- the same child is in front in both trees
-front_apart : (by : Point) (child : Option NodeId) (was is : Seen) → IsCarried by child was is → (p : Point) (n : NodeId) → lies_under is.nodes child n ≡ false →
-    ((d : NodeId) → child ≡ Some d → front is p (node is.nodes n).children ≡ Some d → ⊥) →
+front_apart : (by : Point) (child : Option NodeId) (was is : Seen) → IsCarried by child was is → (p : Point) (n : NodeId) →
+    lies_under is.nodes child n ≡ false → ((d : NodeId) → child ≡ Some d → front is p (node is.nodes n).children ≡ Some d → ⊥) →
     ((d : NodeId) → child ≡ Some d → front was p (node was.nodes n).children ≡ Some d → ⊥) →
     front is p (node is.nodes n).children ≡ front was p (node was.nodes n).children
 front_apart by child was is c p n out new old =
@@ -343,7 +344,8 @@ owns_apart by child was is c n p out mine = by_comes child c out (comes_upon is 
             ∙ walk_stays levels was is.nodes c.after o (hang_was by o was is c) p old.root e))
         top false e = e
 
-    by_comes : (o : Option NodeId) → IsCarried by o was is → lies_under is.nodes o n ≡ false → (b : Bool) → comes_upon is p o ≡ b → owns is p n ≡ not (comes_upon is p o)
+    by_comes : (o : Option NodeId) → IsCarried by o was is → lies_under is.nodes o n ≡ false → (b : Bool) → comes_upon is p o ≡ b →
+        owns is p n ≡ not (comes_upon is p o)
     by_comes None c out b e = same_owner None c out refl
     by_comes (Some k) c out true e = ap (λ b. b) (by_owns (owns is p n) refl) ∙ sym (ap not e)
       where

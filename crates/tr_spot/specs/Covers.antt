@@ -23,8 +23,8 @@ abbrev pub comes_upon : Seen → Point → Option NodeId → Bool
 comes_upon t p None = false
 comes_upon t p (Some child) = comes_to t p child
 
--- Each node has the same children in the same order in both trees, but for the child, which may stand elsewhere among them. The child and all
--- that lies below it have moved by so much, and all other nodes have stayed where they were.
+-- Each node has the same children in the same order in both trees, but for the child, which may have another place among them. The child
+-- and all that lies below it have moved by so much, and all other nodes have stayed where they were.
 pub record IsCarried (by : Point) (child : Option NodeId) (was is : Seen) : Type 0 where
   pub before : IsForest was.nodes
   pub after : IsForest is.nodes

@@ -18,9 +18,9 @@ use tr_journal::{Actor, Answer, Entry, Reply, Step};
 use tr_levels::{Held, Level};
 
 impl<C: Client> Stage<C> {
-    /// Commands that were prepared over the leaf's present content are handed over: one entry for each, in
-    /// their order, at the level with which it was posted and the window's. For want of memory nothing is
-    /// made.
+    /// Makes the commands that were prepared over the leaf's present content, in their order. The journal
+    /// gets one entry for each command, with the level at which it was posted and the window's. For want of
+    /// memory no step is made.
     pub fn take_over(
         &mut self,
         leaf: LeafId,
@@ -59,9 +59,9 @@ impl<C: Client> Stage<C> {
         Ok(())
     }
 
-    /// The same where what was prepared is given away. Where nothing waits for the leaf by now, nothing of it is
-    /// copied: the content, the commands and their patches are moved. For want of memory nothing is made, and what
-    /// was prepared is handed back.
+    /// Like `take_over`, but takes the prepared commands by value. If no paint commands wait for the leaf, it
+    /// moves the content, the commands and their patches, and copies none. For want of memory no step is
+    /// made, and the error has the prepared commands, unchanged.
     pub fn take_all(
         &mut self,
         leaf: LeafId,
@@ -114,8 +114,8 @@ impl<C: Client> Stage<C> {
         ensures err_prepared { IfErr result (λ p. p ≡ prepared) }
         ensures screen { self.new.screen ≡ self.old.screen }
     {
-        // Called for what they tell the prover: that the nodes are a forest, and that what the commands leave is
-        // a content.
+        // Called for what they tell the prover: that the nodes are a forest, and that the commands leave a
+        // content.
         let _ = self.surface.tree();
         let _kept = prepared.to.keeps(prepared.size, prepared.size);
         // Room is taken first, so that nothing can fail once the window has changed.

@@ -18,9 +18,9 @@ use tr_levels::Held;
 use tr_sketch::Sketch;
 
 impl<C: Client> Stage<C> {
-    /// Makes a flush of a leaf, of whose present content somebody has a sketch: where that comes to the same, its
-    /// pixels are put onto the screen, and else what waits is executed, as by `step`. For want of memory nothing
-    /// is made.
+    /// Makes the step `Flush` of a leaf, with a sketch of the leaf's present content. If the pixels of the
+    /// sketch are as good as the commands that wait, it puts them onto the screen; else it executes the
+    /// commands, as `step` does. For want of memory no step is made.
     pub fn flush_with(
         &mut self,
         actor: Actor,
@@ -67,7 +67,7 @@ impl<C: Client> Stage<C> {
         }
     }
 
-    /// Whether the pixels of a clip of a leaf's window may be put in place of a flush, as far as is looked at.
+    /// Whether pixels of a clip of a leaf's window may replace a flush. `false` promises nothing.
     fn may_be_put(&self, leaf: LeafId, clip: &Rect) -> Result<bool, NoMemory>
         requires { leaf.0 < leaf_count (tree_of self.now.opening).nodes }
         ensures { IfOk result (λ b. IsTrue b →

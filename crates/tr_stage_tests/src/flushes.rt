@@ -44,8 +44,8 @@ fn many_lines_are_flushed_as_one_by_one(rt: HostRuntime) {
     assert!(rt; flushed_at_once::<Tested>(&rt));
 }
 
-/// Whether a flush of many lines with a sketch shows what a flush after each of them does, answers and is written
-/// down as one, and leaves no point bad.
+/// Whether a flush of many lines with a sketch shows the same as a flush after each line, has the answer and
+/// the entry of a flush, and leaves no point bad.
 fn flushed_with_a_sketch<P: Played>(rt: &(impl Abort + AllocGlobal)) -> bool {
     let mut at_once: P = typescript(rt);
     let mut one_by_one: P = typescript(rt);

@@ -163,8 +163,9 @@ item_on t forest good own k d lt is p h =
     (ap (λ (r : List Edges). holds r p) (sym (is ∙ get_or_default good k d [] lt)) ∙ h))).on
 
 -- one node more
-pub count_more : (t : Seen) → IsForest t.nodes → t.size.wide ≤ 1024 → t.size.high ≤ 1024 → (good : List (List Edges)) → AreOwn t good → (k : ℕ) (d : List Edges) →
-    k < length good → d ≡ get_or good k d → count_on t.size (left_after t good k) ≡ count_on t.size (left_after t good (k + 1)) + count_in_square 1024 d
+pub count_more : (t : Seen) → IsForest t.nodes → t.size.wide ≤ 1024 → t.size.high ≤ 1024 → (good : List (List Edges)) → AreOwn t good →
+    (k : ℕ) (d : List Edges) → k < length good → d ≡ get_or good k d →
+    count_on t.size (left_after t good k) ≡ count_on t.size (left_after t good (k + 1)) + count_in_square 1024 d
 count_more t forest across down good own k d lt is =
     count_on-apart t.size (left_after t good k) (left_after t good (k + 1)) (λ p. holds d p) each
     ∙ ap (λ n. count_on t.size (left_after t good (k + 1)) + n) (sym (count_square t.size (λ p. holds d p) 1024 across down off))

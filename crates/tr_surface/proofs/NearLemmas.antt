@@ -94,7 +94,8 @@ shifted_reach e d is step = by_test (int_lt (e.west +ℤ d.h) (e.east +ℤ d.h) 
     south_least : neg_ℤ (pos 69632) ≤ℤ e.south
     south_least = least e.north e.south is.north is.high
 
-    by_test : (b : Bool) → AreInReach (cond b (record { west = e.west +ℤ d.h; east = e.east +ℤ d.h; north = e.north +ℤ d.v; south = e.south +ℤ d.v }) empty_rect)
+    by_test : (b : Bool) →
+        AreInReach (cond b (record { west = e.west +ℤ d.h; east = e.east +ℤ d.h; north = e.north +ℤ d.v; south = e.south +ℤ d.v }) empty_rect)
     by_test true = record {
       west = reach_within (e.west +ℤ d.h) (omega (arith, ints)) (omega (arith, ints));
       east = reach_within (e.east +ℤ d.h) (omega (arith, ints)) (omega (arith, ints));

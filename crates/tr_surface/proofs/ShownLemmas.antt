@@ -142,8 +142,8 @@ and_true true = refl
 and_true false = refl
 
 -- the bad points where some of the leaf's have become good
-pub bad_put : (s new : Shown) → IsShown s → IsShown new → (leaf : LeafId) (n : NodeId) → IsNode s.tree.nodes n → leaf_of (node s.tree.nodes n).kind ≡ Some leaf →
-    (part more : List Edges) → ((p : Point) → holds more p ≡ (holds (region_of s.good n) p || holds part p)) →
+pub bad_put : (s new : Shown) → IsShown s → IsShown new → (leaf : LeafId) (n : NodeId) → IsNode s.tree.nodes n →
+    leaf_of (node s.tree.nodes n).kind ≡ Some leaf → (part more : List Edges) → ((p : Point) → holds more p ≡ (holds (region_of s.good n) p || holds part p)) →
     ((p : Point) → holds part p ≡ true → is_in_leaf leaf (spot s.tree p) ≡ true) →
     new.tree ≡ s.tree → new.good ≡ set s.good n.0 more → (p : Point) → is_bad new p ≡ (is_bad s p && not (holds part p))
 bad_put s new is after leaf n inside its part more union within tree good p = by_leaf (is_in_leaf leaf (spot s.tree p)) refl

@@ -156,7 +156,8 @@ good_found k s is shown kin root moved good found = record { own = own; any = λ
         ∙ found_here k s is shown kin moved good found at.node_at at.is_node p at.mine
 
 -- where a node's good points come to, told by its own way and survivors
-pub goes_on_is : (k : Keeping) (was is : Seen) (moved : Option NodeId) (good : List (List Edges)) (n : NodeId) (by : Point) (survivors : Survivors) (left : Bool) (p : Point) →
+pub goes_on_is : (k : Keeping) (was is : Seen) (moved : Option NodeId) (good : List (List Edges)) (n : NodeId)
+    (by : Point) (survivors : Survivors) (left : Bool) (p : Point) →
     by ≡ way_from was is moved n → survivors ≡ survivors_from was is by n →
     left ≡ (holds (region_of good n) (before_shift p by) && has_survivor k survivors (from_corner (domain is n) p)) → left ≡ goes_on k was is moved good n p
 goes_on_is k was is moved good n by survivors left p way its e =

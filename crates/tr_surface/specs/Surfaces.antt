@@ -19,7 +19,8 @@ use Rattle.tr_tree.specs.Trees.{Seen}
 use Rattle.tr_spot.specs.Spots.{HasRoot, spot, is_in_leaf, is_spot_of, region_of}
 use Rattle.tr_spot.specs.Leaves.{leaf_corner}
 
--- what a contract sees of a surface: the tree of windows, the pixels of the screen, and of each node good points, which show what was painted last
+-- what a contract sees of a surface: the tree of windows, the pixels of the screen, and for each node its good points, which show what
+-- was painted last
 pub record Shown : Type 0 where
   pub tree : Seen
   pub screen : Picture

@@ -26,7 +26,8 @@ impl Surface {
     /// each, and makes these points good.
     pub fn put(&mut self, leaf: LeafId, part: &Region, pixels: &[u8]) -> Result<(), NoMemory>
         requires leaf { leaf.0 < leaf_count self.old.tree.nodes }
-        requires part { (p : Point) → holds part.now p ≡ true → is_in_leaf leaf (spot self.old.tree p) ≡ true }
+        requires part { (p : Point) → holds part.now p ≡ true →
+            is_in_leaf leaf (spot self.old.tree p) ≡ true }
         requires many { length pixels.now ≡ total_area part.now }
         ensures pixels { OnOk result (Repaints (holds part.now)
             (λ p. slice_index pixels.now (place_in part.now p)) self.old.screen self.new.screen) }

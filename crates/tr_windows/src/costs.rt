@@ -35,8 +35,9 @@ pub(crate) fn is_replaceable(waiting: &Batch, exposure: &Exposure) -> bool
     points_in(&clip) < waiting.cost() && keeps_all(waiting, exposure)
 }
 
-/// Whether pixels of the present picture, one for each point of a clip, may be put in place of what waits for a
-/// window, as far as is looked at: nothing is bad, no point is lost on the way, and all that waits lies in the clip.
+/// Whether pixels of the present picture, one for each point of a clip, may replace the commands that wait
+/// for a window: no point is bad, the commands lose no point, and they touch only points of the clip.
+/// `false` promises nothing.
 pub(crate) fn is_covered(waiting: &Batch, exposure: &Exposure, clip: &Rect) -> bool
     requires { IsWindowSize exposure.now.size }
     ensures { IsTrue result → (look : Look) → IsCovered look exposure.now clip.now waiting.now }

@@ -196,9 +196,9 @@ impl<C: Client> Windows<C> {
         self.windows[usize::from(leaf.0)].flushing(alloc, env, exposure)
     }
 
-    /// Whether pixels of a leaf's present picture, one for each point of a clip, may be put in place of what waits
-    /// for its window, as far as is looked at: nothing is bad, what waits would lose nothing, and all that it
-    /// would touch lies in the clip. The window stands so on the screen.
+    /// Whether pixels of a leaf's present picture, one for each point of a clip, may replace the commands
+    /// that wait for its window: no point is bad, the commands lose no point, and they touch only points of
+    /// the clip. The exposure says how the window lies on the screen. `false` promises nothing.
     pub fn is_covered(&self, leaf: LeafId, exposure: &Exposure, clip: &Rect) -> bool
         requires leaf { leaf.0 < length self.now }
         requires size { IsWindowSize exposure.now.size }

@@ -9,7 +9,8 @@ use Rattle.tr_spot.proofs.WayLemmas.{comes_root, comes_nowhere, comes_parent}
 use Rattle.tr_spot.proofs.windows.+reached_in.Goals as goal
 
 pub returns-then-is_root : goal.returns-then-is_root
-returns-then-is_root t c = holds_as c.within.result (λ p. holds c.args.part p && has_point c.whole.result p) (λ p. holds c.args.part p && comes_to c.args.tree.now p c.args.n)
+returns-then-is_root t c = holds_as c.within.result (λ p. holds c.args.part p && has_point c.whole.result p)
+    (λ p. holds c.args.part p && comes_to c.args.tree.now p c.args.n)
     (λ p. ap (λ b. holds c.args.part p && b) (ap (λ (e : Edges). has_point e p) (c.whole.ensures.edges ∙ ap whole_of c.size.ensures)
     ∙ sym (comes_root c.args.tree.now c.requires.forest p c.args.n (sym c.is_root.ensures ∙ c.if-is_root.true)))) c.within.ensures.points
 

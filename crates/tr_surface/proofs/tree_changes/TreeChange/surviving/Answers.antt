@@ -28,7 +28,8 @@ pub returns-in-All : goal.returns-in-All
 returns-in-All g c = IfOk-weaker c.moved_along.result _ _ (λ r h p.
     let s = c.args.self.now in
     let k = g.K.Keeper.keeping c.args.keeper.now in
-    h p ∙ and_all (holds (region_of s.good.now c.args.n) (before_shift p c.args.by)) (has_survivor k c.args.survivors (from_corner (domain s.is.now c.args.n) p))
+    h p
+    ∙ and_all (holds (region_of s.good.now c.args.n) (before_shift p c.args.by)) (has_survivor k c.args.survivors (from_corner (domain s.is.now c.args.n) p))
     (ap (λ (w : Survivors). has_survivor k w (from_corner (domain s.is.now c.args.n) p)) c.in-All.is)) c.moved_along.ensures
 
 pub returns-in-Ok : goal.returns-in-Ok
