@@ -21,16 +21,16 @@ use tr_journal::{Actor, Difference, Journal, Lists, Opening, Step};
 use tr_levels::Ladder;
 use tr_stage::Stage;
 
-/// Why a session gives no stage.
+/// Why `Server::close` returns no stage.
 #[derive(Drop)]
 pub enum CloseRefused<C: Client> {
     NoMemory,
-    /// The stage isn't what the passes say.
+    /// The stage differs from what the passes of the session say.
     Differs(Differs<C>),
 }
 
-/// A stage that isn't what the passes of its session say, with all that was compared, and the first
-/// difference. `Server::close` alone makes one.
+/// A stage that differs from what the passes of its session say, with all that was compared, and the first
+/// difference. Only `Server::close` makes one.
 #[derive(Drop)]
 pub struct Differs<C: Client> {
     difference: Difference<C::Cmd>,
@@ -63,7 +63,7 @@ impl<C: Client> Model for Differs<C> {
 }
 
 impl<C: Client> Differs<C> {
-    /// What differs first.
+    /// The first difference.
     pub fn difference(&self) -> &Difference<C::Cmd>
         ensures value { result.now ≡ self.now.difference }
         ensures invariant { IsDifference self.now }
@@ -71,14 +71,14 @@ impl<C: Client> Differs<C> {
         &self.difference
     }
 
-    /// The stage that was found.
+    /// The stage, as it was at the end of the session.
     pub fn stage(&self) -> &Stage<C>
         ensures { result.now ≡ self.now.stage }
     {
         &self.stage
     }
 
-    /// The opening of the server.
+    /// The opening with which the server began.
     pub fn opening(&self) -> &Opening<C>
         ensures { result.now ≡ self.now.opening }
     {
@@ -101,9 +101,9 @@ impl<C: Client> Differs<C> {
 }
 
 impl<C: Client, L: Session> Server<C, L> {
-    /// Ends the session: hands over what waits in each window, takes all passes back, and compares the stage
-    /// with what the server began with and with the steps that the passes say. All is spent, whatever it
-    /// answers.
+    /// Ends the session: hands over the commands that wait in each window, takes all passes back, and
+    /// compares the stage with the opening and journal with which the server began, and with the steps of
+    /// the passes. It consumes the server and the passes, whatever it returns.
     pub fn close<R: Wait>(self, rt: &R, passes: Passes<C, L>) -> Result<Stage<C>, CloseRefused<C>>
         requires { vec_len passes.workers ≡ L.leaves + 2 }
         ensures ok { let workers = passes.workers.items in

@@ -1,5 +1,5 @@
-//! A stage behind a lock, on which threads make steps: the tree's lock, a lock for each window behind which
-//! its client's commands wait, and the passes with which each actor makes its steps.
+//! A stage on which threads make steps: it has the tree's lock, a lock for each window, behind which the
+//! commands of the window's client wait, and a pass for each actor, with which the actor makes its steps.
 #![tactic(auto)]
 
 mod baskets;

@@ -12,8 +12,8 @@ use tr_client::Client;
 use tr_journal::{Actor, Step};
 use tr_levels::Held;
 
-/// The token of an actor in a session, with the steps that were made with it. It must be spent, which
-/// `Server::close` does.
+/// The token of an actor in a session, with the list of the steps that the actor made with it. It can't be
+/// dropped: `Server::close` consumes it.
 pub struct Pass<C: Client, L: Session> {
     pub(crate) actor: Actor,
     pub(crate) mine: Vec<Step<C::Cmd>>,
@@ -37,8 +37,8 @@ impl<C: Client, L: Session> Model for Pass<C, L> {
     ghost invariant = { λ p. p.share.parts ≡ 1 };
 }
 
-/// The passes of a session: in `workers` those of the leaves' clients, by the leaves' numbers, then the
-/// desk's, then the painter's.
+/// The passes of a session. `workers` has those of the leaves' clients, by the leaves' numbers, then the
+/// desk's, then the painter's; `player` is the player's.
 pub struct Passes<C: Client, L: Session> {
     pub workers: Vec<Pass<C, L>>,
     pub player: Pass<C, L>,
@@ -58,7 +58,7 @@ impl<C: Client, L: Session> Pass<C, L> {
         }
     }
 
-    /// Whose it is.
+    /// The actor that makes steps with it.
     pub fn actor(&self) -> Actor
         ensures { result ≡ self.now.actor }
     {

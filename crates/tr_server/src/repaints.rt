@@ -28,8 +28,8 @@ use tr_journal::Step;
 use tr_levels::{Held, Level};
 use tr_stage::Painted;
 
-/// So many bad points are painted sooner than threads are started that share them: where no more are bad,
-/// `Mu::repaint_shared` paints all windows in turn.
+/// Up to this many bad points, one thread paints faster than several, which must be started first. If no
+/// more points are bad, `Mu::repaint_shared` paints all windows in turn, on one thread.
 pub const FEW_POINTS: u32 = 1 << 18;
 
 impl<C: Client, L: Session> Locked<C, L> {

@@ -30,8 +30,8 @@ use tr_stage::Stage;
 /// How often somebody looks whether the tree's lock is free before he sleeps until it is.
 const MOST_LOOKS: u32 = 1000;
 
-/// A stage behind the tree's lock, and for each leaf a window, behind whose lock its client's commands
-/// wait. Contracts see what it began with.
+/// A stage behind the tree's lock, and for each leaf a window, behind whose lock the commands of its
+/// client wait. Contracts see the opening and the journal with which it began.
 #[derive(Drop)]
 pub struct Server<C: Client, L: Session> {
     pub(crate) alloc: Global,
@@ -57,8 +57,8 @@ impl<C: Client, L: Session> Model for Server<C, L> {
 }
 
 impl<C: Client, L: Session> Server<C, L> {
-    /// Starts a session on a stage: nothing waits in a window, and no pass was used. For want of memory the
-    /// stage is handed back.
+    /// Starts a session on a stage. No command waits in a window, and no step was made with a pass. For
+    /// want of memory it returns the stage.
     pub fn start(
         alloc: Global,
         blank: Blank,
@@ -93,7 +93,8 @@ impl<C: Client, L: Session> Server<C, L> {
         Ok((server, passes))
     }
 
-    /// Takes the tree's lock. What is a step by the server's opening is one on the stage.
+    /// Takes the tree's lock. The thread must hold no lock before. A step that is valid for the server's
+    /// opening is valid for the stage.
     pub fn enter<R: Wait>(&self, rt: &R, ladder: Ladder) -> Mu<'_, C, L>
         requires { ladder ≡ [] }
         ensures ids { AreAsMany (tree_of self.now.opening).nodes (tree_of result.opening).nodes }
@@ -142,7 +143,7 @@ impl<C: Client, L: Session> Server<C, L> {
         &self.windows[usize::from(leaf.0)]
     }
 
-    /// What it began with.
+    /// The opening with which it began.
     pub fn opening(&self) -> &Opening<C>
         ensures value { result.now ≡ self.now.opening }
         ensures invariant { HasIds L.nodes L.leaves self.now.opening }

@@ -24,8 +24,7 @@ use tr_client::Client;
 use tr_journal::Step;
 use tr_stage::{Painted, Stage};
 
-/// A leaf's window, lent out to be painted apart from the screen. While it is lent out the stage stays as
-/// it is.
+/// A leaf's window, lent to be painted apart from the screen. While it is lent, the stage can't change.
 #[derive(Drop)]
 pub struct Share<'a, C: Client> {
     leaf: LeafId,
@@ -46,7 +45,7 @@ impl<'a, C: Client> Model for Share<'a, C> {
 }
 
 impl<C: Client> Share<'_, C> {
-    /// Whose window it is.
+    /// The leaf whose window it is.
     pub fn leaf(&self) -> LeafId
         ensures { result ≡ self.now.leaf }
     {
@@ -65,16 +64,16 @@ impl<C: Client> Share<'_, C> {
 }
 
 impl<C: Client, L: Session> Mu<'_, C, L> {
-    /// A share for each leaf of which a visible point is bad and for which nothing waits, in the order of
-    /// their numbers. While one of them lives no step can be made.
+    /// A share for each leaf that has bad visible points and no waiting commands, in the order of the
+    /// leaves' numbers. While a share lives, no step can be made.
     pub fn shares(&self) -> Result<Vec<Share<'_, C>>, NoMemory>
         ensures { IfOk result (λ shares. shares.items ≡ spec.shares_of C.Client self.now) }
     {
         self.guard.shares()
     }
 
-    /// Puts a leaf's bad points that were painted onto the screen: the painter's repaint, at the leaf's
-    /// share alone. For want of memory nothing is made.
+    /// Puts a leaf's painted bad points onto the screen, while no command waits for the leaf. This is the
+    /// painter's step `Repaint`, at the leaf's share alone. For want of memory no step is made.
     pub fn put_painted(&mut self, pass: &mut Pass<C, L>, painted: Painted) -> Result<(), NoMemory>
         requires painter { pass.old.actor ≡ Painter }
         requires leaf { painted.leaf.0 < leaf_count (tree_of self.old.opening).nodes }
@@ -100,10 +99,10 @@ impl<C: Client, L: Session> Mu<'_, C, L> {
         locked.put_painted(pass, painted)
     }
 
-    /// Brings the screen up to date by way of shares: each leaf is flushed for which something waits; then
-    /// the bad points of all leaves are painted apart from the screen, side by side where they are many, and
-    /// put onto it leaf by leaf, each at its share alone; then the frames are painted, if a point of one is
-    /// bad. For want of memory the steps made so far stand.
+    /// Brings the screen up to date by way of shares. It flushes each leaf with waiting commands; paints
+    /// the bad points of all leaves apart from the screen, on several threads if they are more than
+    /// `FEW_POINTS`; puts them onto the screen leaf by leaf, each at its share alone; and paints the
+    /// frames, if a point of one is bad. For want of memory the steps made so far remain.
     pub fn repaint_shared<R: Threads + Sync>(
         &mut self,
         rt: &R,

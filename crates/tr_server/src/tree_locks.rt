@@ -21,7 +21,7 @@ use tr_journal::{Reply, Step};
 use tr_levels::{Held, Ladder, Level};
 use tr_stage::Stage;
 
-/// The tree's lock, taken. It must be given up by `leave`. Contracts see it as the stage.
+/// The tree's lock, while a thread holds it. Only `leave` releases it. Contracts see it as the stage.
 pub struct Mu<'a, C: Client, L: Session> {
     pub(crate) guard: MutexGuard<'a, Locked<C, L>>,
     pub(crate) is_taken: &'a AtomicBool,
@@ -45,8 +45,8 @@ impl<C: Client, L: Session> Mu<'_, C, L> {
         self.guard.stage()
     }
 
-    /// The desk, the painter or the player makes a step, at the tree's lock alone. For want of memory
-    /// nothing is made.
+    /// The desk, the painter or the player makes a step, at the tree's lock alone. For want of memory no
+    /// step is made.
     pub fn step(&mut self, pass: &mut Pass<C, L>, step: Step<C::Cmd>) -> Result<Reply, NoMemory>
         requires actor { is_client pass.old.actor ≡ false }
         requires may { may pass.old.actor step ≡ true }
@@ -72,8 +72,8 @@ impl<C: Client, L: Session> Mu<'_, C, L> {
         locked.step(pass, level, step)
     }
 
-    /// Hands over what waits in a window: each command, in their order, at the level with which it was
-    /// posted and the window's. For want of memory nothing is made, and the same commands wait.
+    /// Hands over the commands that wait in a window, in their order, each at the level with which it was
+    /// posted and the window's. For want of memory no command is handed over, and the same commands wait.
     pub fn hand_over<R: Wait>(&mut self, rt: &R, window: &Window<C, L>) -> Result<(), NoMemory>
         ensures opening { self.new.opening ≡ self.old.opening }
         ensures screen { self.new.screen ≡ self.old.screen }
@@ -91,8 +91,9 @@ impl<C: Client, L: Session> Mu<'_, C, L> {
         locked.hand_over(leaf, basket)
     }
 
-    /// Hands over what waits in a window, and makes a step of its client, at the tree's lock and the
-    /// window's. For want of memory the step isn't made; what was handed over stays handed over.
+    /// Hands over the commands that wait in a window, and makes a step of its client, at the tree's lock
+    /// and the window's. For want of memory the step isn't made, and either all of the commands were
+    /// handed over or none.
     pub fn client_step<R: Wait>(
         &mut self,
         rt: &R,
@@ -124,7 +125,7 @@ impl<C: Client, L: Session> Mu<'_, C, L> {
         locked.client_step(leaf, basket, pass, step)
     }
 
-    /// Gives the lock up.
+    /// Releases the lock, after which the thread holds none.
     pub fn leave(self) -> Ladder
         ensures { result ≡ [] }
     {

@@ -14,7 +14,7 @@ use tr_client::Client;
 use tr_journal::Step;
 use tr_levels::Ladder;
 
-/// A window, whose lock keeps the commands of its client that wait. Contracts see it as its leaf.
+/// A leaf's window. Its lock protects the waiting commands of its client. Contracts see it as the leaf.
 #[derive(Drop)]
 pub struct Window<C: Client, L: Session> {
     pub(crate) leaf: LeafId,
@@ -52,9 +52,9 @@ impl<C: Client, L: Session> Window<C, L> {
         self.leaf
     }
 
-    /// The window's client posts a command, under the window's lock alone: it waits until it is handed
-    /// over, which is then at the level that the caller holds now and the window's. For want of memory it
-    /// is let go.
+    /// The window's client posts a command, under the window's lock alone. The command waits until it is
+    /// handed over, at the level that the caller holds now and the window's. A client may post at most 64
+    /// commands before it makes a step under the tree's lock. For want of memory the command is dropped.
     pub fn act<R: Wait>(
         &self,
         rt: &R,
@@ -84,8 +84,9 @@ impl<C: Client, L: Session> Window<C, L> {
         basket.draw();
     }
 
-    /// Hands over what waits in the window, and makes a command of its client, at the tree's lock and the
-    /// window's. For want of memory the command isn't made; what was handed over stays handed over.
+    /// Hands over the commands that wait in the window, and makes one more of its client, at the tree's
+    /// lock and the window's. For want of memory this one isn't made, and either all of the waiting
+    /// commands were handed over or none.
     pub fn act_under<R: Wait>(
         &self,
         rt: &R,

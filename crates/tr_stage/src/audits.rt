@@ -10,9 +10,10 @@ use tr_client::Client;
 use tr_journal::{Apart, Difference, Journal, Lists, Opening};
 
 impl<C: Client> Stage<C> {
-    /// The first difference between what is handed in and what the stage has: its opening, the first
-    /// entries of its journal, which are to be those of `kept`, and behind them each actor's steps, which
-    /// are to be those of its list. What steps sent isn't compared, nor what the painter did.
+    /// Compares the stage with the arguments, and returns the first difference: the opening with
+    /// `opening`, the first entries of the journal with `kept`, and in the entries behind these each
+    /// actor's steps with the actor's list. It doesn't compare events that steps sent, nor the painter's
+    /// steps.
     pub fn audit(
         &self,
         opening: &Opening<C>,

@@ -15,7 +15,7 @@ pub(crate) struct By {
 }
 
 impl By {
-    /// The entry of a step that was made: what it answers, and how much it sent.
+    /// The entry of a step that was made, with its answer and the number of events that it sent.
     pub fn entry<M>(&self, step: Step<M>, answer: Answer, sent: usize) -> Entry<M>
         requires { sent ≤ 64 }
         ensures { result ≡ record {

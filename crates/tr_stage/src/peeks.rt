@@ -20,8 +20,8 @@ use tr_region::Region;
 use tr_screen::Screen;
 
 impl<C: Client> Stage<C> {
-    /// How far the screen lags behind. Of the pixels it looks at those of leaves for which something
-    /// waits, and at no others.
+    /// How far the screen lags behind: the numbers of bad points, of waiting paint commands and of stale
+    /// points. It reads only the pixels of leaves with waiting commands.
     pub fn peek(&self) -> Result<Peek3, NoMemory>
         ensures bad { IfOk result (λ peek. peek.bad ≡ spec.bad_count (state C.Client self.now)) }
         ensures waiting { IfOk result (λ peek.
@@ -39,7 +39,7 @@ impl<C: Client> Stage<C> {
         })
     }
 
-    /// How many points are bad.
+    /// How many points of the screen are bad.
     pub fn bad_count(&self) -> u32
         ensures { result ≡ spec.bad_count (state C.Client self.now) }
     {
@@ -48,8 +48,8 @@ impl<C: Client> Stage<C> {
         self.surface.bad_count()
     }
 
-    /// How many points are good, and don't have the colour that they are to have. Only points of leaves
-    /// for which something waits can be such ones.
+    /// How many points are good but don't have their right colour. Only leaves with waiting commands can
+    /// have such points.
     fn stale_count(&self) -> Result<u32, NoMemory>
         ensures { IfOk result (λ n. n ≡ spec.stale_count C.Client (state C.Client self.now)) }
     {

@@ -26,8 +26,7 @@ use tr_spot::leaf_size;
 use tr_tree::Tree;
 
 impl<C: Client> Stage<C> {
-    /// The pixels of the screen. Those that aren't as they are to be are bad, or a command waits that
-    /// touches them.
+    /// The pixels of the screen. A pixel that isn't right is bad, or a waiting command touches it.
     pub fn screen(&self) -> &Screen
         ensures value { result.now ≡ self.now.screen }
         ensures agrees { Agrees C.Client (state C.Client self.now) self.now.screen }
@@ -81,7 +80,7 @@ impl<C: Client> Stage<C> {
         self.windows.batch(leaf)
     }
 
-    /// The size of a leaf's window. That of a leaf that gets no place is 0 by 0.
+    /// The size of a leaf's window, which is 0 by 0 if the leaf gets no place.
     pub fn leaf_size(&self, leaf: LeafId) -> Size
         requires { leaf.0 < leaf_count (tree_of self.now.opening).nodes }
         ensures value { result ≡ leaf_size (state C.Client self.now).tree leaf }
@@ -98,7 +97,7 @@ impl<C: Client> Stage<C> {
         self.mail.inbox(leaf)
     }
 
-    /// The input devices, and what windows own.
+    /// The input devices, the owners of selections and the cages.
     pub fn desk(&self) -> &Desk
         ensures { result.now ≡ (state C.Client self.now).mail.desk }
     {
@@ -114,7 +113,7 @@ impl<C: Client> Stage<C> {
         &self.journal
     }
 
-    /// What it began with.
+    /// The opening with which the stage began.
     pub fn opening(&self) -> &Opening<C>
         ensures { result.now ≡ self.now.opening }
     {

@@ -19,9 +19,9 @@ use tr_journal::{Actor, Step};
 use tr_levels::{Held, Level};
 
 impl<C: Client> Stage<C> {
-    /// Brings the screen up to date: each leaf is repainted for which something waits or of which a
-    /// visible point is bad, in the order of their numbers, and then the frames are painted, if a point of
-    /// one is bad. For want of memory the steps made so far stand.
+    /// Brings the screen up to date: it repaints each leaf that has waiting commands or bad visible
+    /// points, in the order of the leaves' numbers, and then paints the frames, if a point of one is bad.
+    /// For want of memory the steps made so far remain.
     pub fn settle(&mut self) -> Result<(), NoMemory>
         ensures opening { self.new.opening ≡ self.old.opening }
         ensures ok { OnOk result (self.new.journal ≡
@@ -45,7 +45,7 @@ impl<C: Client> Stage<C> {
         Ok(())
     }
 
-    /// What holds of each stage, for what that tells the prover. It does nothing.
+    /// Tells the prover what holds of each stage. It does nothing.
     pub fn stands(&self)
         ensures invariant { Stands C.Client self.now }
     {
@@ -53,8 +53,8 @@ impl<C: Client> Stage<C> {
         let _size = self.surface.screen().size();
     }
 
-    /// The steps that settle it, for whoever makes them one by one. They are the painter's, under the tree's
-    /// lock.
+    /// The steps that `settle` makes, for a caller that makes them one by one: the painter's, under the
+    /// tree's lock.
     pub fn steps_to_settle(&self) -> Result<Vec<Step<C::Cmd>>, NoMemory>
         ensures steps { IfOk result (λ steps. steps.items ≡ settling C.Client (state C.Client self.now)) }
         ensures painters { IfOk result (λ steps.

@@ -31,7 +31,7 @@ impl<C: Client> Stage<C> {
         self.batch(leaf).len() != 0
     }
 
-    /// The flushes of the leaves for which something waits. They are the painter's, under the tree's lock.
+    /// A flush for each leaf with waiting commands: the painter's steps, under the tree's lock.
     pub fn steps_to_flush(&self) -> Result<Vec<Step<C::Cmd>>, NoMemory>
         ensures steps { IfOk result (λ steps. steps.items ≡ flushing C.Client (state C.Client self.now)) }
         ensures painters { IfOk result (λ steps.
@@ -47,7 +47,8 @@ impl<C: Client> Stage<C> {
         Ok(steps)
     }
 
-    /// The painting of the frames, if a point of one is bad. It is the painter's, under the tree's lock.
+    /// The step that paints the frames, if a point of one is bad, and else no step. It is the painter's,
+    /// under the tree's lock.
     pub fn steps_to_frame(&self) -> Result<Vec<Step<C::Cmd>>, NoMemory>
         ensures steps { IfOk result (λ steps. steps.items ≡ frame_steps (state C.Client self.now)) }
         ensures painters { IfOk result (λ steps.
@@ -60,7 +61,8 @@ impl<C: Client> Stage<C> {
         Ok(steps)
     }
 
-    /// Paints the bad points of each leaf that has some, apart from the screen.
+    /// Paints the bad points of each leaf that has some, apart from the screen, in the order of the
+    /// leaves' numbers.
     pub fn paint_each_bad(&self) -> Result<Vec<Painted>, NoMemory>
         ensures { let m = state C.Client self.now in
             IfOk result (λ all. ArePainted C.Client m (all_bad_leaves m) all.items) }

@@ -166,8 +166,8 @@ impl<C: Client> Stage<C> {
         Ok(())
     }
 
-    /// Puts a leaf's bad points that were painted onto the screen: the painter's repaint, at the leaf's
-    /// share alone. For want of memory nothing is made.
+    /// Puts a leaf's painted bad points onto the screen, while no command waits for the leaf. This is the
+    /// painter's step `Repaint`, at the leaf's share alone. For want of memory no step is made.
     pub fn put_painted(&mut self, painted: Painted) -> Result<(), NoMemory>
         requires leaf { painted.leaf.0 < leaf_count (tree_of self.old.opening).nodes }
         requires idle { batch_of C.Client (state C.Client self.old) painted.leaf ≡ [] }

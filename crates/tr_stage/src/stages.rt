@@ -25,7 +25,7 @@ use tr_windows::Windows;
 ///
 /// Contracts see the opening, the journal and the screen. All else is the replay of the journal over the
 /// opening, and the screen agrees with it: each point of the screen that isn't bad has the colour of its
-/// window's content, as that was when the window was last brought onto the screen, or of its frame.
+/// frame, or of its window's content when that was last brought onto the screen.
 #[derive(Drop)]
 pub struct Stage<C: Client> {
     pub(crate) alloc: Global,
@@ -59,8 +59,8 @@ impl<C: Client> Model for Stage<C> {
 }
 
 impl<C: Client> Stage<C> {
-    /// The stage of an opening whose root was set, before any step: the screen is blank, and all of it is
-    /// bad. For want of memory the opening is handed back.
+    /// The stage of an opening that has a root, before any step: the screen is blank, and each of its
+    /// points is bad. For want of memory it returns the opening.
     pub fn start(alloc: Global, opening: Opening<C>) -> Result<Stage<C>, Opening<C>>
         requires ready { IsSome (tree_of opening).nodes.root }
         ensures opening { IfOk result (λ s. s.opening ≡ opening) }
@@ -98,8 +98,8 @@ impl<C: Client> Stage<C> {
         })
     }
 
-    /// Makes a step. The journal gets the step's line, which says what it answers and sends. For want of
-    /// memory nothing is made.
+    /// Makes a step. The journal gets the step's line, with its answer and the events that it sends. For
+    /// want of memory no step is made.
     pub fn step(&mut self, actor: Actor, level: Held, step: Step<C::Cmd>) -> Result<Reply, NoMemory>
         requires may { may actor step ≡ true }
         requires covers { covers level step ≡ true }
@@ -124,7 +124,7 @@ impl<C: Client> Stage<C> {
         self.step_other(&By { actor, level }, step)
     }
 
-    /// Makes room in the journal for `n` steps that `step_reserved` makes.
+    /// Makes room in the journal for `n` steps of `step_reserved`.
     pub fn reserve(&mut self, n: u32) -> Result<(), NoMemory>
         ensures ok { OnOk result (n ≤ self.new.spare) }
         ensures spare { self.old.spare ≤ self.new.spare }
@@ -136,8 +136,8 @@ impl<C: Client> Stage<C> {
         Ok(())
     }
 
-    /// Makes a step of the input devices, or a change of a cage, for which room was reserved: it wants no
-    /// memory.
+    /// Makes a step of the input devices, or a change of a cage, in the room that `reserve` made. It takes
+    /// no memory.
     pub fn step_reserved(&mut self, actor: Actor, level: Held, step: Step<C::Cmd>) -> Reply
         requires spare { 0 < self.old.spare }
         requires reservable { spec.is_reservable step ≡ true }
@@ -193,8 +193,8 @@ impl<C: Client> Stage<C> {
     }
 }
 
-/// Whether room may be reserved for a step: it is one of the input devices, or a change of a cage, and
-/// wants no other memory.
+/// Whether `step_reserved` may make a step: it is one of the input devices, or a change of a cage, and
+/// takes no memory but room in the journal.
 pub fn is_reservable<M>(step: &Step<M>) -> bool
     ensures { result ≡ spec.is_reservable step.now }
 {
