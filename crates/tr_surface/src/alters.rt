@@ -24,9 +24,10 @@ use tr_screen::Screen;
 use tr_tree::{Edit, EditRefused, Tree};
 
 impl Surface {
-    /// Changes the tree as the edit says, and answers the old one. A point of the screen stays good
-    /// where it shows what it showed, in its place or moved along with a child, or where a window keeps
-    /// it; it gets the pixel of the point that it comes from. All others are bad.
+    /// Changes the tree by the edit, and returns the tree as it was. A point of the screen stays good if
+    /// it shows what it showed before, in its place or moved along with a child, or if its window keeps
+    /// it. It then gets the pixel of the point that it comes from. All other points are bad. An `Err`
+    /// changes nothing.
     pub fn alter<K: Keeper>(&mut self, edit: &Edit, keeper: &K) -> Result<Tree, EditRefused>
         requires edit { IsEdit self.old.tree.nodes edit.now }
         requires leaves { K.leaves keeper.now ≡ leaf_count self.old.tree.nodes }

@@ -17,7 +17,7 @@ use tr_region::Region;
 use tr_repair::shifted;
 
 impl Surface {
-    /// How many points of the screen are bad: all but the good ones.
+    /// How many points of the screen are bad.
     pub fn bad_count(&self) -> u32
         ensures { result ≡ count_on self.now.tree.size (is_bad self.now) }
     {
@@ -33,7 +33,7 @@ impl Surface {
         count
     }
 
-    /// The bad points of the screen: all but the good ones.
+    /// The bad points of the screen.
     pub fn bad(&self) -> Result<Region, NoMemory>
         ensures { IfOk result (λ r. (p : Point) → holds r p ≡ is_bad self.now p) }
     {
@@ -71,8 +71,8 @@ impl Surface {
         Ok(false)
     }
 
-    /// The least rectangle of a leaf's window, in its coordinates, that has each bad visible point of the
-    /// leaf; the empty one where none is bad.
+    /// The least rectangle that has each bad visible point of a leaf, in the coordinates of the leaf's
+    /// window. It is empty if none is bad.
     pub fn bad_extents(&self, leaf: LeafId) -> Result<Rect, NoMemory>
         requires { leaf.0 < leaf_count self.now.tree.nodes }
         ensures all { IfOk result (HasBadPoints self.now leaf) }

@@ -25,8 +25,8 @@ pub(crate) struct Cover {
 }
 
 impl Cover {
-    /// What is left of the points of a node: those that are covered where it is the child or lies below it,
-    /// else those that aren't.
+    /// Those of a node's points that the node owns after the change: the covered ones if it is the child
+    /// or lies below the child, else the others.
     pub fn left_of(&self, is: &Tree, n: NodeId, part: Region) -> Result<Region, NoMemory>
         requires { IsNode is.now.nodes n }
         ensures { let covered = λ (p : Point). holds self.now.region p in

@@ -17,8 +17,8 @@ use tr_paint::Batch;
 use tr_tree::Tree;
 
 impl Surface {
-    /// Executes a batch within the visible points of a leaf; the batch is in the leaf's coordinates.
-    /// What is known at first are the pixels of the visible points that aren't bad.
+    /// Executes a batch, which is in the leaf's coordinates, within the visible points of a leaf. At first
+    /// the pixels of those visible points are known that aren't bad. For want of memory nothing changes.
     pub fn execute(&mut self, font: &Font, leaf: LeafId, batch: &Batch) -> Result<(), NoMemory>
         requires { leaf.0 < leaf_count self.old.tree.nodes }
 
@@ -29,7 +29,7 @@ impl Surface {
             colour_after look (leaf_base self.old leaf) batch.now (leaf_corner t leaf) p ≡ Some x →
             pixel_of self.new.screen p ≡ x) }
 
-        // Of the visible points those are bad whose colour isn't known.
+        // A visible point is bad exactly if its colour isn't known.
         ensures unknown { let t = self.old.tree in
             let look = look_of t.kind font.now in
             OnOk result ((p : Point) → is_in_leaf leaf (spot t p) ≡ true → is_bad self.new p ≡

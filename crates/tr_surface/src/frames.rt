@@ -18,8 +18,8 @@ use tr_spot::frame;
 use tr_tree::Tree;
 
 impl Surface {
-    /// Gives each bad point of a frame its colour, and makes it good. All memory is taken before the
-    /// first pixel is written.
+    /// Gives each bad point of a frame its colour, and makes it good. It takes all memory before it writes
+    /// the first pixel: for want of memory nothing changes.
     pub fn paint_frame(&mut self) -> Result<(), NoMemory>
         // No point of a frame is bad any more.
         ensures bad { OnOk result ((p : Point) →

@@ -7,7 +7,7 @@ ghost use Rattle.tr_surface.specs.TreeSteps.{Keeping};
 use tr_base::{LeafId, Rect, Size};
 use tr_paint::Batch;
 
-/// What an edit of the tree asks of the windows.
+/// What an edit of the tree must know of the windows.
 pub trait Keeper {
     /// What the windows keep when their sizes change, and the commands that wait for them.
     ghost keeping: { Self → Keeping };
@@ -15,8 +15,8 @@ pub trait Keeper {
     /// How many windows there are.
     ghost leaves: { Self → ℕ };
 
-    /// The points that a window need not paint again when its size changes. They lie in the window
-    /// before and after.
+    /// The points that a window need not paint again when its size changes, in the window's coordinates.
+    /// They lie in the window before and after.
     fn keeps(&self, leaf: LeafId, from: Size, to: Size) -> Rect
         requires leaf { leaf.0 < leaves self.now }
         requires from { IsWindowSize from }

@@ -22,8 +22,9 @@ use tr_region::Region;
 use tr_screen::{Run, Screen};
 
 impl Surface {
-    /// Gives visible points of a leaf these pixels, by the region's rectangles in order and by rows within
-    /// each, and makes these points good.
+    /// Writes pixels at visible points of a leaf, and makes these points good. `pixels` has one for each
+    /// point of `part`, by its rectangles in order and by rows within each. For want of memory nothing
+    /// changes.
     pub fn put(&mut self, leaf: LeafId, part: &Region, pixels: &[u8]) -> Result<(), NoMemory>
         requires leaf { leaf.0 < leaf_count self.old.tree.nodes }
         requires part { (p : Point) → holds part.now p ≡ true →
@@ -45,9 +46,9 @@ impl Surface {
         Ok(())
     }
 
-    /// Gives the visible points of a leaf that lie in a clip these pixels, by rows of the clip, which is in
-    /// the leaf's coordinates; none of its visible points is bad. It takes no memory, and which points are
-    /// bad stays as it is.
+    /// Writes pixels at those visible points of a leaf that lie in a clip. The clip is in the leaf's
+    /// coordinates, and `pixels` has one for each of its points, by rows. None of the leaf's visible
+    /// points may be bad. It takes no memory, and the same points are bad after it.
     pub fn put_visible(&mut self, leaf: LeafId, clip: &Rect, pixels: &[u8])
         requires leaf { leaf.0 < leaf_count self.old.tree.nodes }
         requires good { (p : Point) → is_in_leaf leaf (spot self.old.tree p) ≡ true →
