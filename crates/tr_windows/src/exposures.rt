@@ -1,6 +1,6 @@
 use tr_base::{Rect, Size};
 
-/// How a window stands on the screen before it is flushed or repainted.
+/// How a window lies on the screen before it is flushed or repainted.
 #[derive(Clone, Copy, Debug)]
 pub struct Exposure {
     pub size: Size,

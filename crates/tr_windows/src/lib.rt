@@ -1,4 +1,4 @@
-//! What the program holds of the windows: the present content of each, and the paint commands that wait
+//! The windows as the program holds them: each has its present content, and the paint commands that wait
 //! for it.
 #![tactic(auto)]
 

@@ -29,7 +29,7 @@ impl<C: Client> Model for Window<C> {
 }
 
 impl<C: Client> Window<C> {
-    /// Nothing waits for it.
+    /// A window for which no command waits.
     pub fn new(alloc: Global, content: C) -> Window<C>
         ensures { result ≡ spec.idle content }
     {
@@ -51,7 +51,7 @@ impl<C: Client> Window<C> {
         &self.batch
     }
 
-    /// A command changes the content, and what that paints waits.
+    /// Changes the content by a command. The paint commands of the change wait.
     pub fn act(
         &mut self,
         alloc: Global,
@@ -68,7 +68,7 @@ impl<C: Client> Window<C> {
         Ok(())
     }
 
-    /// A part of the window is to be painted again.
+    /// Marks a part of the window, which must be painted again.
     pub fn mark(&mut self, size: Size, clip: &Rect) -> Result<(), NoMemory>
         requires { IsWindowSize size }
         ensures ok { OnOk result (self.new ≡ spec.mark_on size clip.now self.old) }
@@ -79,7 +79,7 @@ impl<C: Client> Window<C> {
         Ok(())
     }
 
-    /// It gets another content, and these commands wait behind those that wait already.
+    /// Takes another content, and puts these commands behind those that wait.
     pub fn take_over(&mut self, content: C, batch: &Batch) -> Result<(), NoMemory>
         ensures ok { OnOk result (self.new ≡ spec.taken_over content batch.now self.old) }
         ensures err { OnErr result (self.new ≡ self.old) }
@@ -89,7 +89,7 @@ impl<C: Client> Window<C> {
         Ok(())
     }
 
-    /// Nothing waits for it: it gets another content, and these commands wait. Nothing is copied.
+    /// Takes another content, and these commands wait; none may wait before. It copies nothing.
     pub fn take_all(&mut self, content: C, batch: Batch)
         requires { self.old.batch ≡ [] }
         ensures { self.new ≡ spec.taken_over content batch self.old }
@@ -98,15 +98,16 @@ impl<C: Client> Window<C> {
         self.batch = batch;
     }
 
-    /// What waits is let go.
+    /// Drops the waiting commands.
     pub fn clear(&mut self)
         ensures { self.new ≡ spec.cleared self.old }
     {
         self.batch.clear();
     }
 
-    /// A batch that repaints it: a painting of all points that are bad or that the waiting commands
-    /// would touch, or, where that is cheaper and does as well, a copy of these. Nothing is let go.
+    /// A batch that repaints the window: a painting of all points that are bad or that the waiting
+    /// commands would touch; or a copy of these commands, if that is cheaper and serves as well. The
+    /// commands still wait.
     pub fn repainting(
         &self,
         alloc: Global,
@@ -126,8 +127,8 @@ impl<C: Client> Window<C> {
         Ok(painting)
     }
 
-    /// A painting of what the waiting commands would touch, where it comes to the same as executing them
-    /// and costs less; else none. Nothing is let go.
+    /// A painting of the points that the waiting commands would touch, if it has the same effect as they
+    /// and costs less; else `None`. The commands still wait.
     pub fn flushing(
         &self,
         alloc: Global,

@@ -74,9 +74,9 @@ impl<C: Client> Windows<C> {
         self.windows[usize::from(leaf.0)].batch()
     }
 
-    /// A command changes the content of a leaf's window, which has this size, and what that paints
-    /// waits. It takes the command's patch and the next content, and a copy of neither the old content
-    /// nor what waits already.
+    /// Changes the content of a leaf's window, which has this size, by a command. The paint commands of
+    /// the change wait. It takes memory for these and for the next content, and copies neither the old
+    /// content nor the commands that wait already. For want of memory nothing changes.
     pub fn act(&mut self, leaf: LeafId, env: &Env, size: Size, cmd: &C::Cmd) -> Result<(), NoMemory>
         requires leaf { leaf.0 < length self.old }
         requires size { IsWindowSize size }
@@ -94,7 +94,8 @@ impl<C: Client> Windows<C> {
         Ok(())
     }
 
-    /// A part of a leaf's window, which has this size, is to be painted again.
+    /// Marks a part of a leaf's window, which has this size: the part must be painted again. For want of
+    /// memory nothing changes.
     pub fn mark(&mut self, leaf: LeafId, size: Size, clip: &Rect) -> Result<(), NoMemory>
         requires leaf { leaf.0 < length self.old }
         requires size { IsWindowSize size }
@@ -105,7 +106,8 @@ impl<C: Client> Windows<C> {
         Ok(())
     }
 
-    /// A leaf's window gets another content, and these commands wait behind those that wait already.
+    /// Gives a leaf's window another content, and puts these commands behind those that wait. For want of
+    /// memory nothing changes.
     pub fn take_over(&mut self, leaf: LeafId, content: C, batch: &Batch) -> Result<(), NoMemory>
         requires leaf { leaf.0 < length self.old }
         requires valid { C.valid content }
@@ -117,8 +119,8 @@ impl<C: Client> Windows<C> {
         Ok(())
     }
 
-    /// The same for a leaf's window for which nothing waits: content and commands are moved, and it takes no
-    /// memory.
+    /// Like `take_over`, for a leaf's window for which no command waits. It moves the content and the
+    /// commands, and takes no memory.
     pub fn take_all(&mut self, leaf: LeafId, content: C, batch: Batch)
         requires leaf { leaf.0 < length self.old }
         requires valid { C.valid content }
@@ -128,7 +130,7 @@ impl<C: Client> Windows<C> {
         take_all_at(&mut self.windows, leaf, content, batch);
     }
 
-    /// What waits for a leaf's window is let go.
+    /// Drops the commands that wait for a leaf's window.
     pub fn clear(&mut self, leaf: LeafId)
         requires { leaf.0 < length self.old }
         ensures { self.new ≡ changed_at leaf.0 spec.cleared self.old }
@@ -136,7 +138,8 @@ impl<C: Client> Windows<C> {
         clear_at(&mut self.windows, leaf);
     }
 
-    /// The tree was edited: what waits for windows whose size or kind of pixels changed is let go.
+    /// Drops the commands that wait for those windows whose size or kind of pixels an edit of the tree
+    /// changed.
     pub fn refit(&mut self, was: &Tree, is: &Tree)
         requires before { leaf_count was.now.nodes ≡ length self.old }
         requires leaves { leaf_count is.now.nodes ≡ length self.old }
@@ -159,9 +162,9 @@ impl<C: Client> Windows<C> {
         }
     }
 
-    /// A batch that repaints a leaf's window, which stands so on the screen: a painting of all points
-    /// that are bad or that the waiting commands would touch, or, where that is cheaper and does as well,
-    /// a copy of these. Nothing is let go.
+    /// A batch that repaints a leaf's window: a painting of all points that are bad or that the waiting
+    /// commands would touch; or a copy of these commands, if that is cheaper and serves as well. The
+    /// commands still wait. The exposure says how the window lies on the screen.
     pub fn repainting(
         &self,
         leaf: LeafId,
@@ -178,8 +181,9 @@ impl<C: Client> Windows<C> {
         self.windows[usize::from(leaf.0)].repainting(alloc, env, exposure)
     }
 
-    /// A painting of what the commands that wait for a leaf's window would touch, where it comes to the same
-    /// as executing them and costs less; else none. The window stands so on the screen. Nothing is let go.
+    /// A painting of the points that the commands that wait for a leaf's window would touch, if it has the
+    /// same effect as they and costs less; else `None`. The commands still wait. The exposure says how the
+    /// window lies on the screen.
     pub fn flushing(
         &self,
         leaf: LeafId,
@@ -219,8 +223,8 @@ impl<C: Client> Windows<C> {
         waiting
     }
 
-    /// Law of keeping, for each window and each look: what is kept when its size changes lies in both
-    /// windows, and has the same colours in both. Nothing runs.
+    /// Does nothing. Its clause is the law of keeping, for each window and each look: the points that are
+    /// kept when the size changes lie in the window before and after, and have the same colours in both.
     pub fn obeys_keeping(&self)
         ensures { (look : Look) (leaf : LeafId) (w : spec.Present C) →
             slice_get self.now leaf.0 ≡ Some w → Keeps C.Client look w }
