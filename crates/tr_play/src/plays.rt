@@ -21,10 +21,10 @@ use tr_run::{Finished, Run};
 use tr_server::CloseRefused;
 use tr_widget::WidgetCmd;
 
-/// Plays the parts of a script, of which there are some, in a run before its first step. The steps of each
-/// part are made by threads, in some order, and its reports before them. What is written are the texts of
-/// the reports in the journal that this makes, and that it is the threads' own. `Differs` says that a session
-/// found its stage other than its passes say; after an `Err` the run and its stage are gone.
+/// Plays the parts of a script, at least one, in a run before its first step. For each part the player
+/// makes the reports, and then threads make the steps, in some order. The run's text gets the texts of the
+/// journal's reports, and then the line that says that threads played. `Differs` says that a session found
+/// its stage to differ from what its passes say. After an `Err` the run and its stage are gone.
 pub fn play<'a, C: Client<Cmd = WidgetCmd>, N: NameOf, R: Threads + Wait + Sync, G: Gate + Sync>(
     workers: &Workers<'_, R, G>,
     run: Run<'a, C, N>,

@@ -20,8 +20,8 @@ use tr_parts::stands;
 use tr_server::CloseRefused;
 use tr_stage::Stage;
 
-/// What all workers have: the right to start threads and to wait, memory, and the gate that is asked before
-/// each step of a client or of the desk.
+/// What all workers share: the right to start threads and to wait, the allocator, and the gate, which they
+/// ask before each step of a client or of the desk.
 #[derive(Drop)]
 pub struct Workers<'a, R, G> {
     pub rt: &'a R,
