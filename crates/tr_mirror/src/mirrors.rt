@@ -13,7 +13,7 @@ use std::marker::Model;
 use tr_base::NoMemory;
 use tr_screen::Screen;
 
-/// The most bytes that a stream has.
+/// The greatest length of a stream, in bytes.
 pub const LONGEST_STREAM: u64 = 75_497_472;
 
 /// A reader of a stream. It has the screen at each cut.
@@ -33,7 +33,7 @@ impl Model for Mirror {
 }
 
 impl Mirror {
-    /// A mirror that was fed nothing. It takes all memory.
+    /// A mirror that has read nothing. It takes all the memory that reading needs.
     pub fn new(alloc: Global) -> Result<Mirror, NoMemory>
         ensures { IfOk result (λ m. m ≡ at_first) }
     {
@@ -42,8 +42,8 @@ impl Mirror {
         })
     }
 
-    /// Reads the next piece of a stream. After a fault each later piece has the same answer, and
-    /// changes nothing.
+    /// Reads the next piece of a stream. All pieces together have at most `LONGEST_STREAM` bytes. After a
+    /// fault each later call returns the same fault, and changes nothing.
     pub fn feed(&mut self, piece: &[u8]) -> Result<(), MirrorFault>
         requires { self.old.fed + length self.old.begun + length piece.now ≤ longest_stream }
         ensures read { self.new ≡ read self.old piece.now }
@@ -78,8 +78,8 @@ impl Mirror {
         }
     }
 
-    /// Reads the next piece of a stream as far as its first cut, and to its end where it has none. Answers
-    /// how many bytes were read. After a fault each later piece has the same answer, and changes nothing.
+    /// Reads the next piece of a stream up to its first cut, or to its end if it has none, and returns how
+    /// many bytes it read. After a fault each later call returns the same fault, and changes nothing.
     pub fn feed_to_cut(&mut self, piece: &[u8]) -> Result<usize, MirrorFault>
         requires { self.old.fed + length self.old.begun + length piece.now ≤ longest_stream }
         ensures count { IfOk result (λ n. n ≤ length piece.now) }
@@ -114,14 +114,15 @@ impl Mirror {
         }
     }
 
-    /// How many bytes the whole records have that were read.
+    /// The length of all whole records that were read, in bytes.
     pub fn fed(&self) -> u64
         ensures { result ≡ self.now.fed }
     {
         self.reader.fed()
     }
 
-    /// Whether the last whole record was a Cut, or there was none, and no record has begun.
+    /// Whether the bytes so far end between two groups: no record has begun, and the last whole record was
+    /// a Cut, or there was none.
     pub fn is_between(&self) -> bool
         ensures { result ≡ spec.is_between self.now }
     {
@@ -137,14 +138,14 @@ impl Mirror {
         self.reader.replica().cuts()
     }
 
-    /// Whether a Screen came.
+    /// Whether a record Screen was read.
     pub fn has_screen(&self) -> bool
         ensures { IsTrue result ↔ IsSome self.now.standing.screen }
     {
         self.reader.replica().has_screen()
     }
 
-    /// The screen of the last cut. Within a group, the whole records of the group are put on it.
+    /// A copy of the screen: that of the last cut, changed by the whole records behind the cut.
     pub fn screen(&self) -> Result<Screen, NoMemory>
         requires { IsSome self.now.standing.screen }
         ensures value { IfOk result (λ s. self.now.standing.screen ≡ Some s) }

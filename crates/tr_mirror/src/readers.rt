@@ -110,7 +110,7 @@ fn is_faultless(replica: &Replica, bytes: &[u8]) -> bool
 }
 
 impl Reader {
-    /// The reading of no bytes. It takes all memory that reading needs.
+    /// A reader that has read no bytes. It takes all the memory that reading needs.
     pub fn new(alloc: Global) -> Result<Reader, NoMemory>
         ensures { IfOk result (λ r. r ≡ at_first) }
     {
@@ -140,23 +140,23 @@ impl Reader {
         self.fault
     }
 
-    /// The last whole record was a Cut, or there was none, and no record has begun.
+    /// Whether no record has begun, and the last whole record was a Cut, or there was none.
     pub fn is_between(&self) -> bool
         ensures { result ≡ spec.is_between self.now }
     {
         !self.replica.is_within() && self.begun.as_slice().is_empty()
     }
 
-    /// Whether there was no fault, and so many cuts.
+    /// Whether there was no fault, and just so many cuts.
     pub fn goes_on(&self, cuts: u32) -> bool
         ensures { IsTrue result ↔ ((self.now.fault ≡ None) × (self.now.standing.cuts ≡ cuts)) }
     {
         self.fault.is_none() && self.replica.cuts() == cuts
     }
 
-    /// Takes bytes from the front of a piece, and gives the rest of it. Where no record has begun and
-    /// a whole one without a fault stands there, it takes this one, so that its pixels are copied
-    /// once. Else it takes the bytes up to the next place where faults are tried.
+    /// Takes bytes from the front of a piece, and returns the rest. If no record has begun and the piece
+    /// begins with a whole record without a fault, it takes this record, so that its pixels are copied
+    /// once. Else it takes the bytes up to the next place where a fault can show.
     pub fn take_front<'a>(&mut self, piece: &'a [u8]) -> &'a [u8]
         requires some { 0 < length piece.now }
         requires free { self.old.fault ≡ None }
