@@ -11,8 +11,9 @@ use std::alloc::Global;
 use std::marker::Model;
 use tr_base::{NoMemory, Point, Rect};
 
-/// Paint commands in the order in which they are to be executed, seen as their list. Each has an area
-/// that isn't empty. What is asked of all of them at once is kept beside them.
+/// Paint commands in the order in which they are executed. Contracts see them as a list. Each has an area
+/// that isn't empty. A batch also keeps sums over all of its commands, so that no call walks over them for
+/// these.
 #[derive(Debug, Drop)]
 pub struct Batch {
     paints: Vec<Paint>,
@@ -42,7 +43,7 @@ impl Batch {
         }
     }
 
-    /// Puts a command at the end; one whose area is empty is left out.
+    /// Appends a command, unless its area is empty. For want of memory nothing changes.
     pub fn push(&mut self, paint: Paint) -> Result<(), NoMemory>
         requires { IsNearPaint paint }
         ensures ok { OnOk result (self.new ≡ self.old ++ spec.kept paint) }
@@ -58,7 +59,7 @@ impl Batch {
         Ok(())
     }
 
-    /// Puts the commands of another batch at the end.
+    /// Appends copies of the commands of another batch, all of them or none.
     pub fn append(&mut self, other: &Batch) -> Result<(), NoMemory>
         ensures ok { OnOk result (self.new ≡ self.old ++ other.now) }
         ensures err { OnErr result (self.new ≡ self.old) }
@@ -73,7 +74,8 @@ impl Batch {
         Ok(())
     }
 
-    /// Puts the commands of another batch at the end, without copying what they hold.
+    /// Appends the commands of another batch, all of them or none. It moves them, and doesn't copy their
+    /// texts and pixels.
     pub fn extend(&mut self, other: Batch) -> Result<(), NoMemory>
         ensures ok { OnOk result (self.new ≡ self.old ++ other) }
         ensures err { OnErr result (self.new ≡ self.old) }
@@ -84,7 +86,7 @@ impl Batch {
         Ok(())
     }
 
-    /// Makes room for so many commands more.
+    /// Makes room for so many more commands.
     pub fn reserve(&mut self, more: usize) -> Result<(), NoMemory>
         ensures { self.new ≡ self.old }
     {
@@ -106,7 +108,7 @@ impl Batch {
         self.paints.is_empty()
     }
 
-    /// The command that stands behind `i` others.
+    /// The command at index `i`, counted from 0.
     pub fn get(&self, i: usize) -> &Paint
         requires { i < length self.now }
         ensures { slice_get self.now i ≡ Some result.now }
@@ -141,8 +143,8 @@ impl Batch {
         self.sums.hull
     }
 
-    /// What executing its commands costs: the sum of their areas, each by its weight, which stops at
-    /// 2^64 - 1.
+    /// The estimated work of executing its commands: the sum of their areas in points, each times the
+    /// weight of its command. The sum stops at 2^64 - 1.
     pub fn cost(&self) -> u64
         ensures { result ≡ cost_of self.now }
     {
@@ -156,7 +158,7 @@ impl Batch {
         self.sums.spoils
     }
 
-    /// What is known of its scrolls without a walk over them.
+    /// A summary of its scrolls, made without a walk over them.
     pub fn scrolls(&self) -> Scrolls
         ensures scrolls { AreScrolls result self.now }
         ensures near { AreNear result }
@@ -164,7 +166,7 @@ impl Batch {
         self.sums.scrolls
     }
 
-    /// Lets all commands go.
+    /// Removes all commands.
     pub fn clear(&mut self)
         ensures { self.new ≡ [] }
     {
@@ -172,8 +174,8 @@ impl Batch {
         self.sums = Sums::none();
     }
 
-    /// Lets all commands go but the first `count`. It walks over these, since it is called only where a
-    /// patch was half made when memory ran out.
+    /// Removes all commands behind the first `count`. It walks over these to renew the sums; callers need
+    /// it only if memory runs out in the middle of a patch.
     pub fn truncate(&mut self, count: usize)
         ensures { self.new ≡ take count self.old }
     {
@@ -181,7 +183,7 @@ impl Batch {
         self.sums = sums_of(&self.paints);
     }
 
-    /// A batch with the same commands.
+    /// A copy of the batch.
     pub fn copy(&self) -> Result<Batch, NoMemory>
         ensures { IfOk result (λ b. b ≡ self.now) }
     {

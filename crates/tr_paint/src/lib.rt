@@ -1,5 +1,5 @@
-//! Paint commands, and batches of them. A client never touches the screen: it hands over a batch, which
-//! is executed later, clipped to what is visible then.
+//! Paint commands, and batches of them. A client never touches the screen: it hands over a batch, which is
+//! executed later, clipped to the points that are visible then.
 //!
 //! All coordinates are relative to the north-west corner of the client's window.
 #![tactic(auto)]

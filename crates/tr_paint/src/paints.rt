@@ -40,20 +40,21 @@ pub enum Paint {
         ops: Pair,
         text: Line,
     },
-    /// Gives each point what the point `delta` before it had.
+    /// Moves pixels by `delta`: each point of the clip gets the pixel that the point `delta` before it
+    /// had.
     Scroll {
         clip: Rect,
         delta: Point,
     },
-    /// Makes what each point shows unknown.
+    /// Makes the pixel of each point unknown.
     Spoil {
         clip: Rect,
     },
 }
 
 impl Paint {
-    /// The points at which it does something: its clip, cut for a text by its cells of 8 by 8, and for
-    /// pixels by where they lie.
+    /// The points that it can touch: its clip, or the part of it that lies in the cells of its text, of 8
+    /// by 8 points each, or in its picture.
     pub fn area(&self) -> Rect
         requires { spec.IsNearPaint self.now }
         ensures value { result ≡ spec.area self.now }
@@ -69,7 +70,7 @@ impl Paint {
         }
     }
 
-    /// Whether what it leaves doesn't depend on the pixels that were there.
+    /// Whether the pixels that it leaves are independent of those before.
     pub fn is_opaque(&self) -> bool
         ensures { result ≡ spec.is_opaque self.now }
     {
@@ -81,7 +82,7 @@ impl Paint {
         }
     }
 
-    /// The same command.
+    /// A copy of the command.
     pub fn copy(&self) -> Result<Paint, NoMemory>
         ensures { IfOk result (λ c. c ≡ self.now) }
     {

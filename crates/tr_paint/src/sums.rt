@@ -8,14 +8,14 @@ use crate::hulls::hull;
 use crate::paints::Paint;
 use tr_base::{Point, Rect};
 
-/// What is known of the scrolls of a batch.
+/// A summary of the scrolls of a batch.
 #[derive(Clone, Copy, Debug)]
 pub enum Scrolls {
     /// There is none.
     Absent,
     /// Each of them is this one.
     Alike { clip: Rect, delta: Point },
-    /// Nothing: they differ.
+    /// They differ, and nothing is known of them.
     Various,
 }
 
@@ -32,7 +32,7 @@ pub(crate) struct Sums {
 }
 
 impl Sums {
-    /// Those of no command.
+    /// The sums of no command.
     pub fn none() -> Sums
         ensures { spec.AreSums result [] }
     {
@@ -44,7 +44,7 @@ impl Sums {
         }
     }
 
-    /// Those of one command with this area.
+    /// The sums of one command with this area.
     pub fn of(paint: &Paint, area: Rect) -> Sums
         requires near { IsNearPaint paint.now }
         requires area { area ≡ area_of paint.now }
@@ -58,7 +58,7 @@ impl Sums {
         }
     }
 
-    /// Those of commands with others behind them.
+    /// The sums of commands with others behind them.
     pub fn with(&self, behind: &Sums) -> Sums
         ensures { (front back : List Paint) → spec.AreSums self.now front → spec.AreSums behind.now back →
             spec.AreSums result (front ++ back) }
