@@ -30,7 +30,8 @@ pub fn part_of_window(size: Size, clip: &Rect) -> Rect
     window(size).meet(clip)
 }
 
-/// What a client keeps whose colours don't depend on the size: the common part of both windows.
+/// The points that a client keeps if its colours don't depend on the size: the common part of both
+/// windows.
 pub fn kept_part(from: Size, to: Size) -> Rect
     requires from { IsWindowSize from }
     requires to { IsWindowSize to }
@@ -39,7 +40,7 @@ pub fn kept_part(from: Size, to: Size) -> Rect
     window(from).meet(&window(to))
 }
 
-/// What a client keeps that paints all anew when its size changes.
+/// The points that a client keeps if it paints everything again when its size changes: none.
 pub fn keeps_nothing() -> Rect
     ensures { result ≡ empty_rect }
 {

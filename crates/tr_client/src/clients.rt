@@ -14,7 +14,7 @@ use std::alloc::Global;
 use tr_base::{Command, Env, Event, Line, NoMemory, Rect, Size};
 use tr_paint::Batch;
 
-/// The content of a window: what it shows, what commands make of it, and what it does with events.
+/// The content of a window: its picture, the commands that change it, and its answers to events.
 ///
 /// A picture is for a look, which is the kind of the pixels and the font, and for a size with sides up
 /// to 4096. Its points are those of the window, relative to its north-west corner; of other points
@@ -45,7 +45,7 @@ pub trait Client: Sized + Drop + Send + Sync {
     /// Which points need not be painted again when the window's size changes.
     ghost keeps: { Self → Size → Size → Edges } = { λ content from to. empty_rect };
 
-    /// The same content.
+    /// A copy of the content.
     fn copy(&self, alloc: Global) -> Result<Self, NoMemory>
         ensures valid { valid self.now }
         ensures copy { IfOk result (λ content. content ≡ self.now) };
@@ -80,9 +80,9 @@ pub trait Client: Sized + Drop + Send + Sync {
         ensures patch { let look = look_of env.now.kind env.now.font.now in
             IfOk result (λ r. r.1 ≡ patch look size self.now cmd.now) };
 
-    /// A command changes the content in place, and the command's patch goes behind the commands of a
-    /// batch. Where memory runs out, both stay as they are. A client whose contents are large does better
-    /// to change them where they lie.
+    /// Changes the content in place by a command, and appends the command's patch to a batch. For want of
+    /// memory both stay as they are. A client with large contents should define this call, so that it
+    /// needs no copy of them.
     fn apply(
         &mut self,
         alloc: Global,
@@ -112,27 +112,27 @@ pub trait Client: Sized + Drop + Send + Sync {
         ensures command { IfOk result (λ asked. IfSome asked (λ cmd. Self.Cmd.valid cmd)) }
         ensures answer { IfOk result (λ asked. asked ≡ answer self.now event.now) };
 
-    /// What others are given who read the content.
+    /// The value that a leaf gets when it reads this content as a selection's.
     fn value(&self, alloc: Global) -> Result<Line, NoMemory>
         ensures valid { valid self.now }
         ensures value { IfOk result (λ line. line ≡ value self.now) };
 
-    /// Which points need not be painted again when the window's size changes. A client that paints
-    /// all anew answers `keeps_nothing()`.
+    /// The points that need not be painted again when the window's size changes. A client that paints
+    /// everything again returns `keeps_nothing()`.
     fn keeps(&self, from: Size, to: Size) -> Rect
         requires from { IsWindowSize from }
         requires to { IsWindowSize to }
         ensures valid { valid self.now }
         ensures keeps { result ≡ keeps self.now from to };
 
-    /// Law of contents: a command leaves a content. Nothing runs.
+    /// Law of contents: the content after a command is valid. The call does nothing.
     fn obeys_next(&self, cmd: &Self::Cmd)
         requires valid { valid self.now }
         requires command { Self.Cmd.valid cmd.now }
         ensures { valid (next self.now cmd.now) }
     {}
 
-    /// Law of answers: an event asks for a command. Nothing runs.
+    /// Law of answers: the command that an event asks for is valid. The call does nothing.
     fn obeys_answer(&self, event: &Event)
         requires valid { valid self.now }
         ensures { IfSome (answer self.now event.now) (λ cmd. Self.Cmd.valid cmd) }
@@ -140,8 +140,8 @@ pub trait Client: Sized + Drop + Send + Sync {
         known(event)
     }
 
-    /// Law of patches: over whatever is known of the old picture, each point of the window is unknown
-    /// after the patch, or has its colour in the new picture. Nothing runs.
+    /// Law of patches: whatever part of the old picture is known, each point of the window is unknown
+    /// after the patch, or has its colour in the new picture. The call does nothing.
     fn obeys_patch(&self, env: &Env, size: Size, cmd: &Self::Cmd)
         requires size { IsWindowSize size }
         requires valid { valid self.now }
@@ -151,7 +151,7 @@ pub trait Client: Sized + Drop + Send + Sync {
             (pic look size self.now) (pic look size (next self.now cmd.now)) }
     {}
 
-    /// Law of empty patches: the patch of a window without points has no command. Nothing runs.
+    /// Law of empty patches: the patch of a window without points has no command. The call does nothing.
     fn obeys_empty_patch(&self, env: &Env, size: Size, cmd: &Self::Cmd)
         requires flat { is_flat size ≡ true }
         requires size { IsWindowSize size }
@@ -160,8 +160,8 @@ pub trait Client: Sized + Drop + Send + Sync {
         ensures { patch (look_of env.now.kind env.now.font.now) size self.now cmd.now ≡ [] }
     {}
 
-    /// Law of keeping: what is kept lies in both windows, and has the same colours in both. Nothing
-    /// runs.
+    /// Law of keeping: the points that are kept lie in the window before and after, and have the same
+    /// colours in both. The call does nothing.
     fn obeys_keeping(&self, env: &Env, from: Size, to: Size)
         requires from { IsWindowSize from }
         requires to { IsWindowSize to }
@@ -170,7 +170,8 @@ pub trait Client: Sized + Drop + Send + Sync {
             Survives (keeps self.now from to) from to (pic look from self.now) (pic look to self.now) }
     {}
 
-    /// Law of kinds: each colour is a value that a pixel of the look's kind can have. Nothing runs.
+    /// Law of kinds: each colour is a value that a pixel of the look's kind can have. The call does
+    /// nothing.
     fn obeys_kinds(&self, env: &Env, size: Size)
         requires size { IsWindowSize size }
         requires valid { valid self.now }

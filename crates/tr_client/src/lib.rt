@@ -1,8 +1,8 @@
-//! What a window's client is: a content with a picture, commands that change it, and the patch of each
-//! command, which leads from the old picture to the new one. Whoever executes patches needs no more
-//! than the laws of [`Client`] to know that the screen is right.
+//! Clients of windows: a content with a picture, commands that change it, and the patch of each command,
+//! which leads from the old picture to the new one. The laws of [`Client`] suffice to prove that a screen
+//! on which patches are executed is right.
 //!
-//! [`Prepared`] is a row of commands over a content that a window may take over at once.
+//! [`Prepared`] is a list of commands for a content, which a window may take over at once.
 #![tactic(auto)]
 
 mod areas;

@@ -19,7 +19,7 @@ pub fn room(size: Size) -> usize
     usize::from(size.high / 8)
 }
 
-/// Where the line of a strip begins that has so many others above it.
+/// The north-west corner of the strip that has so many others above it.
 pub fn begin_of(above: usize) -> Point
     requires { 8 * above ≤ longest }
     ensures value { result ≡ spec.begin_of above }
@@ -42,7 +42,7 @@ pub fn area_of(size: Size, above: usize, end: usize) -> Rect
     Rect::edges(0, i32::from(size.wide), north_of(above), north_of(end))
 }
 
-/// One line upwards.
+/// The way of one line upwards.
 pub fn upwards() -> Point
     ensures value { result ≡ spec.upwards }
     ensures near { IsNearPoint result }
@@ -50,7 +50,7 @@ pub fn upwards() -> Point
     Point { h: 0, v: -8 }
 }
 
-/// One line downwards.
+/// The way of one line downwards.
 pub fn downwards() -> Point
     ensures value { result ≡ spec.downwards }
     ensures near { IsNearPoint result }
@@ -58,7 +58,7 @@ pub fn downwards() -> Point
     Point { h: 0, v: 8 }
 }
 
-/// A part of a window becomes background.
+/// A batch that paints a part of a window with the background.
 pub fn cleared(alloc: Global, part: Rect) -> Result<Batch, NoMemory>
     requires { IsNearRect part }
     ensures { IfOk result (λ batch. batch ≡ spec.cleared part) }
@@ -71,8 +71,8 @@ pub fn cleared(alloc: Global, part: Rect) -> Result<Batch, NoMemory>
     Ok(batch)
 }
 
-/// Paints a part of a window in which these lines stand one below the other: the background, and each
-/// line over it.
+/// A batch that paints a part of a window with these lines, one below the other: first the background,
+/// then each line over it.
 pub fn paint_lines(alloc: Global, part: Rect, lines: &[Line]) -> Result<Batch, NoMemory>
     requires part { IsNearRect part }
     requires lines { 8 * length lines.now ≤ longest }

@@ -11,8 +11,8 @@ use std::alloc::Global;
 use tr_base::{Command, Env, Font, Kind, NoMemory, Size};
 use tr_paint::Batch;
 
-/// Commands over a content, with the content that they leave and their patches in a row, all for one
-/// font, size and kind.
+/// Commands for a content, with the content that they leave and their patches in one batch, for one font,
+/// size and kind of pixels.
 #[derive(Drop)]
 pub struct Prepared<C: Client> {
     pub from: C,
@@ -31,7 +31,7 @@ pub struct Prepared<C: Client> {
 }
 
 impl<C: Client> Prepared<C> {
-    /// No commands over a content.
+    /// No commands, for this content.
     pub fn fresh(
         alloc: Global,
         content: C,
@@ -59,7 +59,7 @@ impl<C: Client> Prepared<C> {
         })
     }
 
-    /// One command more.
+    /// Appends a command. For want of memory nothing changes.
     pub fn add(&mut self, cmd: C::Cmd) -> Result<(), NoMemory>
         ensures from { self.new.from ≡ self.old.from }
         ensures font { self.new.font ≡ self.old.font }
@@ -81,7 +81,8 @@ impl<C: Client> Prepared<C> {
         Ok(())
     }
 
-    /// The same commands, prepared anew from another content, for another font, size and kind.
+    /// Prepares the same commands again, for another content, font, size and kind. For want of memory
+    /// nothing changes.
     pub fn refit(&mut self, content: C, font: &Font, size: Size, kind: Kind) -> Result<(), NoMemory>
         requires { IsWindowSize size }
         ensures commands { self.new.commands.items ≡ self.old.commands.items }

@@ -6,7 +6,7 @@ ghost use Rattle.tr_client.specs.Words.{with_text};
 use itoa::Buffer;
 use tr_base::{LINE, Line, NoMemory};
 
-/// Puts the texts at the end of `out`, all of them or none.
+/// Appends the texts to `out`, all of them or none.
 pub fn append_all(out: &mut Vec<u8>, texts: &[&[u8]]) -> Result<(), NoMemory>
     ensures ok { OnOk result (out.new.items ≡ out.old.items ++ flat_map (λ text. text.now) texts.now) }
     ensures err { OnErr result (out.new.items ≡ out.old.items) }
@@ -21,8 +21,8 @@ pub fn append_all(out: &mut Vec<u8>, texts: &[&[u8]]) -> Result<(), NoMemory>
     Ok(())
 }
 
-/// Puts a word and a text behind it at the end of `out`, or nothing. Without a text the word stands
-/// alone.
+/// Appends a word, a space and a text to `out`, or the word alone if the text is empty. For want of memory
+/// nothing changes.
 pub fn append_with_text(out: &mut Vec<u8>, word: &[u8], text: &Line) -> Result<(), NoMemory>
     ensures ok { OnOk result (out.new.items ≡ out.old.items ++ with_text word.now text.now) }
     ensures err { OnErr result (out.new.items ≡ out.old.items) }
@@ -43,7 +43,7 @@ pub fn decimal_line(n: u8) -> Result<Line, NoMemory>
     Line::of(buffer.format(n).as_bytes())
 }
 
-/// Two texts in a row, as one line.
+/// Two texts, one behind the other, as one line.
 #[tactic(auto, using(crate::proofs::TextLemmas::line_in_a_row))]
 pub fn line_in_a_row(front: &[u8], back: &[u8]) -> Result<Line, NoMemory>
     requires front { IsLine front.now }
