@@ -5,25 +5,25 @@ use tr_base::{Event, Line, NoMemory};
 use tr_desk::DeskFault;
 use tr_forest::NodeFault;
 
-/// What a step answers.
+/// The answer of a step.
 #[derive(Clone, Copy, Debug)]
 pub enum Answer {
-    /// It is done.
+    /// The step is done.
     Done,
     /// The event that was taken.
     Taken(Event),
-    /// The value of the owner's content.
+    /// The value of the content of the selection's owner.
     Value(Line),
     /// No event waited.
     Empty,
     /// The tree refuses the edit.
     Tree(NodeFault),
-    /// The desk refuses it.
+    /// The desk refuses the step.
     Desk(DeskFault),
 }
 
 impl Answer {
-    /// The same answer.
+    /// A copy of the answer.
     pub fn copy(&self) -> Result<Answer, NoMemory>
         ensures { IfOk result (λ answer. answer ≡ self.now) }
     {
@@ -46,7 +46,7 @@ impl Answer {
     }
 }
 
-/// What a step answers, and how many deliveries it makes.
+/// The answer of a step, and the number of its deliveries.
 #[derive(Clone, Copy, Debug)]
 pub struct Reply {
     pub answer: Answer,

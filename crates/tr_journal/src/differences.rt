@@ -1,25 +1,26 @@
 use crate::entries::Entry;
 use crate::steps::{Actor, Step};
 
-/// The first thing in which what was handed in and what a stage has differ.
+/// The first difference between what an audit was given and what its stage has.
 #[derive(Debug, Drop)]
 pub struct Difference<M> {
-    /// Which item, entry or step it is, counted from 1.
+    /// The number of the item, entry or step that differs, counted from 1.
     pub place: u64,
     pub what: Apart<M>,
 }
 
-/// What differs. `made` is what was handed in and `found` what the stage has, if there is one.
+/// The thing that differs. `made` is the one that the audit was given, and `found` the one that the stage
+/// has; `None` says that it has no such one.
 #[derive(Debug, Drop)]
 pub enum Apart<M> {
     /// An item of the opening.
     Opening,
-    /// An entry of the journal that was there before.
+    /// An entry that the journal had before the session.
     Kept {
         made: Option<Entry<M>>,
         found: Option<Entry<M>>,
     },
-    /// A step that an actor made since.
+    /// A step that an actor made in the session.
     Own {
         actor: Actor,
         made: Option<Step<M>>,

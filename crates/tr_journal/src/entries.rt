@@ -6,7 +6,7 @@ use std::alloc::Global;
 use tr_base::{Command, NoMemory};
 use tr_levels::Held;
 
-/// A step that was made: by whom, with which levels held, and what it answered.
+/// A step that was made, with its actor, the levels that the actor held, and the reply.
 #[derive(Debug, Drop)]
 pub struct Entry<M> {
     pub actor: Actor,
@@ -16,7 +16,7 @@ pub struct Entry<M> {
 }
 
 impl<M: Command> Entry<M> {
-    /// The same entry.
+    /// A copy of the entry.
     pub fn copy(&self, alloc: Global) -> Result<Entry<M>, NoMemory>
         ensures { IfOk result (λ entry. entry ≡ self.now) }
     {

@@ -5,7 +5,7 @@ use tr_base::{Kind, NoMemory, NodeId, Point, Shapes, Size};
 use tr_client::Client;
 use tr_forest::NodeKind;
 
-/// One of the steps that make an opening.
+/// One of the items that make an opening.
 #[derive(Drop)]
 pub enum Item<C> {
     /// The screen, of this size and kind: it comes first.
@@ -28,7 +28,7 @@ pub enum Item<C> {
         shapes: Shapes,
         content: C,
     },
-    /// A node becomes a child of another, and stands at `at` if that is a Z.
+    /// A node becomes a child of another, and lies at `at` if the parent is a Z.
     Put {
         child: NodeId,
         parent: NodeId,

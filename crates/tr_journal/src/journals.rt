@@ -7,10 +7,10 @@ use std::marker::Model;
 use tr_base::{Command, NoMemory};
 use tr_inbox::Delivery;
 
-/// How many deliveries an entry may have for which room was reserved.
+/// The greatest number of deliveries of an entry for which room was reserved.
 pub const DELIVERIES: usize = 32;
 
-/// The entries of a run, in their order, each with what its step sent.
+/// The entries of a run, in their order, each with the deliveries of its step.
 #[derive(Debug, Drop)]
 pub struct Journal<M: Drop> {
     entries: Vec<Entry<M>>,
@@ -50,7 +50,8 @@ impl<M: Drop> Journal<M> {
         }
     }
 
-    /// Adds an entry, with what its step sent.
+    /// Appends an entry, with the deliveries of its step. For want of memory the journal has the same
+    /// lines.
     pub fn push(&mut self, entry: Entry<M>, sent: &[Delivery]) -> Result<(), NoMemory>
         requires counted { entry.reply.sent ≡ length sent.now }
         ensures ok { OnOk result
@@ -78,7 +79,7 @@ impl<M: Drop> Journal<M> {
         Ok(())
     }
 
-    /// Makes room for `n` entries more, with at most 32 deliveries each.
+    /// Makes room for `n` more entries, with at most 32 deliveries each.
     pub fn reserve(&mut self, n: u32) -> Result<(), NoMemory>
         ensures ok { OnOk result (n ≤ self.new.spare) }
         ensures lines { self.new.lines ≡ self.old.lines }
@@ -90,8 +91,8 @@ impl<M: Drop> Journal<M> {
         Ok(self.sent.reserve(n * DELIVERIES)?)
     }
 
-    /// Adds an entry for which room was reserved, with what its step sent: at most 32 deliveries for
-    /// each entry that there is room for.
+    /// Appends an entry for which room was reserved, with the deliveries of its step: at most 32 for each
+    /// entry for which there is room. It takes no memory.
     pub fn push_reserved(&mut self, entry: Entry<M>, sent: &[Delivery])
         requires spare { 0 < self.old.spare }
         requires counted { entry.reply.sent ≡ length sent.now }
@@ -102,7 +103,7 @@ impl<M: Drop> Journal<M> {
         self.push(entry, sent).unwrap()
     }
 
-    /// Makes room for `n` entries more that send nothing.
+    /// Makes room for `n` more entries without deliveries.
     pub fn reserve_silent(&mut self, n: usize) -> Result<(), NoMemory>
         ensures ok { OnOk result (n ≤ self.new.silent_spare) }
         ensures lines { self.new.lines ≡ self.old.lines }
@@ -113,7 +114,7 @@ impl<M: Drop> Journal<M> {
         Ok(self.ends.reserve(n)?)
     }
 
-    /// Adds entries that sent nothing, in their order: all of them, or none.
+    /// Appends entries without deliveries, in their order: all of them, or none.
     pub fn extend(&mut self, entries: Vec<Entry<M>>) -> Result<(), NoMemory>
         requires silent { All (λ e. e.reply.sent ≡ 0) entries.items }
         ensures ok { OnOk result (self.new.lines ≡ self.old.lines ++ silent entries.items) }
@@ -148,14 +149,14 @@ impl<M: Drop> Journal<M> {
         self.entries.len()
     }
 
-    /// Whether there is none.
+    /// Whether there is no entry.
     pub fn is_empty(&self) -> bool
         ensures { IsTrue result ↔ (self.now.lines ≡ []) }
     {
         self.entries.is_empty()
     }
 
-    /// The entry behind `k` others.
+    /// The entry at index `k`, counted from 0.
     pub fn get(&self, k: usize) -> &Entry<M>
         requires { k < length self.now.lines }
         ensures { slice_get (map (λ line. line.entry) self.now.lines) k ≡ Some result.now }
@@ -163,7 +164,7 @@ impl<M: Drop> Journal<M> {
         &self.entries[k]
     }
 
-    /// What the step of the entry behind `k` others sent, in order.
+    /// The deliveries of the entry at index `k`, counted from 0, in their order.
     pub fn sent(&self, k: usize) -> &[Delivery]
         requires { k < length self.now.lines }
         ensures { slice_get (map (λ line. line.sent) self.now.lines) k ≡ Some result.now }

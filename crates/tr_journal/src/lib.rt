@@ -1,5 +1,6 @@
-//! Openings and journals: what a run begins with, and its steps in their order, each with who made it,
-//! the levels that it held, the reply, and what it sent. Whoever has both has the run.
+//! Openings and journals. An opening has the items with which a run begins. A journal has the run's steps
+//! in their order, each with its actor, the levels that the actor held, the reply and the deliveries. The
+//! two determine the run.
 #![tactic(auto)]
 
 mod answers;

@@ -27,7 +27,7 @@ impl<M: Drop> Model for Lists<M> {
 }
 
 impl<M: Drop> Lists<M> {
-    /// No actor made a step yet.
+    /// Empty lists, for so many leaves.
     pub fn new(alloc: Global, leaves: u8) -> Result<Lists<M>, NoMemory>
         ensures { IfOk result (λ lists. lists ≡ no_steps leaves) }
     {
@@ -38,7 +38,7 @@ impl<M: Drop> Lists<M> {
         })
     }
 
-    /// Adds a step behind the others of its actor.
+    /// Appends a step to its actor's list. For want of memory nothing changes.
     pub fn add(&mut self, actor: Actor, step: Step<M>) -> Result<(), NoMemory>
         requires { HasList (length self.old.leaves) actor }
         ensures ok { OnOk result (self.new ≡ with_step self.old actor step) }
@@ -52,7 +52,7 @@ impl<M: Drop> Lists<M> {
         }
     }
 
-    /// Puts these steps in the place of an actor's. It takes no memory.
+    /// Replaces the steps of an actor by these. It takes no memory.
     pub fn put(&mut self, actor: Actor, steps: Vec<Step<M>>)
         requires { HasList (length self.old.leaves) actor }
         ensures { self.new ≡ with_list self.old actor steps.items }
@@ -79,7 +79,7 @@ impl<M: Drop> Lists<M> {
         }
     }
 
-    /// How many leaves have a list: those with the numbers below this.
+    /// How many leaves have a list. The leaves with lower numbers have one.
     pub fn leaves(&self) -> u8
         ensures { result ≡ length self.now.leaves }
     {

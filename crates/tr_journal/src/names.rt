@@ -2,7 +2,7 @@ ghost use Rattle.std.specs.Prelude.{◌≡◌, ◌<◌, ℕ, List, length, slice
 
 use tr_base::{LeafId, NodeId};
 
-/// Whoever has a name for each node and for each leaf.
+/// The names of all nodes and of all leaves, as bytes.
 pub trait NameOf {
     /// The names of the nodes, by their numbers.
     ghost node_names: { Self → List (List ℕ) };

@@ -41,7 +41,7 @@ impl<C: Client> Model for Opening<C> {
 }
 
 impl<C: Client> Opening<C> {
-    /// The screen alone, of 1 to 1024 points each way.
+    /// An opening with nothing but a screen, of 1 to 1024 points each way.
     pub fn new(alloc: Global, size: Size, kind: Kind) -> Result<Opening<C>, NoMemory>
         requires { IsScreenSize size }
         ensures { IfOk result (λ o. o ≡ Item.Screen size kind ∷ []) }
@@ -64,7 +64,8 @@ impl<C: Client> Opening<C> {
         })
     }
 
-    /// The glyph of a byte from 32 to 126.
+    /// Sets the glyph of a byte from 32 to 126, by its 8 rows from north to south. An `Err` changes
+    /// nothing.
     pub fn glyph(&mut self, byte: u8, rows: [u8; 8]) -> Result<(), NoMemory>
         requires first { 32 ≤ byte }
         requires last { byte ≤ 126 }
@@ -77,7 +78,8 @@ impl<C: Client> Opening<C> {
         Ok(())
     }
 
-    /// A node that isn't a leaf. There are at most 256 nodes, leaves among them.
+    /// Adds a node that isn't a leaf, and returns its number. There are at most 256 nodes, leaves among
+    /// them. An `Err` changes nothing.
     pub fn node(&mut self, kind: NodeKind, tint: u8) -> Result<NodeId, NoMemory>
         requires room { length (tree_of self.old).nodes.entries < 256 }
         requires kind { IsNodeKind kind }
@@ -93,7 +95,8 @@ impl<C: Client> Opening<C> {
         Ok(n)
     }
 
-    /// A leaf with its content. There are at most 32 leaves.
+    /// Adds a leaf with its content, and returns its number as a leaf. There are at most 32 leaves. An
+    /// `Err` changes nothing.
     pub fn leaf(&mut self, shapes: Shapes, content: C) -> Result<LeafId, NoMemory>
         requires room { length (tree_of self.old).nodes.entries < 256 }
         requires leaves { leaf_count (tree_of self.old).nodes < 32 }
@@ -112,8 +115,9 @@ impl<C: Client> Opening<C> {
         Ok(leaf)
     }
 
-    /// A node becomes a child of another: the first child of a Z, where it stands at `at`, or the
-    /// last one of another node. It is refused as an Attach is.
+    /// Makes a node a child of another: the first child of a Z, where it lies at `at`, or the last child
+    /// of a node of another kind. It is refused for the same reasons as the edit Attach. An `Err` changes
+    /// nothing.
     pub fn put(&mut self, child: NodeId, parent: NodeId, at: Point) -> Result<(), EditRefused>
         requires { IsEdit (tree_of self.old).nodes (Edit.Attach child parent at) }
         ensures ok { OnOk result (self.new ≡ self.old ++ Item.Put child parent at ∷ []) }
@@ -128,7 +132,7 @@ impl<C: Client> Opening<C> {
         Ok(())
     }
 
-    /// A node without a parent becomes the root, where there is none.
+    /// Makes a node without a parent the root, if there is none yet. An `Err` changes nothing.
     pub fn root(&mut self, node: NodeId) -> Result<(), EditRefused>
         requires { IsNode (tree_of self.old).nodes node }
         ensures ok { OnOk result (self.new ≡ self.old ++ Item.Root node ∷ []) }
@@ -178,7 +182,7 @@ impl<C: Client> Opening<C> {
         content_of(&self.items[place])
     }
 
-    /// The same opening once more.
+    /// A copy of the opening.
     pub fn copy(&self) -> Result<Opening<C>, NoMemory>
         ensures { IfOk result (λ o. o ≡ self.now) }
     {
@@ -210,8 +214,8 @@ impl<C: Client> Opening<C> {
         self.first_difference(other).is_none()
     }
 
-    /// The place, counted from 1, of the first item in which the two differ. An item that only one
-    /// of them has is a difference.
+    /// The number, counted from 1, of the first item in which the two differ. An item that only one of
+    /// them has is a difference.
     pub fn first_difference(&self, other: &Opening<C>) -> Option<u64>
         ensures none { IsNone result ↔ (self.now ≡ other.now) }
         ensures place { IfSome result (λ place. DifferAt self.now other.now place) }

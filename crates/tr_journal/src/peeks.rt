@@ -5,6 +5,6 @@ pub struct Peek3 {
     pub bad: u32,
     /// How many paint commands wait for all leaves. The count stops at 2^64 - 1.
     pub waiting: u64,
-    /// How many points aren't bad, and don't have the colour that they are to have.
+    /// How many points are good but don't have their right colour.
     pub stale: u32,
 }

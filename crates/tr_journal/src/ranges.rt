@@ -1,5 +1,5 @@
-//! Whether the numbers of steps and edits are those of nodes and leaves, and their values within their
-//! ranges: what calls that take them ask for.
+//! Tests of steps and edits: their numbers must be those of nodes and leaves, and their values in their
+//! ranges. Calls that take steps or edits require this.
 ghost use Rattle.std.specs.Prelude.{◌↔◌, IsTrue, IfSome};
 ghost use Rattle.tr_base.specs.Layouts.{farthest, IsOffset};
 ghost use Rattle.tr_forest.specs.Nodes.{IsNode, IsSize};

@@ -6,7 +6,7 @@ ghost use Rattle.tr_journal.specs.Steps.{AreLevels, IsStep};
 use crate::steps::{Actor, Step};
 use tr_levels::{Held, Level};
 
-/// Whether it is for this actor to make the step.
+/// Whether this actor has the right to make the step.
 pub fn may<M>(actor: Actor, step: &Step<M>) -> bool
     ensures { result ≡ spec.may actor step.now }
 {
@@ -29,8 +29,8 @@ pub fn may<M>(actor: Actor, step: &Step<M>) -> bool
     }
 }
 
-/// Whether the levels that the step must hold are held. A repaint may hold the leaf's share in place
-/// of the tree's lock.
+/// Whether the held levels suffice for the step. For a repaint, the leaf's share may replace the tree's
+/// lock.
 pub fn covers<M>(held: Held, step: &Step<M>) -> bool
     ensures { result ≡ spec.covers held step.now }
 {
@@ -49,7 +49,7 @@ pub fn covers<M>(held: Held, step: &Step<M>) -> bool
     }
 }
 
-/// The levels that a step states, Mu for a repaint.
+/// The levels that a step requires; for a repaint it is `Mu`.
 pub fn stated<M>(step: &Step<M>) -> Held
     ensures value { result ≡ spec.stated step.now }
     ensures levels { (t : Nodes) → IsStep t step.now → AreLevels t result }

@@ -11,11 +11,11 @@ use tr_forest::Edit;
 pub enum Actor {
     /// The client of a leaf's window.
     Leaf(LeafId),
-    /// The input devices, and whoever arranges the windows.
+    /// The desk: it makes the steps of the user, who uses the input devices and arranges the windows.
     Desk,
-    /// Whoever brings the screen up to date.
+    /// The painter, which brings the screen up to date.
     Painter,
-    /// Whoever plays a script: the steps between its parts are this one's.
+    /// The player of a script, which makes its reports and the steps between its parts.
     Player,
 }
 
@@ -24,11 +24,11 @@ pub enum Actor {
 pub enum Query {
     /// All pixels of the screen.
     Dump,
-    /// How many points are bad, and what waits to be painted.
+    /// How far the screen lags behind.
     Peek,
     /// The journal so far.
     Journal,
-    /// What a point belongs to, on the screen or off it.
+    /// The owner of a point, on the screen or off it.
     Where(Point),
     /// The events that wait for a leaf.
     Inbox(LeafId),
@@ -37,21 +37,21 @@ pub enum Query {
 /// One step of a run. Times are those of the input devices, from 1 on.
 #[derive(Debug, Drop)]
 pub enum Step<M> {
-    /// The leaf's content is changed by a command.
+    /// A command changes the leaf's content.
     Act {
         leaf: LeafId,
         cmd: M,
     },
-    /// The leaf's points in `clip` are to be painted anew.
+    /// The leaf's client spoils its points in `clip`, which must be painted again.
     Mark {
         leaf: LeafId,
         clip: Rect,
     },
-    /// The oldest event is taken out of the leaf's inbox.
+    /// The leaf takes the oldest event out of its inbox.
     Take {
         leaf: LeafId,
     },
-    /// The leaf has another cage.
+    /// The leaf gets another cage.
     SetCage {
         leaf: LeafId,
         cage: Cage,
@@ -62,7 +62,7 @@ pub enum Step<M> {
         selection: Selection,
         time: u32,
     },
-    /// The leaf gives a selection up.
+    /// The leaf gives up a selection.
     Disown {
         leaf: LeafId,
         selection: Selection,
@@ -83,35 +83,35 @@ pub enum Step<M> {
         time: u32,
         at: Point,
     },
-    /// A key is struck.
+    /// The user strikes a key.
     Key {
         time: u32,
         code: u8,
     },
-    /// The tree or its screen is changed.
+    /// The user changes the tree or its screen.
     Alter {
         edit: Edit,
     },
-    /// What the leaf's commands paint comes onto the screen.
+    /// The waiting commands of the leaf are executed on the screen.
     Flush {
         leaf: LeafId,
     },
-    /// As a flush, and the leaf's bad points are painted.
+    /// A flush that also paints the leaf's bad points.
     Repaint {
         leaf: LeafId,
     },
-    /// The bad points of all frames are painted.
+    /// The painter paints the bad points of all frames.
     PaintFrame,
-    /// Stands between two parts of a script.
+    /// The end of a part of a script, before the next part.
     Sync,
-    /// Something is reported, and nothing changes.
+    /// The player reports something, which changes nothing.
     Report {
         query: Query,
     },
 }
 
 impl<M: Command> Step<M> {
-    /// The same step.
+    /// A copy of the step.
     pub fn copy(&self, alloc: Global) -> Result<Step<M>, NoMemory>
         ensures { IfOk result (λ step. step ≡ self.now) }
     {
