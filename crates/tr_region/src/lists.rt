@@ -24,8 +24,8 @@ pub fn extents(rects: &[Rect]) -> Rect
     Rect::spanning(west, east, first.north(), last.south())
 }
 
-/// Whether the point lies in a rectangle of a canonical list. One search goes for the band of its row
-/// and for its place in that band, since the list is in order of both.
+/// Whether the point lies in a rectangle of a canonical list. One binary search finds the point's band and
+/// its place in that band, since the list is in order of both.
 pub fn holds_point(rects: &[Rect], p: Point) -> bool
     requires { IsCanonical rects.now }
     ensures { result ≡ holds rects.now p }

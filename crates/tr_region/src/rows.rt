@@ -9,8 +9,8 @@ ghost use Rattle.tr_region.specs.RowParts.{AreInOrder, IsRowPart, IsBandOf};
 use crate::regions::Region;
 use tr_base::Rect;
 
-/// Rows in which a region holds the same columns: those from `north` on and before `south`, and in
-/// each of them the columns of the rectangles, from west to east.
+/// Rows in which a region holds the same columns: the rows `north <= v < south`, with the columns of the
+/// rectangles, from west to east.
 #[derive(Clone, Copy, Debug)]
 pub struct Band<'a> {
     pub north: u16,
@@ -19,7 +19,7 @@ pub struct Band<'a> {
 }
 
 impl<'a> Band<'a> {
-    /// Those of its rectangles that have columns from `west` on and before `east`.
+    /// Its rectangles that have columns `west <= h < east`.
     pub fn between(&self, west: i32, east: i32) -> &'a [Rect]
         requires { AreApart (spans_of self.now.rects.now) }
         ensures columns { (x : ℤ) → west ≤ℤ x → x <ℤ east →
@@ -48,9 +48,9 @@ impl Region {
         &rects[start..end]
     }
 
-    /// A band that has the first row from `north` on and before `south` in which it holds points,
-    /// cut to these rows; in those before it holds nothing. Where it holds nothing in any of them the
-    /// band begins and ends at `south`.
+    /// The band with the first of the rows `north <= v < south` in which the region holds points, cut to
+    /// these rows. In the rows before the band the region holds nothing. If it holds nothing in all of
+    /// them, the band begins and ends at `south`.
     pub fn first_band(&self, north: u16, south: u16) -> Band<'_>
         requires { north ≤ south }
         ensures from { north ≤ result.north }
@@ -74,9 +74,9 @@ impl Region {
         self.band_at(at, north, south)
     }
 
-    /// A band that has the last row from `north` on and before `south` in which it holds points, cut
-    /// to these rows; in those behind it holds nothing. Where it holds nothing in any of them the band
-    /// begins and ends at `north`.
+    /// The band with the last of the rows `north <= v < south` in which the region holds points, cut to
+    /// these rows. In the rows behind the band the region holds nothing. If it holds nothing in all of
+    /// them, the band begins and ends at `north`.
     pub fn last_band(&self, north: u16, south: u16) -> Band<'_>
         requires { north ≤ south }
         ensures from { north ≤ result.north }
@@ -119,7 +119,7 @@ impl Region {
     }
 }
 
-/// The row of those from `north` to `south` that is nearest to row `v`.
+/// The row from `north` to `south`, both included, that is nearest to row `v`.
 pub fn nearest_row(v: i32, north: u16, south: u16) -> u16
     requires { north ≤ south }
     ensures { IsNearest v north south result }
