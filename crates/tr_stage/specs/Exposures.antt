@@ -15,14 +15,15 @@ use Rattle.tr_windows.specs.declared.exposures.Exposure.{Exposure}
 use Rattle.tr_windows.specs.Presents.{Present}
 use Rattle.tr_windows.specs.Promises.{FlushesByPainting}
 
--- how a leaf's window stands on a screen: its size, a rectangle that has its bad visible points, and whether each of its points is visible
+-- how a leaf's window lies on a screen: its size, a rectangle that has its bad visible points, and a flag; if the flag is set, each of
+-- its points is visible
 pub record IsExposure (s : Shown) (leaf : LeafId) (e : Exposure) : Type 0 where
   pub size : e.size ≡ leaf_size s.tree leaf
   pub has_bad : HasBadPoints s leaf e.bad
   pub whole : e.is_whole ≡ true → (q : Point) → has_point (whole_of (leaf_size s.tree leaf)) q ≡ true →
       is_in_leaf leaf (spot s.tree (placed (leaf_corner s.tree leaf) q)) ≡ true
 
--- a batch flushes a leaf's window by a painting, as the window stands
+-- a batch flushes a leaf's window by a painting, for the way in which the window lies on the screen
 pub record IsFlushing {C M : Type 0} (client : Ghosts C M) (s : Shown) (font : List (List ℕ))
     (w : Present C) (leaf : LeafId) (batch : List Paint) : Type 0 where
   pub exposure : Exposure

@@ -6,7 +6,7 @@ use Rattle.tr_machine.specs.States.{State}
 use Rattle.tr_machine.specs.Sharing.{IsPaintedOf}
 use Rattle.tr_stage.specs.declared.sharing.Painted.{Painted}
 
--- the painted parts are those of these leaves, in their order
+-- the painted parts are the bad points of these leaves, in the order of the leaves
 abbrev pub ArePainted : {C M : Type 0} → Ghosts C M → State C M → List LeafId → List Painted → Type 0
 ArePainted client m [] [] = ⊤
 ArePainted client m (leaf ∷ leaves) (x ∷ xs) =

@@ -12,15 +12,15 @@ use Rattle.tr_machine.specs.States.{State, batch_of, content_of}
 use Rattle.tr_machine.specs.Paintings.{flushed, is_visible}
 
 module _ {C M : Type 0} (client : Ghosts C M) where
-  -- the sketch is one of a leaf's present content, for the state's font and kind and the window's size
+  -- the sketch shows a leaf's present content, for the state's font and kind and the window's size
   pub record IsSketchOf (m : State C M) (leaf : LeafId) (s : SketchView C) : Type 0 where
     pub content : content_of client m leaf ≡ Some s.content
     pub font : s.font ≡ m.font
     pub size : s.size ≡ leaf_size m.tree leaf
     pub kind : s.kind ≡ m.tree.kind
 
-  -- The pixels of a clip of a leaf's window may be put in place of a flush: no visible point of the leaf is bad, none would be after the
-  -- flush, and each that a waiting command touches lies in the clip.
+  -- The pixels of a clip of a leaf's window may replace a flush: no visible point of the leaf is bad, no such point would be bad after
+  -- the flush, and each such point that a waiting command touches lies in the clip.
   pub record MayBePut (m : State C M) (leaf : LeafId) (clip : Edges) : Type 0 where
     pub good : (p : Point) → is_visible m leaf p ≡ true → m.bad p ≡ false
     pub known : (p : Point) → is_visible m leaf p ≡ true → (flushed client leaf m).bad p ≡ false

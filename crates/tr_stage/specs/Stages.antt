@@ -29,15 +29,15 @@ use Rattle.tr_machine.specs.Replays.{IsLegal, line_of, replay}
 use Rattle.tr_machine.specs.Promises.{Agrees, IsSound}
 use Rattle.tr_windows.specs.Presents.{Present, presents}
 
--- what a contract sees of a stage: what it began with, the lines of its journal, the pixels of its screen, and for how many
--- entries more room is reserved
+-- what a contract sees of a stage: the opening with which it began, the lines of its journal, the pixels of its screen, and the number of
+-- further entries for which room is reserved
 pub record StageView (C M : Type 0) : Type 0 where
   pub opening : List (Item C)
   pub journal : List (JournalLine M)
   pub screen : Picture
   pub spare : ℕ
 
--- the parts of a stage: the screen of its tree of windows, the windows, and the input devices with what waits for each leaf
+-- the parts of a stage: the screen of its tree of windows, the windows, and the input devices with the inbox of each leaf
 pub record Parts (C : Type 0) : Type 0 where
   pub surface : Shown
   pub windows : List (Present C)
@@ -50,7 +50,7 @@ pub record IsOf {C M : Type 0} (opening : List (Item C)) (m : State C M) : Type 
   pub leaves : leaf_count m.tree.nodes ≡ leaf_count (tree_of opening).nodes
   pub inboxes : length m.mail.inboxes ≡ leaf_count (tree_of opening).nodes
 
--- a step for which room may be reserved: one of the input devices, or a change of a cage, which wants no other memory
+-- a step for which room may be reserved: one of the input devices, or a change of a cage, since these take no other memory
 abbrev pub is_reservable : {M : Type 0} → Step M → Bool
 is_reservable (steps.SetCage leaf cage) = true
 is_reservable (steps.Mouse time button down) = true
@@ -80,7 +80,7 @@ may_paint steps.PaintFrame spot = is_frame spot
 may_paint (steps.Alter edit) spot = true
 may_paint step spot = false
 
--- from one screen of a tree to the next each point keeps its pixel, but where the step may paint
+-- from one screen of a tree to the next, each point keeps its pixel unless the step may paint there
 abbrev pub KeepsOthers : {M : Type 0} → Seen → Step M → Picture → Picture → Type 0
 KeepsOthers t step old new =
     (p : Point) → is_on t p ≡ true → may_paint step (spot t p) ≡ false → pixel_of new p ≡ pixel_of old p
@@ -113,7 +113,7 @@ module _ {C M : Type 0} (client : Ghosts C M) where
     pub like : IsOf opening (replay client opening lines)
     pub legal : IsLegal client opening lines
 
-  -- the state of a stage: what its journal leads to from its opening
+  -- the state of a stage: the one to which its journal leads from its opening
   abbrev pub state : StageView C M → State C M
   state s = replay client s.opening s.journal
 

@@ -6,7 +6,7 @@ use Rattle.tr_spot.specs.Spots.{HasRoot}
 use Rattle.tr_machine.specs.Promises.{Agrees, IsSound}
 use Rattle.tr_stage.specs.Stages.{StageView, state}
 
--- a stage's nodes are a forest whose root was set, its state is sound, and its screen is a picture that agrees with it
+-- a stage's nodes are a forest with a root, its state is sound, and its screen is a picture that agrees with the state
 pub record Stands {C M : Type 0} (client : Ghosts C M) (s : StageView C M) : Type 0 where
   pub forest : IsForest (state client s).tree.nodes
   pub root : HasRoot (state client s).tree
