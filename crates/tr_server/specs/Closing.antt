@@ -19,17 +19,17 @@ lists_of leaves workers player = record {
   player = player.mine;
 }
 
--- how many entries these passes count
+-- the number of journal entries that these passes count
 abbrev pub made_with : {M : Type 0} → List (PassView M) → PassView M → ℕ
 made_with workers player = sum_by (λ pass. pass.made) workers + player.made
 
--- a stage begins with what its server began with, and then has, of each actor but the painter, just the steps in the lists, in their order;
--- and it has so many entries more, or further ones
+-- a stage has the opening of its server, and first the entries with which the server began; behind them it has, of each actor but the
+-- painter, just the steps of the actor's list, in their order; these are at least as many entries as the passes count
 pub record IsClosed {C M : Type 0} (server : ServerView C M) (lists : ListsView M) (made : ℕ) (stage : StageView C M) : Type 0 where
   pub matches : Matches (account_of server.opening server.kept) lists (account_of stage.opening stage.journal)
   pub counted : length server.kept + made ≤ length stage.journal
 
--- it doesn't, and this is what differs first
+-- the stage differs from that, and `d` has the first difference
 pub record HasDiffered {C M : Type 0} (server : ServerView C M) (lists : ListsView M) (made : ℕ) (d : DiffersView C M) : Type 0 where
   pub opening : d.opening ≡ server.opening
   pub kept : d.kept ≡ server.kept
@@ -37,12 +37,13 @@ pub record HasDiffered {C M : Type 0} (server : ServerView C M) (lists : ListsVi
   pub first : IsDifference d
   pub counted : length server.kept + made ≤ length d.stage.journal
 
--- where a session gives no stage since something differs, this holds of it
+-- if a session returns no stage because of a difference, this holds of the difference
 abbrev pub IfDiffers : {C M : Type 0} → CloseRefused C M → (DiffersView C M → Type 0) → Type 0
 IfDiffers refused.NoMemory P = ⊤
 IfDiffers (refused.Differs d) P = P d
 
--- for contracts of its own functions: the last of some passes is taken back, with its steps and the entries that it counts
+-- only private contracts cite this definition: the last of some passes is taken back, with its steps and the number of entries that it
+-- counts
 pub record TakesLast {M : Type 0} (old new : List (PassView M)) (steps : List (Step M)) (before after : ℕ) : Type 0 where
   pub pass : PassView M
   pub passes : old ≡ new ++ pass ∷ []

@@ -7,7 +7,8 @@ use Rattle.tr_journal.specs.Journals.{JournalLine}
 use Rattle.tr_journal.specs.Lists.{ListsView}
 use Rattle.tr_stage.specs.Stages.{StageView}
 
--- a stage, what its server began with, the steps of each pass, and what differs first between the stage and the rest
+-- a stage, the opening and journal with which its server began, the steps of each pass, and the first difference between the stage and
+-- these
 pub record DiffersView (C M : Type 0) : Type 0 where
   pub difference : Difference M
   pub stage : StageView C M

@@ -13,8 +13,8 @@ use Rattle.tr_stage.specs.Stages.{StageView, line, state}
 use Rattle.tr_server.specs.Passes.{both_locks}
 
 module _ {C M : Type 0} (client : Ghosts C M) where
-  -- the stage once commands of a leaf's client are handed over: it makes each of them, in their order, at the level with which the command
-  -- waited and the window's
+  -- the stage after commands of a leaf's client are handed over: it makes each of them, in their order, at the level with which the
+  -- command was posted and the window's
   abbrev pub with_acts : StageView C M → LeafId → List M → List (List Level) → StageView C M
   with_acts s leaf commands levels =
       record s { journal = s.journal ++ lines_by client (Leaf leaf) (state client s) (acts leaf commands levels) }

@@ -7,15 +7,15 @@ use Rattle.tr_journal.specs.declared.steps.Actor.{Actor}
 use Rattle.tr_journal.specs.declared.steps.Actor.TheVariants.{Leaf, Desk, Painter}
 use Rattle.tr_journal.specs.declared.steps.Step.{Step}
 
--- a pass: whose it is, the steps that were made with it, how many commands were posted with it since its last step under the tree's
--- lock, and how many entries of the journal it counts
+-- a pass: its actor, the steps that the actor made with it, the number of commands posted with it since its last step under the tree's
+-- lock, and the number of journal entries that it counts
 pub record PassView (M : Type 0) : Type 0 where
   pub actor : Actor
   pub mine : List (Step M)
   pub posted : ℕ
   pub made : ℕ
 
--- a pass with which nothing was made
+-- a pass with which no step was made
 abbrev pub fresh_pass : {M : Type 0} → Actor → PassView M
 fresh_pass actor = record { actor = actor; mine = []; posted = 0; made = 0 }
 
@@ -24,7 +24,7 @@ abbrev pub is_client : Actor → Bool
 is_client (Leaf leaf) = true
 is_client actor = false
 
--- whose the workers' passes are, by their places: the leaves' clients' by their numbers, then the desk's, then the painter's
+-- the actor of the worker's pass at this index: the leaves' clients by their numbers, then the desk, then the painter
 abbrev pub worker : ℕ → ℕ → Actor
 worker leaves i = if nat_lt i leaves then Leaf (record { 0 = i }) else if i == leaves then Desk else Painter
 

@@ -12,7 +12,7 @@ use Rattle.tr_stage.specs.declared.sharing.Painted.{Painted}
 use Rattle.tr_stage.specs.Stages.{StageView, state}
 use Rattle.tr_server.specs.Passes.{PassView}
 
--- a leaf that is lent out, and the stage that stays as it is meanwhile
+-- a leaf that is lent, and the stage, which can't change meanwhile
 pub record ShareView (C M : Type 0) : Type 0 where
   pub leaf : LeafId
   pub stage : StageView C M
@@ -22,7 +22,7 @@ abbrev pub share_of : {C M : Type 0} → StageView C M → LeafId → ShareView 
 share_of s leaf = record { leaf = leaf; stage = s }
 
 module _ {C M : Type 0} (client : Ghosts C M) where
-  -- a leaf may be painted as a share: nothing waits for it, and a visible point of it is bad
+  -- a leaf may be painted as a share: no command waits for it, and a visible point of it is bad
   abbrev pub is_ready : State C M → LeafId → Bool
   is_ready m leaf = not (waits client m leaf) && has_bad m leaf
 
@@ -36,18 +36,18 @@ module _ {C M : Type 0} (client : Ghosts C M) where
   abbrev pub shares_of : StageView C M → List (ShareView C M)
   shares_of s = map (share_of s) (ready_leaves (length (state client s).windows) (state client s))
 
-  -- what was painted of a share: the bad visible points of its leaf, as they are to be in the stage
+  -- the painting of a share: the bad visible points of its leaf, each with its right pixel
   pub record IsPaintedShare (share : ShareView C M) (painted : Painted) : Type 0 where
     pub leaf : painted.leaf ≡ share.leaf
     pub points : IsPaintedOf client (state client share.stage) share.leaf painted.part painted.pixels.items
 
-  -- so was each share of a row
+  -- each share of a list was painted
   pub record ArePaintedShares (shares : List (ShareView C M)) (all : List Painted) : Type 0 where
     pub count : length all ≡ length shares
     pub each : (i : ℕ) (d : ShareView C M) (e : Painted) → i < length all →
         IsPaintedShare (slice_index_or shares i d) (slice_index_or all i e)
 
-  -- the painter has made these steps, each with its levels held: their lines stand at the end of the journal, and the pass has them
+  -- the painter has made these steps, each with its levels held: their lines are at the end of the journal, and the pass has the steps
   pub record HasMade (old new : StageView C M) (before after : PassView M) (made : List (List Level × Step M)) : Type 0 where
     pub opening : new.opening ≡ old.opening
     pub journal : new.journal ≡ old.journal ++ lines_by client Painter (state client old) made
