@@ -21,7 +21,7 @@ pub record AreBadFrames (s : Shown) (regions : List (List Edges)) : Type 0 where
   pub points : (n : NodeId) (p : Point) → IsNode s.tree.nodes n →
       holds (region_of regions n) p ≡ (is_bad s p && is_on_frame n (spot s.tree p))
 
--- the points of each region are the good ones of its node, and those of its frame
+-- the points of each region are the good points of its node, and the points of the node's frame
 pub record AreGoodFrames (s : Shown) (regions : List (List Edges)) : Type 0 where
   pub count : length regions ≡ length s.tree.nodes.entries
   pub points : (n : NodeId) (p : Point) → IsNode s.tree.nodes n →

@@ -38,7 +38,7 @@ is_on t p = has_point (whole_of t.size) p
 abbrev pub any_holds : List (List Edges) → Point → Bool
 any_holds regions p = list_any (λ r. holds r p) regions
 
--- the point is on the screen, and no good one: it needs to be painted again
+-- the point is on the screen and isn't good: it needs to be painted again
 unfoldable pub is_bad : Shown → Point → Bool
 is_bad s p = is_on s.tree p && not (any_holds s.good p)
 
@@ -66,7 +66,7 @@ abbrev pub HasBadPoints : Shown → LeafId → Edges → Type 0
 HasBadPoints s leaf r = (p : Point) → is_in_leaf leaf (spot s.tree p) ≡ true → is_bad s p ≡ true →
     has_point r (before_shift p (leaf_corner s.tree leaf)) ≡ true
 
--- for each node a region of points that belong to it: of a leaf of its visible points, of another node of its frame
+-- for each node a region of points that it owns: visible points of a leaf, points of the frame of another node
 pub record AreOwn (t : Seen) (good : List (List Edges)) : Type 0 where
   pub count : length good ≡ length t.nodes.entries
   pub points : (n : NodeId) (p : Point) → IsNode t.nodes n → holds (region_of good n) p ≡ true → is_spot_of t n (spot t p) ≡ true

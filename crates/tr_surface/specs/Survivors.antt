@@ -22,15 +22,15 @@ use Rattle.tr_surface.specs.declared.survivors.Survivors.TheVariants as variants
 use Rattle.tr_surface.specs.Surfaces.{AreOwn, Shown, any_holds, is_bad, is_on}
 use Rattle.tr_surface.specs.TreeSteps.{Keeping, child_of, is_below, is_kept, same_point, source_by, survives, way_of}
 
--- where a rectangle begins
+-- the north-west corner of a rectangle
 abbrev pub corner_of : Edges → Point
 corner_of e = record { h = e.west; v = e.north }
 
--- where a node's rectangle begins
+-- the north-west corner of a node's domain
 abbrev pub corner : Seen → NodeId → Point
 corner t n = corner_of (domain t n)
 
--- how large it is
+-- the size of a node's domain
 abbrev pub side : Seen → NodeId → Size
 side t n = size_of (domain t n)
 
@@ -52,7 +52,7 @@ change was is moved bad = record { was = was; is = is; moved = moved; bad = bad 
 abbrev pub change_to : Shown → Seen → Option NodeId → Change
 change_to s is moved = change s.tree is moved (is_bad s)
 
--- how far a node moves, if this child is moved
+-- how far the points of a node move, if this child is moved
 abbrev pub way_from : Seen → Seen → Option NodeId → NodeId → Point
 way_from was is None n = unmoved
 way_from was is (Some child) n = if is_under is.nodes child n then way_of was is child else unmoved
@@ -66,7 +66,7 @@ abbrev pub leaf_survivors : Bool → LeafId → Size → Size → Survivors
 leaf_survivors false leaf from to = variants.Nothing
 leaf_survivors true leaf from to = if same_size from to then variants.All else variants.Kept leaf from to
 
--- the survivors of a node whose points move so far: those of a leaf, or of a frame
+-- which points survive of a node whose points move so far, for a leaf or for a frame
 abbrev pub survivors_by : Seen → Seen → Point → NodeId → Option LeafId → Survivors
 survivors_by was is by n (Some leaf) =
     leaf_survivors (same_point (before_shift (corner is n) by) (corner was n)) leaf (side was n) (side is n)
@@ -105,7 +105,7 @@ pub record AreSides (was is : Seen) (good : List (List Edges)) : Type 0 where
   pub kind : is.kind ≡ was.kind
   pub own : AreOwn was good
 
--- one of the first n nodes that is a child, or lies below it, has the point in its region
+-- one of the first n nodes is this child, or lies below it, and has the point in its region
 unfoldable pub in_moved : ℕ → Nodes → NodeId → List (List Edges) → Point → Bool
 in_moved zero t child regions p = false
 in_moved (suc n) t child regions p = in_moved n t child regions p || (is_under t child (record { 0 = n }) && holds (get_or regions n []) p)
@@ -124,12 +124,12 @@ is_below_moved t (Some child) p = is_below t.nodes child (spot t p)
 abbrev pub is_carried : Change → Point → Bool
 is_carried c p = is_below_moved c.is c.moved p
 
--- how far the moved child comes
+-- how far the moved child moves
 abbrev pub way_of_moved : Seen → Seen → Option NodeId → Point
 way_of_moved was is None = unmoved
 way_of_moved was is (Some child) = way_of was is child
 
--- survivors that the windows can tell: a leaf's number and sizes are within their ranges
+-- survivors that the windows can compute: a leaf's number and sizes are within their ranges
 abbrev pub IsFitting : ℕ → Survivors → Type 0
 IsFitting leaves (variants.Kept leaf from to) = (leaf.0 < leaves) × IsWindowSize from × IsWindowSize to
 IsFitting leaves survivors = ⊤
@@ -142,7 +142,7 @@ bad_by k c p = is_on c.is p && not (good_by k c p)
 abbrev pub follows_by : Keeping → Change → Point → Bool
 follows_by k c p = is_carried c p && good_by k c p
 
--- what an edit leaves of the nodes: their number, and which leaves they are
+-- an edit changes neither the number of nodes nor which of them are leaves
 pub record IsLike (was is : Seen) : Type 0 where
   pub leaves : (n : NodeId) → leaf_of (node is.nodes n).kind ≡ leaf_of (node was.nodes n).kind
   pub count : length is.nodes.entries ≡ length was.nodes.entries

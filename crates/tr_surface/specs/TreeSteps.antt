@@ -22,7 +22,8 @@ use Rattle.tr_spot.specs.Spots.{spot}
 use Rattle.tr_spot.specs.Leaves.{same_size, same_kind}
 use Rattle.tr_surface.specs.Surfaces.{is_on}
 
--- what an edit of the tree asks of the windows: what a leaf keeps when its size changes, and the commands that wait for it
+-- what an edit of the tree must know of the windows: the points that a leaf keeps when its size changes, and the commands that wait for
+-- it
 pub record Keeping : Type 0 where
   pub keeps : LeafId → Size → Size → Edges
   pub batch : LeafId → List Paint
@@ -60,13 +61,14 @@ is_below t child (spots.Leaf leaf at size kind) = is_under t child (node_of t le
 is_below t child (spots.Frame n tint kind) = is_under t child n
 is_below t child spots.Off = false
 
--- where a point of the new screen comes from, if this child moves: what lies below the child moves along, all else stays
+-- the point of the old screen from which a point of the new screen comes, if this child moves: the points below the child move along, all
+-- others stay
 abbrev pub source_by : Seen → Seen → Option NodeId → Point → Point
 source_by was is None p = p
 source_by was is (Some child) p =
     if is_below is.nodes child (spot is p) then before_shift p (way_of was is child) else p
 
--- where a point of the new screen comes from
+-- the point of the old screen from which a point of the new screen comes
 abbrev pub source : Seen → Seen → Edit → Point → Point
 source was is edit p = source_by was is (moved_child was edit) p
 
@@ -92,16 +94,16 @@ kept_spot k (spots.Leaf a p from old) (spots.Leaf b q to new) =
     (a.0 == b.0) && same_point p q && same_kind old new && not (same_size from to) && is_kept k a from to q
 kept_spot k s t = false
 
--- what a spot showed is what the other one is to show
+-- the second spot must show the same as the first one showed
 abbrev pub survives : Keeping → Spot → Spot → Bool
 survives k s t = same_spot s t || kept_spot k s t
 
--- a point of the new screen is good after an edit where the point that it comes from was on the old screen and good, and survives
+-- a point of the new screen is good after an edit if the point from which it comes was on the old screen, was good, and survives
 abbrev pub good_after : Keeping → Seen → Seen → Edit → (Point → Bool) → Point → Bool
 good_after k was is edit bad p =
     let s = source was is edit p in
     is_on is p && is_on was s && not (bad s) && survives k (spot was s) (spot is p)
 
--- the bad points after an edit: all others of the new screen
+-- the bad points after an edit: all points of the new screen that aren't good
 abbrev pub bad_after : Keeping → Seen → Seen → Edit → (Point → Bool) → Point → Bool
 bad_after k was is edit bad p = is_on is p && not (good_after k was is edit bad p)
