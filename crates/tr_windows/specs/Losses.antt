@@ -8,13 +8,13 @@ use Rattle.tr_paint.specs.declared.Paint.{Paint}
 use Rattle.tr_paint.specs.declared.Paint.TheVariants.{Scroll, Spoil}
 use Rattle.tr_windows.specs.declared.exposures.Exposure.{Exposure}
 
--- a scroll brings only points of a window of this size into it
+-- a scroll brings into a window of this size only points of the window
 abbrev pub BringsOwn : Size → Edges → Point → Type 0
 BringsOwn size clip delta =
     (q : Point) → has_point clip q ≡ true → has_point (whole_of size) q ≡ true → has_point (whole_of size) (before_shift q delta) ≡ true
 
--- A command spares what is known of a window: a spoil never does, a scroll where the window is whole and it brings in points of it alone;
--- any other command does.
+-- After the command each point of the window is known that was known before. A spoil doesn't keep this; a scroll keeps it if the whole
+-- window is visible and the scroll brings in only points of the window; any other command keeps it.
 abbrev pub Spares : Exposure → Paint → Type 0
 Spares e (Scroll clip delta) = (e.is_whole ≡ true) × BringsOwn e.size clip delta
 Spares e (Spoil clip) = ⊥

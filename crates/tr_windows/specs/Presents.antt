@@ -21,23 +21,23 @@ pub record Present (C : Type 0) : Type 0 where
   pub content : C
   pub batch : List Paint
 
--- nothing waits for a window with this content
+-- a window with this content, for which no command waits
 abbrev pub idle : {C : Type 0} → C → Present C
 idle content = record { content = content; batch = [] }
 
--- what waits for a window is let go
+-- the commands that wait for a window are dropped
 abbrev pub cleared : {C : Type 0} → Present C → Present C
 cleared w = idle w.content
 
--- a part of a window of this size is to be painted again
+-- a part of a window of this size is marked: it must be painted again
 abbrev pub mark_on : {C : Type 0} → Size → Edges → Present C → Present C
 mark_on size clip w = record w { batch = w.batch ++ kept (Spoil (meet_of clip (whole_of size))) }
 
--- a window gets another content, and these commands wait behind those that wait already
+-- a window gets another content, and these commands wait behind the ones that wait already
 abbrev pub taken_over : {C : Type 0} → C → List Paint → Present C → Present C
 taken_over content batch w = record { content = content; batch = w.batch ++ batch }
 
--- what waits for a window is let go where its size or the kind of its pixels changes
+-- the commands that wait for a window are dropped if its size or the kind of its pixels changes
 abbrev pub refitted : {C : Type 0} → Seen → Seen → LeafId → Present C → Present C
 refitted was is leaf w = if is_reshaped was is leaf then cleared w else w
 
@@ -50,29 +50,29 @@ cleared_from n was is (w ∷ ws) = refitted was is (record { 0 = n }) w ∷ clea
 abbrev pub content_at : {C : Type 0} → List (Present C) → LeafId → Option C
 content_at ws leaf = option_map (λ w. w.content) (slice_get ws leaf.0)
 
--- what waits for a window, if there is one
+-- the commands that wait for a window, if there is one
 abbrev pub batch_in : {C : Type 0} → Option (Present C) → List Paint
 batch_in None = []
 batch_in (Some w) = w.batch
 
--- what waits for a leaf's window
+-- the commands that wait for a leaf's window
 abbrev pub batch_at : {C : Type 0} → List (Present C) → LeafId → List Paint
 batch_at ws leaf = batch_in (slice_get ws leaf.0)
 
 module _ {C M : Type 0} (client : Ghosts C M) where
-  -- a command changes the content of a window of this size, and what that paints waits
+  -- a command changes the content of a window of this size, and its patch waits
   abbrev pub act_on : Look → Size → M → Present C → Present C
   act_on look size cmd w = record {
     content = client.next w.content cmd;
     batch = w.batch ++ client.patch look size w.content cmd;
   }
 
-  -- what a window keeps of its points when its size changes, if there is one
+  -- the points that a window, if there is one, keeps when its size changes
   abbrev pub kept_in : Option (Present C) → Size → Size → Edges
   kept_in None from to = empty_rect
   kept_in (Some w) from to = client.keeps w.content from to
 
-  -- what an edit of the tree asks of the windows
+  -- what an edit of the tree must know of the windows
   abbrev pub kept_by : List (Present C) → Keeping
   kept_by ws = record {
     keeps = λ leaf from to. kept_in (slice_get ws leaf.0) from to;

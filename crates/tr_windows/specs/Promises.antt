@@ -18,16 +18,15 @@ pub record IsKnownWhole (size : Size) (base : Base) : Type 0 where
   pub visible : (q : Point) → base.visible q ≡ has_point (whole_of size) q
   pub known : (q : Point) → has_point (whole_of size) q ≡ true → is_none (base.known q) ≡ false
 
--- Commands lose nothing of a window: of each visible point whose colour is known before them, one is known after them. Where
--- the window is whole they may count on all of its points being known, as they are in a whole window with no bad point: a scroll
--- may bring in any of them.
+-- Commands lose no point of a window: each visible point whose colour is known before them has a known colour after them. If the whole
+-- window is visible, all of its points are known before, since none is bad; so a scroll may bring in any of them.
 abbrev pub LosesNothingOf : Exposure → Look → List Paint → Type 0
 LosesNothingOf e look batch =
     (base : Base) → (e.is_whole ≡ true → IsKnownWhole e.size base) →
     (q : Point) → base.visible q ≡ true → is_none (base.known q) ≡ false → is_none (after look base batch q) ≡ false
 
--- What waits for a window may be replaced by pixels of its present picture, one for each point of a clip: nothing is bad, the waiting
--- commands would lose nothing, and each point of the window that they would touch lies in the clip.
+-- Pixels of a window's present picture, one for each point of a clip, may replace the commands that wait for the window: no point is bad,
+-- the commands would lose no point, and each point of the window that they would touch lies in the clip.
 pub record IsCovered (look : Look) (e : Exposure) (clip : Edges) (batch : List Paint) : Type 0 where
   pub good : (q : Point) → has_point e.bad q ≡ false
   pub keeps : LosesNothingOf e look batch
@@ -43,9 +42,9 @@ module _ {C M : Type 0} (client : Ghosts C M) where
     pub few : length ws ≤ 32
     pub contents : (n : ℕ) (w : Present C) → slice_get ws n ≡ Some w → client.valid w.content
 
-  -- A batch repaints a window by a painting, whatever waits: it paints the part of the present picture that lies in the window and in the
-  -- least rectangle round all bad points and all that the waiting commands would touch: any other that has all of these has all of its
-  -- points, too.
+  -- A batch repaints a window by a painting, whatever commands wait: it paints the present picture within the window and the least
+  -- rectangle round all bad points and all points that the waiting commands would touch. Any other rectangle that has all of these points
+  -- has this one's points, too.
   pub record IsByPainting (look : Look) (e : Exposure) (w : Present C) (batch : List Paint) : Type 0 where
     pub clip : Edges
     pub paints : IsPainting look (meet_of (whole_of e.size) clip) batch (client.pic look e.size w.content)
@@ -53,7 +52,7 @@ module _ {C M : Type 0} (client : Ghosts C M) where
     pub has_touched : (q : Point) → touches w.batch q ≡ true → has_point clip q ≡ true
     pub least : (outer : Edges) → HasAll outer (has_point e.bad) → HasAll outer (touches w.batch) → HasAll outer (has_point clip)
 
-  -- a batch repaints a window by what waits: nothing is bad, and no point is lost on the way
+  -- a batch repaints a window by the commands that wait: no point is bad, and the commands lose no point
   pub record IsByWaiting (look : Look) (e : Exposure) (w : Present C) (batch : List Paint) : Type 0 where
     pub waits : batch ≡ w.batch
     pub good : (q : Point) → has_point e.bad q ≡ false
@@ -63,14 +62,14 @@ module _ {C M : Type 0} (client : Ghosts C M) where
   abbrev pub Repaints : Look → Exposure → Present C → List Paint → Type 0
   Repaints look e w batch = IsByPainting look e w batch ⊎ IsByWaiting look e w batch
 
-  -- A batch flushes a window by a painting: nothing is bad, and the waiting commands would lose nothing, so that they, too, would leave
+  -- A batch flushes a window by a painting: no point is bad, and the waiting commands would lose no point, so these, too, would leave
   -- each visible point with its colour in the present picture.
   pub record FlushesByPainting (look : Look) (e : Exposure) (w : Present C) (batch : List Paint) : Type 0 where
     pub painting : IsByPainting look e w batch
     pub good : (q : Point) → has_point e.bad q ≡ false
     pub keeps : LosesNothingOf e look w.batch
 
-  -- what a window keeps when its size changes lies in both windows, and has the same colours in both
+  -- the points that a window keeps when its size changes lie in the window before and after, and have the same colours in both
   pub record Keeps (look : Look) (w : Present C) : Type 0 where
     pub survives : (from to : Size) → IsWindowSize from → IsWindowSize to →
         Survives (client.keeps w.content from to) from to (client.pic look from w.content) (client.pic look to w.content)
