@@ -19,7 +19,8 @@ pub record IsKnownWhole (size : Size) (base : Base) : Type 0 where
   pub known : (q : Point) → has_point (whole_of size) q ≡ true → is_none (base.known q) ≡ false
 
 -- Commands lose no point of a window: each visible point whose colour is known before them has a known colour after them. If the whole
--- window is visible, all of its points are known before, since none is bad; so a scroll may bring in any of them.
+-- window is visible, this supposes that all of its points are known before, as they are if none is bad; so a scroll may bring in any of
+-- them.
 abbrev pub LosesNothingOf : Exposure → Look → List Paint → Type 0
 LosesNothingOf e look batch =
     (base : Base) → (e.is_whole ≡ true → IsKnownWhole e.size base) →
