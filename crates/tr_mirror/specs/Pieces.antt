@@ -1,11 +1,12 @@
 -- Private contracts alone cite this file.
--- What becomes of a piece of a stream of which the front is read.
+-- A piece of a stream whose front was read.
 use Rattle.std.specs.Prelude.{◌≡◌, ◌≢◌, ◌<◌, false, ℕ, List, ◌++◌, length, drop, None, IsSome}
 use Rattle.tr_mirror.specs.Headers.{header_len, header_of, record_len}
 use Rattle.tr_mirror.specs.Standings.{Standing, header_fault, pixel_fault}
 use Rattle.tr_mirror.specs.Readings.{Reading, read, is_unknown, cut_between, shown_from}
 
--- the front of a piece is read, and the rest isn't; of the front at most the last byte ends a cut, and then there is a screen
+-- the front of a piece was read, and the rest wasn't; no byte of the front but the last one ends a cut, and if that does, there is a
+-- screen
 pub record TakesFront (old new : Reading) (piece rest : List ℕ) : Type 0 where
   pub front : List ℕ
   pub parts : front ++ rest ≡ piece
