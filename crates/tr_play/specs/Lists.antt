@@ -5,7 +5,7 @@ use Rattle.tr_journal.specs.declared.steps.Step.{Step}
 use Rattle.tr_journal.specs.Actors.{steps_of}
 use Rattle.tr_journal.specs.Lists.{ListsView, HasList, list_of}
 
--- whoever made these steps has a list
+-- each actor of these steps has a list
 abbrev pub HaveLists : {M : Type 0} → ℕ → List (Actor × Step M) → Type 0
 HaveLists leaves steps = All (λ made. HasList leaves made.0) steps
 

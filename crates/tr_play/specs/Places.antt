@@ -1,5 +1,5 @@
 -- Private contracts alone cite this file.
--- The steps of a part by the places at which they stand in it, counted from 0.
+-- The steps of a part by their places in it, counted from 0.
 use Rattle.std.specs.Prelude.{ℕ, ◌<◌, All, List, [], ◌∷◌, ◌++◌, get_or, map, replicate, set}
 use Rattle.tr_journal.specs.declared.steps.Actor.{Actor}
 use Rattle.tr_journal.specs.declared.steps.Actor.TheVariants.{Leaf, Desk, Painter, Player}
@@ -7,11 +7,11 @@ use Rattle.tr_journal.specs.declared.steps.Step.{Step}
 use Rattle.tr_journal.specs.declared.steps.Step.TheVariants.{Sync}
 use Rattle.tr_journal.specs.Lists.{ListsView}
 
--- the step that stands at a place: a sync where none does
+-- the step at a place; a sync if there is none
 abbrev pub step_at : {M : Type 0} → List (Actor × Step M) → ℕ → Step M
 step_at made place = (get_or made place (Player, Sync)).1
 
--- the steps that stand at these places
+-- the steps at these places
 abbrev pub steps_at : {M : Type 0} → List (Actor × Step M) → List ℕ → List (Step M)
 steps_at made places = map (step_at made) places
 
@@ -32,7 +32,7 @@ places_of places Desk = places.desk
 places_of places Painter = []
 places_of places Player = places.player
 
--- the places with one more behind the others of an actor
+-- the places with one more, behind the others of its actor
 abbrev pub with_place : PlacesView → Actor → ℕ → PlacesView
 with_place places (Leaf leaf) place =
     record places { leaves = set places.leaves leaf.0 (get_or places.leaves leaf.0 [] ++ place ∷ []) }
@@ -49,7 +49,7 @@ pub record AreWithin (steps : ℕ) (places : PlacesView) : Type 0 where
   pub desk : are_below steps places.desk
   pub player : are_below steps places.player
 
--- the steps that stand at the places, in lists of each actor's
+-- the steps at the places, in one list for each actor
 abbrev pub lists_at : {M : Type 0} → List (Actor × Step M) → PlacesView → ListsView M
 lists_at made places = record {
   leaves = map (steps_at made) places.leaves;

@@ -26,8 +26,8 @@ parts_of parts = map part_of parts
 abbrev pub begun_part : {M : Type 0} → Part M → Part M
 begun_part part = record { reports = part.reports; steps = [] }
 
--- What a session handed out that found a difference after steps were made on a stage: it began with the stage's opening and journal; the
--- lists are each actor's steps, in their order, and the player's is empty; and this is what differs first.
+-- The difference that a session found after these steps were made on a stage. The session began with the stage's opening and journal;
+-- each list has its actor's steps, in their order, and the player's is empty; and `d` has the first difference.
 pub record HasLeft {C M : Type 0} (s : StageView C M) (steps : List (Actor × Step M)) (d : DiffersView C M) : Type 0 where
   pub opening : d.opening ≡ s.opening
   pub kept : d.kept ≡ s.journal
@@ -36,7 +36,8 @@ pub record HasLeft {C M : Type 0} (s : StageView C M) (steps : List (Actor × St
   pub first : IsDifference d
 
 module _ {C M : Type 0} (client : Ghosts C M) where
-  -- that was so with one of the parts of a script: on a stage that had played the parts before it, and made its reports
+  -- a session found this difference in one of the parts of a script, on a stage that had played the parts before and made this part's
+  -- reports
   pub record DiffersInPart (items : List (Item C)) (parts : List (Part M)) (d : DiffersView C M) : Type 0 where
     pub before : List (Part M)
     pub part : Part M

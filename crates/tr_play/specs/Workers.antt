@@ -11,7 +11,7 @@ use Rattle.tr_journal.specs.Lists.{ListsView, list_of}
 use Rattle.tr_parts.specs.Turns.{IsMade}
 use Rattle.tr_server.specs.Passes.{PassView}
 
--- of so many leaves, the actor is one that has a thread
+-- the actor has a thread of its own, in a part with so many leaves
 abbrev pub IsWorker : ℕ → Actor → Type 0
 IsWorker leaves (actors.Leaf leaf) = leaf.0 < leaves
 IsWorker leaves actors.Desk = ⊤
@@ -23,17 +23,17 @@ abbrev pub is_command : {M : Type 0} → Step M → Bool
 is_command (steps.Act leaf cmd) = true
 is_command step = false
 
--- none of these steps is
+-- none of these steps is a command
 abbrev pub AreNoCommands : {M : Type 0} → List (Step M) → Type 0
 AreNoCommands list = All (λ step. is_command step ≡ false) list
 
--- the first so many steps of a list were made with a pass
+-- some first steps of a list were made with a pass
 pub record HasWorked {M : Type 0} (before after : PassView M) (list : List (Step M)) : Type 0 where
   pub steps : ℕ
   pub actor : after.actor ≡ before.actor
   pub mine : after.mine ≡ before.mine ++ take steps list
 
--- the same of the actor's list, if the pass is a leaf's or the desk's
+-- the steps of the actor's list were, if the pass is a leaf's or the desk's
 pub record HasTaken {M : Type 0} (lists : ListsView M) (before after : PassView M) : Type 0 where
   pub actor : after.actor ≡ before.actor
   pub worked : is_maker before.actor ≡ true → HasWorked before after (list_of lists before.actor)
