@@ -1,4 +1,4 @@
--- Steps of many actors, put into lists of each actor's.
+-- The steps of many actors, in one list for each actor.
 use Rattle.std.specs.Prelude.{◌≡◌, ℕ, All, List, length}
 use Rattle.tr_journal.specs.declared.steps.Actor.{Actor}
 use Rattle.tr_journal.specs.declared.steps.Step.{Step}

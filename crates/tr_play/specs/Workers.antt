@@ -33,7 +33,7 @@ pub record HasWorked {M : Type 0} (before after : PassView M) (list : List (Step
   pub actor : after.actor ≡ before.actor
   pub mine : after.mine ≡ before.mine ++ take steps list
 
--- the steps of the actor's list were, if the pass is a leaf's or the desk's
+-- some first steps of the actor's list were made with its pass, if the pass is a leaf's or the desk's
 pub record HasTaken {M : Type 0} (lists : ListsView M) (before after : PassView M) : Type 0 where
   pub actor : after.actor ≡ before.actor
   pub worked : is_maker before.actor ≡ true → HasWorked before after (list_of lists before.actor)
