@@ -14,7 +14,7 @@ is_by actors.Desk other = is_desk other
 is_by actors.Painter other = is_painter other
 is_by actors.Player other = is_player other
 
--- a leaf's actor or the desk: one whose steps are those of a script
+-- a leaf's client or the desk: an actor whose steps a script has
 abbrev pub is_maker : Actor → Bool
 is_maker (actors.Leaf leaf) = true
 is_maker actors.Desk = true
@@ -25,7 +25,7 @@ abbrev pub steps_of : {M : Type 0} → Actor → List (Actor × Step M) → List
 steps_of actor [] = []
 steps_of actor (made ∷ later) = if is_by actor made.0 then made.1 ∷ steps_of actor later else steps_of actor later
 
--- who made the step of an entry, and the step
+-- the actor of an entry, and the step
 abbrev pub made_in : {M : Type 0} → Entry M → Actor × Step M
 made_in e = (e.actor, e.step)
 
@@ -33,6 +33,6 @@ made_in e = (e.actor, e.step)
 abbrev pub steps_by : {M : Type 0} → Actor → List (Entry M) → List (Step M)
 steps_by actor entries = steps_of actor (map made_in entries)
 
--- the entries of a journal, without what their steps sent
+-- the entries of a journal, without their deliveries
 abbrev pub entries_of : {M : Type 0} → List (JournalLine M) → List (Entry M)
 entries_of lines = map (λ line. line.entry) lines

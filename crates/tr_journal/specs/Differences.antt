@@ -13,7 +13,7 @@ use Rattle.tr_journal.specs.Journals.{JournalLine}
 use Rattle.tr_journal.specs.Lists.{ListsView, HasList, list_of}
 use Rattle.tr_journal.specs.Openings.{DifferAt}
 
--- an account of a run: what it began with, and its entries
+-- an account of a run: the items of its opening, and its entries
 pub record Account (C M : Type 0) : Type 0 where
   pub opening : List (Item C)
   pub entries : List (Entry M)
@@ -22,7 +22,7 @@ pub record Account (C M : Type 0) : Type 0 where
 abbrev pub account_of : {C M : Type 0} → List (Item C) → List (JournalLine M) → Account C M
 account_of opening lines = record { opening = opening; entries = entries_of lines }
 
--- two lists differ first at this place, counted from 1, where these are their elements, if any
+-- two lists differ first at this place, counted from 1; these are their elements there, if they have any
 pub record DifferIn {A : Type 0} (xs ys : List A) (place : ℕ) (x y : Option A) : Type 0 where
   pub first : DifferAt xs ys place
   pub made : slice_get xs (place - 1) ≡ x
@@ -36,17 +36,17 @@ IsBefore (Leaf a) Player = ⊤
 IsBefore Desk Player = ⊤
 IsBefore a b = ⊥
 
--- An account that was kept and the steps that each actor made since, against the account that is found.
+-- An account that was kept and the steps that each actor made since, compared with the account that was found.
 module _ {C M : Type 0} (kept : Account C M) (lists : ListsView M) (found : Account C M) where
-  -- the first entries that are found, as many as were kept
+  -- the first entries that were found, as many as were kept
   abbrev pub kept_found : List (Entry M)
   kept_found = take (length kept.entries) found.entries
 
-  -- the steps of an actor that are found behind them
+  -- the steps of an actor that were found behind these entries
   abbrev pub steps_found : Actor → List (Step M)
   steps_found actor = steps_by actor (drop (length kept.entries) found.entries)
 
-  -- Nothing differs. The painter has no list, and what steps sent is no part of an entry.
+  -- Nothing differs. The painter has no list, and deliveries are no part of an entry.
   pub record Matches : Type 0 where
     pub opening : kept.opening ≡ found.opening
     pub entries : kept.entries ≡ kept_found
@@ -59,8 +59,8 @@ module _ {C M : Type 0} (kept : Account C M) (lists : ListsView M) (found : Acco
     pub entries : kept.entries ≡ kept_found
     pub steps : (other : Actor) → HasList (length lists.leaves) other → IsBefore other actor → list_of lists other ≡ steps_found other
 
-  -- what differs first, and at which place: the openings' items, the kept entries, and the steps of one actor after another are
-  -- compared, in this order
+  -- the first difference, and its place: first the openings' items are compared, then the kept entries, then the steps of one actor after
+  -- another
   abbrev pub IsFirstApart : ℕ → Apart M → Type 0
   IsFirstApart place Opening = DifferAt kept.opening found.opening place
   IsFirstApart place (Kept x y) = (kept.opening ≡ found.opening) × DifferIn kept.entries kept_found place x y

@@ -3,42 +3,42 @@ use Rattle.std.specs.Prelude.{◌≡◌, ℕ, ◌+◌, ◌/◌, ◌<◌, min, Li
 use Rattle.tr_inbox.specs.declared.deliveries.Delivery.{Delivery}
 use Rattle.tr_journal.specs.declared.entries.Entry.{Entry}
 
--- an entry, and what its step sent
+-- an entry, with the deliveries of its step
 pub record JournalLine (M : Type 0) : Type 0 where
   pub entry : Entry M
   pub sent : List Delivery
 
--- what a contract sees of a journal: its lines, for how many more, of at most 32 deliveries each, there is room, and for how many more
--- that send nothing
+-- what a contract sees of a journal: its lines; the number of further lines, with at most 32 deliveries each, for which there is room;
+-- and the same for further lines without deliveries
 pub record JournalView (M : Type 0) : Type 0 where
   pub lines : List (JournalLine M)
   pub spare : ℕ
   pub silent_spare : ℕ
 
--- the lines of entries that sent nothing
+-- the lines of entries without deliveries
 abbrev pub silent : {M : Type 0} → List (Entry M) → List (JournalLine M)
 silent entries = map (λ e. record { entry = e; sent = [] }) entries
 
--- an entry says how much its step sent
+-- an entry has the right number of deliveries
 pub record IsCounted {M : Type 0} (line : JournalLine M) : Type 0 where
   pub count : line.entry.reply.sent ≡ length line.sent
 
--- how much all entries sent
+-- the number of deliveries of all entries
 abbrev pub total : {M : Type 0} → List (Entry M) → ℕ
 total entries = sum_by (λ e. e.reply.sent) entries
 
--- the lines of entries whose deliveries stand in a row: each entry takes as many as it says
+-- the lines of entries whose deliveries are in one list: each entry takes the number of deliveries that it states
 abbrev pub lines_of : {M : Type 0} → List (Entry M) → List Delivery → List (JournalLine M)
 lines_of [] sent = []
 lines_of (entry ∷ entries) sent =
     record { entry = entry; sent = take entry.reply.sent sent } ∷ lines_of entries (drop entry.reply.sent sent)
 
--- each entry's deliveries end where the total of the entries so far says, and there are no others
+-- the deliveries of each entry end at the total of the entries so far, and there are no others
 pub record AreKept {M : Type 0} (entries : List (Entry M)) (ends : List ℕ) (sent : List Delivery) : Type 0 where
   pub count : length ends ≡ length entries
   pub each : (k : ℕ) → k < length entries → get_or ends k 0 ≡ total (take (k + 1) entries)
   pub all : length sent ≡ total entries
 
--- for how many entries more three vectors have room, of which the third has 32 items an entry
+-- the number of further entries for which three vectors have room; the third needs 32 items for each entry
 abbrev pub spare_of : ℕ → ℕ → ℕ → ℕ
 spare_of entries ends sent = min (min entries ends) (sent / 32)

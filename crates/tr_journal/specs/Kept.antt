@@ -8,7 +8,7 @@ use Rattle.tr_journal.specs.declared.items.Item.{Item}
 use Rattle.tr_journal.specs.declared.items.Item.TheVariants.{Leaf}
 use Rattle.tr_journal.specs.Openings.{tree_of, font_of, contents_of}
 
--- where the leaves' items stand
+-- the places of the leaves' items
 abbrev pub leaf_places : {C : Type 0} → List (Item C) → List ℕ
 leaf_places [] = []
 leaf_places (Leaf shapes content ∷ items) = 0 ∷ map suc (leaf_places items)
@@ -24,10 +24,10 @@ pub record IsKept {C M : Type 0} (client : Ghosts C M) (items : List (Item C)) (
   pub contents : All client.valid (contents_of items)
   pub numbers : length (contents_of items) ≡ leaf_count tree.nodes
 
--- how many nodes have no parent
+-- the number of nodes without a parent
 abbrev pub loose_count : Nodes → ℕ
 loose_count t = count_by is_none (map (λ e. e.parent) t.entries)
 
--- there is room for a Put of each node that has no parent
+-- there is room for a Put of each node without a parent
 pub record HasRoom (count capacity : ℕ) (t : Nodes) : Type 0 where
   pub room : count + loose_count t ≤ capacity

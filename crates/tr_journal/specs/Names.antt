@@ -9,7 +9,7 @@ pub record Names : Type 0 where
   pub nodes : List (List ℕ)
   pub leaves : List (List ℕ)
 
--- the names that someone has
+-- the names, by a type that has them
 abbrev pub names_of : {N : Type 0} → Ghosts N → N → Names
 names_of has names = record { nodes = has.node_names names; leaves = has.leaf_names names }
 

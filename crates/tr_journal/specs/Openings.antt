@@ -21,11 +21,11 @@ use Rattle.tr_journal.specs.declared.items.Item.TheVariants.{Screen, Glyph, Node
 abbrev pub no_nodes : Nodes
 no_nodes = record { entries = []; root = None }
 
--- what is there before the screen
+-- the tree before there is a screen: it has no nodes
 abbrev pub no_screen : Seen
 no_screen = record { nodes = no_nodes; size = record { wide = 0; high = 0 }; kind = Mono }
 
--- the tree with a node more, which hangs nowhere
+-- the tree with one more node, which has no parent
 abbrev pub with_node : NodeKind → ℕ → Seen → Seen
 with_node kind tint t = record t { nodes = record t.nodes { entries = t.nodes.entries ++ fresh kind tint ∷ [] } }
 
@@ -60,18 +60,18 @@ content_in item = None
 abbrev pub contents_of : {C : Type 0} → List (Item C) → List C
 contents_of items = filter_map content_in items
 
--- why a node can't be the root, where it can't: there is a root, or the node has a parent
+-- why a node can't become the root, if it can't: there is a root, or the node has a parent
 abbrev pub root_refusal : Nodes → NodeId → Option NodeFault
 root_refusal t node = if is_some t.root || hangs t node then Some faults.Attached else None
 
--- What the items of an opening keep: their tree is a tree on a screen, and each of its leaves has a content.
+-- What holds of the items of an opening: they make a tree on a screen, and each of its leaves has a content.
 pub record IsOpened {C M : Type 0} (client : Ghosts C M) (items : List (Item C)) : Type 0 where
   pub forest : IsForest (tree_of items).nodes
   pub screen : IsScreenSize (tree_of items).size
   pub leaves : length (contents_of items) ≡ leaf_count (tree_of items).nodes
   pub contents : All client.valid (contents_of items)
 
--- two lists have the same elements before a place, counted from 1, and not the same at that place, where one of them may end
+-- two lists have the same elements before a place, counted from 1, and differ at that place, where one of them may end
 pub record DifferAt {A : Type 0} (xs ys : List A) (place : ℕ) : Type 0 where
   pub counted : 1 ≤ place
   pub before : take (place - 1) xs ≡ take (place - 1) ys

@@ -37,7 +37,7 @@ abbrev pub is_player : Actor → Bool
 is_player actors.Player = true
 is_player actor = false
 
--- it is for the actor to make the step
+-- the actor has the right to make the step
 abbrev pub may : {M : Type 0} → Actor → Step M → Bool
 may actor (steps.Act leaf cmd) = is_leaf leaf actor
 may actor (steps.Mark leaf clip) = is_leaf leaf actor
@@ -67,7 +67,7 @@ is_level a b = false
 abbrev pub is_held : List Level → Level → Bool
 is_held held level = list_any (is_level level) held
 
--- the levels of a step
+-- the levels that a step requires
 abbrev pub stated : {M : Type 0} → Step M → List Level
 stated (steps.Act leaf cmd) = Win leaf ∷ []
 stated (steps.Mark leaf clip) = Mu ∷ Win leaf ∷ []
@@ -78,7 +78,7 @@ stated (steps.Disown leaf selection) = Mu ∷ Win leaf ∷ []
 stated (steps.Read leaf selection) = Mu ∷ Win leaf ∷ []
 stated step = Mu ∷ []
 
--- a step's levels are all held; a repaint may hold the leaf's share in place of the tree's lock
+-- all levels that a step requires are held; for a repaint, the leaf's share may replace the tree's lock
 abbrev pub covers : {M : Type 0} → List Level → Step M → Bool
 covers held (steps.Repaint leaf) = is_held held Mu || is_held held (Share leaf)
 covers held step = list_all (is_held held) (stated step)
@@ -93,7 +93,7 @@ IsLevel t Mu = ⊤
 IsLevel t (Share leaf) = IsLeaf t leaf
 IsLevel t (Win leaf) = IsLeaf t leaf
 
--- so is that of each level
+-- so it is for each level
 abbrev pub AreLevels : Nodes → List Level → Type 0
 AreLevels t levels = All (IsLevel t) levels
 
@@ -111,12 +111,12 @@ pub record IsButton (button : ℕ) : Type 0 where
   pub low : 1 ≤ button
   pub high : button ≤ 5
 
--- a coordinate of a place that the cursor may have, on the screen or off it: -8192 to 8191
+-- a coordinate of the cursor, on the screen or off it: -8192 to 8191
 pub record IsPlace (x : ℤ) : Type 0 where
   pub low : neg_ℤ (pos 8192) ≤ℤ x
   pub high : x ≤ℤ pos 8191
 
--- both coordinates of a point are such ones
+-- both coordinates of a point are coordinates of the cursor
 pub record IsPosition (at : Point) : Type 0 where
   pub across : IsPlace at.h
   pub down : IsPlace at.v
@@ -126,19 +126,19 @@ pub record IsEdge (x : ℤ) : Type 0 where
   pub low : neg_ℤ (pos 8192) ≤ℤ x
   pub high : x ≤ℤ pos 8192
 
--- all edges of a rectangle are such ones
+-- all edges of a rectangle are within -8192 to 8192
 pub record IsClip (e : Edges) : Type 0 where
   pub west : IsEdge e.west
   pub east : IsEdge e.east
   pub north : IsEdge e.north
   pub south : IsEdge e.south
 
--- the rectangle of a cage is such a one, and it holds cursors that are here, or gone, or both
+-- the edges of a cage's rectangle are within -8192 to 8192, and the cage holds cursors that are here, or gone, or both
 abbrev pub IsCage : Cage → Type 0
 IsCage Everywhere = ⊤
 IsCage (Only rect here gone) = IsClip rect × ((here || gone) ≡ true)
 
--- a report's point is a place of the cursor, and its leaf is a leaf of the tree
+-- a report's point is one that the cursor can have, and its leaf is a leaf of the tree
 abbrev pub IsQuery : Nodes → Query → Type 0
 IsQuery t (queries.Where at) = IsPosition at
 IsQuery t (queries.Inbox leaf) = IsLeaf t leaf
@@ -163,8 +163,8 @@ IsStep t steps.PaintFrame = ⊤
 IsStep t steps.Sync = ⊤
 IsStep t (steps.Report query) = IsQuery t query
 
--- a step that its actor may make: it is for that actor to make, its levels are among those that are held, which are levels of leaves of
--- the tree, and its numbers and values are a step's
+-- a step that the actor may make: the actor has the right, the levels that it requires are held, the leaves of all held levels are leaves
+-- of the tree, and its numbers and values are a step's
 pub record IsFor {M : Type 0} (t : Nodes) (actor : Actor) (held : List Level) (step : Step M) : Type 0 where
   pub may : may actor step ≡ true
   pub covers : covers held step ≡ true
