@@ -16,14 +16,14 @@ pub record IsWindowSize (size : Size) : Type 0 where
 abbrev pub is_flat : Size → Bool
 is_flat size = size.wide == 0 || size.high == 0
 
--- the numbers of an event are those of their types
+-- the numbers of an event are in the ranges of their types
 abbrev pub IsEvent : Event → Type 0
 IsEvent (Mouse time click button at) = (time < 2 ^ 32) × (button < 2 ^ 8)
 IsEvent (Position time at gone) = time < 2 ^ 32
 IsEvent (Key time code) = (time < 2 ^ 32) × (code < 2 ^ 8)
 IsEvent event = Unit {0}
 
--- what is kept when a window changes its size: points of both windows, which have the same colours in both pictures
+-- the points that are kept when a window's size changes lie in the window before and after, and have the same colours in both pictures
 pub record Survives (kept : Edges) (from to : Size) (before after : Point → ℕ) : Type 0 where
   pub first : (q : Point) → has_point kept q ≡ true → has_point (whole_of from) q ≡ true
   pub second : (q : Point) → has_point kept q ≡ true → has_point (whole_of to) q ≡ true

@@ -11,31 +11,31 @@ use Rattle.tr_paint.specs.Traces.{Look}
 use Rattle.tr_paint.specs.Batches.{batch_of}
 use Rattle.tr_client.specs.Plain.{colour_of}
 
--- the colour of a point by a text whose cells begin at `at`: the text is foreground, and what is beside it background
+-- the colour of a point by a text whose cells begin at `at`: foreground for the letters, and background for all other points
 abbrev pub text_colour : Look → Point → List ℕ → Point → ℕ
 text_colour look at text q = if has_point (cells_of at (length text)) q then colour_of (text_bit look.font at text q) else 0
 
--- how many strips a window has, and so for how many lines it has room
+-- the number of strips of a window, and so of lines for which it has room
 abbrev pub room : Size → ℕ
 room size = size.high / 8
 
--- the strip of a point, by how many others are above it
+-- the strip of a point, by the number of strips above it
 abbrev pub strip_of : Point → ℕ
 strip_of q = unsigned_abs q.v / 8
 
--- where the line of a strip begins that has so many others above it
+-- the north-west corner of the strip that has so many others above it
 abbrev pub begin_of : ℕ → Point
 begin_of above = record { h = pos 0; v = pos (8 * above) }
 
--- a point lies in the cells of a line that stands in such a strip
+-- a point lies in the cells of a line in this strip
 abbrev pub in_cells : ℕ → List ℕ → Point → Bool
 in_cells above line q = has_point (cells_of (begin_of above) (length line)) q
 
--- the colour of a point by the line that stands there
+-- the colour of a point by the line in its strip
 abbrev pub line_colour : Look → ℕ → List ℕ → Point → ℕ
 line_colour look above line q = text_colour look (begin_of above) line q
 
--- the colour of a point where these lines stand one below the other; below the last one all is background
+-- the colour of a point by these lines, one below the other; below the last one all is background
 abbrev pub colour_in : Look → List (List ℕ) → Point → ℕ
 colour_in look lines q = line_colour look (strip_of q) (slice_index_or lines (strip_of q) []) q
 
@@ -50,6 +50,6 @@ upwards = record { h = pos 0; v = neg_ℤ (pos 8) }
 abbrev pub downwards : Point
 downwards = record { h = pos 0; v = pos 8 }
 
--- a part of a window becomes background
+-- the commands that paint a part of a window with the background
 abbrev pub cleared : Edges → List Paint
 cleared part = batch_of (Tint part Bg ∷ [])
