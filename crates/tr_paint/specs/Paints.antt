@@ -42,7 +42,7 @@ IsNearPaint (Spoil clip) = IsNearRect clip
 abbrev pub cells_of : Point → ℕ → Edges
 cells_of at n = rect_of at.h (at.h +ℤ pos (8 * n)) at.v (at.v +ℤ pos 8)
 
--- the points at which a command does something: its clip, cut for a text by its cells, and for pixels by where they lie
+-- the points that a command can touch: its clip, or the part of it that lies in the cells of the command's text, or in its picture
 abbrev pub area : Paint → Edges
 area (Tint clip op) = clip
 area (Texture clip ops tile delta) = clip
@@ -63,7 +63,7 @@ chosen ops bit = if bit then ops.one else ops.zero
 abbrev pub both_opaque : Pair → Bool
 both_opaque ops = opaque ops.zero && opaque ops.one
 
--- what a command leaves doesn't depend on the pixels that were there
+-- the pixels that a command leaves are independent of those before
 abbrev pub is_opaque : Paint → Bool
 is_opaque (Tint clip op) = opaque op
 is_opaque (Texture clip ops tile delta) = both_opaque ops

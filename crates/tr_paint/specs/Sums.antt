@@ -15,7 +15,7 @@ use Rattle.tr_paint.specs.Hulls.{HasAll}
 abbrev pub points_in : Edges → ℕ
 points_in e = (sides_of e).0 * (sides_of e).1
 
--- what a point of a command's area costs, beside a point that is filled
+-- the work for a point of a command's area; for a filled point it is 1
 abbrev pub weight : Paint → ℕ
 weight (Tint clip op) = 1
 weight (Texture clip ops tile delta) = 2
@@ -24,30 +24,30 @@ weight (Text clip at ops text) = 3
 weight (Scroll clip delta) = 2
 weight (Spoil clip) = 1
 
--- what executing commands costs: the sum of their areas, each by its weight, which stops at 2^64 - 1
+-- the estimated work of executing commands: the sum of their areas in points, each times its command's weight; the sum stops at 2^64 - 1
 abbrev pub cost_of : List Paint → ℕ
 cost_of commands = min (sum_by (λ c. points_in (area c) * weight c) commands) (2 ^ 64 - 1)
 
--- a command makes what points show unknown
+-- a command makes the pixels of its points unknown
 abbrev pub is_spoil : Paint → Bool
 is_spoil (Spoil clip) = true
 is_spoil c = false
 
--- one of the commands does
+-- one of the commands is a spoil
 abbrev pub has_spoil : List Paint → Bool
 has_spoil commands = list_any is_spoil commands
 
--- a command is no scroll, or one of these: of none, of those that are alike, or of any
+-- a command is no scroll, or it is one that the summary allows: none, one with this clip and delta, or any
 abbrev pub IsOneOf : Scrolls → Paint → Type 0
 IsOneOf Absent (Scroll clip delta) = ⊥
 IsOneOf (Alike clip delta) (Scroll c d) = (c ≡ clip) × (d ≡ delta)
 IsOneOf scrolls c = ⊤
 
--- each scroll among the commands is one of these
+-- the summary allows each scroll among the commands
 abbrev pub AreScrolls : Scrolls → List Paint → Type 0
 AreScrolls scrolls commands = All (IsOneOf scrolls) commands
 
--- where scrolls are alike, their coordinates are near
+-- if scrolls are alike, their coordinates are near
 abbrev pub AreNear : Scrolls → Type 0
 AreNear (Alike clip delta) = IsNearRect clip × IsNearPoint delta
 AreNear scrolls = ⊤

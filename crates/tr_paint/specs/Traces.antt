@@ -11,26 +11,26 @@ use Rattle.tr_paint.specs.declared.paints.Paint.{Paint}
 use Rattle.tr_paint.specs.declared.paints.Paint.TheVariants.{Scroll, Spoil}
 use Rattle.tr_paint.specs.Paints.{area, is_opaque, op_at}
 
--- what painting depends on beside the commands: the kind of the pixels, and the glyphs of the font
+-- what determines the picture beside the commands: the kind of the pixels, and the glyphs of the font
 pub record Look : Type 0 where
   pub kind : Kind
   pub font : List (List ℕ)
 
--- the look by its parts
+-- the look of a kind and a font
 abbrev pub look_of : Kind → List (List ℕ) → Look
 look_of kind font = record { kind = kind; font = font }
 
 -- what one command does at one point
 pub data Deed : Type 0 where
-  -- leaves it as it is
+  -- keeps its pixel
   Keep : Deed
-  -- makes it unknown
+  -- makes its pixel unknown
   Lose : Deed
-  -- gives it what another point had
+  -- gives it the pixel of another point
   From : Point → Deed
   -- gives it a pixel, whatever it was
   Value : ℕ → Deed
-  -- applies an operation to it
+  -- applies an operation to its pixel
   Change : Op → Deed
 
 -- the deed of a command at a point of its area: an opaque one gives a pixel, another one changes what is there
@@ -39,11 +39,11 @@ deed_within look (Scroll clip delta) q = From (before_shift q delta)
 deed_within look (Spoil clip) q = Lose
 deed_within look c q = if is_opaque c then Value (eff look.kind (op_at look.font c q) 0) else Change (op_at look.font c q)
 
--- the deed of a command at a point: outside its area it leaves all as it is
+-- the deed of a command at a point: outside its area it keeps each pixel
 abbrev pub deed : Look → Paint → Point → Deed
 deed look c q = if has_point (area c) q then deed_within look c q else Keep
 
--- what there is before the commands: which points are visible, and the pixels that are known of some of them
+-- the state before the commands: which points are visible, and the pixels of those that are known
 pub record Base : Type 0 where
   pub visible : Point → Bool
   pub known : Point → Option ℕ
@@ -65,6 +65,6 @@ trace look base (c ∷ before) q = if base.visible q then done look.kind (deed l
 abbrev pub after : Look → Base → List Paint → Point → Option ℕ
 after look base batch q = trace look base (reverse batch) q
 
--- what a batch leaves for the commands that come after it
+-- the base for the commands behind a batch: the points that are known after it
 abbrev pub left_by : Look → Base → List Paint → Base
 left_by look base batch = record { visible = base.visible; known = λ q. after look base batch q }
