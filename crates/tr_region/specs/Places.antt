@@ -5,11 +5,11 @@ use Rattle.tr_base.specs.Rects.{Edges, sides_of}
 use Rattle.tr_region.specs.Points.{holds}
 use Rattle.tr_region.specs.Areas.{area_of}
 
--- the place of a point among those of its rectangle, row after row
+-- the index of a point among those of its rectangle, row after row
 abbrev pub place_within : Edges → Point → ℕ
 place_within r p = unsigned_abs (p.v -ℤ r.north) * (sides_of r).0 + unsigned_abs (p.h -ℤ r.west)
 
--- the place of a point among those of rectangles, one after another; no point lies in two of a region's rectangles
+-- the index of a point among those of rectangles, one rectangle after another; no point lies in two of a region's rectangles
 abbrev pub place_in : List Edges → Point → ℕ
 place_in [] p = 0
 place_in (r ∷ rs) p = if holds rs p then area_of r + place_in rs p else place_within r p

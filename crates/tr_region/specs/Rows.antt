@@ -5,16 +5,16 @@ use Rattle.tr_base.specs.Rects.{Edges, between}
 use Rattle.tr_region.specs.Points.{holds}
 use Rattle.tr_region.specs.Bands.{in_spans, spans_of}
 
--- of row y the region holds the points in the columns of these rectangles, and no others
+-- in row y the region holds the points in the columns of these rectangles, and no others
 abbrev pub HoldsRow : List Edges → List Edges → ℤ → Type 0
 HoldsRow region row y = (p : Point) → p.v ≡ y → holds region p ≡ in_spans (spans_of row) p.h
 
--- the point lies in one of the rows from north to before south, and in a column of one of the rectangles
+-- the point lies in one of the rows `north <= v < south`, and in a column of one of the rectangles
 abbrev pub in_band : ℕ → ℕ → List Edges → Point → Bool
 in_band north south row p = between (pos north) (pos south) p.v && in_spans (spans_of row) p.h
 
--- row n is the one of those from north to south that is nearest to v:
--- a row from north on and before south lies from both on, or before both
+-- Row n is the one from north to south, both included, that is nearest to v: of the rows `north <= y < south`, the same ones are at or
+-- behind n as are at or behind v.
 pub record IsNearest (v : ℤ) (north south n : ℕ) : Type 0 where
   pub from : north ≤ n
   pub to : n ≤ south
