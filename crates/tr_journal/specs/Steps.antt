@@ -163,8 +163,8 @@ IsStep t steps.PaintFrame = ⊤
 IsStep t steps.Sync = ⊤
 IsStep t (steps.Report query) = IsQuery t query
 
--- a step that the actor may make: the actor has the right, the levels that it requires are held, the leaves of all held levels are leaves
--- of the tree, and its numbers and values are a step's
+-- a step that its actor may make: it is for that actor to make, its levels are among those that are held, which are levels of leaves of
+-- the tree, and its numbers and values are a step's
 pub record IsFor {M : Type 0} (t : Nodes) (actor : Actor) (held : List Level) (step : Step M) : Type 0 where
   pub may : may actor step ≡ true
   pub covers : covers held step ≡ true

@@ -27,7 +27,7 @@ is_command step = false
 abbrev pub AreNoCommands : {M : Type 0} → List (Step M) → Type 0
 AreNoCommands list = All (λ step. is_command step ≡ false) list
 
--- some first steps of a list were made with a pass
+-- the first so many steps of a list were made with a pass
 pub record HasWorked {M : Type 0} (before after : PassView M) (list : List (Step M)) : Type 0 where
   pub steps : ℕ
   pub actor : after.actor ≡ before.actor

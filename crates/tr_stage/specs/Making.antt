@@ -1,4 +1,3 @@
--- Private contracts alone cite this file.
 -- What a step makes of a stage.
 use Rattle.std.specs.Prelude.{◌≡◌, List, [], ◌∷◌, ◌++◌, length, Result, Ok, Err, OnOk, OnErr, IfOk}
 use Rattle.tr_base.specs.declared.errors.NoMemory.{NoMemory}
@@ -14,20 +13,20 @@ use Rattle.tr_journal.specs.declared.steps.Step.{Step}
 use Rattle.tr_journal.specs.Journals.{JournalLine}
 use Rattle.tr_stage.specs.Stages.{StageView, line}
 
--- the line of a step with this answer and these deliveries
+-- the line of a step that answered this and sent that
 abbrev pub line_with : {M : Type 0} → Actor → List Level → Step M → Answer → List Delivery → JournalLine M
 line_with actor held step answer sent = record {
   entry = record { actor = actor; level = held; step = step; reply = record { answer = answer; sent = length sent } };
   sent = sent;
 }
 
--- the line of a step that the desk makes, with its deliveries, or refuses
+-- the line of a step that the desk lets be done, with what it sent, or refuses
 abbrev pub line_told : {M : Type 0} → Actor → List Level → Step M → Result Unit DeskFault → List Delivery → JournalLine M
 line_told actor held step (Ok done) sent = line_with actor held step Done sent
 line_told actor held step (Err fault) sent = line_with actor held step (Desk fault) []
 
--- an actor made a step: the journal has got the machine's line of it, and the line's reply is the result; for want of memory the journal
--- and the screen are unchanged
+-- an actor made a step: the journal has the machine's line of it more, and its reply is answered; for want of memory the journal and the
+-- screen are as they were
 pub record Makes {C M : Type 0} (client : Ghosts C M) (old new : StageView C M) (actor : Actor) (held : List Level) (step : Step M)
     (answered : Result Reply NoMemory) : Type 0 where
   pub opening : new.opening ≡ old.opening
