@@ -3,28 +3,28 @@ use std::sync::atomic::{AtomicU64, Ordering};
 use std::thread::Parker;
 use std::time::Duration;
 
-/// How often somebody who waits for steps may find that nobody got on, one time after another, before he
-/// gives up: where no thread can be made, those who are to make them come after him.
+/// How often in a row the painter may find that no worker has made a step, before it stops waiting: if no
+/// thread can be started, the workers run after the painter.
 const MOST_LOOKS: u32 = 50;
 
-/// How many milliseconds he sleeps until he looks again, if nobody wakes him.
+/// How many milliseconds the painter sleeps before it looks again, if no worker wakes it.
 const NAP: u64 = 2;
 
-/// How many milliseconds somebody rests who comes again and again: some sixty times a second.
+/// How many milliseconds the painter rests between two repaints, of which it so makes some sixty a second.
 const REST: u64 = 16;
 
-/// So many steps are never made: nobody waits.
+/// A number of steps that is never reached: nobody waits.
 const NEVER: u64 = u64::MAX;
 
-/// For how many steps of a part nobody has to wait any more: for commands soon after they are made, for
-/// others when their actor has come to its end, also for those for which memory was wanting. A hint for
-/// whoever comes from time to time: no contract counts on it.
+/// The number of steps of a part for which the painter need not wait any more. Commands are counted soon
+/// after they are made; other steps when their actor has finished, and also those that weren't made for
+/// want of memory. It is a hint for the painter: no contract rests on it.
 #[derive(Drop)]
 pub(crate) struct Counter {
     made: AtomicU64,
-    /// How often a worker told how far it has come.
+    /// How often a worker has reported its progress.
     notes: AtomicU64,
-    /// For how many steps somebody waits.
+    /// The number of steps for which the painter waits.
     awaited: AtomicU64,
     sleeper: Parker,
 }
@@ -39,7 +39,7 @@ impl Counter {
         }
     }
 
-    /// A worker got on, and for so many steps more nobody has to wait; 0 says that it only got on.
+    /// A worker reports progress, and adds so many steps; with 0 it reports progress alone.
     pub(crate) fn add(&self, steps: u64) {
         self.notes.fetch_add(1, Ordering::SeqCst);
         if steps == 0 {
@@ -51,18 +51,18 @@ impl Counter {
         }
     }
 
-    /// For how many steps nobody has to wait any more.
+    /// The number of steps so far.
     pub(crate) fn count(&self) -> u64 {
         self.made.load(Ordering::SeqCst)
     }
 
-    /// Whether that is so for as many as these.
+    /// Whether there are at least so many steps.
     pub(crate) fn has(&self, steps: u64) -> bool {
         self.count() >= steps
     }
 
-    /// Sleeps until so many steps were made, but no longer than somebody gets on meanwhile. Answers whether
-    /// they were made.
+    /// Sleeps until there are so many steps, or until no worker reports progress any more. Returns whether
+    /// there are so many.
     pub(crate) fn wait_for<R: Wait>(&self, rt: &R, steps: u64) -> bool {
         self.awaited.store(steps, Ordering::SeqCst);
         let made = self.sleep_until(rt, steps);
@@ -70,7 +70,7 @@ impl Counter {
         made
     }
 
-    /// Rests for a while, or until so many steps were made.
+    /// Rests for a while, or until there are so many steps.
     pub(crate) fn rest<R: Wait>(&self, rt: &R, steps: u64) {
         self.awaited.store(steps, Ordering::SeqCst);
         if !self.has(steps) {

@@ -1,14 +1,14 @@
 use std::sync::Wait;
 use tr_journal::Actor;
 
-/// A test hook that a worker asks before each step of a client or of the desk, while the worker holds no
-/// lock. It may make the worker wait, and so choose one order of the steps.
+/// Is asked before each step of a client or of the desk, while its worker holds no lock. It may let the
+/// worker wait, so that one order of steps comes about and not another.
 pub trait Gate {
-    /// A worker calls this before its actor's k-th step of a part, counted from 1.
+    /// Is called before an actor's k-th step of a part, counted from 1.
     fn turn<R: Wait>(&self, rt: &R, actor: Actor, k: u32);
 
-    /// Whether it makes no worker wait. Then a worker need not ask it before steps that are no commands,
-    /// and may make several of these before it releases the tree's lock.
+    /// Whether it lets nobody wait. Then it need not be asked before steps that are no commands, and a worker
+    /// may make some of these, one after another, before it gives up the tree's lock.
     fn is_open(&self) -> bool {
         false
     }

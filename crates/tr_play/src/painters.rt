@@ -18,11 +18,10 @@ use tr_levels::Ladder;
 use tr_server::{FEW_POINTS, Mu, Pass, Session};
 
 impl<C: Client, L: Session, R: Threads + Wait + Sync, G: Gate> Context<'_, C, L, R, G> {
-    /// The painter brings the screen up to date when clients have made their first 16 commands, or, where
-    /// they make fewer, the others are done, too; after that whenever they have made one, but at most some
-    /// sixty times a second, and at last when all steps were made; in all once, and at most once more for
-    /// each 16 steps of the part, until memory runs out. Once he has waited in vain he comes for the last
-    /// time.
+    /// The painter brings the screen up to date once 16 steps of the part are counted, or all, if it has
+    /// fewer; after that whenever one more is counted, but at most some sixty times a second; and for the
+    /// last time when all are counted, or when it has waited in vain. It repaints once, and at most once
+    /// more for each 16 steps of the part, until memory runs out.
     pub(crate) fn paint(&self, pass: &mut Pass<C, L>, steps: usize)
         requires { pass.old.actor ≡ Painter }
         ensures { pass.new.actor ≡ pass.old.actor }
@@ -40,7 +39,8 @@ impl<C: Client, L: Session, R: Threads + Wait + Sync, G: Gate> Context<'_, C, L,
         }
     }
 
-    /// The painter brings the screen up to date: what waits in the windows is handed over first.
+    /// The painter hands over the commands that wait in the windows, and then brings the screen up to
+    /// date.
     fn paint_once(&self, pass: &mut Pass<C, L>) -> Result<(), NoMemory>
         requires { pass.old.actor ≡ Painter }
         ensures { pass.new.actor ≡ pass.old.actor }
@@ -51,7 +51,7 @@ impl<C: Client, L: Session, R: Threads + Wait + Sync, G: Gate> Context<'_, C, L,
         painted
     }
 
-    /// The same, with the tree's lock taken.
+    /// Like `paint_once`, under the tree's lock.
     fn paint_under(&self, mu: &mut Mu<'_, C, L>, pass: &mut Pass<C, L>) -> Result<(), NoMemory>
         requires { pass.old.actor ≡ Painter }
         ensures actor { pass.new.actor ≡ pass.old.actor }
@@ -70,8 +70,9 @@ impl<C: Client, L: Session, R: Threads + Wait + Sync, G: Gate> Context<'_, C, L,
         mu.repaint_shared(self.rt, pass)
     }
 
-    /// Repaints each window for which something waits, before `repaint_shared` flushes it: where others cover
-    /// a part of the window a flush executes each scroll that waits, and a repaint paints it once.
+    /// Repaints each window with waiting commands, so that `repaint_shared` doesn't flush it: if other
+    /// windows cover a part of the window, a flush executes each scroll that waits, and a repaint paints
+    /// the window once.
     fn repaint_waiting(&self, mu: &mut Mu<'_, C, L>, pass: &mut Pass<C, L>) -> Result<(), NoMemory>
         requires { pass.old.actor ≡ Painter }
         ensures { pass.new.actor ≡ pass.old.actor }
@@ -85,7 +86,7 @@ impl<C: Client, L: Session, R: Threads + Wait + Sync, G: Gate> Context<'_, C, L,
         Ok(())
     }
 
-    /// Hands over what waits in each window.
+    /// Hands over the commands that wait in each window.
     fn hand_over_all(&self, mu: &mut Mu<'_, C, L>) -> Result<(), NoMemory> {
         let leaves = self.server.opening().tree().leaves();
         for n in 0..leaves {

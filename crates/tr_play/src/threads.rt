@@ -29,12 +29,12 @@ pub struct Workers<'a, R, G> {
     pub gate: &'a G,
 }
 
-/// How many steps of a part there are for one more repaint.
+/// The painter may repaint once more for each so many steps of a part.
 pub(crate) const STEPS_A_REPAINT: usize = 16;
 
 /// Makes the steps of a part on a stage, each actor's in a thread of its own. Meanwhile the painter brings
-/// the screen up to date, once and at most once more for each 16 steps. Where there is no step and he would
-/// find nothing to do, nobody is started.
+/// the screen up to date, once and at most once more for each 16 steps. If there is no step, and the
+/// screen is up to date, it starts no thread.
 pub(crate) fn make_side_by_side<C: Client, R: Threads + Wait + Sync, G: Gate + Sync>(
     workers: &Workers<'_, R, G>,
     stage: Stage<C>,

@@ -87,8 +87,8 @@ impl<C: Client, L: Session> Pass<C, L> {
         self.posted
     }
 
-    /// Posts a command of a leaf: it waits as the last one, at the level that its caller holds. For want of
-    /// memory it is let go.
+    /// Posts a command of a leaf: it waits behind the others, at the level that its caller holds. For want
+    /// of memory it is dropped.
     pub(crate) fn post_into(
         &mut self,
         leaf: LeafId,

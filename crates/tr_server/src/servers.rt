@@ -27,7 +27,7 @@ use tr_journal::{Actor, Journal, Opening};
 use tr_levels::Ladder;
 use tr_stage::Stage;
 
-/// How often somebody looks whether the tree's lock is free before he sleeps until it is.
+/// How often a thread looks whether the tree's lock is free, before it sleeps until it is.
 const MOST_LOOKS: u32 = 1000;
 
 /// A stage behind the tree's lock, and for each leaf a window, behind whose lock the commands of its
@@ -113,9 +113,10 @@ impl<C: Client, L: Session> Server<C, L> {
         }
     }
 
-    /// Takes the lock. Who finds it taken looks again for a while, and lets others run, before he sleeps:
-    /// most steps are made sooner than somebody is woken. He only reads meanwhile: whoever tries to take the
-    /// lock takes its memory, and what lies beside it, from the processor of the one who has it.
+    /// Takes the lock. A thread that finds it taken looks again for a while, and yields to other threads,
+    /// before it sleeps: most steps take less time than waking a thread. Meanwhile the thread only reads:
+    /// an attempt to take the lock would take the lock's memory, and the data beside it, from the
+    /// processor of the thread that holds it.
     fn taken<R: Wait>(&self, rt: &R) -> MutexGuard<'_, Locked<C, L>> {
         for _look in 0..MOST_LOOKS {
             if let Some(guard) = self.taken_if_free() {

@@ -1,11 +1,11 @@
-//! A Mu and a Pass must be spent, and neither is copied: were one of them `Drop` or `Copy`, two impls of one
-//! of these traits would overlap, and the crate would not compile.
+//! A `Mu` and a `Pass` can be neither dropped nor copied: if one of them were `Drop` or `Copy`, two impls
+//! of one of these traits would overlap, and the crate would not compile.
 use crate::passes::Pass;
 use crate::sessions::Session;
 use crate::tree_locks::Mu;
 use tr_client::Client;
 
-/// Of what may be let go.
+/// The trait of a type that can be dropped.
 trait LetGo {}
 
 impl<T: Drop> LetGo for T {}
@@ -14,7 +14,7 @@ impl<C: Client, L: Session> LetGo for Pass<C, L> {}
 
 impl<'a, C: Client, L: Session> LetGo for Mu<'a, C, L> {}
 
-/// Of what may be used twice.
+/// The trait of a type that can be copied.
 trait UsedTwice {}
 
 impl<T: Copy> UsedTwice for T {}

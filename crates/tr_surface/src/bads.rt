@@ -104,7 +104,7 @@ impl Surface {
     }
 }
 
-/// Whether a region holds a point. It is taken for the prover, so that its callers let nothing go.
+/// Whether a region holds a point. It takes the region by value for the prover: so no caller drops one.
 fn holds_some(region: Region) -> bool
     ensures some { IsTrue result → (p : Point) × (holds region p ≡ true) }
     ensures none { IsTrue (not result) → (p : Point) → holds region p ≡ false }

@@ -105,9 +105,8 @@ impl<C: Client> Window<C> {
         self.batch.clear();
     }
 
-    /// A batch that repaints the window: a painting of all points that are bad or that the waiting
-    /// commands would touch; or a copy of these commands, if that is cheaper and serves as well. The
-    /// commands still wait.
+    /// A batch that repaints it: a painting of all points that are bad or that the waiting commands
+    /// would touch, or, where that is cheaper and does as well, a copy of these. Nothing is let go.
     pub fn repainting(
         &self,
         alloc: Global,

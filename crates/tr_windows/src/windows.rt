@@ -162,9 +162,9 @@ impl<C: Client> Windows<C> {
         }
     }
 
-    /// A batch that repaints a leaf's window: a painting of all points that are bad or that the waiting
-    /// commands would touch; or a copy of these commands, if that is cheaper and serves as well. The
-    /// commands still wait. The exposure says how the window lies on the screen.
+    /// A batch that repaints a leaf's window, which stands so on the screen: a painting of all points
+    /// that are bad or that the waiting commands would touch, or, where that is cheaper and does as well,
+    /// a copy of these. Nothing is let go.
     pub fn repainting(
         &self,
         leaf: LeafId,
@@ -321,7 +321,7 @@ fn take_all_at<C: Client>(windows: &mut Vec<Window<C>>, leaf: LeafId, content: C
     window.take_all(content, batch);
 }
 
-/// What waits for the window at a place is let go.
+/// Drops the commands that wait for a leaf's window.
 fn clear_at<C: Client>(windows: &mut Vec<Window<C>>, leaf: LeafId)
     requires { leaf.0 < length windows.old.items }
     ensures { windows.new.items ≡ changed_at leaf.0 spec.cleared windows.old.items }
