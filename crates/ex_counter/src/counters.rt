@@ -222,8 +222,8 @@ impl Client for Counter {
         }
     }
 
-    fn value(&self, _alloc: Global) -> Result<Line, NoMemory> {
-        decimal_line(self.count())
+    fn value(&self, alloc: Global) -> Result<Line, NoMemory> {
+        decimal_line(alloc, self.count())
     }
 
     fn keeps(&self, from: Size, to: Size) -> Rect {

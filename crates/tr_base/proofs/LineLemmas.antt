@@ -6,14 +6,10 @@ use Rattle.tr_base.specs.Lines.{IsLine, KeepsLine, padded}
 -- a text and zeros behind it keep the text
 pub keeps-padded : (text : List ℕ) → IsLine text → KeepsLine (padded text) (length text)
 keeps-padded text is =
-    let zeros : List ℕ = replicate (80 - length text) 0 in
-    let front : take (length text) (padded text) ≡ text = take_at text zeros (length text) refl in
-    let fits : length text ≤ 80 = is.short in
+    let front : take (length text) (padded text) ≡ text = take_at text (replicate (80 - length text) 0) (length text) refl in
     record {
-      long = omega (arith, fits, length-append text zeros, length-replicate {A = ℕ} (80 - length text) 0);
       line = rw front is;
       count = sym (ap (λ t. length t) front);
-      kept = ap (λ t. padded t) (sym front);
     }
 
 -- a text that is written over the front of 80 zeros

@@ -1,7 +1,6 @@
 -- Short texts that are painted in one line.
 use Rattle.std.specs.Prelude.{◌≡◌, ℕ, ◌-◌, ◌≤◌, ◌&&◌, nat_le, Bool, List, ◌++◌, length, take, replicate}
 use Rattle.std.specs.List.{AllPass}
-use Rattle.std.proofs.Common.{sym, ap, ◌∙◌}
 
 -- a byte that a text may have: 32 to 126
 abbrev pub is_printable : ℕ → Bool
@@ -16,14 +15,7 @@ pub record IsLine (text : List ℕ) : Type 0 where
 abbrev pub padded : List ℕ → List ℕ
 padded text = text ++ replicate (80 - length text) 0
 
--- the first n of the bytes are a text, and they are kept as it is kept
+-- the first n of the bytes are a text
 pub record KeepsLine (bytes : List ℕ) (n : ℕ) : Type 0 where
-  pub long : length bytes ≡ 80
   pub line : IsLine (take n bytes)
   pub count : n ≡ length (take n bytes)
-  pub kept : bytes ≡ padded (take n bytes)
-
--- whoever keeps a text so has it back from the text alone
-pub kept_back : {X : Type 0} (made : List ℕ → ℕ → X) (bytes : List ℕ) (n : ℕ) → KeepsLine bytes n →
-    made (padded (take n bytes)) (length (take n bytes)) ≡ made bytes n
-kept_back made bytes n keeps = ap (λ b. made b (length (take n bytes))) (sym keeps.kept) ∙ ap (λ k. made bytes k) (sym keeps.count)

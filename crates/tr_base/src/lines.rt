@@ -4,45 +4,52 @@ ghost use Rattle.tr_base.specs.Lines.{IsLine, is_printable};
 ghost use Rattle.tr_base.specs.Lines as spec;
 
 use crate::errors::NoMemory;
+use std::alloc::Global;
 use std::marker::Model;
+use std::sync::Arc;
 
 /// The most bytes that a line has.
 pub const LINE: usize = 80;
 
-/// A text of at most 80 bytes, each 32 to 126, seen as their list. The bytes lie in the line itself,
-/// so a copy takes no memory.
-#[derive(Clone, Copy, Debug)]
+/// A text of at most 80 bytes, each 32 to 126, seen as their list. Its copies share the bytes, so a copy
+/// takes no memory.
+#[derive(Debug, Drop)]
 pub struct Line {
+    kept: Arc<Kept>,
+}
+
+/// The bytes of a text, and zeros behind them.
+#[derive(Debug, Drop)]
+struct Kept {
     bytes: [u8; LINE],
     len: u8,
 }
 
 impl Model for Line {
-    ghost use Rattle.std.specs.Prelude.{ℕ, List, take, length};
-    ghost use Rattle.tr_base.specs.Lines.{KeepsLine, padded, kept_back};
+    ghost use Rattle.std.specs.Prelude.{ℕ, List, take};
+    ghost use Rattle.std.specs.Arc.{arc_value};
+    ghost use Rattle.tr_base.specs.Lines.{KeepsLine};
 
     ghost Value = { List ℕ };
 
-    ghost view = { λ l. take l.len l.bytes };
+    ghost view = { λ l. take (arc_value l.kept).len (arc_value l.kept).bytes };
 
-    ghost inverse = { λ text. record { bytes = padded text; len = length text } };
-
-    ghost inverse_ok = { λ l keeps.
-        kept_back (λ bytes len. record { bytes = bytes; len = len }) l.bytes l.len keeps };
-
-    ghost invariant = { λ l. KeepsLine l.bytes l.len };
+    ghost invariant = { λ l. KeepsLine (arc_value l.kept).bytes (arc_value l.kept).len };
 }
 
 impl Line {
     /// The text of these bytes.
-    pub fn of(bytes: &[u8]) -> Result<Line, NoMemory>
+    pub fn of(alloc: Global, bytes: &[u8]) -> Result<Line, NoMemory>
         requires short { length bytes.now ≤ LINE }
         requires printable { AllPass is_printable bytes.now }
         ensures { IfOk result (λ l. l ≡ bytes.now) }
     {
-        Ok(Line {
+        let kept = Kept {
             bytes: padded(bytes),
             len: bytes.len() as u8,
+        };
+        Ok(Line {
+            kept: Arc::new(alloc, kept)?,
         })
     }
 
@@ -51,14 +58,16 @@ impl Line {
         ensures value { result.now ≡ self.now }
         ensures invariant { IsLine self.now }
     {
-        &self.bytes[..usize::from(self.len)]
+        &self.kept.bytes[..usize::from(self.kept.len)]
     }
 
     /// The same text.
     pub fn copy(&self) -> Result<Line, NoMemory>
         ensures { IfOk result (λ l. l ≡ self.now) }
     {
-        Ok(*self)
+        Ok(Line {
+            kept: Arc::try_clone(&self.kept)?,
+        })
     }
 
     /// Whether both are the same text.

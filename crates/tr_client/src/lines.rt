@@ -1,4 +1,4 @@
-ghost use Rattle.std.specs.Prelude.{◌≡◌, ◌≤◌, ◌*◌, ◌↔◌, pos, length, IfOk, IsTrue};
+ghost use Rattle.std.specs.Prelude.{◌≡◌, ◌≤◌, ◌*◌, ◌++◌, ◌↔◌, pos, length, IfOk, IsTrue, OnOk};
 ghost use Rattle.tr_base.specs.Rects.{InReach};
 ghost use Rattle.tr_base.specs.Layouts.{longest};
 ghost use Rattle.tr_paint.specs.Paints.{IsNearPoint, IsNearRect};
@@ -86,10 +86,21 @@ pub fn paint_lines(alloc: Global, part: Rect, lines: &[Line]) -> Result<Batch, N
             clip: part,
             at: begin_of(above),
             ops: PLAIN,
-            text: *line,
+            text: line.copy()?,
         })?;
     }
     Ok(batch)
+}
+
+/// Puts copies of lines at the end of others.
+pub fn append_lines(all: &mut Vec<Line>, lines: &[Line]) -> Result<(), NoMemory>
+    ensures { OnOk result (all.new.items ≡ all.old.items ++ lines.now) }
+{
+    all.reserve(lines.len())?;
+    for line in lines {
+        all.push(line.copy()?)?;
+    }
+    Ok(())
 }
 
 /// Whether both are the same lines.

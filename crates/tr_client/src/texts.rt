@@ -4,6 +4,7 @@ ghost use Rattle.tr_base.specs.Lines.{IsLine};
 ghost use Rattle.tr_client.specs.Words.{with_text};
 
 use itoa::Buffer;
+use std::alloc::Global;
 use tr_base::{LINE, Line, NoMemory};
 
 /// Appends the texts to `out`, all of them or none.
@@ -36,23 +37,23 @@ pub fn append_with_text(out: &mut Vec<u8>, word: &[u8], text: &Line) -> Result<(
 }
 
 /// A small number in decimal, as a line.
-pub fn decimal_line(n: u8) -> Result<Line, NoMemory>
+pub fn decimal_line(alloc: Global, n: u8) -> Result<Line, NoMemory>
     ensures { IfOk result (λ line. line ≡ decimal n) }
 {
     let mut buffer = Buffer::new();
-    Line::of(buffer.format(n).as_bytes())
+    Line::of(alloc, buffer.format(n).as_bytes())
 }
 
 /// Two texts, one behind the other, as one line.
 #[tactic(auto, using(crate::proofs::TextLemmas::line_in_a_row))]
-pub fn line_in_a_row(front: &[u8], back: &[u8]) -> Result<Line, NoMemory>
+pub fn line_in_a_row(alloc: Global, front: &[u8], back: &[u8]) -> Result<Line, NoMemory>
     requires front { IsLine front.now }
     requires back { IsLine back.now }
     requires short { length front.now + length back.now ≤ LINE }
     ensures { IfOk result (λ line. line ≡ front.now ++ back.now) }
 {
     let all = both(front, back);
-    Line::of(&all[..front.len() + back.len()])
+    Line::of(alloc, &all[..front.len() + back.len()])
 }
 
 /// Two texts in a row, with zeros behind them.

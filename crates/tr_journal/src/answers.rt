@@ -5,8 +5,8 @@ use tr_base::{Event, Line, NoMemory};
 use tr_desk::DeskFault;
 use tr_forest::NodeFault;
 
-/// The answer of a step.
-#[derive(Clone, Copy, Debug)]
+/// What a step answers.
+#[derive(Debug, Drop)]
 pub enum Answer {
     /// The step is done.
     Done,
@@ -27,7 +27,14 @@ impl Answer {
     pub fn copy(&self) -> Result<Answer, NoMemory>
         ensures { IfOk result (λ answer. answer ≡ self.now) }
     {
-        Ok(*self)
+        Ok(match self {
+            Answer::Done => Answer::Done,
+            Answer::Taken(event) => Answer::Taken(*event),
+            Answer::Value(line) => Answer::Value(line.copy()?),
+            Answer::Empty => Answer::Empty,
+            Answer::Tree(fault) => Answer::Tree(*fault),
+            Answer::Desk(fault) => Answer::Desk(*fault),
+        })
     }
 
     /// Whether both are the same answer.
@@ -46,14 +53,24 @@ impl Answer {
     }
 }
 
-/// The answer of a step, and the number of its deliveries.
-#[derive(Clone, Copy, Debug)]
+/// What a step answers, and how many deliveries it makes.
+#[derive(Debug, Drop)]
 pub struct Reply {
     pub answer: Answer,
     pub sent: u16,
 }
 
 impl Reply {
+    /// The same reply.
+    pub fn copy(&self) -> Result<Reply, NoMemory>
+        ensures { IfOk result (λ reply. reply ≡ self.now) }
+    {
+        Ok(Reply {
+            answer: self.answer.copy()?,
+            sent: self.sent,
+        })
+    }
+
     /// Whether both are the same reply.
     pub fn same(&self, other: &Reply) -> bool
         ensures { IsTrue result ↔ (self.now ≡ other.now) }

@@ -24,7 +24,7 @@ impl<M: Command> Entry<M> {
             actor: self.actor,
             level: self.level,
             step: self.step.copy(alloc)?,
-            reply: self.reply,
+            reply: self.reply.copy()?,
         })
     }
 

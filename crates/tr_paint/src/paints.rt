@@ -116,7 +116,7 @@ impl Paint {
                 clip: *clip,
                 at: *at,
                 ops: *ops,
-                text: *text,
+                text: text.copy()?,
             },
             Paint::Scroll { clip, delta } => Paint::Scroll {
                 clip: *clip,

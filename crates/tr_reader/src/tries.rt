@@ -14,6 +14,7 @@ ghost use Rattle.tr_reader.specs.Laws.{IsSoFar};
 ghost use Rattle.tr_reader.specs.Adding.{is_at_steps};
 
 use crate::readers::Reader;
+use std::alloc::Global;
 use tr_base::{Kind, LeafId, NodeId};
 use tr_client::Client;
 use tr_grammar::{Code, Meaning, Place};
@@ -60,6 +61,11 @@ fn content_of<C: Client>(opening: &Opening<C>, leaf: LeafId) -> Option<&C>
 }
 
 impl<'a> Reader<'a> {
+    /// The allocator of what it reads.
+    pub fn alloc(&self) -> Global {
+        self.alloc
+    }
+
     /// Whether the version is 2.
     pub fn is_second(&self) -> bool
         ensures { result ≡ is_second self.now.version }

@@ -69,7 +69,7 @@ fn read_insert(
         ((64 ∷ leaf.now) ∷ codes "insert" ∷ texts _values.now) result }
 {
     reader.in_steps()?;
-    let text = text(rest_after(line, WORDS_BEFORE_TEXT))?;
+    let text = text(reader.alloc(), rest_after(line, WORDS_BEFORE_TEXT))?;
     let leaf = leaf_of(reader, leaf)?;
     Ok(editing(leaf, EditorCmd::Insert(text)))
 }

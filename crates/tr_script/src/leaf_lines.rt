@@ -186,7 +186,7 @@ fn read_label(
         (codes "label") (texts _values.now)) result }
 {
     let shapes = shapes_of(reader, head)?;
-    let text = text(rest_after(line, WORDS_BEFORE_TEXT))?;
+    let text = text(reader.alloc(), rest_after(line, WORDS_BEFORE_TEXT))?;
     reader.is_new(head.name)?;
     Ok(leaf(shapes, Widget::Label(Label::new(text)?)))
 }

@@ -124,7 +124,7 @@ fn read_text(
         ((64 ∷ leaf.now) ∷ codes "text" ∷ texts _values.now) result }
 {
     reader.in_steps()?;
-    let text = text(rest_after(line, WORDS_BEFORE_TEXT))?;
+    let text = text(reader.alloc(), rest_after(line, WORDS_BEFORE_TEXT))?;
     let leaf = leaf_of(reader, leaf)?;
     Ok(acting(leaf, WidgetCmd::Label(LabelCmd::Text(text))))
 }
@@ -141,7 +141,7 @@ fn read_line(
         ((64 ∷ leaf.now) ∷ codes "line" ∷ texts _values.now) result }
 {
     reader.in_steps()?;
-    let text = text(rest_after(line, WORDS_BEFORE_TEXT))?;
+    let text = text(reader.alloc(), rest_after(line, WORDS_BEFORE_TEXT))?;
     let leaf = leaf_of(reader, leaf)?;
     Ok(acting(leaf, WidgetCmd::Lines(LinesCmd::Line(text))))
 }

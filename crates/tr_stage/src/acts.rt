@@ -44,7 +44,7 @@ impl<C: Client> Stage<C> {
             return Err(NoMemory);
         };
         let entry = by.entry(Step::Act { leaf, cmd }, Answer::Done, 0);
-        Ok(write(&mut self.journal, entry, &[]))
+        Ok(write(&mut self.journal, entry, Answer::Done, &[]))
     }
 
     /// A part of a leaf's window is to be painted again.
@@ -59,7 +59,7 @@ impl<C: Client> Stage<C> {
         let size = leaf_size(self.surface.tree(), leaf);
         self.windows.mark(leaf, size, &clip)?;
         let entry = by.entry(Step::Mark { leaf, clip }, Answer::Done, 0);
-        Ok(write(&mut self.journal, entry, &[]))
+        Ok(write(&mut self.journal, entry, Answer::Done, &[]))
     }
 
     /// The event that has waited longest for a leaf is taken out, and the leaf obeys the command that its
@@ -75,7 +75,7 @@ impl<C: Client> Stage<C> {
         let tree = self.surface.tree();
         let Some(event) = self.mail.front(leaf) else {
             let entry = by.entry(Step::Take { leaf }, Answer::Empty, 0);
-            return Ok(write(&mut self.journal, entry, &[]));
+            return Ok(write(&mut self.journal, entry, Answer::Empty, &[]));
         };
         let asked = self.windows.content(leaf).react(self.alloc, &event)?;
         let env = Env {
@@ -88,7 +88,7 @@ impl<C: Client> Stage<C> {
         obeyed?;
         let _taken = self.mail.take(leaf);
         let entry = by.entry(Step::Take { leaf }, Answer::Taken(event), 0);
-        Ok(write(&mut self.journal, entry, &[]))
+        Ok(write(&mut self.journal, entry, Answer::Taken(event), &[]))
     }
 
     /// A leaf reads the value of a selection's owner.
@@ -108,8 +108,9 @@ impl<C: Client> Stage<C> {
         // Called for what it tells the prover: that the nodes are a forest.
         let _ = self.surface.tree();
         let answer = self.value_of(selection)?;
+        let told = answer.copy()?;
         let entry = by.entry(Step::Read { leaf, selection }, answer, 0);
-        Ok(write(&mut self.journal, entry, &[]))
+        Ok(write(&mut self.journal, entry, told, &[]))
     }
 
     /// What is answered to one who reads the value of a selection's owner.
@@ -136,7 +137,7 @@ impl<C: Client> Stage<C> {
         // Called for what it tells the prover: that the nodes are a forest.
         let _ = self.surface.tree();
         let entry = by.entry(step, Answer::Done, 0);
-        Ok(write(&mut self.journal, entry, &[]))
+        Ok(write(&mut self.journal, entry, Answer::Done, &[]))
     }
 }
 

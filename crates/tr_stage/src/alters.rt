@@ -38,11 +38,11 @@ impl<C: Client> Stage<C> {
                 self.mail.edited(&was, is, &mut self.sent);
                 drop(was);
                 let entry = by.entry(Step::Alter { edit }, Answer::Done, self.sent.len());
-                Ok(write(&mut self.journal, entry, self.sent.as_slice()))
+                Ok(write(&mut self.journal, entry, Answer::Done, self.sent.as_slice()))
             }
             Err(EditRefused::Fault(fault)) => {
                 let entry = by.entry(Step::Alter { edit }, Answer::Tree(fault), 0);
-                Ok(write(&mut self.journal, entry, &[]))
+                Ok(write(&mut self.journal, entry, Answer::Tree(fault), &[]))
             }
             Err(EditRefused::NoMemory) => Err(NoMemory),
         }

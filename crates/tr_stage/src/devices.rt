@@ -76,7 +76,7 @@ impl<C: Client> Stage<C> {
         self.mail
             .set_cage(self.surface.tree(), leaf, same, &mut self.sent);
         let entry = by.entry(Step::SetCage { leaf, cage }, Answer::Done, self.sent.len());
-        write(&mut self.journal, entry, self.sent.as_slice())
+        write(&mut self.journal, entry, Answer::Done, self.sent.as_slice())
     }
 
     /// A leaf takes a selection.

@@ -35,12 +35,14 @@ impl By {
     }
 }
 
-/// Adds a line for which room was reserved, and hands out its reply.
+/// Adds a line for which room was reserved. Answers its reply, made of a copy of its answer.
 pub(crate) fn write<M: Command>(
     journal: &mut Journal<M>,
     entry: Entry<M>,
+    answer: Answer,
     sent: &[Delivery],
 ) -> Reply
+    requires answer { answer ≡ entry.reply.answer }
     requires spare { 0 < journal.old.spare }
     requires counted { entry.reply.sent ≡ length sent.now }
     requires few { length sent.now ≤ 32 * journal.old.spare }
@@ -48,7 +50,10 @@ pub(crate) fn write<M: Command>(
     ensures lines { journal.new.lines ≡ journal.old.lines ++ record { entry = entry; sent = sent.now } ∷ [] }
     ensures spare { length sent.now ≤ 32 → journal.old.spare ≤ journal.new.spare + 1 }
 {
-    let reply = entry.reply;
+    let reply = Reply {
+        answer,
+        sent: entry.reply.sent,
+    };
     journal.push_reserved(entry, sent);
     reply
 }
@@ -72,11 +77,11 @@ pub(crate) fn write_told<M: Command>(
     match told {
         Ok(()) => {
             let entry = by.entry(step, Answer::Done, sent.len());
-            write(journal, entry, sent.as_slice())
+            write(journal, entry, Answer::Done, sent.as_slice())
         }
         Err(fault) => {
             let entry = by.entry(step, Answer::Desk(fault), 0);
-            write(journal, entry, &[])
+            write(journal, entry, Answer::Desk(fault), &[])
         }
     }
 }

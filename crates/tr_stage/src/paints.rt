@@ -48,7 +48,7 @@ impl<C: Client> Stage<C> {
         let _ = self.surface.tree();
         self.windows.clear(leaf);
         let entry = by.entry(Step::Flush { leaf }, Answer::Done, 0);
-        Ok(write(&mut self.journal, entry, &[]))
+        Ok(write(&mut self.journal, entry, Answer::Done, &[]))
     }
 
     /// A leaf comes to show its present content: what waits for it is executed, or a painting is that
@@ -75,7 +75,7 @@ impl<C: Client> Stage<C> {
         let _ = self.surface.tree();
         self.windows.clear(leaf);
         let entry = by.entry(Step::Repaint { leaf }, Answer::Done, 0);
-        Ok(write(&mut self.journal, entry, &[]))
+        Ok(write(&mut self.journal, entry, Answer::Done, &[]))
     }
 
     /// Each bad point of a frame is painted.
@@ -93,7 +93,7 @@ impl<C: Client> Stage<C> {
         self.surface.paint_frame()?;
         let _ = self.surface.tree();
         let entry = by.entry(Step::PaintFrame, Answer::Done, 0);
-        Ok(write(&mut self.journal, entry, &[]))
+        Ok(write(&mut self.journal, entry, Answer::Done, &[]))
     }
 }
 

@@ -215,7 +215,7 @@ impl<C: Client> Stage<C> {
         let _ = self.surface.tree();
         self.windows.clear(leaf);
         let entry = by.entry(Step::Repaint { leaf }, Answer::Done, 0);
-        Ok(write(&mut self.journal, entry, &[]))
+        Ok(write(&mut self.journal, entry, Answer::Done, &[]))
     }
 }
 

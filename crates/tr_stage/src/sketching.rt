@@ -98,6 +98,6 @@ impl<C: Client> Stage<C> {
         let _ = self.surface.tree();
         self.windows.clear(leaf);
         let entry = by.entry(Step::Flush { leaf }, Answer::Done, 0);
-        Ok(write(&mut self.journal, entry, &[]))
+        Ok(write(&mut self.journal, entry, Answer::Done, &[]))
     }
 }

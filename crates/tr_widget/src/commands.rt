@@ -7,7 +7,7 @@ use w_meter::MeterCmd;
 use w_plain::{BoardCmd, LabelCmd, SolidCmd};
 
 /// What one of the widgets can be told.
-#[derive(Clone, Copy, Debug)]
+#[derive(Debug, Drop)]
 pub enum WidgetCmd {
     Solid(SolidCmd),
     Board(BoardCmd),
@@ -37,8 +37,16 @@ impl Command for WidgetCmd {
         }
     }
 
-    fn copy(&self, _alloc: Global) -> Result<WidgetCmd, NoMemory> {
-        Ok(*self)
+    fn copy(&self, alloc: Global) -> Result<WidgetCmd, NoMemory> {
+        Ok(match self {
+            WidgetCmd::Solid(cmd) => WidgetCmd::Solid(cmd.copy(alloc)?),
+            WidgetCmd::Board(cmd) => WidgetCmd::Board(cmd.copy(alloc)?),
+            WidgetCmd::Label(cmd) => WidgetCmd::Label(cmd.copy(alloc)?),
+            WidgetCmd::Lines(cmd) => WidgetCmd::Lines(cmd.copy(alloc)?),
+            WidgetCmd::Canvas(cmd) => WidgetCmd::Canvas(cmd.copy(alloc)?),
+            WidgetCmd::Meter(cmd) => WidgetCmd::Meter(cmd.copy(alloc)?),
+            WidgetCmd::Editor(cmd) => WidgetCmd::Editor(cmd.copy(alloc)?),
+        })
     }
 
     fn same(&self, other: &WidgetCmd) -> bool {

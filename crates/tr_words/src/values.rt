@@ -9,6 +9,7 @@ ghost use Rattle.tr_words.specs.Answers.{Answers, AnswersOrWants, BeginsNumber};
 
 use crate::words::ShapeWords;
 use hex::FromHex;
+use std::alloc::Global;
 use tr_base::{LINE, LONGEST, Line, Shape, is_printable};
 use tr_grammar::{Code, LineRefused};
 
@@ -260,12 +261,12 @@ pub fn glyph_byte(word: &str) -> Result<u8, Code>
 }
 
 /// The rest of a line as a text of at most 80 bytes.
-pub fn text(rest: &str) -> Result<Line, LineRefused>
+pub fn text(alloc: Global, rest: &str) -> Result<Line, LineRefused>
     requires { AllPass is_printable rest.now }
     ensures { AnswersOrWants (not (nat_le (length rest.now) 80)) B2 (λ t. t ≡ rest.now) result }
 {
     if rest.len() <= LINE {
-        Ok(Line::of(rest.as_bytes())?)
+        Ok(Line::of(alloc, rest.as_bytes())?)
     } else {
         Err(LineRefused::Fault(Code::B2))
     }

@@ -399,8 +399,8 @@ impl Client for Canvas {
         }
     }
 
-    fn value(&self, _alloc: Global) -> Result<Line, NoMemory> {
-        decimal_line(self.figures().len() as u8)
+    fn value(&self, alloc: Global) -> Result<Line, NoMemory> {
+        decimal_line(alloc, self.figures().len() as u8)
     }
 
     fn keeps(&self, from: Size, to: Size) -> Rect {

@@ -72,11 +72,11 @@ impl Client for Editor {
         Ok(change)
     }
 
-    fn react(&self, _alloc: Global, event: &Event) -> Result<Option<EditorCmd>, NoMemory> {
+    fn react(&self, alloc: Global, event: &Event) -> Result<Option<EditorCmd>, NoMemory> {
         let _lines = self.lines();
         match *event {
             Event::Key { code, .. } if is_printable(code) => {
-                let cmd = EditorCmd::Insert(Line::of(&[code])?);
+                let cmd = EditorCmd::Insert(Line::of(alloc, &[code])?);
                 cmd.known();
                 Ok(Some(cmd))
             }

@@ -7,7 +7,7 @@ use tr_base::{Command, Line, NoMemory};
 use tr_client::{append_all, append_with_text};
 
 /// What an editor can be told.
-#[derive(Clone, Copy, Debug)]
+#[derive(Debug, Drop)]
 pub enum EditorCmd {
     /// The bytes of this line stand at the caret, which moves behind them.
     Insert(Line),
@@ -53,7 +53,20 @@ impl Command for EditorCmd {
     }
 
     fn copy(&self, _alloc: Global) -> Result<EditorCmd, NoMemory> {
-        Ok(*self)
+        Ok(match self {
+            EditorCmd::Insert(text) => EditorCmd::Insert(text.copy()?),
+            EditorCmd::Erase => EditorCmd::Erase,
+            EditorCmd::Split => EditorCmd::Split,
+            EditorCmd::Goto { row, column } => EditorCmd::Goto {
+                row: *row,
+                column: *column,
+            },
+            EditorCmd::Copy { from, to } => EditorCmd::Copy {
+                from: *from,
+                to: *to,
+            },
+            EditorCmd::Paste => EditorCmd::Paste,
+        })
     }
 
     fn same(&self, other: &EditorCmd) -> bool {

@@ -11,7 +11,7 @@ use crate::rows::{ColumnNumber, RowNumber};
 use std::alloc::Global;
 use std::marker::Model;
 use tr_base::{LINE, Line, NoMemory};
-use tr_client::same_lines;
+use tr_client::{append_lines, same_lines};
 
 /// The most lines of a text.
 pub const MOST_LINES: usize = 200;
@@ -42,12 +42,12 @@ impl Editor {
         ensures { IfOk result (λ e. e ≡ spec.fresh) }
     {
         let mut lines = Vec::new(alloc);
-        lines.push(Line::of(&[])?)?;
+        lines.push(Line::of(alloc, &[])?)?;
         Ok(Editor {
             lines,
             row: 0,
             column: 0,
-            clip: Line::of(&[])?,
+            clip: Line::of(alloc, &[])?,
         })
     }
 
@@ -105,13 +105,21 @@ impl Editor {
     pub(crate) fn copy_of(&self, alloc: Global) -> Result<Editor, NoMemory>
         ensures { IfOk result (λ y. y ≡ self.now) }
     {
-        let lines = Vec::from_slice(alloc, &self.lines)?;
         Ok(Editor {
-            lines,
+            lines: self.copies(alloc)?,
             row: self.row,
             column: self.column,
-            clip: self.clip,
+            clip: self.clip.copy()?,
         })
+    }
+
+    /// The same lines.
+    pub(crate) fn copies(&self, alloc: Global) -> Result<Vec<Line>, NoMemory>
+        ensures { IfOk result (λ lines. lines.items ≡ self.now.lines) }
+    {
+        let mut lines = Vec::new(alloc);
+        append_lines(&mut lines, &self.lines)?;
+        Ok(lines)
     }
 
     /// Whether both are the same content.
@@ -130,7 +138,7 @@ impl Editor {
     {
         match self.lines.get(row) {
             Some(line) => line.copy(),
-            None => Line::of(&[]),
+            None => Line::of(*self.lines.allocator(), &[]),
         }
     }
 

@@ -11,7 +11,7 @@ use crate::editors::{Editor, MOST_LINES};
 use crate::rows::{ColumnNumber, RowNumber};
 use std::alloc::Global;
 use tr_base::{LINE, Line, NoMemory, Size};
-use tr_client::line_in_a_row;
+use tr_client::{append_lines, line_in_a_row};
 use tr_paint::Batch;
 
 impl Editor {
@@ -99,9 +99,9 @@ impl Editor {
             all.items ≡ take from self.now.lines ++ (new.now ++ drop to self.now.lines)) }
     {
         let mut lines = Vec::with_capacity(alloc, self.lines.len() + new.len())?;
-        lines.extend_from_slice(&self.lines[..from])?;
-        lines.extend_from_slice(new)?;
-        lines.extend_from_slice(&self.lines[to..])?;
+        append_lines(&mut lines, &self.lines[..from])?;
+        append_lines(&mut lines, new)?;
+        append_lines(&mut lines, &self.lines[to..])?;
         Ok(lines)
     }
 
@@ -111,14 +111,14 @@ impl Editor {
         ensures { IfOk result (λ y. y ≡ spec.inserted self.now text.now) }
     {
         let bytes = text.bytes();
-        let front = line_in_a_row(self.before(), bytes)?;
-        let line = line_in_a_row(front.bytes(), self.behind())?;
+        let front = line_in_a_row(alloc, self.before(), bytes)?;
+        let line = line_in_a_row(alloc, front.bytes(), self.behind())?;
         let lines = self.lines_with(alloc, self.row, &[line], self.row + 1)?;
         Ok(Editor {
             lines,
             row: self.row,
             column: self.column + bytes.len(),
-            clip: self.clip,
+            clip: self.clip.copy()?,
         })
     }
 
@@ -128,13 +128,13 @@ impl Editor {
         ensures { IfOk result (λ y. y ≡ spec.erased self.now) }
     {
         let column = self.column - 1;
-        let line = line_in_a_row(&self.line().bytes()[..column], self.behind())?;
+        let line = line_in_a_row(alloc, &self.line().bytes()[..column], self.behind())?;
         let lines = self.lines_with(alloc, self.row, &[line], self.row + 1)?;
         Ok(Editor {
             lines,
             row: self.row,
             column,
-            clip: self.clip,
+            clip: self.clip.copy()?,
         })
     }
 
@@ -145,13 +145,13 @@ impl Editor {
     {
         let row = self.row - 1;
         let upper = self.upper().bytes();
-        let line = line_in_a_row(upper, self.line().bytes())?;
+        let line = line_in_a_row(alloc, upper, self.line().bytes())?;
         let lines = self.lines_with(alloc, row, &[line], self.row + 1)?;
         Ok(Editor {
             lines,
             row,
             column: upper.len(),
-            clip: self.clip,
+            clip: self.clip.copy()?,
         })
     }
 
@@ -160,13 +160,13 @@ impl Editor {
         requires { length self.now.lines < MOST_LINES }
         ensures { IfOk result (λ y. y ≡ spec.broken self.now) }
     {
-        let new = [Line::of(self.before())?, Line::of(self.behind())?];
+        let new = [Line::of(alloc, self.before())?, Line::of(alloc, self.behind())?];
         let lines = self.lines_with(alloc, self.row, &new, self.row + 1)?;
         Ok(Editor {
             lines,
             row: self.row + 1,
             column: 0,
-            clip: self.clip,
+            clip: self.clip.copy()?,
         })
     }
 
@@ -181,12 +181,12 @@ impl Editor {
         ensures { IfOk result (λ y. y ≡ spec.moved self.now row.now column.now) }
     {
         let (row, column) = self.nearest(row, column);
-        let lines = Vec::from_slice(alloc, &self.lines)?;
+        let lines = self.copies(alloc)?;
         Ok(Editor {
             lines,
             row,
             column,
-            clip: self.clip,
+            clip: self.clip.copy()?,
         })
     }
 
@@ -200,22 +200,22 @@ impl Editor {
     ) -> Result<Editor, NoMemory>
         ensures { IfOk result (λ y. y ≡ spec.copied self.now from.now to.now) }
     {
-        let lines = Vec::from_slice(alloc, &self.lines)?;
+        let lines = self.copies(alloc)?;
         let (from, to) = (usize::from(from.number()), usize::from(to.number()));
         Ok(Editor {
             lines,
             row: self.row,
             column: self.column,
-            clip: part(self.line().bytes(), from, to)?,
+            clip: part(alloc, self.line().bytes(), from, to)?,
         })
     }
 }
 
 /// The bytes of a text from one place to before another, as far as they exist.
-fn part(text: &[u8], from: usize, to: usize) -> Result<Line, NoMemory>
+fn part(alloc: Global, text: &[u8], from: usize, to: usize) -> Result<Line, NoMemory>
     requires { IsLine text.now }
     ensures { IfOk result (λ line. line ≡ drop from (take to text.now)) }
 {
     let first = &text[..to.min(text.len())];
-    Line::of(&first[from.min(first.len())..])
+    Line::of(alloc, &first[from.min(first.len())..])
 }

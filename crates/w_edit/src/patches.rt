@@ -112,7 +112,7 @@ impl Editor {
                 clip: strip(size, above),
                 at: begin_of(above),
                 ops: PLAIN,
-                text: *line,
+                text: line.copy()?,
             })?;
         }
         Ok(batch)

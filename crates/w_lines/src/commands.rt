@@ -3,7 +3,7 @@ use tr_base::{Command, Line, NoMemory};
 use tr_client::{append_all, append_with_text};
 
 /// What a Lines can be told.
-#[derive(Clone, Copy, Debug)]
+#[derive(Debug, Drop)]
 pub enum LinesCmd {
     /// This line stands below the others.
     Line(Line),
@@ -25,7 +25,10 @@ impl Command for LinesCmd {
     }
 
     fn copy(&self, _alloc: Global) -> Result<LinesCmd, NoMemory> {
-        Ok(*self)
+        Ok(match self {
+            LinesCmd::Line(line) => LinesCmd::Line(line.copy()?),
+            LinesCmd::Clear => LinesCmd::Clear,
+        })
     }
 
     fn same(&self, other: &LinesCmd) -> bool {

@@ -14,8 +14,8 @@ use std::alloc::Global;
 use std::marker::Model;
 use tr_base::{Command, Env, Event, Line, NoMemory, Op, Rect, Size, is_printable};
 use tr_client::{
-    Client, PLAIN, area_of, begin_of, keeps_nothing, kept_part, paint_lines, part_of_window, room,
-    same_lines, upwards, window,
+    Client, PLAIN, append_lines, area_of, begin_of, keeps_nothing, kept_part, paint_lines,
+    part_of_window, room, same_lines, upwards, window,
 };
 use tr_paint::{Batch, Paint};
 
@@ -68,7 +68,7 @@ impl Lines {
         ensures err { OnErr result (self.new ≡ self.old) }
     {
         let _bytes = line.bytes();
-        self.block.push(*line)?;
+        self.block.push(line.copy()?)?;
         self.stale = without_stale(&mut self.block, self.stale);
         Ok(())
     }
@@ -166,7 +166,7 @@ fn put_below(batch: &mut Batch, size: Size, above: usize, line: &Line) -> Result
         clip: window(size),
         at: begin_of(above),
         ops: PLAIN,
-        text: *line,
+        text: line.copy()?,
     })?;
     Ok(())
 }
@@ -192,7 +192,7 @@ fn put_moved_up(batch: &mut Batch, size: Size, count: usize, line: &Line) -> Res
         clip: window(size),
         at: begin_of(last),
         ops: PLAIN,
-        text: *line,
+        text: line.copy()?,
     })?;
     Ok(())
 }
@@ -231,7 +231,8 @@ impl Client for Lines {
     ghost keeps = { lines_keeps };
 
     fn copy(&self, alloc: Global) -> Result<Lines, NoMemory> {
-        let block = Vec::from_slice(alloc, self.lines())?;
+        let mut block = Vec::new(alloc);
+        append_lines(&mut block, self.lines())?;
         Ok(Lines { block, stale: 0 })
     }
 
@@ -283,11 +284,11 @@ impl Client for Lines {
         Ok(())
     }
 
-    fn react(&self, _alloc: Global, event: &Event) -> Result<Option<LinesCmd>, NoMemory> {
+    fn react(&self, alloc: Global, event: &Event) -> Result<Option<LinesCmd>, NoMemory> {
         let _lines = self.lines();
         match *event {
             Event::Key { code, .. } if is_printable(code) => {
-                let cmd = LinesCmd::Line(Line::of(&[code])?);
+                let cmd = LinesCmd::Line(Line::of(alloc, &[code])?);
                 cmd.known();
                 Ok(Some(cmd))
             }
@@ -295,9 +296,9 @@ impl Client for Lines {
         }
     }
 
-    fn value(&self, _alloc: Global) -> Result<Line, NoMemory> {
+    fn value(&self, alloc: Global) -> Result<Line, NoMemory> {
         match self.lines() {
-            [] => Line::of(&[]),
+            [] => Line::of(alloc, &[]),
             [.., last] => last.copy(),
         }
     }

@@ -225,8 +225,8 @@ impl Client for Meter {
         }
     }
 
-    fn value(&self, _alloc: Global) -> Result<Line, NoMemory> {
-        decimal_line(self.heights()[0])
+    fn value(&self, alloc: Global) -> Result<Line, NoMemory> {
+        decimal_line(alloc, self.heights()[0])
     }
 
     fn keeps(&self, _from: Size, _to: Size) -> Rect {

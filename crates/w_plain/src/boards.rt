@@ -202,9 +202,9 @@ impl Client for Board {
         Ok(None)
     }
 
-    fn value(&self, _alloc: Global) -> Result<Line, NoMemory> {
+    fn value(&self, alloc: Global) -> Result<Line, NoMemory> {
         let _shift = self.shift();
-        Line::of(&digits_of(&self.tile))
+        Line::of(alloc, &digits_of(&self.tile))
     }
 
     fn keeps(&self, from: Size, to: Size) -> Rect {

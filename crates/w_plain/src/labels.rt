@@ -10,13 +10,13 @@ use tr_client::{Client, PLAIN, append_with_text, kept_part, part_of_window, wind
 use tr_paint::{Batch, Paint};
 
 /// A window with a line of text, which keys make longer.
-#[derive(Clone, Copy, Debug)]
+#[derive(Debug, Drop)]
 pub struct Label {
     pub text: Line,
 }
 
 /// What a Label can be told.
-#[derive(Clone, Copy, Debug)]
+#[derive(Debug, Drop)]
 pub enum LabelCmd {
     /// The text is this one.
     Text(Line),
@@ -52,7 +52,7 @@ impl Label {
             clip: part,
             at: origin(),
             ops: PLAIN,
-            text: self.text,
+            text: self.text.copy()?,
         })?;
         Ok(batch)
     }
@@ -79,7 +79,7 @@ fn text_of(cmd: &LabelCmd) -> &Line
 }
 
 /// A text with one byte more.
-fn with_byte(text: &Line, byte: u8) -> Result<Line, NoMemory>
+fn with_byte(alloc: Global, text: &Line, byte: u8) -> Result<Line, NoMemory>
     requires room { length text.now < LINE }
     requires printable { is_printable byte ≡ true }
     ensures text { IfOk result (λ line. line ≡ text.now ++ byte ∷ []) }
@@ -89,7 +89,7 @@ fn with_byte(text: &Line, byte: u8) -> Result<Line, NoMemory>
     let mut bytes = [0; LINE];
     bytes[..len].copy_from_slice(text.bytes());
     bytes[len] = byte;
-    Line::of(&bytes[..len + 1])
+    Line::of(alloc, &bytes[..len + 1])
 }
 
 impl Command for LabelCmd {
@@ -104,7 +104,7 @@ impl Command for LabelCmd {
     }
 
     fn copy(&self, _alloc: Global) -> Result<LabelCmd, NoMemory> {
-        Ok(LabelCmd::Text(*text_of(self)))
+        Ok(LabelCmd::Text(text_of(self).copy()?))
     }
 
     fn same(&self, other: &LabelCmd) -> bool {
@@ -138,7 +138,9 @@ impl Client for Label {
 
     fn copy(&self, _alloc: Global) -> Result<Label, NoMemory> {
         let _text = self.text();
-        Ok(Label { text: self.text })
+        Ok(Label {
+            text: self.text.copy()?,
+        })
     }
 
     fn same(&self, other: &Label) -> bool {
@@ -161,16 +163,16 @@ impl Client for Label {
     ) -> Result<(Label, Batch), NoMemory> {
         let _text = self.text();
         let next = Label {
-            text: *text_of(cmd),
+            text: text_of(cmd).copy()?,
         };
         let patch = next.paints(alloc, window(size))?;
         Ok((next, patch))
     }
 
-    fn react(&self, _alloc: Global, event: &Event) -> Result<Option<LabelCmd>, NoMemory> {
+    fn react(&self, alloc: Global, event: &Event) -> Result<Option<LabelCmd>, NoMemory> {
         match *event {
             Event::Key { code, .. } if is_printable(code) && self.text().len() < LINE => {
-                Ok(Some(LabelCmd::Text(with_byte(&self.text, code)?)))
+                Ok(Some(LabelCmd::Text(with_byte(alloc, &self.text, code)?)))
             }
             _ => {
                 let _text = self.text();

@@ -148,8 +148,8 @@ impl Client for Solid {
         }
     }
 
-    fn value(&self, _alloc: Global) -> Result<Line, NoMemory> {
-        decimal_line(self.tint())
+    fn value(&self, alloc: Global) -> Result<Line, NoMemory> {
+        decimal_line(alloc, self.tint())
     }
 
     fn keeps(&self, from: Size, to: Size) -> Rect {

@@ -15,7 +15,7 @@ loop-above-preserved c = λ look.
     let more : take (above + 1) lines ≡ take above lines ++ line ∷ [] =
     take_more lines above line c.loop-above-test.true ∙ ap (λ (last : List ℕ). take above lines ++ last ∷ []) (sym c.index-lines-above.is) in
     let count : above ≡ length (take above lines) = omega (arith, length-take above lines) in
-    rw (more, c.in_ok-push.ensures.ok, c.begin_of.ensures.value)
+    rw (more, c.in_ok-push.ensures.ok, c.in_ok-copy.ensures, c.begin_of.ensures.value)
     (line_pushed look c.args.part c.loop-above.batch (take above lines) line above count (c.loop-above.invariant look))
 
 pub returns : goal.returns

@@ -9,7 +9,7 @@ invariant_of-self-2 c =
     let xs = c.self.inside.block.items in
     let line = c.args.line.now in
     let at = c.self.inside.stale in
-    let more = grown xs c.push.new.self.items line at c.self.invariant.within c.in_ok-push.ensures.items in
+    let more = grown xs c.push.new.self.items line at c.self.invariant.within (rw c.in_ok-copy.ensures at c.in_ok-push.ensures.items) in
     record {
       within = c.without_stale-self-inside.ensures.within;
       few = c.without_stale-self-inside.ensures.few;
