@@ -143,11 +143,11 @@ fn has_its_pixels(rt: &(impl Abort + AllocGlobal)) -> bool {
 }
 
 /// Whether a line of text has the bytes that it is given.
-fn has_its_bytes(rt: &impl Abort, bytes: &[u8]) -> bool
+fn has_its_bytes(rt: &(impl Abort + AllocGlobal), bytes: &[u8]) -> bool
     requires short { length bytes.now ≤ LINE }
     requires printable { AllPass is_printable bytes.now }
 {
-    let line = made(rt, Line::of(bytes));
+    let line = made(rt, Line::of(rt.alloc(), bytes));
     line.bytes() == bytes && line.same(&made(rt, line.copy()))
 }
 
