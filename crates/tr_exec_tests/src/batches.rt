@@ -20,7 +20,7 @@ fn all(rt: &(impl Abort + AllocGlobal)) -> Batch {
             clip,
             at: delta,
             ops: F,
-            text: made(rt, Line::of(b"")),
+            text: made(rt, Line::of(rt.alloc(), b"")),
         }),
     );
     made(
@@ -54,7 +54,7 @@ fn all(rt: &(impl Abort + AllocGlobal)) -> Batch {
             clip,
             at: delta,
             ops: F,
-            text: made(rt, Line::of(b"A")),
+            text: made(rt, Line::of(rt.alloc(), b"A")),
         }),
     );
     made(rt, batch.push(Paint::Scroll { clip, delta }));

@@ -106,11 +106,11 @@ impl Draw {
         Tile { rows }
     }
 
-    fn text(&mut self, rt: &impl Abort) -> Line {
+    fn text(&mut self, rt: &(impl Abort + AllocGlobal)) -> Line {
         match self.byte() % 3 {
-            0 => made(rt, Line::of(b"")),
-            1 => made(rt, Line::of(b"a")),
-            _ => made(rt, Line::of(b"~a")),
+            0 => made(rt, Line::of(rt.alloc(), b"")),
+            1 => made(rt, Line::of(rt.alloc(), b"a")),
+            _ => made(rt, Line::of(rt.alloc(), b"~a")),
         }
     }
 

@@ -133,7 +133,7 @@ fn picture(rt: &(impl Abort + AllocGlobal)) -> Batch {
             clip: Rect::edges(3, 4, 0, 1),
             at: Point { h: 3, v: -1 },
             ops: F,
-            text: made(rt, Line::of(b"A")),
+            text: made(rt, Line::of(rt.alloc(), b"A")),
         }),
     );
     batch
