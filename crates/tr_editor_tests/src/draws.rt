@@ -1,6 +1,7 @@
 //! Commands that look random, and parts of a window.
 ghost use Rattle.std.specs.Prelude.{◌<◌};
 
+use std::alloc::Global;
 use tr_base::{Line, NoMemory, Rect};
 use tr_testing::Numbers;
 use w_edit::{ColumnNumber, EditorCmd, RowNumber};
@@ -26,15 +27,15 @@ impl Draw {
     }
 
     /// A text of at most eleven bytes.
-    fn text(&mut self) -> Result<Line, NoMemory> {
+    fn text(&mut self, alloc: Global) -> Result<Line, NoMemory> {
         match self.below(8) {
-            0 => Line::of(b""),
-            1 | 2 => Line::of(b"a"),
-            3 => Line::of(b"Zz~"),
-            4 => Line::of(b" to be "),
-            5 => Line::of(b"or not to b"),
-            6 => Line::of(b"b "),
-            _ => Line::of(b"~~~~~"),
+            0 => Line::of(alloc, b""),
+            1 | 2 => Line::of(alloc, b"a"),
+            3 => Line::of(alloc, b"Zz~"),
+            4 => Line::of(alloc, b" to be "),
+            5 => Line::of(alloc, b"or not to b"),
+            6 => Line::of(alloc, b"b "),
+            _ => Line::of(alloc, b"~~~~~"),
         }
     }
 
@@ -57,13 +58,13 @@ impl Draw {
     }
 
     /// A command; so many of a hundred break a line.
-    pub fn cmd(&mut self, splits: u8) -> Result<EditorCmd, NoMemory> {
+    pub fn cmd(&mut self, alloc: Global, splits: u8) -> Result<EditorCmd, NoMemory> {
         let drawn = self.below(100);
         if drawn < splits {
             return Ok(EditorCmd::Split);
         }
         Ok(match drawn % 10 {
-            0 | 1 | 2 => EditorCmd::Insert(self.text()?),
+            0 | 1 | 2 => EditorCmd::Insert(self.text(alloc)?),
             3 | 4 | 5 => EditorCmd::Erase,
             6 => EditorCmd::Paste,
             7 => EditorCmd::Copy {

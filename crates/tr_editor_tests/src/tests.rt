@@ -84,7 +84,7 @@ fn holds(at: Place, draw: &mut Draw) -> Result<bool, NoMemory>
     let mut run = Run::begin(at)?;
     let mut same = true;
     for n in 0..COMMANDS {
-        let cmd = draw.cmd(if n / 1_000 % 2 == 0 { 40 } else { 4 })?;
+        let cmd = draw.cmd(at.alloc, if n / 1_000 % 2 == 0 { 40 } else { 4 })?;
         run = run.told(at, &cmd)?;
         same = same && run.agrees(at)?;
         if n % 64 == 0 {
