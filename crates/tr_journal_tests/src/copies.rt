@@ -61,11 +61,11 @@ fn are_copied<T: Copied + Drop>(rt: &(impl Abort + AllocGlobal), values: &[T]) -
 }
 
 /// An answer of each sort.
-fn answers(rt: &impl Abort) -> [Answer; 6] {
+fn answers(rt: &(impl Abort + AllocGlobal)) -> [Answer; 6] {
     [
         Answer::Done,
         Answer::Taken(Event::Key { time: 7, code: 65 }),
-        Answer::Value(made(rt, Line::of(b"hi"))),
+        Answer::Value(made(rt, Line::of(rt.alloc(), b"hi"))),
         Answer::Empty,
         Answer::Tree(NodeFault::WrongKind),
         Answer::Desk(DeskFault::Held),
