@@ -46,7 +46,7 @@ fn are_alike(batch: &Batch, other: &Batch) -> bool {
 fn many_lines(rt: &(impl Abort + AllocGlobal)) -> Vec<WidgetCmd> {
     let mut commands = Vec::new(rt.alloc());
     for n in 0..700u16 {
-        let line = made(rt, Line::of(&[33 + (n % 90) as u8]));
+        let line = made(rt, Line::of(rt.alloc(), &[33 + (n % 90) as u8]));
         made(rt, commands.push(WidgetCmd::Lines(LinesCmd::Line(line))));
     }
     commands

@@ -48,12 +48,12 @@ impl Draw {
         }
     }
 
-    fn line(&mut self, rt: &impl Abort) -> Line {
+    fn line(&mut self, rt: &(impl Abort + AllocGlobal)) -> Line {
         let line = match self.byte() % 4 {
-            0 => Line::of(b""),
-            1 => Line::of(b"a"),
-            2 => Line::of(b"Zz~"),
-            _ => Line::of(b" to be "),
+            0 => Line::of(rt.alloc(), b""),
+            1 => Line::of(rt.alloc(), b"a"),
+            2 => Line::of(rt.alloc(), b"Zz~"),
+            _ => Line::of(rt.alloc(), b" to be "),
         };
         made(rt, line)
     }
@@ -121,7 +121,7 @@ impl Draw {
     }
 
     /// A command of any widget.
-    fn command(&mut self, rt: &impl Abort) -> WidgetCmd {
+    fn command(&mut self, rt: &(impl Abort + AllocGlobal)) -> WidgetCmd {
         match self.byte() % 20 {
             0 => WidgetCmd::Solid(SolidCmd::Tint(self.byte())),
             1 => WidgetCmd::Board(BoardCmd::Tile(self.tile())),

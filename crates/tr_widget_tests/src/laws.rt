@@ -36,8 +36,8 @@ fn obeys_its_laws<C: Client>(rt: &(impl Abort + AllocGlobal), content: &C, cmd: 
 /// Whether the widgets of one colour, of a tile and of a text do.
 fn plain_ones_obey(rt: &(impl Abort + AllocGlobal)) -> bool {
     let board = Board::new(TILE, Point { h: 1, v: 0 });
-    let label = made(rt, Label::new(made(rt, Line::of(b"hi"))));
-    let text = LabelCmd::Text(made(rt, Line::of(b"a")));
+    let label = made(rt, Label::new(made(rt, Line::of(rt.alloc(), b"hi"))));
+    let text = LabelCmd::Text(made(rt, Line::of(rt.alloc(), b"a")));
     obeys_its_laws(rt, &Solid::new(5), &SolidCmd::Tint(7))
         && obeys_its_laws(rt, &board, &BoardCmd::Tile(Tile { rows: [0; 8] }))
         && obeys_its_laws(rt, &label, &text)
@@ -46,14 +46,14 @@ fn plain_ones_obey(rt: &(impl Abort + AllocGlobal)) -> bool {
 /// Whether those of lines, of figures, of bars and of an edited text do.
 fn other_ones_obey(rt: &(impl Abort + AllocGlobal)) -> bool {
     let lines = made(rt, Lines::new(rt.alloc()));
-    let line = LinesCmd::Line(made(rt, Line::of(b"a")));
+    let line = LinesCmd::Line(made(rt, Line::of(rt.alloc(), b"a")));
     let canvas = made(rt, Canvas::new(rt.alloc()));
     let figure = CanvasCmd::Rect {
         area: Area::edges(0, 9, 0, 9),
         tint: 3,
     };
     let editor = made(rt, Editor::new(rt.alloc()));
-    let inserted = EditorCmd::Insert(made(rt, Line::of(b"a")));
+    let inserted = EditorCmd::Insert(made(rt, Line::of(rt.alloc(), b"a")));
     let meter = made(rt, Meter::new(rt.alloc(), 2));
     let bar = MeterCmd::Bar {
         bar: BarNumber::of(1),

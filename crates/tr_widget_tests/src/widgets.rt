@@ -31,7 +31,7 @@ pub fn contents(rt: &(impl Abort + AllocGlobal)) -> Vec<Widget> {
     );
     made(
         rt,
-        contents.push(Widget::Label(made(rt, Label::new(made(rt, Line::of(b"hi")))))),
+        contents.push(Widget::Label(made(rt, Label::new(made(rt, Line::of(rt.alloc(), b"hi")))))),
     );
     made(
         rt,
@@ -62,11 +62,11 @@ pub fn commands(rt: &(impl Abort + AllocGlobal)) -> Vec<WidgetCmd> {
     );
     made(
         rt,
-        commands.push(WidgetCmd::Label(LabelCmd::Text(made(rt, Line::of(b"a"))))),
+        commands.push(WidgetCmd::Label(LabelCmd::Text(made(rt, Line::of(rt.alloc(), b"a"))))),
     );
     made(
         rt,
-        commands.push(WidgetCmd::Lines(LinesCmd::Line(made(rt, Line::of(b"a"))))),
+        commands.push(WidgetCmd::Lines(LinesCmd::Line(made(rt, Line::of(rt.alloc(), b"a"))))),
     );
     made(
         rt,
@@ -84,7 +84,7 @@ pub fn commands(rt: &(impl Abort + AllocGlobal)) -> Vec<WidgetCmd> {
     );
     made(
         rt,
-        commands.push(WidgetCmd::Editor(EditorCmd::Insert(made(rt, Line::of(b"a"))))),
+        commands.push(WidgetCmd::Editor(EditorCmd::Insert(made(rt, Line::of(rt.alloc(), b"a"))))),
     );
     commands
 }
