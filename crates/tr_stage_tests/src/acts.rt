@@ -1,5 +1,7 @@
-//! Steps as values that are copied, so that a test is a table of them.
-use tr_base::{LeafId, Point, Rect, Selection};
+//! Steps as values, so that a test is a table of them.
+use super::ends::made;
+use std::process::Abort;
+use tr_base::{Command, LeafId, Point, Rect, Selection};
 use tr_cage::Cage;
 use tr_forest::Edit;
 use tr_journal::{Actor, Query, Step, stated};
@@ -7,7 +9,7 @@ use tr_levels::Held;
 use tr_widget::WidgetCmd;
 
 /// A step.
-#[derive(Clone, Copy)]
+#[derive(Drop)]
 pub enum Act {
     Tell(LeafId, WidgetCmd),
     Mark(LeafId, Rect),
@@ -31,9 +33,12 @@ pub enum Act {
 }
 
 /// The step.
-pub fn step_of(act: &Act) -> Step<WidgetCmd> {
+pub fn step_of(rt: &(impl Abort + AllocGlobal), act: &Act) -> Step<WidgetCmd> {
     match *act {
-        Act::Tell(leaf, cmd) => Step::Act { leaf, cmd },
+        Act::Tell(leaf, ref cmd) => Step::Act {
+            leaf,
+            cmd: made(rt, cmd.copy(rt.alloc())),
+        },
         Act::Mark(leaf, clip) => Step::Mark { leaf, clip },
         Act::Take(leaf) => Step::Take { leaf },
         Act::SetCage(leaf, cage) => Step::SetCage { leaf, cage },
@@ -68,10 +73,10 @@ pub struct By {
 
 /// Who makes the step in a script that is played by one thread: a leaf makes all that names it. No more is
 /// held than the step needs.
-pub fn maker_of(act: &Act) -> By {
+pub fn maker_of(rt: &(impl Abort + AllocGlobal), act: &Act) -> By {
     By {
         actor: actor_of(act),
-        level: stated(&step_of(act)),
+        level: stated(&step_of(rt, act)),
     }
 }
 

@@ -15,7 +15,12 @@ fn tint(n: u8) -> Act {
 }
 
 /// Whether the first step of A is the second colour, and the first one in what was handed in.
-fn is_told(difference: &Option<Difference<WidgetCmd>>, made: u8, found: u8) -> bool {
+fn is_told(
+    rt: &(impl Abort + AllocGlobal),
+    difference: &Option<Difference<WidgetCmd>>,
+    made: u8,
+    found: u8,
+) -> bool {
     match difference {
         Some(
             Difference {
@@ -26,7 +31,7 @@ fn is_told(difference: &Option<Difference<WidgetCmd>>, made: u8, found: u8) -> b
                     found: Some(second),
                 },
             },
-        ) => first.same(&step_of(&tint(made))) && second.same(&step_of(&tint(found))),
+        ) => first.same(&step_of(rt, &tint(made))) && second.same(&step_of(rt, &tint(found))),
         _ => false,
     }
 }
@@ -36,9 +41,9 @@ fn is_audited<P: Played>(rt: &(impl Abort + AllocGlobal)) -> bool {
     let parts = [Part::Leaf([1; 3], [1; 3], Shown::Solid(1))];
     let mut stage: P = P::start(rt, Size { wide: 1, high: 1 }, &parts);
     make(rt, &mut stage, &tint(7));
-    let wrong = stage.difference(rt, A, step_of(&tint(8)));
-    let right = stage.difference(rt, A, step_of(&tint(7)));
-    is_told(&wrong, 8, 7) && right.is_none()
+    let wrong = stage.difference(rt, A, step_of(rt, &tint(8)));
+    let right = stage.difference(rt, A, step_of(rt, &tint(7)));
+    is_told(rt, &wrong, 8, 7) && right.is_none()
 }
 
 #[test]

@@ -206,7 +206,7 @@ impl Draw {
         rows
     }
 
-    fn text(&mut self, rt: &impl Abort) -> Line {
+    fn text(&mut self, rt: &(impl Abort + AllocGlobal)) -> Line {
         let texts = [b"".as_slice(), b"a".as_slice(), b"~a".as_slice()];
         line(rt, texts[usize::from(self.below(3))])
     }
@@ -257,7 +257,7 @@ impl Draw {
     }
 
     /// What a leaf's content can be told.
-    fn cmd(&mut self, rt: &impl Abort, n: u8) -> WidgetCmd {
+    fn cmd(&mut self, rt: &(impl Abort + AllocGlobal), n: u8) -> WidgetCmd {
         match n {
             0 => WidgetCmd::Solid(SolidCmd::Tint(self.byte())),
             1 => WidgetCmd::Board(self.board_cmd(rt)),
@@ -276,7 +276,7 @@ impl Draw {
         }
     }
 
-    fn lines_cmd(&mut self, rt: &impl Abort) -> LinesCmd {
+    fn lines_cmd(&mut self, rt: &(impl Abort + AllocGlobal)) -> LinesCmd {
         if self.is_once_in(9) {
             LinesCmd::Clear
         } else {
@@ -452,7 +452,7 @@ impl Draw {
     }
 
     /// A step of any sort.
-    pub fn act(&mut self, rt: &impl Abort, devices: &Devices) -> Act {
+    pub fn act(&mut self, rt: &(impl Abort + AllocGlobal), devices: &Devices) -> Act {
         let leaf = self.leaf();
         match self.below(40) {
             0..=10 => self.telling(rt, leaf),
@@ -467,13 +467,13 @@ impl Draw {
     }
 
     /// Some leaf is told something.
-    pub fn told(&mut self, rt: &impl Abort) -> Act {
+    pub fn told(&mut self, rt: &(impl Abort + AllocGlobal)) -> Act {
         let leaf = self.leaf();
         self.telling(rt, leaf)
     }
 
     /// A leaf is told something; seldom a command of another widget, which does nothing.
-    fn telling(&mut self, rt: &impl Abort, leaf: LeafId) -> Act {
+    fn telling(&mut self, rt: &(impl Abort + AllocGlobal), leaf: LeafId) -> Act {
         let other = self.below(LEAVES);
         let n = if self.is_once_in(9) { other } else { leaf.0 };
         Act::Tell(leaf, self.cmd(rt, n))

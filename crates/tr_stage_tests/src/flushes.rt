@@ -20,7 +20,12 @@ fn typescript<P: Played>(rt: &(impl Abort + AllocGlobal)) -> P {
 }
 
 /// One more line, which is written in both.
-fn write_in_both<P: Played>(rt: &impl Abort, at_once: &mut P, one_by_one: &mut P, text: &[u8]) {
+fn write_in_both<P: Played>(
+    rt: &(impl Abort + AllocGlobal),
+    at_once: &mut P,
+    one_by_one: &mut P,
+    text: &[u8],
+) {
     let act = Act::Tell(A, WidgetCmd::Lines(LinesCmd::Line(line(rt, text))));
     make(rt, at_once, &act);
     make(rt, one_by_one, &act);
@@ -52,7 +57,7 @@ fn flushed_with_a_sketch<P: Played>(rt: &(impl Abort + AllocGlobal)) -> bool {
     for n in 0..25usize {
         write_in_both(rt, &mut at_once, &mut one_by_one, &TEXT[..n % 8]);
     }
-    let reply = at_once.flush_with(rt, &maker_of(&Act::Flush(A)), A);
+    let reply = at_once.flush_with(rt, &maker_of(rt, &Act::Flush(A)), A);
     peeks(rt, &at_once, (0, 0, 0));
     reply.answer.same(&DONE) && have_same_rows(rt, &at_once, &one_by_one)
 }
@@ -62,7 +67,7 @@ fn flushed_in_spite_of_a_sketch<P: Played>(rt: &(impl Abort + AllocGlobal)) -> b
     let parts = [Part::Leaf([64; 3], [32; 3], Shown::Solid(3))];
     let mut with_one: P = P::start(rt, Size { wide: 64, high: 32 }, &parts);
     let mut without: P = with_one.again(rt);
-    with_one.flush_with(rt, &maker_of(&Act::Flush(A)), A);
+    with_one.flush_with(rt, &maker_of(rt, &Act::Flush(A)), A);
     make(rt, &mut without, &Act::Flush(A));
     peeks(rt, &with_one, (2048, 0, 0));
     have_same_rows(rt, &with_one, &without)

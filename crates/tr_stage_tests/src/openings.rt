@@ -71,9 +71,9 @@ impl Sample for Widget {
 }
 
 /// The line of these bytes.
-pub fn line(rt: &impl Abort, bytes: &[u8]) -> Line {
+pub fn line(rt: &(impl Abort + AllocGlobal), bytes: &[u8]) -> Line {
     assert!(rt; bytes.len() <= 80 && bytes.iter().all(|byte| is_printable(*byte)));
-    made(rt, Line::of(bytes))
+    made(rt, Line::of(rt.alloc(), bytes))
 }
 
 /// Lengths of at least, by preference, and at most.

@@ -43,7 +43,7 @@ fn label_and_solid<P: Played>(rt: &(impl Abort + AllocGlobal)) -> P {
 }
 
 /// A step of each sort of the input devices, and each with selections, is done.
-fn devices<P: Played>(rt: &impl Abort, stage: &mut P) {
+fn devices<P: Played>(rt: &(impl Abort + AllocGlobal), stage: &mut P) {
     let down = clicked(1, Click::FirstDown, 1, 0);
     let value = Answer::Value(line(rt, b"hi"));
     let rows = [
@@ -60,7 +60,7 @@ fn devices<P: Played>(rt: &impl Abort, stage: &mut P) {
 }
 
 /// A step of each other sort is done.
-fn paintings<P: Played>(rt: &impl Abort, stage: &mut P) {
+fn paintings<P: Played>(rt: &(impl Abort + AllocGlobal), stage: &mut P) {
     let tinted = WidgetCmd::Solid(SolidCmd::Tint(6));
     let node = NodeId(0);
     let rows = [

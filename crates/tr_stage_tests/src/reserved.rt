@@ -30,13 +30,17 @@ fn reserved<P: Played>(rt: &(impl Abort + AllocGlobal)) {
         Act::Key(3, 65),
     ];
     let fourth = Act::Motion(4, 3, 0);
-    let by = maker_of(&fourth);
-    let steps = [step_of(&acts[0]), step_of(&acts[1]), step_of(&acts[2])];
+    let by = maker_of(rt, &fourth);
+    let steps = [
+        step_of(rt, &acts[0]),
+        step_of(rt, &acts[1]),
+        step_of(rt, &acts[2]),
+    ];
     let replies = stage.make_three_reserved(rt, &by, steps);
     for (act, reply) in acts.iter().zip(replies.iter()) {
         assert!(rt; reply.same(&make(rt, &mut other, act)));
     }
-    let reply = stage.make_reserved(rt, &by, step_of(&fourth));
+    let reply = stage.make_reserved(rt, &by, step_of(rt, &fourth));
     assert!(rt; reply.same(&make(rt, &mut other, &fourth)));
 }
 

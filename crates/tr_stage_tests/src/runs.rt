@@ -28,31 +28,41 @@ pub type Lag = (Act, u16, Option<Counts>);
 pub type Row = (Act, Answer, Option<(LeafId, Event)>);
 
 /// Makes the step, of which the journal has an entry then.
-pub fn make<P: Played>(rt: &impl Abort, stage: &mut P, act: &Act) -> Reply {
-    let by = maker_of(act);
+pub fn make<P: Played>(rt: &(impl Abort + AllocGlobal), stage: &mut P, act: &Act) -> Reply {
+    let by = maker_of(rt, act);
     let before = stage.entries();
-    let reply = match stage.make(rt, &by, step_of(act)) {
+    let reply = match stage.make(rt, &by, step_of(rt, act)) {
         Ok(reply) => reply,
         Err(NoMemory) => make_again(rt, stage, act, before),
     };
-    assert!(rt; stage.has_entry(rt, before, &entry_of(&by, act, &reply)));
+    assert!(rt; stage.has_entry(rt, before, &entry_of(rt, &by, act, &reply)));
     reply
 }
 
 /// The entry of a step.
-fn entry_of(by: &By, act: &Act, reply: &Reply) -> Entry<WidgetCmd> {
+fn entry_of(
+    rt: &(impl Abort + AllocGlobal),
+    by: &By,
+    act: &Act,
+    reply: &Reply,
+) -> Entry<WidgetCmd> {
     Entry {
         actor: by.actor,
         level: by.level,
-        step: step_of(act),
-        reply: *reply,
+        step: step_of(rt, act),
+        reply: made(rt, reply.copy()),
     }
 }
 
 /// Makes a step for which memory was wanted once: the stage is as before, and so the test goes on.
-fn make_again<P: Played>(rt: &impl Abort, stage: &mut P, act: &Act, before: usize) -> Reply {
+fn make_again<P: Played>(
+    rt: &(impl Abort + AllocGlobal),
+    stage: &mut P,
+    act: &Act,
+    before: usize,
+) -> Reply {
     assert_eq!(rt; stage.entries(), before);
-    made(rt, stage.make(rt, &maker_of(act), step_of(act)))
+    made(rt, stage.make(rt, &maker_of(rt, act), step_of(rt, act)))
 }
 
 /// Settles it. Where memory was wanted once, what was painted by then stands, and the rest follows.
@@ -92,7 +102,7 @@ pub fn shows<P: Played>(rt: &impl Abort, stage: &mut P, rows: &[&[u8]]) {
 }
 
 /// Each step is done, sends so much, and leaves so much to paint.
-pub fn lags<P: Played>(rt: &impl Abort, stage: &mut P, rows: &[Lag]) {
+pub fn lags<P: Played>(rt: &(impl Abort + AllocGlobal), stage: &mut P, rows: &[Lag]) {
     for (i, (act, sent, peek)) in rows.iter().enumerate() {
         let reply = make(rt, stage, act);
         assert!(rt;
@@ -106,7 +116,7 @@ pub fn lags<P: Played>(rt: &impl Abort, stage: &mut P, rows: &[Lag]) {
 }
 
 /// Each step answers and sends what its row says.
-pub fn plays<P: Played>(rt: &impl Abort, stage: &mut P, rows: &[Row]) {
+pub fn plays<P: Played>(rt: &(impl Abort + AllocGlobal), stage: &mut P, rows: &[Row]) {
     for (i, (act, answer, sent)) in rows.iter().enumerate() {
         let before = stage.entries();
         let reply = make(rt, stage, act);

@@ -17,7 +17,7 @@ pub trait Recomputed: Sized + Drop {
     fn open(rt: &(impl Abort + AllocGlobal), size: Size, parts: &[Part]) -> Self;
 
     /// Makes a step, which the stage answered in this way.
-    fn make(&mut self, rt: &impl Abort, act: &Act, answer: &Answer);
+    fn make(&mut self, rt: &(impl Abort + AllocGlobal), act: &Act, answer: &Answer);
 
     /// All is painted from nothing. How many steps a stage has to make for that.
     fn settle(&mut self, rt: &impl Abort) -> usize;
@@ -46,8 +46,8 @@ impl Recomputed for Slow<Widget> {
         open(rt, size, parts)
     }
 
-    fn make(&mut self, rt: &impl Abort, act: &Act, answer: &Answer) {
-        self.step(rt, &step_of(act), answer);
+    fn make(&mut self, rt: &(impl Abort + AllocGlobal), act: &Act, answer: &Answer) {
+        self.step(rt, &step_of(rt, act), answer);
     }
 
     fn settle(&mut self, rt: &impl Abort) -> usize {
@@ -81,7 +81,7 @@ impl Recomputed for Slow<Widget> {
 
 /// Both make a step.
 pub fn make_both<P: Played, M: Recomputed>(
-    rt: &impl Abort,
+    rt: &(impl Abort + AllocGlobal),
     stage: &mut P,
     slow: &mut M,
     act: &Act,

@@ -20,10 +20,14 @@ struct Beside<P: Played, M: Recomputed> {
 }
 
 /// All make a step. What a leaf paints by it is flushed in the second stage.
-fn make_all<P: Played, M: Recomputed>(rt: &impl Abort, all: &mut Beside<P, M>, act: &Act) {
+fn make_all<P: Played, M: Recomputed>(
+    rt: &(impl Abort + AllocGlobal),
+    all: &mut Beside<P, M>,
+    act: &Act,
+) {
     make_both(rt, &mut all.late, &mut all.model, act);
     make(rt, &mut all.flushed, act);
-    if let Actor::Leaf(leaf) = maker_of(act).actor {
+    if let Actor::Leaf(leaf) = maker_of(rt, act).actor {
         make(rt, &mut all.flushed, &Act::Flush(leaf));
     }
 }
