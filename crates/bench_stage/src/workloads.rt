@@ -49,7 +49,7 @@ impl Workload {
     /// How it is measured.
     pub fn plan(self, alloc: Global) -> Result<Plan<Widget>, NoMemory> {
         let mut plan = self.windows(alloc)?;
-        match self.add_steps(&mut plan) {
+        match self.add_steps(alloc, &mut plan) {
             Ok(()) => Ok(plan),
             Err(NoMemory) => {
                 drop(plan);
@@ -84,10 +84,10 @@ impl Workload {
     }
 
     /// Adds its steps.
-    fn add_steps(self, plan: &mut Plan<Widget>) -> Result<(), NoMemory> {
+    fn add_steps(self, alloc: Global, plan: &mut Plan<Widget>) -> Result<(), NoMemory> {
         match self {
             Workload::ActOnSolid => act_on_solid(plan),
-            Workload::ActOnLines => act_on_lines(plan),
+            Workload::ActOnLines => act_on_lines(alloc, plan),
             Workload::ActOnCanvas => act_on_canvas(plan),
             Workload::Flush(count) => plan.flush(&[OTHER_TINT], count),
             Workload::Move(_) => plan.move_windows(),
@@ -101,10 +101,10 @@ fn act_on_solid(plan: &mut Plan<Widget>) -> Result<(), NoMemory> {
     plan.act(&[OTHER_TINT], ROUND)
 }
 
-fn act_on_lines(plan: &mut Plan<Widget>) -> Result<(), NoMemory> {
-    let cmds = [line(Line::of(b"trestle> dump the screen")?)];
+fn act_on_lines(alloc: Global, plan: &mut Plan<Widget>) -> Result<(), NoMemory> {
+    let cmds = [line(Line::of(alloc, b"trestle> dump the screen")?)];
     plan.fill(&cmds, LINES)?;
-    plan.prepare(&[line(Line::of(b"dumped")?)])?;
+    plan.prepare(&[line(Line::of(alloc, b"dumped")?)])?;
     plan.act(&cmds, ROUND)
 }
 
