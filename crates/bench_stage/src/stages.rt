@@ -1,7 +1,7 @@
-ghost use Rattle.std.specs.Prelude.{◌≡◌, ◌≤◌, true, IsTrue};
+ghost use Rattle.std.specs.Prelude.{◌≤◌, IsTrue};
 ghost use Rattle.tr_forest.specs.Nodes.{IsNode};
 ghost use Rattle.tr_journal.specs.Openings.{tree_of};
-ghost use Rattle.tr_journal.specs.Steps.{AreLevels, IsStep, may, covers};
+ghost use Rattle.tr_journal.specs.Steps.{IsFor};
 
 use crate::plans::{node_of, place_of};
 use std::alloc::Global;
@@ -212,10 +212,7 @@ fn maker_of<M>(step: &Step<M>) -> Actor {
 
 /// Whether the step may be made in this way.
 fn is_allowed<C: Client>(stage: &Stage<C>, actor: Actor, level: Held, step: &Step<C::Cmd>) -> bool
-    ensures may { IsTrue result → may actor step.now ≡ true }
-    ensures covers { IsTrue result → covers level step.now ≡ true }
-    ensures levels { IsTrue result → AreLevels (tree_of stage.now.opening).nodes level }
-    ensures values { IsTrue result → IsStep (tree_of stage.now.opening).nodes step.now }
+    ensures { IsTrue result → IsFor (tree_of stage.now.opening).nodes actor level step.now }
 {
     let tree = stage.opening().tree();
     let is_made_so = may(actor, step) && covers(level, step);

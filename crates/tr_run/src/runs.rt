@@ -11,6 +11,7 @@ ghost use Rattle.tr_machine.specs.Pictures.{render};
 ghost use Rattle.tr_journal.specs.Names.{names_of};
 ghost use Rattle.tr_machine.specs.Replays.{line_of, lines_of};
 ghost use Rattle.tr_machine.specs.Settling.{settling_lines};
+ghost use Rattle.tr_stage.specs.Making.{MakesWithoutReply};
 ghost use Rattle.tr_stage.specs.Stages.{IsPainters, is_note, state};
 ghost use Rattle.tr_run.specs.Runs.{makes, reporting};
 ghost use Rattle.tr_run.specs.Texts.{is_check, sum_after, written};
@@ -194,11 +195,7 @@ impl<'a, C: Client, N: NameOf> Run<'a, C, N> {
     fn add(&mut self, actor: Actor, step: Step<C::Cmd>) -> Result<(), NoMemory>
         requires may { may actor step ≡ true }
         requires values { IsStep (tree_of self.old.stage.opening).nodes step }
-        ensures opening { self.new.stage.opening ≡ self.old.stage.opening }
-        ensures journal { OnOk result (self.new.stage.journal ≡ self.old.stage.journal ++
-            line_of C.Client (state C.Client self.old.stage) actor (stated step) step ∷ []) }
-        ensures err_journal { OnErr result (self.new.stage.journal ≡ self.old.stage.journal) }
-        ensures err_screen { OnErr result (self.new.stage.screen ≡ self.old.stage.screen) }
+        ensures made { MakesWithoutReply C.Client self.old.stage self.new.stage actor (stated step) step result }
         ensures names { self.new.names ≡ self.old.names }
         ensures mode { self.new.mode ≡ self.old.mode }
         ensures text { self.new.text ≡ self.old.text }

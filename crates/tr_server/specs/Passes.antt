@@ -1,6 +1,7 @@
 -- What a contract sees of a pass, and whose the passes of a session are.
-use Rattle.std.specs.Prelude.{◌≡◌, ℕ, ◌+◌, ◌<◌, ◌==◌, Bool, true, false, if◌then◌else◌, nat_lt, List, [], ◌∷◌, length, slice_index_or}
+use Rattle.std.specs.Prelude.{◌≡◌, ℕ, ◌+◌, ◌<◌, ◌==◌, Bool, true, false, if◌then◌else◌, nat_lt, List, [], ◌∷◌, ◌++◌, length, slice_index_or, Result, OnOk, OnErr}
 use Rattle.tr_base.specs.declared.LeafId.{LeafId}
+use Rattle.tr_base.specs.declared.errors.NoMemory.{NoMemory}
 use Rattle.tr_levels.specs.declared.Level.{Level}
 use Rattle.tr_levels.specs.declared.Level.TheVariants.{Mu, Win}
 use Rattle.tr_journal.specs.declared.steps.Actor.{Actor}
@@ -18,6 +19,11 @@ pub record PassView (M : Type 0) : Type 0 where
 -- a pass with which no step was made
 abbrev pub fresh_pass : {M : Type 0} → Actor → PassView M
 fresh_pass actor = record { actor = actor; mine = []; posted = 0; made = 0 }
+
+-- a step is made with a pass: the pass has the step behind its others, and counts one entry more; without memory it stays as it is
+pub record CountsStep {M A : Type 0} (old new : PassView M) (step : Step M) (answered : Result A NoMemory) : Type 0 where
+  pub mine : OnOk answered (new ≡ record old { mine = old.mine ++ step ∷ []; made = old.made + 1 })
+  pub err : OnErr answered (new ≡ old)
 
 -- the actor is the client of a leaf
 abbrev pub is_client : Actor → Bool

@@ -3,12 +3,13 @@ ghost use Rattle.tr_forest.specs.Nodes.{leaf_count};
 ghost use Rattle.tr_spot.specs.Leaves.{leaf_size};
 ghost use Rattle.tr_journal.specs.declared.Actor.TheVariants.{Leaf};
 ghost use Rattle.tr_journal.specs.Openings.{tree_of};
-ghost use Rattle.tr_journal.specs.Steps.{AreLevels, IsLeaf, IsStep, may, covers};
+ghost use Rattle.tr_journal.specs.Steps.{IsFor, IsStep, may};
 ghost use Rattle.tr_machine.specs.States.{content_of};
+ghost use Rattle.tr_stage.specs.Making.{Makes};
 ghost use Rattle.tr_stage.specs.Sketching.{IsSketchOf};
 ghost use Rattle.tr_stage.specs.Stages.{KeepsOthers, line, paints, state};
 ghost use Rattle.tr_server.specs.Handing.{with_acts};
-ghost use Rattle.tr_server.specs.Passes.{both_locks};
+ghost use Rattle.tr_server.specs.Passes.{CountsStep, both_locks};
 ghost use Rattle.tr_server.specs.Sessions.{HasIds};
 
 use crate::baskets::Basket;
@@ -94,22 +95,9 @@ impl<C: Client, L: Session> Locked<C, L> {
         level: Held,
         step: Step<C::Cmd>,
     ) -> Result<Reply, NoMemory>
-        requires may { may pass.old.actor step ≡ true }
-        requires covers { covers level step ≡ true }
-        requires levels { AreLevels (tree_of self.old.opening).nodes level }
-        requires values { IsStep (tree_of self.old.opening).nodes step }
-        ensures opening { self.new.opening ≡ self.old.opening }
-        ensures ok { OnOk result (self.new.journal ≡
-            self.old.journal ++ line C.Client self.old pass.old.actor level step ∷ []) }
-        ensures reply { IfOk result (λ r.
-            r ≡ (line C.Client self.old pass.old.actor level step).entry.reply) }
-        ensures mine { OnOk result (pass.new ≡ record pass.old {
-          mine = pass.old.mine ++ step ∷ [];
-          made = pass.old.made + 1;
-        }) }
-        ensures err_journal { OnErr result (self.new.journal ≡ self.old.journal) }
-        ensures err_screen { OnErr result (self.new.screen ≡ self.old.screen) }
-        ensures err_pass { OnErr result (pass.new ≡ pass.old) }
+        requires allowed { IsFor (tree_of self.old.opening).nodes pass.old.actor level step }
+        ensures made { Makes C.Client self.old self.new pass.old.actor level step result }
+        ensures pass { CountsStep pass.old pass.new step result }
         ensures screen { IfOk result (λ r. paints step r.answer ≡ false → self.new.screen ≡ self.old.screen) }
         ensures others { let t = (state C.Client self.old).tree in
             OnOk result (KeepsOthers t step self.old.screen self.new.screen) }
@@ -142,23 +130,10 @@ impl<C: Client, L: Session> Locked<C, L> {
         step: Step<C::Cmd>,
         sketch: (LeafId, Option<Sketch<C>>),
     ) -> Result<Reply, NoMemory>
-        requires may { may pass.old.actor step ≡ true }
-        requires covers { covers level step ≡ true }
-        requires levels { AreLevels (tree_of self.old.opening).nodes level }
-        requires values { IsStep (tree_of self.old.opening).nodes step }
+        requires allowed { IsFor (tree_of self.old.opening).nodes pass.old.actor level step }
         requires sketch { IfSome sketch.1 (IsSketchOf C.Client (state C.Client self.old) sketch.0) }
-        ensures opening { self.new.opening ≡ self.old.opening }
-        ensures ok { OnOk result (self.new.journal ≡
-            self.old.journal ++ line C.Client self.old pass.old.actor level step ∷ []) }
-        ensures reply { IfOk result (λ r.
-            r ≡ (line C.Client self.old pass.old.actor level step).entry.reply) }
-        ensures mine { OnOk result (pass.new ≡ record pass.old {
-          mine = pass.old.mine ++ step ∷ [];
-          made = pass.old.made + 1;
-        }) }
-        ensures err_journal { OnErr result (self.new.journal ≡ self.old.journal) }
-        ensures err_screen { OnErr result (self.new.screen ≡ self.old.screen) }
-        ensures err_pass { OnErr result (pass.new ≡ pass.old) }
+        ensures made { Makes C.Client self.old self.new pass.old.actor level step result }
+        ensures pass { CountsStep pass.old pass.new step result }
     {
         let (leaf, sketch) = sketch;
         let Some(sketch) = sketch else {
@@ -179,23 +154,11 @@ impl<C: Client, L: Session> Locked<C, L> {
         leaf: LeafId,
         sketch: &Sketch<C>,
     ) -> Result<Reply, NoMemory>
-        requires may { may {M = C.Cmd} pass.old.actor (Step.Flush leaf) ≡ true }
-        requires covers { covers {M = C.Cmd} level (Step.Flush leaf) ≡ true }
-        requires levels { AreLevels (tree_of self.old.opening).nodes level }
-        requires leaf { IsLeaf (tree_of self.old.opening).nodes leaf }
+        requires allowed { let t = (tree_of self.old.opening).nodes in
+            IsFor {M = C.Cmd} t pass.old.actor level (Step.Flush leaf) }
         requires sketch { IsSketchOf C.Client (state C.Client self.old) leaf sketch.now }
-        ensures opening { self.new.opening ≡ self.old.opening }
-        ensures ok { let made = Step.Flush leaf in OnOk result (self.new.journal ≡
-            self.old.journal ++ line C.Client self.old pass.old.actor level made ∷ []) }
-        ensures reply { let made = Step.Flush leaf in IfOk result (λ r.
-            r ≡ (line C.Client self.old pass.old.actor level made).entry.reply) }
-        ensures mine { OnOk result (pass.new ≡ record pass.old {
-          mine = pass.old.mine ++ Step.Flush leaf ∷ [];
-          made = pass.old.made + 1;
-        }) }
-        ensures err_journal { OnErr result (self.new.journal ≡ self.old.journal) }
-        ensures err_screen { OnErr result (self.new.screen ≡ self.old.screen) }
-        ensures err_pass { OnErr result (pass.new ≡ pass.old) }
+        ensures made { Makes C.Client self.old self.new pass.old.actor level (Step.Flush leaf) result }
+        ensures pass { CountsStep pass.old pass.new (Step.Flush leaf) result }
     {
         if let Err(refused) = pass.mine.push(Step::Flush { leaf }) {
             drop(refused);

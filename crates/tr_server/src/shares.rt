@@ -1,4 +1,4 @@
-ghost use Rattle.std.specs.Prelude.{◌≡◌, ◌+◌, ◌<◌, ◌++◌, ◌∷◌, [], false, map, Ok, IfOk, OnOk, OnErr};
+ghost use Rattle.std.specs.Prelude.{◌≡◌, ◌<◌, ◌∷◌, [], false, map, Ok, IfOk, OnOk, OnErr};
 ghost use Rattle.tr_base.specs.declared.LeafId.{LeafId};
 ghost use Rattle.tr_base.specs.declared.Point.{Point};
 ghost use Rattle.tr_forest.specs.Nodes.{leaf_count};
@@ -8,7 +8,9 @@ ghost use Rattle.tr_journal.specs.Openings.{tree_of};
 ghost use Rattle.tr_machine.specs.States.{batch_of};
 ghost use Rattle.tr_machine.specs.Pictures.{render};
 ghost use Rattle.tr_machine.specs.Sharing.{IsPaintedOf, sharing};
-ghost use Rattle.tr_stage.specs.Stages.{KeepsOthers, line, state};
+ghost use Rattle.tr_stage.specs.Making.{MakesWithoutReply};
+ghost use Rattle.tr_stage.specs.Stages.{KeepsOthers, state};
+ghost use Rattle.tr_server.specs.Passes.{CountsStep};
 ghost use Rattle.tr_server.specs.Shares as spec;
 ghost use Rattle.tr_server.specs.Shares.{ArePaintedShares, HasMade, HasBegun, IsPaintedShare};
 
@@ -80,17 +82,9 @@ impl<C: Client, L: Session> Mu<'_, C, L> {
         requires idle { batch_of C.Client (state C.Client self.old) painted.leaf ≡ [] }
         requires painted { let m = state C.Client self.old in
             IsPaintedOf C.Client m painted.leaf painted.part painted.pixels.items }
-        ensures opening { self.new.opening ≡ self.old.opening }
-        ensures ok { let made = Step.Repaint painted.leaf in
-            OnOk result (self.new.journal ≡ self.old.journal
-            ++ line C.Client self.old Painter (ShareLevel painted.leaf ∷ []) made ∷ []) }
-        ensures mine { OnOk result (pass.new ≡ record pass.old {
-          mine = pass.old.mine ++ Step.Repaint painted.leaf ∷ [];
-          made = pass.old.made + 1;
-        }) }
-        ensures err_journal { OnErr result (self.new.journal ≡ self.old.journal) }
-        ensures err_screen { OnErr result (self.new.screen ≡ self.old.screen) }
-        ensures err_pass { OnErr result (pass.new ≡ pass.old) }
+        ensures made { MakesWithoutReply C.Client self.old self.new Painter (ShareLevel painted.leaf ∷ [])
+            (Step.Repaint painted.leaf) result }
+        ensures pass { CountsStep pass.old pass.new (Step.Repaint painted.leaf) result }
         ensures others { let t = (state C.Client self.old).tree in
             OnOk result (KeepsOthers {M = C.Cmd} t (Step.Repaint painted.leaf)
             self.old.screen self.new.screen) }

@@ -3,9 +3,10 @@ ghost use Rattle.tr_levels.specs.declared.Level.TheVariants.{Mu as MuLevel};
 ghost use Rattle.tr_journal.specs.declared.Actor.TheVariants.{Leaf};
 ghost use Rattle.tr_journal.specs.Openings.{tree_of};
 ghost use Rattle.tr_journal.specs.Steps.{IsStep, may};
-ghost use Rattle.tr_stage.specs.Stages.{KeepsOthers, line, paints, state};
+ghost use Rattle.tr_stage.specs.Making.{Makes};
+ghost use Rattle.tr_stage.specs.Stages.{KeepsOthers, paints, state};
 ghost use Rattle.tr_server.specs.Handing.{HandedOver, HandedAndStepped};
-ghost use Rattle.tr_server.specs.Passes.{is_client};
+ghost use Rattle.tr_server.specs.Passes.{CountsStep, is_client};
 ghost use Rattle.tr_server.specs.Sessions.{HasIds};
 
 use crate::locked::Locked;
@@ -51,18 +52,8 @@ impl<C: Client, L: Session> Mu<'_, C, L> {
         requires actor { is_client pass.old.actor ≡ false }
         requires may { may pass.old.actor step ≡ true }
         requires values { IsStep (tree_of self.old.opening).nodes step }
-        ensures opening { self.new.opening ≡ self.old.opening }
-        ensures ok { OnOk result (self.new.journal ≡
-            self.old.journal ++ line C.Client self.old pass.old.actor (MuLevel ∷ []) step ∷ []) }
-        ensures reply { IfOk result (λ r.
-            r ≡ (line C.Client self.old pass.old.actor (MuLevel ∷ []) step).entry.reply) }
-        ensures mine { OnOk result (pass.new ≡ record pass.old {
-          mine = pass.old.mine ++ step ∷ [];
-          made = pass.old.made + 1;
-        }) }
-        ensures err_journal { OnErr result (self.new.journal ≡ self.old.journal) }
-        ensures err_screen { OnErr result (self.new.screen ≡ self.old.screen) }
-        ensures err_pass { OnErr result (pass.new ≡ pass.old) }
+        ensures made { Makes C.Client self.old self.new pass.old.actor (MuLevel ∷ []) step result }
+        ensures pass { CountsStep pass.old pass.new step result }
         ensures screen { IfOk result (λ r. paints step r.answer ≡ false → self.new.screen ≡ self.old.screen) }
         ensures others { let t = (state C.Client self.old).tree in
             OnOk result (KeepsOthers t step self.old.screen self.new.screen) }

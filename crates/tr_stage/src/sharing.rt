@@ -1,4 +1,4 @@
-ghost use Rattle.std.specs.Prelude.{◌≡◌, ◌<◌, ◌++◌, ◌∷◌, [], true, length, slice_index, IfOk, OnOk, OnErr};
+ghost use Rattle.std.specs.Prelude.{◌≡◌, ◌<◌, ◌∷◌, [], true, length, slice_index, IfOk, OnOk};
 ghost use Rattle.tr_base.specs.declared.Point.{Point};
 ghost use Rattle.tr_base.specs.Layouts.{IsDomain};
 ghost use Rattle.tr_base.specs.Rects.{IsRect};
@@ -17,8 +17,8 @@ ghost use Rattle.tr_machine.specs.States.{batch_of};
 ghost use Rattle.tr_machine.specs.Paintings.{is_visible};
 ghost use Rattle.tr_machine.specs.Pictures.{want};
 ghost use Rattle.tr_machine.specs.Sharing.{IsPaintedOf};
-ghost use Rattle.tr_stage.specs.Making.{Makes};
-ghost use Rattle.tr_stage.specs.Stages.{KeepsOthers, line, state};
+ghost use Rattle.tr_stage.specs.Making.{Makes, MakesWithoutReply};
+ghost use Rattle.tr_stage.specs.Stages.{KeepsOthers, state};
 
 use crate::lines::{By, write};
 use crate::stages::Stage;
@@ -173,12 +173,8 @@ impl<C: Client> Stage<C> {
         requires idle { batch_of C.Client (state C.Client self.old) painted.leaf ≡ [] }
         requires painted { let m = state C.Client self.old in
             IsPaintedOf C.Client m painted.leaf painted.part painted.pixels.items }
-        ensures opening { self.new.opening ≡ self.old.opening }
-        ensures ok { let made = Step.Repaint painted.leaf in
-            OnOk result (self.new.journal ≡ self.old.journal
-            ++ line C.Client self.old Painter (Share painted.leaf ∷ []) made ∷ []) }
-        ensures err_journal { OnErr result (self.new.journal ≡ self.old.journal) }
-        ensures err_screen { OnErr result (self.new.screen ≡ self.old.screen) }
+        ensures made { MakesWithoutReply C.Client self.old self.new Painter (Share painted.leaf ∷ [])
+            (Step.Repaint painted.leaf) result }
         ensures others { let t = (state C.Client self.old).tree in
             OnOk result (KeepsOthers {M = C.Cmd} t (Step.Repaint painted.leaf)
             self.old.screen self.new.screen) }

@@ -1,12 +1,12 @@
-ghost use Rattle.std.specs.Prelude.{◌≡◌, ◌<◌, ◌++◌, ◌∷◌, [], true, Some, IsTrue, IfOk, OnOk, OnErr};
+ghost use Rattle.std.specs.Prelude.{◌≡◌, ◌<◌, Some, IsTrue, IfOk, OnOk};
 ghost use Rattle.tr_forest.specs.Nodes.{leaf_count};
 ghost use Rattle.tr_spot.specs.Leaves.{leaf_size};
 ghost use Rattle.tr_journal.specs.Openings.{tree_of};
-ghost use Rattle.tr_journal.specs.Steps.{AreLevels, IsFor, IsLeaf, may, covers};
+ghost use Rattle.tr_journal.specs.Steps.{IsFor};
 ghost use Rattle.tr_machine.specs.States.{content_of};
 ghost use Rattle.tr_stage.specs.Making.{Makes};
 ghost use Rattle.tr_stage.specs.Sketching.{IsSketchOf, MayBePut};
-ghost use Rattle.tr_stage.specs.Stages.{KeepsOthers, line, state};
+ghost use Rattle.tr_stage.specs.Stages.{KeepsOthers, state};
 
 use crate::lines::{By, write};
 use crate::paints::exposure_of;
@@ -28,21 +28,13 @@ impl<C: Client> Stage<C> {
         leaf: LeafId,
         sketch: &Sketch<C>,
     ) -> Result<Reply, NoMemory>
-        requires may { may {M = C.Cmd} actor (Step.Flush leaf) ≡ true }
-        requires covers { covers {M = C.Cmd} level (Step.Flush leaf) ≡ true }
-        requires levels { AreLevels (tree_of self.old.opening).nodes level }
-        requires leaf { IsLeaf (tree_of self.old.opening).nodes leaf }
+        requires allowed { let t = (tree_of self.old.opening).nodes in
+            IsFor {M = C.Cmd} t actor level (Step.Flush leaf) }
         requires content { content_of C.Client (state C.Client self.old) leaf ≡ Some sketch.now.content }
         requires font { sketch.now.font ≡ (state C.Client self.old).font }
         requires size { sketch.now.size ≡ leaf_size (state C.Client self.old).tree leaf }
         requires kind { sketch.now.kind ≡ (state C.Client self.old).tree.kind }
-        ensures opening { self.new.opening ≡ self.old.opening }
-        ensures ok { let made = Step.Flush leaf in OnOk result (self.new.journal ≡
-            self.old.journal ++ line C.Client self.old actor level made ∷ []) }
-        ensures reply { let made = Step.Flush leaf in
-            IfOk result (λ r. r ≡ (line C.Client self.old actor level made).entry.reply) }
-        ensures err_journal { OnErr result (self.new.journal ≡ self.old.journal) }
-        ensures err_screen { OnErr result (self.new.screen ≡ self.old.screen) }
+        ensures made { Makes C.Client self.old self.new actor level (Step.Flush leaf) result }
         ensures others { let t = (state C.Client self.old).tree in
             OnOk result (KeepsOthers {M = C.Cmd} t (Step.Flush leaf) self.old.screen self.new.screen) }
     {

@@ -1,13 +1,13 @@
-ghost use Rattle.std.specs.Prelude.{◌≡◌, ◌<◌, ◌≤◌, ◌+◌, ◌++◌, ◌∷◌, [], true, false, IsSome, IfOk, IfErr, OnOk, OnErr};
+ghost use Rattle.std.specs.Prelude.{◌≡◌, ◌<◌, ◌≤◌, ◌+◌, [], true, false, IsSome, IfOk, IfErr, OnOk};
 ghost use Rattle.tr_base.specs.declared.Point.{Point};
 ghost use Rattle.tr_region.specs.Points.{holds};
 ghost use Rattle.tr_screen.specs.Pictures.{blank_of};
 ghost use Rattle.tr_surface.specs.Surfaces.{is_on, is_bad};
 ghost use Rattle.tr_journal.specs.Openings.{tree_of};
-ghost use Rattle.tr_journal.specs.Steps.{AreLevels, IsFor, IsStep, may, covers};
+ghost use Rattle.tr_journal.specs.Steps.{IsFor};
 ghost use Rattle.tr_stage.specs.Stages as spec;
 ghost use Rattle.tr_stage.specs.Making.{Makes};
-ghost use Rattle.tr_stage.specs.Stages.{KeepsOthers, line, paints, state};
+ghost use Rattle.tr_stage.specs.Stages.{KeepsOthers, paints, state};
 
 use crate::lines::By;
 use std::alloc::Global;
@@ -101,16 +101,8 @@ impl<C: Client> Stage<C> {
     /// Makes a step. The journal gets the step's line, with its answer and the events that it sends. For
     /// want of memory no step is made.
     pub fn step(&mut self, actor: Actor, level: Held, step: Step<C::Cmd>) -> Result<Reply, NoMemory>
-        requires may { may actor step ≡ true }
-        requires covers { covers level step ≡ true }
-        requires levels { AreLevels (tree_of self.old.opening).nodes level }
-        requires values { IsStep (tree_of self.old.opening).nodes step }
-        ensures opening { self.new.opening ≡ self.old.opening }
-        ensures ok { OnOk result (self.new.journal ≡
-            self.old.journal ++ line C.Client self.old actor level step ∷ []) }
-        ensures reply { IfOk result (λ r. r ≡ (line C.Client self.old actor level step).entry.reply) }
-        ensures err_journal { OnErr result (self.new.journal ≡ self.old.journal) }
-        ensures err_screen { OnErr result (self.new.screen ≡ self.old.screen) }
+        requires allowed { IsFor (tree_of self.old.opening).nodes actor level step }
+        ensures made { Makes C.Client self.old self.new actor level step result }
 
         // The screen stays as it is, unless the step paints; and where it may not paint, each pixel stays.
         ensures screen { IfOk result (λ r. paints step r.answer ≡ false → self.new.screen ≡ self.old.screen) }
@@ -141,14 +133,8 @@ impl<C: Client> Stage<C> {
     pub fn step_reserved(&mut self, actor: Actor, level: Held, step: Step<C::Cmd>) -> Reply
         requires spare { 0 < self.old.spare }
         requires reservable { spec.is_reservable step ≡ true }
-        requires may { may actor step ≡ true }
-        requires covers { covers level step ≡ true }
-        requires levels { AreLevels (tree_of self.old.opening).nodes level }
-        requires values { IsStep (tree_of self.old.opening).nodes step }
-        ensures opening { self.new.opening ≡ self.old.opening }
-        ensures journal { self.new.journal ≡
-            self.old.journal ++ line C.Client self.old actor level step ∷ [] }
-        ensures reply { result ≡ (line C.Client self.old actor level step).entry.reply }
+        requires allowed { IsFor (tree_of self.old.opening).nodes actor level step }
+        ensures made { Makes C.Client self.old self.new actor level step (Ok result) }
         ensures screen { self.new.screen ≡ self.old.screen }
         ensures spare { self.old.spare ≤ self.new.spare + 1 }
     {

@@ -3,7 +3,7 @@
 ghost use Rattle.std.specs.Prelude.{◌≡◌, ◌<◌, ◌≤◌, ◌+◌, true};
 ghost use Rattle.tr_forest.specs.Nodes.{leaf_count};
 ghost use Rattle.tr_journal.specs.Openings.{tree_of};
-ghost use Rattle.tr_journal.specs.Steps.{AreLevels, IsStep, may, covers};
+ghost use Rattle.tr_journal.specs.Steps.{IsFor};
 ghost use Rattle.tr_stage.specs.Stages as spec;
 
 use super::acts::By;
@@ -25,10 +25,7 @@ use tr_stage::{Peek, Stage, is_reservable};
 
 /// Ends the test where the step may not be made.
 fn allow<C: Client>(rt: &impl Abort, stage: &Stage<C>, by: &By, step: &Step<C::Cmd>)
-    ensures may { may by.now.actor step.now ≡ true }
-    ensures covers { covers by.now.level step.now ≡ true }
-    ensures levels { AreLevels (tree_of stage.now.opening).nodes by.now.level }
-    ensures values { IsStep (tree_of stage.now.opening).nodes step.now }
+    ensures { IsFor (tree_of stage.now.opening).nodes by.now.actor by.now.level step.now }
 {
     assert!(rt; may(by.actor, step) && covers(by.level, step));
     let tree = stage.opening().tree();

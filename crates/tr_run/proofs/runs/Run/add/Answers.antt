@@ -17,7 +17,7 @@ invariant_of-self-2 g c =
       like = c.tree-tree.ensures.like;
       may = c.requires.may;
       values = subst (λ (v : RunView _ _). IsStep (tree_of v.stage.opening).nodes c.args.step) (sym c.self.view_is) c.requires.values;
-      opening = c.step.ensures.opening;
-      journal = c.in_ok-step.ensures.ok
+      opening = c.step.ensures.made.opening;
+      journal = c.in_ok-step.ensures.made.ok
           ∙ ap (λ (held : List Level). s.journal ++ line_of g.C.Client (state g.C.Client s) c.args.actor held c.args.step ∷ []) c.stated-level.ensures.value;
     })

@@ -10,10 +10,10 @@ use Rattle.tr_run.proofs.runs.Run.answer.Goals as goal
 
 pub returns-clause-ok : goal.returns-clause-ok
 returns-clause-ok g c = made_adds g.C.Client {step = Report c.args.query} (record {
-  opening = c.add.ensures.opening ∙ ap (λ (s : StageView _ _). s.opening) c.tell.ensures.stage;
+  opening = c.add.ensures.made.opening ∙ ap (λ (s : StageView _ _). s.opening) c.tell.ensures.stage;
   names = c.add.ensures.names ∙ c.tell.ensures.names;
   mode = c.add.ensures.mode ∙ c.tell.ensures.mode;
-  journal = c.in_ok-add.ensures.journal
+  journal = c.in_ok-add.ensures.made.ok
       ∙ ap (λ (s : StageView _ _). s.journal ++ line_of g.C.Client (state g.C.Client s) Player (Mu ∷ []) (Report c.args.query) ∷ []) c.tell.ensures.stage;
   text = c.add.ensures.text ∙ c.in_ok-tell.ensures.text;
   sum = c.add.ensures.sum ∙ c.in_ok-tell.ensures.sum;
@@ -34,9 +34,9 @@ pub returns-in_err-add-clause-err : goal.returns-in_err-add-clause-err
 returns-in_err-add-clause-err g c = on_err c.from_residual-in_err-add.result (inr (record {
   report = refl;
   told = record {
-    opening = c.add.ensures.opening ∙ ap (λ (s : StageView _ _). s.opening) c.tell.ensures.stage;
-    journal = c.in_err-add.ensures.err_journal ∙ ap (λ (s : StageView _ _). s.journal) c.tell.ensures.stage;
-    screen = c.in_err-add.ensures.err_screen ∙ ap (λ (s : StageView _ _). s.screen) c.tell.ensures.stage;
+    opening = c.add.ensures.made.opening ∙ ap (λ (s : StageView _ _). s.opening) c.tell.ensures.stage;
+    journal = c.in_err-add.ensures.made.err_journal ∙ ap (λ (s : StageView _ _). s.journal) c.tell.ensures.stage;
+    screen = c.in_err-add.ensures.made.err_screen ∙ ap (λ (s : StageView _ _). s.screen) c.tell.ensures.stage;
     names = c.add.ensures.names ∙ c.tell.ensures.names;
     mode = c.add.ensures.mode ∙ c.tell.ensures.mode;
     text = c.add.ensures.text ∙ c.in_ok-tell.ensures.text;

@@ -10,10 +10,10 @@ pub returns-in_ok-append_lag-clause-ok : goal.returns-in_ok-append_lag-clause-ok
 returns-in_ok-append_lag-clause-ok g c =
     lagged g.C.Client c.append_lag.new.out.items
     (subst (λ (v : RunView _ _). HasAdded g.C.Client c.args.self.now v c.args.actor c.args.step) (sym c.self-2.view_is) (record {
-      opening = c.add.ensures.opening;
+      opening = c.add.ensures.made.opening;
       names = c.add.ensures.names;
       mode = c.add.ensures.mode;
-      journal = c.in_ok-add.ensures.journal;
+      journal = c.in_ok-add.ensures.made.ok;
       text = c.add.ensures.text;
       sum = c.add.ensures.sum;
     }))
@@ -23,9 +23,9 @@ returns-in_ok-append_lag-clause-ok g c =
 
 pub returns-in_err-add-clause-err : goal.returns-in_err-add-clause-err
 returns-in_err-add-clause-err g c = on_err c.from_residual.result (inl (record {
-  opening = c.add.ensures.opening;
-  journal = c.in_err-add.ensures.err_journal;
-  screen = c.in_err-add.ensures.err_screen;
+  opening = c.add.ensures.made.opening;
+  journal = c.in_err-add.ensures.made.err_journal;
+  screen = c.in_err-add.ensures.made.err_screen;
   names = c.add.ensures.names;
   mode = c.add.ensures.mode;
   text = c.add.ensures.text;
@@ -37,10 +37,10 @@ returns-in_err-append_lag-clause-err g c =
     on_err c.from_residual-in_err-append_lag.result
     (untold g.C.Client c.append_lag.new.out.items
     (subst (λ (v : RunView _ _). HasAdded g.C.Client c.args.self.now v c.args.actor c.args.step) (sym c.self-2.view_is) (record {
-      opening = c.add.ensures.opening;
+      opening = c.add.ensures.made.opening;
       names = c.add.ensures.names;
       mode = c.add.ensures.mode;
-      journal = c.in_ok-add.ensures.journal;
+      journal = c.in_ok-add.ensures.made.ok;
       text = c.add.ensures.text;
       sum = c.add.ensures.sum;
     }))

@@ -21,46 +21,16 @@ is_painters : {M : Type 0} (t : Nodes) (steps : List (Step M)) (k : ℕ) (step :
     (k < length steps) × (step ≡ get_or steps k step) → IsPainters t step
 is_painters t steps k step all at = subst (λ x. IsPainters t x) (sym at.1) (All-get_or (IsPainters t) steps k step at.0 all)
 
-pub step-requires-clause-may : goal.step-requires-clause-may
-step-requires-clause-may g c κs within =
-    let gives = c.into_iter-step-iterator.ensures.into_iter_gives in
-    let items = YieldsList-from_vec {s = c.into_iter-step-iterator.result} _ gives.0 (gives.1 ∙ c.args.steps.ok.0) in
-    let turn = YieldsList-turn items c.loop-step.yielded c.loop-step.step-iterator c.loop-step.yielded_by c.next.result c.next.new.self
-    c.in-Some.step c.in-Some.is c.next.ensures.steps in
-    let has = c.loop-step.invariant in
-    let is = is_painters (tree_of c.args.self.now.opening).nodes c.args.steps.items (length c.loop-step.yielded) c.in-Some.step c.requires.steps turn in
-    rw (has.actor, c.requires.painter) is.may
-
-pub step-requires-clause-covers : goal.step-requires-clause-covers
-step-requires-clause-covers g c κs within =
-    let gives = c.into_iter-step-iterator.ensures.into_iter_gives in
-    let items = YieldsList-from_vec {s = c.into_iter-step-iterator.result} _ gives.0 (gives.1 ∙ c.args.steps.ok.0) in
-    let turn = YieldsList-turn items c.loop-step.yielded c.loop-step.step-iterator c.loop-step.yielded_by c.next.result c.next.new.self
-    c.in-Some.step c.in-Some.is c.next.ensures.steps in
-    let held : c.with-level.result ≡ Mu ∷ [] = c.with-level.ensures.held ∙ ap (λ ls. ls ++ Mu ∷ []) c.none.ensures in
-    let is = is_painters (tree_of c.args.self.now.opening).nodes c.args.steps.items (length c.loop-step.yielded) c.in-Some.step c.requires.steps turn in
-    rw held is.covers
-
-pub step-requires-clause-levels : goal.step-requires-clause-levels
-step-requires-clause-levels g c κs within =
+pub step-requires-clause-allowed : goal.step-requires-clause-allowed
+step-requires-clause-allowed g c κs within =
     let gives = c.into_iter-step-iterator.ensures.into_iter_gives in
     let items = YieldsList-from_vec {s = c.into_iter-step-iterator.result} _ gives.0 (gives.1 ∙ c.args.steps.ok.0) in
     let turn = YieldsList-turn items c.loop-step.yielded c.loop-step.step-iterator c.loop-step.yielded_by c.next.result c.next.new.self
     c.in-Some.step c.in-Some.is c.next.ensures.steps in
     let held : c.with-level.result ≡ Mu ∷ [] = c.with-level.ensures.held ∙ ap (λ ls. ls ++ Mu ∷ []) c.none.ensures in
     let has = c.loop-step.invariant in
-    let is = is_painters (tree_of c.args.self.now.opening).nodes c.args.steps.items (length c.loop-step.yielded) c.in-Some.step c.requires.steps turn in
-    rw (held, has.opening) is.levels
-
-pub step-requires-clause-values : goal.step-requires-clause-values
-step-requires-clause-values g c κs within =
-    let gives = c.into_iter-step-iterator.ensures.into_iter_gives in
-    let items = YieldsList-from_vec {s = c.into_iter-step-iterator.result} _ gives.0 (gives.1 ∙ c.args.steps.ok.0) in
-    let turn = YieldsList-turn items c.loop-step.yielded c.loop-step.step-iterator c.loop-step.yielded_by c.next.result c.next.new.self
-    c.in-Some.step c.in-Some.is c.next.ensures.steps in
-    let has = c.loop-step.invariant in
-    let is = is_painters (tree_of c.args.self.now.opening).nodes c.args.steps.items (length c.loop-step.yielded) c.in-Some.step c.requires.steps turn in
-    rw has.opening is.values
+    rw (has.actor, c.requires.painter, held, has.opening)
+    (is_painters (tree_of c.args.self.now.opening).nodes c.args.steps.items (length c.loop-step.yielded) c.in-Some.step c.requires.steps turn)
 
 pub loop-step-preserved : goal.loop-step-preserved
 loop-step-preserved g c =
@@ -70,15 +40,15 @@ loop-step-preserved g c =
     c.in-Some.step c.in-Some.is c.next.ensures.steps in
     let held : c.with-level.result ≡ Mu ∷ [] = c.with-level.ensures.held ∙ ap (λ ls. ls ++ Mu ∷ []) c.none.ensures in
     let has = c.loop-step.invariant in
-    let one = made_one g.C.Client c.loop-step.self c.step.new.self c.loop-step.pass c.step.new.pass (Mu ∷ []) c.in-Some.step c.step.ensures.opening
-    (c.in_ok-step.ensures.ok
+    let one = made_one g.C.Client c.loop-step.self c.step.new.self c.loop-step.pass c.step.new.pass (Mu ∷ []) c.in-Some.step c.step.ensures.made.opening
+    (c.in_ok-step.ensures.made.ok
     ∙ ap₂ (λ actor level. c.loop-step.self.journal ++ line g.C.Client c.loop-step.self actor level c.in-Some.step ∷ []) (has.actor ∙ c.requires.painter) held)
-    c.in_ok-step.ensures.mine in
+    c.in_ok-step.ensures.pass.mine in
     record {
       can_next = tt;
       is_finite = tt;
-      opening = c.step.ensures.opening ∙ has.opening;
-      actor = ap (λ p. p.actor) c.in_ok-step.ensures.mine ∙ has.actor;
+      opening = c.step.ensures.made.opening ∙ has.opening;
+      actor = ap (λ p. p.actor) c.in_ok-step.ensures.pass.mine ∙ has.actor;
       made = rw (length_push c.loop-step.yielded c.in-Some.step)
           (made_more g.C.Client c.args.self.now c.loop-step.self c.step.new.self c.args.pass.now c.loop-step.pass c.step.new.pass
           (under (Mu ∷ []) c.args.steps.items) (length c.loop-step.yielded) (Mu ∷ [], c.in-Some.step) has.made one
@@ -90,7 +60,7 @@ returns-in_err-step-clause-err g c =
     on_err c.from_residual.result (record {
       steps = length c.loop-step.yielded;
       first = made_same g.C.Client c.args.self.now c.loop-step.self c.step.new.self c.args.pass.now c.loop-step.pass c.step.new.pass _
-          c.loop-step.invariant.made c.step.ensures.opening c.in_err-step.ensures.err_journal c.in_err-step.ensures.err_pass;
+          c.loop-step.invariant.made c.step.ensures.made.opening c.in_err-step.ensures.made.err_journal c.in_err-step.ensures.pass.err;
     })
 
 pub returns-clause-ok : goal.returns-clause-ok

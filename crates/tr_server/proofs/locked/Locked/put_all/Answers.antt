@@ -54,12 +54,12 @@ loop-painted-preserved g c =
     let leaf = c.in-Some.painted.leaf in
     let here = painted_at g.C.Client m (all_bad_leaves m) c.args.all.items k c.in-Some.painted c.requires.all (bad_apart (length m.windows) m) turn.0 turn.1 in
     let one = made_one g.C.Client c.loop-painted.self c.put_painted.new.self c.loop-painted.pass c.put_painted.new.pass (Share leaf ∷ []) (Repaint leaf)
-    c.put_painted.ensures.opening c.in_ok-put_painted.ensures.ok c.in_ok-put_painted.ensures.mine in
+    c.put_painted.ensures.made.opening c.in_ok-put_painted.ensures.made.ok c.in_ok-put_painted.ensures.pass.mine in
     record {
       can_next = tt;
       is_finite = tt;
-      opening = c.put_painted.ensures.opening ∙ has.opening;
-      actor = ap (λ p. p.actor) c.in_ok-put_painted.ensures.mine ∙ has.actor;
+      opening = c.put_painted.ensures.made.opening ∙ has.opening;
+      actor = ap (λ p. p.actor) c.in_ok-put_painted.ensures.pass.mine ∙ has.actor;
       made = rw (length_push c.loop-painted.yielded c.in-Some.painted)
           (made_more g.C.Client c.args.self.now c.loop-painted.self c.put_painted.new.self c.args.pass.now c.loop-painted.pass c.put_painted.new.pass
           (at_shares (all_bad_leaves m)) k (Share leaf ∷ [], Repaint leaf) has.made one
@@ -71,7 +71,7 @@ returns-in_err-put_painted-clause-err g c =
     on_err c.from_residual.result (record {
       steps = length c.loop-painted.yielded;
       first = made_same g.C.Client c.args.self.now c.loop-painted.self c.put_painted.new.self c.args.pass.now c.loop-painted.pass c.put_painted.new.pass _
-          c.loop-painted.invariant.made c.put_painted.ensures.opening c.in_err-put_painted.ensures.err_journal c.in_err-put_painted.ensures.err_pass;
+          c.loop-painted.invariant.made c.put_painted.ensures.made.opening c.in_err-put_painted.ensures.made.err_journal c.in_err-put_painted.ensures.pass.err;
     })
 
 pub returns-clause-ok : goal.returns-clause-ok

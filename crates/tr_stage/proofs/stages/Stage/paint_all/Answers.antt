@@ -18,45 +18,16 @@ is_painters : {M : Type 0} (t : Nodes) (steps : List (Step M)) (k : ℕ) (step :
     (k < length steps) × (step ≡ get_or steps k step) → IsPainters t step
 is_painters t steps k step all at = subst (λ x. IsPainters t x) (sym at.1) (All-get_or (IsPainters t) steps k step at.0 all)
 
-pub step-requires-clause-may : goal.step-requires-clause-may
-step-requires-clause-may g c κs within =
-    let gives = c.into_iter-step-iterator.ensures.into_iter_gives in
-    let items = YieldsList-from_vec {s = c.into_iter-step-iterator.result} _ gives.0 (gives.1 ∙ c.args.steps.ok.0) in
-    let turn = YieldsList-turn items c.loop-step.yielded c.loop-step.step-iterator c.loop-step.yielded_by c.next.result c.next.new.self
-    c.in-Some.step c.in-Some.is c.next.ensures.steps in
-    let is = is_painters (tree_of c.args.self.now.opening).nodes c.args.steps.items (length c.loop-step.yielded) c.in-Some.step c.requires turn in
-    is.may
-
-pub step-requires-clause-covers : goal.step-requires-clause-covers
-step-requires-clause-covers g c κs within =
-    let gives = c.into_iter-step-iterator.ensures.into_iter_gives in
-    let items = YieldsList-from_vec {s = c.into_iter-step-iterator.result} _ gives.0 (gives.1 ∙ c.args.steps.ok.0) in
-    let turn = YieldsList-turn items c.loop-step.yielded c.loop-step.step-iterator c.loop-step.yielded_by c.next.result c.next.new.self
-    c.in-Some.step c.in-Some.is c.next.ensures.steps in
-    let held : c.with-level.result ≡ Mu ∷ [] = c.with-level.ensures.held ∙ ap (λ ls. ls ++ Mu ∷ []) c.none.ensures in
-    let is = is_painters (tree_of c.args.self.now.opening).nodes c.args.steps.items (length c.loop-step.yielded) c.in-Some.step c.requires turn in
-    rw held is.covers
-
-pub step-requires-clause-levels : goal.step-requires-clause-levels
-step-requires-clause-levels g c κs within =
+pub step-requires-clause-allowed : goal.step-requires-clause-allowed
+step-requires-clause-allowed g c κs within =
     let gives = c.into_iter-step-iterator.ensures.into_iter_gives in
     let items = YieldsList-from_vec {s = c.into_iter-step-iterator.result} _ gives.0 (gives.1 ∙ c.args.steps.ok.0) in
     let turn = YieldsList-turn items c.loop-step.yielded c.loop-step.step-iterator c.loop-step.yielded_by c.next.result c.next.new.self
     c.in-Some.step c.in-Some.is c.next.ensures.steps in
     let held : c.with-level.result ≡ Mu ∷ [] = c.with-level.ensures.held ∙ ap (λ ls. ls ++ Mu ∷ []) c.none.ensures in
     let has = c.loop-step.invariant in
-    let is = is_painters (tree_of c.args.self.now.opening).nodes c.args.steps.items (length c.loop-step.yielded) c.in-Some.step c.requires turn in
-    rw (held, has.opening) is.levels
-
-pub step-requires-clause-values : goal.step-requires-clause-values
-step-requires-clause-values g c κs within =
-    let gives = c.into_iter-step-iterator.ensures.into_iter_gives in
-    let items = YieldsList-from_vec {s = c.into_iter-step-iterator.result} _ gives.0 (gives.1 ∙ c.args.steps.ok.0) in
-    let turn = YieldsList-turn items c.loop-step.yielded c.loop-step.step-iterator c.loop-step.yielded_by c.next.result c.next.new.self
-    c.in-Some.step c.in-Some.is c.next.ensures.steps in
-    let has = c.loop-step.invariant in
-    let is = is_painters (tree_of c.args.self.now.opening).nodes c.args.steps.items (length c.loop-step.yielded) c.in-Some.step c.requires turn in
-    rw has.opening is.values
+    rw (held, has.opening)
+    (is_painters (tree_of c.args.self.now.opening).nodes c.args.steps.items (length c.loop-step.yielded) c.in-Some.step c.requires turn)
 
 pub loop-step-init : goal.loop-step-init
 loop-step-init g c = record { can_next = tt; is_finite = tt; opening = refl; journal = sym (append-nil c.args.self.now.journal) }
@@ -72,8 +43,8 @@ loop-step-preserved g c =
     record {
       can_next = tt;
       is_finite = tt;
-      opening = c.step.ensures.opening ∙ has.opening;
-      journal = rw (length_push c.loop-step.yielded c.in-Some.step) (c.in_ok-step.ensures.ok
+      opening = c.step.ensures.made.opening ∙ has.opening;
+      journal = rw (length_push c.loop-step.yielded c.in-Some.step) (c.in_ok-step.ensures.made.ok
           ∙ painted_more g.C.Client c.args.self.now c.loop-step.self c.with-level.result c.args.steps.items (length c.loop-step.yielded) c.in-Some.step
           (record { opening = has.opening; journal = has.journal }) held turn);
     }
@@ -85,6 +56,6 @@ returns-in_err-step-clause-err g c =
     let k = length c.loop-step.yielded in
     on_err c.from_residual.result (
       k,
-      c.in_err-step.ensures.err_journal ∙ has.journal
+      c.in_err-step.ensures.made.err_journal ∙ has.journal
           ∙ ap (λ ls. c.args.self.now.journal ++ ls) (lines_first g.C.Client Painter (Mu ∷ []) m c.args.steps.items k),
     )
