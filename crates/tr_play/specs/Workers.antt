@@ -1,6 +1,7 @@
 -- Private contracts alone cite this file.
 -- What a worker does with its pass.
-use Rattle.std.specs.Prelude.{◌≡◌, ℕ, ◌<◌, ⊤, Bool, true, false, All, List, ◌++◌, take}
+use Rattle.std.specs.Prelude.{◌≡◌, ℕ, ◌<◌, ⊤, Bool, true, false, All, List, [], ◌∷◌, ◌++◌, take, Result, OnOk, OnErr}
+use Rattle.tr_base.specs.declared.errors.NoMemory.{NoMemory}
 use Rattle.tr_forest.specs.Nodes.{Nodes}
 use Rattle.tr_journal.specs.declared.steps.Actor.{Actor}
 use Rattle.tr_journal.specs.declared.steps.Actor.TheVariants as actors
@@ -26,6 +27,12 @@ is_command step = false
 -- none of these steps is a command
 abbrev pub AreNoCommands : {M : Type 0} → List (Step M) → Type 0
 AreNoCommands list = All (λ step. is_command step ≡ false) list
+
+-- a step is made with a pass, which stays its actor's: the pass has the step behind its others; without memory it has no more of them
+pub record AddsStep {M A : Type 0} (before after : PassView M) (step : Step M) (answered : Result A NoMemory) : Type 0 where
+  pub actor : after.actor ≡ before.actor
+  pub mine : OnOk answered (after.mine ≡ before.mine ++ step ∷ [])
+  pub err : OnErr answered (after.mine ≡ before.mine)
 
 -- the first so many steps of a list were made with a pass
 pub record HasWorked {M : Type 0} (before after : PassView M) (list : List (Step M)) : Type 0 where

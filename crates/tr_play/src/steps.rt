@@ -1,11 +1,11 @@
-ghost use Rattle.std.specs.Prelude.{◌≡◌, ◌+◌, ◌-◌, ◌^◌, ◌∷◌, ◌++◌, [], false, min, length, All, OnOk, OnErr};
+ghost use Rattle.std.specs.Prelude.{◌≡◌, ◌+◌, ◌-◌, ◌^◌, ◌++◌, false, min, length, All, OnOk};
 ghost use Rattle.tr_journal.specs.declared.Actor.TheVariants.{Leaf};
 ghost use Rattle.tr_journal.specs.declared.Step.{Step};
 ghost use Rattle.tr_journal.specs.declared.Step.TheVariants.{Act};
 ghost use Rattle.tr_journal.specs.Openings.{tree_of};
 ghost use Rattle.tr_journal.specs.Steps.{IsStep};
 ghost use Rattle.tr_parts.specs.Turns.{IsMade};
-ghost use Rattle.tr_play.specs.Workers.{AreNoCommands, HasWorked};
+ghost use Rattle.tr_play.specs.Workers.{AddsStep, AreNoCommands, HasWorked};
 
 use crate::contexts::Context;
 use crate::gates::Gate;
@@ -130,9 +130,7 @@ impl<C: Client, L: Session, R: Wait, G: Gate> Context<'_, C, L, R, G> {
         requires steps { (step : Step C.Cmd) → IsStep (tree_of self.now.server.now.opening).nodes step →
             IsStep (tree_of mu.old.opening).nodes step }
         ensures opening { mu.new.opening ≡ mu.old.opening }
-        ensures actor { pass.new.actor ≡ pass.old.actor }
-        ensures mine { OnOk result (pass.new.mine ≡ pass.old.mine ++ step ∷ []) }
-        ensures err { OnErr result (pass.new.mine ≡ pass.old.mine) }
+        ensures pass { AddsStep pass.old pass.new step result }
     {
         match pass.actor() {
             Actor::Leaf(leaf) => mu.client_step(self.rt, self.server.window(leaf), pass, step)?,
@@ -144,9 +142,7 @@ impl<C: Client, L: Session, R: Wait, G: Gate> Context<'_, C, L, R, G> {
     /// Makes a step, under the tree's lock.
     fn make_under(&self, pass: &mut Pass<C, L>, step: Step<C::Cmd>) -> Result<(), NoMemory>
         requires { IsMade (tree_of self.now.server.now.opening).nodes (pass.old.actor, step) }
-        ensures actor { pass.new.actor ≡ pass.old.actor }
-        ensures mine { OnOk result (pass.new.mine ≡ pass.old.mine ++ step ∷ []) }
-        ensures err { OnErr result (pass.new.mine ≡ pass.old.mine) }
+        ensures { AddsStep pass.old pass.new step result }
     {
         let mut mu = self.server.enter(self.rt, Ladder::ground());
         let made = self.make_with(&mut mu, pass, step);
@@ -157,9 +153,7 @@ impl<C: Client, L: Session, R: Wait, G: Gate> Context<'_, C, L, R, G> {
     /// Makes a step.
     fn make(&self, pass: &mut Pass<C, L>, step: &Step<C::Cmd>) -> Result<(), NoMemory>
         requires { IsMade (tree_of self.now.server.now.opening).nodes (pass.old.actor, step.now) }
-        ensures actor { pass.new.actor ≡ pass.old.actor }
-        ensures mine { OnOk result (pass.new.mine ≡ pass.old.mine ++ step.now ∷ []) }
-        ensures err { OnErr result (pass.new.mine ≡ pass.old.mine) }
+        ensures { AddsStep pass.old pass.new step.now result }
     {
         let step = step.copy(self.alloc)?;
         match pass.actor() {
@@ -177,9 +171,7 @@ impl<C: Client, L: Session, R: Wait, G: Gate> Context<'_, C, L, R, G> {
     ) -> Result<(), NoMemory>
         requires actor { pass.old.actor ≡ Leaf window.now }
         requires step { IsMade (tree_of self.now.server.now.opening).nodes (pass.old.actor, step) }
-        ensures actor { pass.new.actor ≡ pass.old.actor }
-        ensures mine { OnOk result (pass.new.mine ≡ pass.old.mine ++ step ∷ []) }
-        ensures err { OnErr result (pass.new.mine ≡ pass.old.mine) }
+        ensures { AddsStep pass.old pass.new step result }
     {
         match step {
             Step::Act { leaf: _, cmd } => self.act(window, pass, cmd),
@@ -191,9 +183,7 @@ impl<C: Client, L: Session, R: Wait, G: Gate> Context<'_, C, L, R, G> {
     /// it under the tree's lock.
     fn act(&self, window: &Window<C, L>, pass: &mut Pass<C, L>, cmd: C::Cmd) -> Result<(), NoMemory>
         requires { pass.old.actor ≡ Leaf window.now }
-        ensures actor { pass.new.actor ≡ pass.old.actor }
-        ensures mine { OnOk result (pass.new.mine ≡ pass.old.mine ++ Act window.now cmd ∷ []) }
-        ensures err { OnErr result (pass.new.mine ≡ pass.old.mine) }
+        ensures { AddsStep pass.old pass.new (Act window.now cmd) result }
     {
         let ladder = Ladder::ground();
         if pass.posted() < MOST_POSTED {

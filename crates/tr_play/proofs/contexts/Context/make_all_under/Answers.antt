@@ -8,8 +8,8 @@ loop-k-preserved g c =
     let list = c.args.list.now in
     let step = c.step.result.now in
     let low : k < length list = search rules in
-    let made : c.make_with.new.pass.mine ≡ c.loop-k.pass.mine ++ step ∷ [] = search rules in (
+    let made : c.make_with.new.pass.mine ≡ c.loop-k.pass.mine ++ step ∷ [] = c.in_ok-make_with.ensures.pass.mine in (
       c.make_with.ensures.opening ∙ c.loop-k.invariant.0,
-      c.make_with.ensures.actor ∙ c.loop-k.invariant.1,
+      c.make_with.ensures.pass.actor ∙ c.loop-k.invariant.1,
       made ∙ next_made c.args.pass.now.mine c.loop-k.pass.mine list k step low c.step.ensures c.loop-k.invariant.2,
     )
