@@ -109,11 +109,41 @@ impl<C: Client> Stage<C> {
         ensures others { let t = (state C.Client self.old).tree in
             OnOk result (KeepsOthers t step self.old.screen self.new.screen) }
     {
-        if is_reservable(&step) {
-            self.reserve(1)?;
-            return Ok(self.step_reserved(actor, level, step));
+        let by = By { actor, level };
+        match step {
+            Step::Act { leaf, cmd } => self.act(&by, leaf, cmd),
+            Step::Mark { leaf, clip } => self.mark(&by, leaf, clip),
+            Step::Take { leaf } => self.take(&by, leaf),
+            Step::SetCage { leaf, cage } => {
+                self.reserve(1)?;
+                Ok(self.set_cage(&by, leaf, cage))
+            }
+            Step::Own {
+                leaf,
+                selection,
+                time,
+            } => self.own(&by, leaf, selection, time),
+            Step::Disown { leaf, selection } => self.disown(&by, leaf, selection),
+            Step::Read { leaf, selection } => self.read(&by, leaf, selection),
+            Step::Mouse { time, button, down } => {
+                self.reserve(1)?;
+                Ok(self.mouse(&by, time, button, down))
+            }
+            Step::Motion { time, at } => {
+                self.reserve(1)?;
+                Ok(self.motion(&by, time, at))
+            }
+            Step::Key { time, code } => {
+                self.reserve(1)?;
+                Ok(self.key(&by, time, code))
+            }
+            Step::Alter { edit } => self.alter(&by, edit),
+            Step::Flush { leaf } => self.flush(&by, leaf),
+            Step::Repaint { leaf } => self.repaint(&by, leaf),
+            Step::PaintFrame => self.paint_frame(&by),
+            Step::Sync => self.note(&by, Step::Sync),
+            Step::Report { query } => self.note(&by, Step::Report { query }),
         }
-        self.step_other(&By { actor, level }, step)
     }
 
     /// Makes room in the journal for `n` steps of `step_reserved`.
@@ -144,36 +174,6 @@ impl<C: Client> Stage<C> {
             Step::Mouse { time, button, down } => self.mouse(&by, time, button, down),
             Step::Motion { time, at } => self.motion(&by, time, at),
             Step::Key { time, code } => self.key(&by, time, code),
-            _ => unreachable!(),
-        }
-    }
-
-    /// Makes a step of another sort.
-    fn step_other(&mut self, by: &By, step: Step<C::Cmd>) -> Result<Reply, NoMemory>
-        requires other { spec.is_reservable step ≡ false }
-        requires allowed { IsFor (tree_of self.old.opening).nodes by.now.actor by.now.level step }
-        ensures made { Makes C.Client self.old self.new by.now.actor by.now.level step result }
-        ensures screen { IfOk result (λ r. paints step r.answer ≡ false → self.new.screen ≡ self.old.screen) }
-        ensures others { let t = (state C.Client self.old).tree in
-            OnOk result (KeepsOthers t step self.old.screen self.new.screen) }
-    {
-        match step {
-            Step::Act { leaf, cmd } => self.act(by, leaf, cmd),
-            Step::Mark { leaf, clip } => self.mark(by, leaf, clip),
-            Step::Take { leaf } => self.take(by, leaf),
-            Step::Own {
-                leaf,
-                selection,
-                time,
-            } => self.own(by, leaf, selection, time),
-            Step::Disown { leaf, selection } => self.disown(by, leaf, selection),
-            Step::Read { leaf, selection } => self.read(by, leaf, selection),
-            Step::Alter { edit } => self.alter(by, edit),
-            Step::Flush { leaf } => self.flush(by, leaf),
-            Step::Repaint { leaf } => self.repaint(by, leaf),
-            Step::PaintFrame => self.paint_frame(by),
-            Step::Sync => self.note(by, Step::Sync),
-            Step::Report { query } => self.note(by, Step::Report { query }),
             _ => unreachable!(),
         }
     }
