@@ -8,7 +8,7 @@ use Rattle.tr_journal.specs.declared.Item.TheVariants as items
 use Rattle.tr_journal.specs.Actors.{is_maker}
 use Rattle.tr_journal.specs.Openings.{tree_of}
 use Rattle.tr_journal.specs.Reports.{is_report}
-use Rattle.tr_journal.specs.Steps.{may, IsStep, IsQuery}
+use Rattle.tr_journal.specs.Steps.{IsOwn, IsQuery}
 use Rattle.tr_widget.specs.declared.Widget.{Widget}
 use Rattle.tr_widget.specs.declared.WidgetCmd.{WidgetCmd}
 use Rattle.tr_grammar.specs.declared.codes.Code.{Code}
@@ -120,12 +120,11 @@ whole c = record { opening = c.items; names = c.names; parts = c.ended ++ c.part
 unfoldable pub script_of : List ℕ → Script
 script_of bytes = whole (after_all nothing_yet (lines_of bytes))
 
--- a step can be played: the desk or a leaf makes it, which may, and it is no report; its numbers are those of nodes and leaves
+-- a step can be played: it is the desk's or a leaf's own, and no report
 pub record IsPlayable (t : Nodes) (made : Actor × Step WidgetCmd) : Type 0 where
   pub maker : is_maker made.0 ≡ true
-  pub may : may made.0 made.1 ≡ true
+  pub own : IsOwn t made.0 made.1
   pub other : is_report made.1 ≡ false
-  pub values : IsStep t made.1
 
 -- all of a part can be reported and played
 pub record IsPlayablePart (t : Nodes) (part : Part) : Type 0 where

@@ -13,7 +13,7 @@ use Rattle.tr_journal.specs.declared.steps.Step.{Step}
 use Rattle.tr_journal.specs.declared.steps.Step.TheVariants as steps
 use Rattle.tr_journal.specs.Actors.{entries_of, is_by, made_in, steps_of}
 use Rattle.tr_journal.specs.Journals.{JournalLine}
-use Rattle.tr_journal.specs.Steps.{IsLeaf, IsStep, may}
+use Rattle.tr_journal.specs.Steps.{IsLeaf, IsOwn, IsStep, may}
 use Rattle.tr_machine.specs.States.{State}
 use Rattle.tr_machine.specs.Replays.{IsLegalFrom, line_of, next}
 use Rattle.tr_interleaves.specs.Interleaves.{steps_in}
@@ -57,18 +57,18 @@ leaf_acts t leaf (steps.Flush of) may is = same_leaf t of leaf (no_painter (leaf
 leaf_acts t leaf (steps.Repaint of) may is = same_leaf t of leaf (no_painter (leaf.0 == of.0) may) is
 leaf_acts t leaf step may is = absurd (false-true may)
 
--- steps that may be made, with numbers of a tree
+-- steps that are each its actor's own
 abbrev pub AreMade : {M : Type 0} → Nodes → List (Actor × Step M) → Type 0
 AreMade t [] = ⊤
-AreMade t (made ∷ later) = (may made.0 made.1 ≡ true) × IsStep t made.1 × AreMade t later
+AreMade t (made ∷ later) = IsOwn t made.0 made.1 × AreMade t later
 
 -- a leaf that isn't in the tree made none of them
 pub no_leaf-steps : {M : Type 0} (t : Nodes) (leaf : LeafId) (made : List (Actor × Step M)) → (IsLeaf t leaf → ⊥) → AreMade t made →
     steps_of (Leaf leaf) made ≡ []
 no_leaf-steps t leaf [] none are = refl
 no_leaf-steps {M} t leaf (x ∷ xs) none are =
-    ap (λ (b : Bool). cond b (x.1 ∷ steps_of (Leaf leaf) xs) (steps_of (Leaf leaf) xs)) (not_by x.0 x.1 are.0 are.1)
-    ∙ no_leaf-steps t leaf xs none are.2
+    ap (λ (b : Bool). cond b (x.1 ∷ steps_of (Leaf leaf) xs) (steps_of (Leaf leaf) xs)) (not_by x.0 x.1 are.0.may are.0.values)
+    ∙ no_leaf-steps t leaf xs none are.1
   where
     not_by : (actor : Actor) (step : Step M) → may actor step ≡ true → IsStep t step → is_by (Leaf leaf) actor ≡ false
     not_by (Leaf own) step can is = by_test (own.0 == leaf.0) refl
@@ -114,7 +114,7 @@ module _ {C M : Type 0} (client : Ghosts C M) where
   -- the steps of a legal journal are such ones
   are_made : (t : Nodes) (m : State C M) (lines : List (JournalLine M)) → IsLegalFrom client t m lines → AreMade t (made_of lines)
   are_made t m [] legal = tt
-  are_made t m (line ∷ lines) legal = (legal.0.may, legal.0.values, are_made t (next client m line.entry.step) lines legal.1)
+  are_made t m (line ∷ lines) legal = (legal.0.allowed.own, are_made t (next client m line.entry.step) lines legal.1)
 
   -- a leaf that isn't in the tree made none of them
   pub no_leaf-lines : (t : Nodes) (m : State C M) (leaf : LeafId) (lines : List (JournalLine M)) → (IsLeaf t leaf → ⊥) →

@@ -144,8 +144,8 @@ module _ {C M : Type 0} (client : Ghosts C M) where
       no_steps (is_player line.entry.actor) line.entry.step (steps_in actors.Player lines) none in
       let later : AreOthers (next client m line.entry.step) lines = others t (next client m line.entry.step) lines legal.1 here.1 in
       record {
-        syncs = (no_sync line.entry.actor line.entry.step legal.0.may here.0, later.syncs);
-        dumps = (λ is. absurd (no_dump line.entry.actor line.entry.step legal.0.may here.0 is), later.dumps);
+        syncs = (no_sync line.entry.actor line.entry.step legal.0.allowed.own.may here.0, later.syncs);
+        dumps = (λ is. absurd (no_dump line.entry.actor line.entry.step legal.0.allowed.own.may here.0 is), later.dumps);
       }
 
   -- ---- a part

@@ -163,10 +163,13 @@ IsStep t steps.PaintFrame = ⊤
 IsStep t steps.Sync = ⊤
 IsStep t (steps.Report query) = IsQuery t query
 
--- a step that its actor may make: it is for that actor to make, its levels are among those that are held, which are levels of leaves of
--- the tree, and its numbers and values are a step's
-pub record IsFor {M : Type 0} (t : Nodes) (actor : Actor) (held : List Level) (step : Step M) : Type 0 where
+-- a step is the actor's own: it is for that actor to make, and its numbers and values are a step's
+pub record IsOwn {M : Type 0} (t : Nodes) (actor : Actor) (step : Step M) : Type 0 where
   pub may : may actor step ≡ true
+  pub values : IsStep t step
+
+-- an actor may make a step: it is the actor's own, and its levels are among those that are held, which are levels of leaves of the tree
+pub record IsFor {M : Type 0} (t : Nodes) (actor : Actor) (held : List Level) (step : Step M) : Type 0 where
+  pub own : IsOwn t actor step
   pub covers : covers held step ≡ true
   pub levels : AreLevels t held
-  pub values : IsStep t step

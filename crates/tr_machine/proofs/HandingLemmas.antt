@@ -107,10 +107,11 @@ module _ {C M : Type 0} (client : Ghosts C M) where
   legal_handed t m leaf (c ∷ cmds) [] is have = tt
   legal_handed t m leaf (c ∷ cmds) (l ∷ levels) is have = (
     record {
-      may = same_number leaf.0;
-      covers = ap (λ b. b && true) (last_passes (is_level (Win leaf)) l (Win leaf) (same_number leaf.0));
-      levels = window_levels t l leaf (All-head HoldsNoLeaf l levels have.free) is;
-      values = is;
+      allowed = record {
+        own = record { may = same_number leaf.0; values = is };
+        covers = ap (λ b. b && true) (last_passes (is_level (Win leaf)) l (Win leaf) (same_number leaf.0));
+        levels = window_levels t l leaf (All-head HoldsNoLeaf l levels have.free) is;
+      };
       made = refl;
     },
     legal_handed t (acted leaf c m) leaf cmds levels is (record {

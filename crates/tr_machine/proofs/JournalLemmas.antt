@@ -108,7 +108,7 @@ module _ {C M : Type 0} (client : Ghosts C M) where
   -- a step that is for its actor makes a legal line
   pub legal_line : (t : Nodes) (m : State C M) (actor : Actor) (held : List Level) (step : Step M) → IsFor t actor held step →
       IsLegalLine client t m (line_of client m actor held step)
-  legal_line t m actor held step is = record { may = is.may; covers = is.covers; levels = is.levels; values = is.values; made = refl }
+  legal_line t m actor held step is = record { allowed = is; made = refl }
 
   -- steps in a row that are for their actor make legal lines
   pub legal_lines : (t : Nodes) (m : State C M) (actor : Actor) (held : List Level) (steps : List (Step M)) →

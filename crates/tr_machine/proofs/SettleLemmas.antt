@@ -439,7 +439,7 @@ module _ {C M : Type 0} (client : Ghosts C M) where
       (repaints_for t n m (omega arith)) (by_test (must m (numbered n)))
     where
       by_test : (b : Bool) → AllByRecursion (IsFor {M = M} t Painter (Mu ∷ [])) (cond b (Repaint (numbered n) ∷ []) [])
-      by_test true = (record { may = refl; covers = refl; levels = lock_level t; values = record { within = le } }, tt)
+      by_test true = (record { own = record { may = refl; values = record { within = le } }; covers = refl; levels = lock_level t }, tt)
       by_test false = tt
 
   -- and so are all steps that settle a state
@@ -449,7 +449,7 @@ module _ {C M : Type 0} (client : Ghosts C M) where
       (repaints_for t (length m.windows) m (omega arith)) (by_test (is_frame_bad m))
     where
       by_test : (b : Bool) → AllByRecursion (IsFor {M = M} t Painter (Mu ∷ [])) (cond b (PaintFrame ∷ []) [])
-      by_test true = (record { may = refl; covers = refl; levels = lock_level t; values = tt }, tt)
+      by_test true = (record { own = record { may = refl; values = tt }; covers = refl; levels = lock_level t }, tt)
       by_test false = tt
 
   -- so their lines are legal

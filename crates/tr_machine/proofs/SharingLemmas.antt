@@ -203,7 +203,7 @@ module _ {C M : Type 0} (client : Ghosts C M) where
       (by_test (waits client m (record { 0 = n })))
     where
       by_test : (b : Bool) → AllByRecursion (IsFor {M = M} t Painter (Mu ∷ [])) (cond b (Flush (record { 0 = n }) ∷ []) [])
-      by_test true = (record { may = refl; covers = refl; levels = lock_level t; values = record { within = le } }, tt)
+      by_test true = (record { own = record { may = refl; values = record { within = le } }; covers = refl; levels = lock_level t }, tt)
       by_test false = tt
 
   pub flushing-for : (t : Nodes) (m : State C M) → length m.windows ≡ leaf_count t → AllByRecursion (IsFor t Painter (Mu ∷ [])) (flushing client m)

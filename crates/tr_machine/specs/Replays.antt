@@ -1,5 +1,5 @@
 -- Journals as runs of the machine.
-use Rattle.std.specs.Prelude.{◌≡◌, ⊤, true, List, [], ◌∷◌, length, map}
+use Rattle.std.specs.Prelude.{◌≡◌, ⊤, List, [], ◌∷◌, length, map}
 use Rattle.tr_client.specs.declared.clients.Client.{Ghosts}
 use Rattle.tr_forest.specs.Nodes.{Nodes}
 use Rattle.tr_levels.specs.declared.Level.{Level}
@@ -8,7 +8,7 @@ use Rattle.tr_journal.specs.declared.steps.Actor.{Actor}
 use Rattle.tr_journal.specs.declared.steps.Step.{Step}
 use Rattle.tr_journal.specs.Journals.{JournalLine}
 use Rattle.tr_journal.specs.Openings.{tree_of}
-use Rattle.tr_journal.specs.Steps.{AreLevels, IsStep, may, covers}
+use Rattle.tr_journal.specs.Steps.{IsFor}
 use Rattle.tr_machine.specs.States.{State, start}
 use Rattle.tr_machine.specs.Machines as machine
 
@@ -58,13 +58,10 @@ module _ {C M : Type 0} (client : Ghosts C M) where
   abbrev pub replay : List (Item C) → List (JournalLine M) → State C M
   replay items lines = replay_from (start items) lines
 
-  -- a line that the machine makes: its step is for its actor to make, the step's levels are among those that were held, these are levels
-  -- of leaves, its numbers are those of nodes and leaves and within their ranges, and its answer and what it sent are the machine's
+  -- a line that the machine makes: its actor may make its step, with the levels that were held, and its answer and what it sent are the
+  -- machine's
   pub record IsLegalLine (t : Nodes) (m : State C M) (line : JournalLine M) : Type 0 where
-    pub may : may line.entry.actor line.entry.step ≡ true
-    pub covers : covers line.entry.level line.entry.step ≡ true
-    pub levels : AreLevels t line.entry.level
-    pub values : IsStep t line.entry.step
+    pub allowed : IsFor t line.entry.actor line.entry.level line.entry.step
     pub made : line ≡ line_of m line.entry.actor line.entry.level line.entry.step
 
   -- each line is one that the machine makes, from a state on

@@ -138,7 +138,7 @@ module _ {C M : Type 0} (client : Ghosts C M) (words : M → List ℕ) where
       let here : (is_player line.entry.actor ≡ false) × (steps_in Player lines ≡ []) =
       no_steps (is_player line.entry.actor) line.entry.step (steps_in Player lines) none in
       ap (λ (xs : List ℕ). xs ++ texts_from client words names Serial (earlier ++ line ∷ []) (next client m line.entry.step) lines)
-      (untold line.entry.step line.entry.actor legal.0.may here.0)
+      (untold line.entry.step line.entry.actor legal.0.allowed.own.may here.0)
       ∙ other_texts t names (earlier ++ line ∷ []) (next client m line.entry.step) lines legal.1 here.1
     where
       untold : (step : Step M) (actor : Actor) → may actor step ≡ true → is_player actor ≡ false → told_text client words names earlier m step ≡ []

@@ -7,15 +7,14 @@ use Rattle.tr_journal.specs.declared.steps.Actor.TheVariants.{Player}
 use Rattle.tr_journal.specs.declared.steps.Step.{Step}
 use Rattle.tr_journal.specs.Actors.{is_maker, steps_of}
 use Rattle.tr_journal.specs.Journals.{JournalLine}
-use Rattle.tr_journal.specs.Steps.{IsStep, may}
+use Rattle.tr_journal.specs.Steps.{IsOwn}
 use Rattle.tr_interleaves.specs.Interleaves.{steps_in}
 use Rattle.tr_stage.specs.Stages.{StageView}
 
--- a step of a part: the desk or a leaf makes it, which may, and its numbers and values are a step's
+-- a step of a part: it is the desk's or a leaf's own
 pub record IsMade {M : Type 0} (t : Nodes) (made : Actor × Step M) : Type 0 where
   pub maker : is_maker made.0 ≡ true
-  pub may : may made.0 made.1 ≡ true
-  pub values : IsStep t made.1
+  pub own : IsOwn t made.0 made.1
 
 -- From one stage to the next the steps of each leaf and of the desk were made, each once and in its actor's order, and none by the player.
 -- The painter may have made some, too.

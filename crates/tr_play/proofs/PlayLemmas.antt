@@ -26,7 +26,7 @@ use Rattle.tr_play.proofs.WorkerLemmas.{ran_nothing}
 -- the steps of a part that can be played can be made
 pub steps_made : (t : Nodes) (part : Seen) → IsPlayablePart t part → All (IsMade t) part.steps
 steps_made t part is =
-    All-weaker (IsPlayable t) (IsMade t) (λ made one. record { maker = one.maker; may = one.may; values = one.values }) part.steps is.steps
+    All-weaker (IsPlayable t) (IsMade t) (λ made one. record { maker = one.maker; own = one.own }) part.steps is.steps
 
 -- the parts so far, and one more
 pub parts_next : (parts : List Seen) (k : ℕ) (part : Seen) → (k < length parts) × (part ≡ get_or parts k part) →

@@ -38,7 +38,7 @@ are_made : {M : Type 0} (t : Nodes) (steps : List (Actor × Step M)) → All (Is
 are_made t [] all = tt
 are_made t (x ∷ xs) all =
     let here : IsMade t x = All-head (IsMade t) x xs all in
-    (here.may, here.values, are_made t xs (All-tail (IsMade t) x xs all))
+    (here.own, are_made t xs (All-tail (IsMade t) x xs all))
 
 -- what is known of a stage that comes back, where nothing differs: both are legal, and the lists are those of steps that can be made
 pub record HasMatched {C M : Type 0} (client : Ghosts C M) (s n : StageView C M) (steps : List (Actor × Step M)) (lists : ListsView M) : Type 0 where

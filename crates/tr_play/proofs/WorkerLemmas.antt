@@ -28,7 +28,7 @@ use Rattle.tr_play.specs.Workers.{AreReady, HasTaken, HasWorked, IsWorker}
 
 -- whoever makes such a step has a list
 pub has_list : {M : Type 0} (t : Nodes) (made : Actor × Step M) → IsMade t made → HasList (leaf_count t) made.0
-has_list {M} t made is = of_actor made.0 made.1 is.maker is.may is.values
+has_list {M} t made is = of_actor made.0 made.1 is.maker is.own.may is.own.values
   where
     of_actor : (actor : Actor) (step : Step M) → is_maker actor ≡ true → may actor step ≡ true → IsStep t step → HasList (leaf_count t) actor
     of_actor (Leaf leaf) step maker can values = (leaf_acts t leaf step can values).within

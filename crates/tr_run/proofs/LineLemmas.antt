@@ -35,7 +35,7 @@ use Rattle.tr_journal.specs.declared.steps.Step.{Step}
 use Rattle.tr_journal.specs.declared.steps.Step.TheVariants as steps
 use Rattle.tr_journal.specs.Journals.{JournalLine}
 use Rattle.tr_journal.specs.Openings.{tree_of}
-use Rattle.tr_journal.specs.Steps.{AreAsMany, AreLevels, IsLevel, IsQuery, IsStep, may, stated}
+use Rattle.tr_journal.specs.Steps.{AreAsMany, AreLevels, IsLevel, IsOwn, IsQuery, IsStep, may, stated}
 use Rattle.tr_journal.proofs.LevelLemmas.{stated_levels}
 use Rattle.tr_machine.specs.States.{State, content_of, start}
 use Rattle.tr_machine.specs.Machines as machine
@@ -56,13 +56,13 @@ use Rattle.tr_run.proofs.SpotLemmas.{IsWithin, spot_within}
 
 -- a step of the painter holds the tree's lock alone
 pub under_lock : {M : Type 0} (t : Nodes) (step : Step M) → IsPainters t step → stated step ≡ Mu ∷ []
-under_lock t (steps.Act leaf cmd) is = absurd (false-true is.may)
-under_lock t (steps.Mark leaf clip) is = absurd (false-true is.may)
-under_lock t (steps.Take leaf) is = absurd (false-true is.may)
-under_lock t (steps.SetCage leaf cage) is = absurd (false-true is.may)
-under_lock t (steps.Own leaf selection time) is = absurd (false-true is.may)
-under_lock t (steps.Disown leaf selection) is = absurd (false-true is.may)
-under_lock t (steps.Read leaf selection) is = absurd (false-true is.may)
+under_lock t (steps.Act leaf cmd) is = absurd (false-true is.own.may)
+under_lock t (steps.Mark leaf clip) is = absurd (false-true is.own.may)
+under_lock t (steps.Take leaf) is = absurd (false-true is.own.may)
+under_lock t (steps.SetCage leaf cage) is = absurd (false-true is.own.may)
+under_lock t (steps.Own leaf selection time) is = absurd (false-true is.own.may)
+under_lock t (steps.Disown leaf selection) is = absurd (false-true is.own.may)
+under_lock t (steps.Read leaf selection) is = absurd (false-true is.own.may)
 under_lock t step is = refl
 
 -- ---- names
@@ -226,8 +226,7 @@ module _ {C M : Type 0} (client : Ghosts C M) where
   pub record IsStepped (s n : StageView C M) (actor : Actor) (step : Step M) : Type 0 where
     pub stands : Stands client s
     pub like : IsOf s.opening (state client s)
-    pub may : may actor step ≡ true
-    pub values : IsStep (tree_of s.opening).nodes step
+    pub own : IsOwn (tree_of s.opening).nodes actor step
     pub opening : n.opening ≡ s.opening
     pub journal : n.journal ≡ s.journal ++ line_of client (state client s) actor (stated step) step ∷ []
 
@@ -246,14 +245,14 @@ module _ {C M : Type 0} (client : Ghosts C M) where
       t = (tree_of s.opening).nodes
 
       goes : IsGoing (leaf_count t) (machine.step client (state client s) step)
-      goes = going t (state client s) step (record { forest = made.stands.forest; leaves = made.like.leaves; mail = is.mail }) made.values
+      goes = going t (state client s) step (record { forest = made.stands.forest; leaves = made.like.leaves; mail = is.mail }) made.own.values
 
       line : IsNamedLine names (line_of client (state client s) actor (stated step) step)
       line = record {
         entry = record {
-          actor = named_actor names t actor step is.tree made.may made.values;
-          levels = named_levels names t (stated step) is.tree (stated_levels t step made.values);
-          step = named_step names t step is.tree made.values;
+          actor = named_actor names t actor step is.tree made.own.may made.own.values;
+          levels = named_levels names t (stated step) is.tree (stated_levels t step made.own.values);
+          step = named_step names t step is.tree made.own.values;
         };
         sent = All-weaker (IsBelow (leaf_count t)) (λ (delivery : Delivery). HasLeaf names delivery.leaf)
             (λ (delivery : Delivery) low. has_leaf names t delivery.leaf is.tree low) (machine.step client (state client s) step).sent goes.sent;
@@ -306,10 +305,10 @@ module _ {C M : Type 0} (client : Ghosts C M) where
   named_lines names t m (line ∷ lines) named like legal =
       let new : State C M = next client m line.entry.step in
       let first : IsNamedLine names (line_of client m line.entry.actor line.entry.level line.entry.step) =
-      named_made names t m line.entry.actor line.entry.level line.entry.step named like legal.0.may legal.0.values
-      legal.0.levels in
+      named_made names t m line.entry.actor line.entry.level line.entry.step named like legal.0.allowed.own.may legal.0.allowed.own.values
+      legal.0.allowed.levels in
       let later : AreNamedTo names t new lines =
-      named_lines names t new lines named (like_next t m line.entry.step like legal.0.values) legal.1 in
+      named_lines names t new lines named (like_next t m line.entry.step like legal.0.allowed.own.values) legal.1 in
       record {
         named = All-cons (IsNamedLine names) line lines (subst (λ (l : JournalLine M). IsNamedLine names l) (sym legal.0.made) first) later.named;
         mail = later.mail;

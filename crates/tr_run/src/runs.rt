@@ -1,4 +1,4 @@
-ghost use Rattle.std.specs.Prelude.{◌≡◌, ◌++◌, [], ◌∷◌, true, false, not, ◌&&◌, ◌⊎◌, All, IsSome, IfOk, OnOk, OnErr};
+ghost use Rattle.std.specs.Prelude.{◌≡◌, ◌++◌, [], ◌∷◌, false, not, ◌&&◌, ◌⊎◌, All, IsSome, IfOk, OnOk, OnErr};
 ghost use Rattle.tr_levels.specs.declared.Level.TheVariants.{Mu};
 ghost use Rattle.tr_journal.specs.declared.Actor.TheVariants.{Painter, Player};
 ghost use Rattle.tr_journal.specs.declared.Query.TheVariants.{Dump};
@@ -6,7 +6,7 @@ ghost use Rattle.tr_journal.specs.declared.Step.TheVariants.{Report};
 ghost use Rattle.tr_journal.specs.Journals.{JournalLine};
 ghost use Rattle.tr_journal.specs.Openings.{tree_of};
 ghost use Rattle.tr_journal.specs.Reports.{is_report};
-ghost use Rattle.tr_journal.specs.Steps.{IsQuery, IsStep, may, stated};
+ghost use Rattle.tr_journal.specs.Steps.{IsOwn, IsQuery, stated};
 ghost use Rattle.tr_machine.specs.Pictures.{render};
 ghost use Rattle.tr_journal.specs.Names.{names_of};
 ghost use Rattle.tr_machine.specs.Replays.{line_of, lines_of};
@@ -114,8 +114,7 @@ impl<'a, C: Client, N: NameOf> Run<'a, C, N> {
     /// nothing changes; but in a check the step may be made, without the text of how far the screen lags
     /// behind.
     pub fn make(&mut self, actor: Actor, step: Step<C::Cmd>) -> Result<(), NoMemory>
-        requires may { may actor step ≡ true }
-        requires values { IsStep (tree_of self.old.stage.opening).nodes step }
+        requires own { IsOwn (tree_of self.old.stage.opening).nodes actor step }
         requires other { is_report step ≡ false }
         ensures ok { OnOk result (Does C.Client C.Cmd.words self.old self.new (makes actor step ∷ [])) }
         ensures err { OnErr result (IsUnchanged self.old self.new ⊎ AddsUntold self.old self.new
@@ -193,8 +192,7 @@ impl<'a, C: Client, N: NameOf> Run<'a, C, N> {
 
     /// An actor makes a step, holding exactly the step's levels. Nothing is written.
     fn add(&mut self, actor: Actor, step: Step<C::Cmd>) -> Result<(), NoMemory>
-        requires may { may actor step ≡ true }
-        requires values { IsStep (tree_of self.old.stage.opening).nodes step }
+        requires own { IsOwn (tree_of self.old.stage.opening).nodes actor step }
         ensures made { MakesWithoutReply C.Client self.old.stage self.new.stage actor (stated step) step result }
         ensures names { self.new.names ≡ self.old.names }
         ensures mode { self.new.mode ≡ self.old.mode }

@@ -13,7 +13,7 @@ use Rattle.tr_journal.specs.declared.Step.{Step}
 use Rattle.tr_journal.specs.declared.Step.TheVariants.{Sync}
 use Rattle.tr_journal.specs.Journals.{JournalLine}
 use Rattle.tr_journal.specs.Reports.{is_report}
-use Rattle.tr_journal.specs.Steps.{IsStep, may}
+use Rattle.tr_journal.specs.Steps.{IsOwn}
 use Rattle.tr_widget.specs.declared.WidgetCmd.{WidgetCmd}
 use Rattle.tr_machine.specs.States.{State, start}
 use Rattle.tr_machine.specs.Replays.{replay}
@@ -78,14 +78,12 @@ is_later_next k = sym (ap is_later (add-one k))
 
 -- its steps can be made
 pub record AreReady (t : Nodes) (steps : List (Actor × Step WidgetCmd)) : Type 0 where
-  pub may : All (λ (made : Actor × Step WidgetCmd). may made.0 made.1 ≡ true) steps
-  pub values : All (λ (made : Actor × Step WidgetCmd). IsStep t made.1) steps
+  pub own : All (λ (made : Actor × Step WidgetCmd). IsOwn t made.0 made.1) steps
   pub other : All (λ (made : Actor × Step WidgetCmd). is_report made.1 ≡ false) steps
 
 pub ready : (t : Nodes) (part : Part) → IsPlayablePart t part → AreReady t part.steps
 ready t part playable = record {
-  may = All-weaker (IsPlayable t) (λ (made : Actor × Step WidgetCmd). may made.0 made.1 ≡ true) (λ made is. is.may) part.steps playable.steps;
-  values = All-weaker (IsPlayable t) (λ (made : Actor × Step WidgetCmd). IsStep t made.1) (λ made is. is.values) part.steps playable.steps;
+  own = All-weaker (IsPlayable t) (λ (made : Actor × Step WidgetCmd). IsOwn t made.0 made.1) (λ made is. is.own) part.steps playable.steps;
   other = All-weaker (IsPlayable t) (λ (made : Actor × Step WidgetCmd). is_report made.1 ≡ false) (λ made is. is.other) part.steps playable.steps;
 }
 

@@ -4,7 +4,7 @@ ghost use Rattle.tr_journal.specs.declared.Actor.TheVariants.{Player};
 ghost use Rattle.tr_journal.specs.declared.Step.TheVariants.{Sync};
 ghost use Rattle.tr_journal.specs.Openings.{tree_of};
 ghost use Rattle.tr_journal.specs.Reports.{is_report};
-ghost use Rattle.tr_journal.specs.Steps.{IsQuery, IsStep, may};
+ghost use Rattle.tr_journal.specs.Steps.{IsOwn, IsQuery};
 ghost use Rattle.tr_widget.specs.Widgets.{widget_words};
 ghost use Rattle.tr_grammar.specs.Scripts.{IsPlayablePart, IsPlayableScript};
 ghost use Rattle.tr_run.specs.Runs.{makes, reporting};
@@ -136,8 +136,7 @@ pub(crate) fn make_all<C: Client, N: NameOf>(
     run: &mut Run<C, N>,
     steps: Vec<(Actor, Step<C::Cmd>)>,
 ) -> Result<(), NoMemory>
-    requires may { All (λ made. may made.0 made.1 ≡ true) steps.items }
-    requires values { All (λ made. IsStep (tree_of run.old.stage.opening).nodes made.1) steps.items }
+    requires own { All (λ made. IsOwn (tree_of run.old.stage.opening).nodes made.0 made.1) steps.items }
     requires other { All (λ made. is_report made.1 ≡ false) steps.items }
     ensures { OnOk result (Does C.Client C.Cmd.words run.old run.new
         (map (λ made. makes made.0 made.1) steps.items)) }

@@ -1,9 +1,9 @@
-ghost use Rattle.std.specs.Prelude.{◌≡◌, ◌+◌, ◌<◌, ◌≤◌, ◌++◌, ◌∷◌, ◌⊎◌, [], true, false, Some, IsTrue, length, IfOk, IfSome, OnOk, OnErr};
+ghost use Rattle.std.specs.Prelude.{◌≡◌, ◌+◌, ◌<◌, ◌≤◌, ◌++◌, ◌∷◌, ◌⊎◌, [], false, Some, IsTrue, length, IfOk, IfSome, OnOk, OnErr};
 ghost use Rattle.tr_forest.specs.Nodes.{leaf_count};
 ghost use Rattle.tr_spot.specs.Leaves.{leaf_size};
 ghost use Rattle.tr_journal.specs.declared.Actor.TheVariants.{Leaf};
 ghost use Rattle.tr_journal.specs.Openings.{tree_of};
-ghost use Rattle.tr_journal.specs.Steps.{IsFor, IsStep, may};
+ghost use Rattle.tr_journal.specs.Steps.{IsFor, IsOwn};
 ghost use Rattle.tr_machine.specs.States.{content_of};
 ghost use Rattle.tr_stage.specs.Making.{Makes};
 ghost use Rattle.tr_stage.specs.Sketching.{IsSketchOf};
@@ -332,8 +332,7 @@ impl<C: Client, L: Session> Locked<C, L> {
     ) -> Result<Reply, NoMemory>
         requires leaf { leaf.0 < leaf_count (tree_of self.old.opening).nodes }
         requires actor { pass.old.actor ≡ Leaf leaf }
-        requires may { may pass.old.actor step ≡ true }
-        requires values { IsStep (tree_of self.old.opening).nodes step }
+        requires own { IsOwn (tree_of self.old.opening).nodes pass.old.actor step }
         ensures opening { self.new.opening ≡ self.old.opening }
         ensures ok { let cmds = basket.old.prepared.commands in
             let mid = with_acts C.Client self.old leaf cmds basket.old.levels in

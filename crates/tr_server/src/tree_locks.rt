@@ -1,8 +1,8 @@
-ghost use Rattle.std.specs.Prelude.{◌≡◌, ◌+◌, ◌++◌, ◌∷◌, ◌⊎◌, [], true, false, IfOk, OnOk, OnErr};
+ghost use Rattle.std.specs.Prelude.{◌≡◌, ◌+◌, ◌++◌, ◌∷◌, ◌⊎◌, [], false, IfOk, OnOk, OnErr};
 ghost use Rattle.tr_levels.specs.declared.Level.TheVariants.{Mu as MuLevel};
 ghost use Rattle.tr_journal.specs.declared.Actor.TheVariants.{Leaf};
 ghost use Rattle.tr_journal.specs.Openings.{tree_of};
-ghost use Rattle.tr_journal.specs.Steps.{IsStep, may};
+ghost use Rattle.tr_journal.specs.Steps.{IsOwn};
 ghost use Rattle.tr_stage.specs.Making.{Makes};
 ghost use Rattle.tr_stage.specs.Stages.{KeepsOthers, paints, state};
 ghost use Rattle.tr_server.specs.Handing.{HandedOver, HandedAndStepped};
@@ -50,8 +50,7 @@ impl<C: Client, L: Session> Mu<'_, C, L> {
     /// step is made.
     pub fn step(&mut self, pass: &mut Pass<C, L>, step: Step<C::Cmd>) -> Result<Reply, NoMemory>
         requires actor { is_client pass.old.actor ≡ false }
-        requires may { may pass.old.actor step ≡ true }
-        requires values { IsStep (tree_of self.old.opening).nodes step }
+        requires own { IsOwn (tree_of self.old.opening).nodes pass.old.actor step }
         ensures made { Makes C.Client self.old self.new pass.old.actor (MuLevel ∷ []) step result }
         ensures pass { CountsStep pass.old pass.new step result }
         ensures screen { IfOk result (λ r. paints step r.answer ≡ false → self.new.screen ≡ self.old.screen) }
@@ -93,8 +92,7 @@ impl<C: Client, L: Session> Mu<'_, C, L> {
         step: Step<C::Cmd>,
     ) -> Result<Reply, NoMemory>
         requires actor { pass.old.actor ≡ Leaf window.now }
-        requires may { may pass.old.actor step ≡ true }
-        requires values { IsStep (tree_of self.old.opening).nodes step }
+        requires own { IsOwn (tree_of self.old.opening).nodes pass.old.actor step }
         ensures opening { self.new.opening ≡ self.old.opening }
         ensures ok { IfOk result (λ r. HandedAndStepped C.Client window.now step r self.old self.new) }
         ensures mine { OnOk result (pass.new ≡ record pass.old {

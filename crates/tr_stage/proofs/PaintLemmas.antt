@@ -217,7 +217,7 @@ module _ {C M : Type 0} (client : Ghosts C M) where
         is = making.is;
         shown = making.shown;
         forest = forest_before client b (steps.Flush leaf) making;
-        leaf_is = (for_actor client b (steps.Flush leaf) making).values;
+        leaf_is = (for_actor client b (steps.Flush leaf) making).own.values;
       }
 
       -- by a painting
@@ -272,7 +272,7 @@ module _ {C M : Type 0} (client : Ghosts C M) where
         is = making.is;
         shown = making.shown;
         forest = forest_before client b (steps.Repaint leaf) making;
-        leaf_is = (for_actor client b (steps.Repaint leaf) making).values;
+        leaf_is = (for_actor client b (steps.Repaint leaf) making).own.values;
       }
 
       shows : Repaints client (look m) y.exposure (own b leaf ready new x) x.batch → IsShowing client (repainted client leaf m) new.surface

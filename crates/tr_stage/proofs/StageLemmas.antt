@@ -68,7 +68,7 @@ module _ {C M : Type 0} (client : Ghosts C M) where
       after = replay-more client opening lines (line_of client before actor held step)
 
       kept : IsKept client before (next client before step)
-      kept = kept_next client before step n.forest (values_now opening lines old step is for.values)
+      kept = kept_next client before step n.forest (values_now opening lines old step is for.own.values)
 
       at : IsAt client (next client before step) new
       at = record {
@@ -101,7 +101,7 @@ module _ {C M : Type 0} (client : Ghosts C M) where
       IsStage client opening (lines ++ line_of client (replay client opening lines) actor held step ∷ []) new
   one_step opening lines old new actor held step is for n = one_line is for (record {
     forest = n.forest;
-    sound = sound_next client m step n.forest (values_now opening lines old step is for.values) is.kept.sound n.obeys;
+    sound = sound_next client m step n.forest (values_now opening lines old step is for.own.values) is.kept.sound n.obeys;
     inboxes = n.inboxes;
     holds = n.holds;
   })

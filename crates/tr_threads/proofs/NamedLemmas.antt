@@ -64,9 +64,9 @@ module _ {C M : Type 0} (client : Ghosts C M) (names : Names) where
       let e : Entry M = line.entry in
       All-cons (IsNamedEntry names) e (entries_of lines)
       (record {
-        actor = named_actor names t e.actor e.step named is.may is.values;
-        levels = named_levels names t e.level named is.levels;
-        step = named_step names t e.step named is.values;
+        actor = named_actor names t e.actor e.step named is.allowed.own.may is.allowed.own.values;
+        levels = named_levels names t e.level named is.allowed.levels;
+        step = named_step names t e.step named is.allowed.own.values;
       })
       (legal_named t (next client m e.step) lines named legal.1)
 

@@ -43,7 +43,7 @@ module _ (s : Script) (playable : IsPlayableScript s) where
       All (λ (m : Made). IsNamedStep s.names m.1) (part_of part).steps
   part_named part is =
       All-weaker (IsPlayable (tree_of s.opening).nodes) (λ (m : Made). IsNamedStep s.names m.1)
-      (λ (m : Made) can. named_step s.names (tree_of s.opening).nodes m.1 are_named can.values) part.steps is.steps
+      (λ (m : Made) can. named_step s.names (tree_of s.opening).nodes m.1 are_named can.own.values) part.steps is.steps
 
   parts_named : All (λ (part : Part WidgetCmd). All (λ (m : Made). IsNamedStep s.names m.1) part.steps) (parts_of s.parts)
   parts_named =

@@ -34,23 +34,14 @@ mirror_all-requires-clause-few g c = λ κs lives.
     ap (λ (queries : List Query). length queries) c.deref.ensures.value ∙ ap (λ (p : Part). length p.reports) c.part.view_is in
     omega (arith, c.requires.few)
 
-pub make_all-requires-clause-may : goal.make_all-requires-clause-may
-make_all-requires-clause-may g c = λ κs lives.
+pub make_all-requires-clause-own : goal.make_all-requires-clause-own
+make_all-requires-clause-own g c = λ κs lives.
     let t = (tree_of c.args.run.now.stage.opening).nodes in
     let part = subst (λ (p : Part). AreReady t p.steps) (sym c.part.view_is) (ready t c.args.part c.requires.playable) in
     let begun = subst (λ (opened : List (Item _)). AreReady (tree_of opened).nodes c.part.inside.steps.items) (sym c.in_ok-begin.ensures.opening) part in
     let now = subst (λ (opened : List (Item _)). AreReady (tree_of opened).nodes c.part.inside.steps.items)
     (sym c.in_ok-mirror_all.ensures.mirrors.did.opening) begun in
-    now.may
-
-pub make_all-requires-clause-values : goal.make_all-requires-clause-values
-make_all-requires-clause-values g c = λ κs lives.
-    let t = (tree_of c.args.run.now.stage.opening).nodes in
-    let part = subst (λ (p : Part). AreReady t p.steps) (sym c.part.view_is) (ready t c.args.part c.requires.playable) in
-    let begun = subst (λ (opened : List (Item _)). AreReady (tree_of opened).nodes c.part.inside.steps.items) (sym c.in_ok-begin.ensures.opening) part in
-    let now = subst (λ (opened : List (Item _)). AreReady (tree_of opened).nodes c.part.inside.steps.items)
-    (sym c.in_ok-mirror_all.ensures.mirrors.did.opening) begun in
-    now.values
+    now.own
 
 pub make_all-requires-clause-other : goal.make_all-requires-clause-other
 make_all-requires-clause-other g c = λ κs lives.

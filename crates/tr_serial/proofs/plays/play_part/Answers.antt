@@ -26,21 +26,13 @@ report_all-requires-clause-queries g c = λ κs lives.
     let lent = subst (λ (queries : List Query). All (IsQuery t) queries) (sym c.deref.ensures.value) reports in
     subst (λ (opened : List (Item _)). All (IsQuery (tree_of opened).nodes) c.deref.result.now) (sym c.in_ok-begin.ensures.opening) lent
 
-pub make_all-requires-clause-may : goal.make_all-requires-clause-may
-make_all-requires-clause-may g c = λ κs lives.
+pub make_all-requires-clause-own : goal.make_all-requires-clause-own
+make_all-requires-clause-own g c = λ κs lives.
     let t = (tree_of c.args.run.now.stage.opening).nodes in
     let part = subst (λ (p : Part). AreReady t p.steps) (sym c.part.view_is) (ready t c.args.part c.requires.playable) in
     let begun = subst (λ (opened : List (Item _)). AreReady (tree_of opened).nodes c.part.inside.steps.items) (sym c.in_ok-begin.ensures.opening) part in
     let now = subst (λ (opened : List (Item _)). AreReady (tree_of opened).nodes c.part.inside.steps.items) (sym c.in_ok-report_all.ensures.opening) begun in
-    now.may
-
-pub make_all-requires-clause-values : goal.make_all-requires-clause-values
-make_all-requires-clause-values g c = λ κs lives.
-    let t = (tree_of c.args.run.now.stage.opening).nodes in
-    let part = subst (λ (p : Part). AreReady t p.steps) (sym c.part.view_is) (ready t c.args.part c.requires.playable) in
-    let begun = subst (λ (opened : List (Item _)). AreReady (tree_of opened).nodes c.part.inside.steps.items) (sym c.in_ok-begin.ensures.opening) part in
-    let now = subst (λ (opened : List (Item _)). AreReady (tree_of opened).nodes c.part.inside.steps.items) (sym c.in_ok-report_all.ensures.opening) begun in
-    now.values
+    now.own
 
 pub make_all-requires-clause-other : goal.make_all-requires-clause-other
 make_all-requires-clause-other g c = λ κs lives.

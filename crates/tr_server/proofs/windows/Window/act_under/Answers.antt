@@ -1,5 +1,8 @@
+use Rattle.std.proofs.Common.{rules}
 use Rattle.tr_server.proofs.windows.Window.act_under.Goals as goal
 
-pub client_step-requires-clause-values : goal.client_step-requires-clause-values
-client_step-requires-clause-values g c κs within =
-    record { within = rw (c.stage.ensures.invariant.leaves_are, c.leaf-leaf.ensures.value) c.leaf-leaf.ensures.invariant }
+pub client_step-requires-clause-own : goal.client_step-requires-clause-own
+client_step-requires-clause-own g c κs within = record {
+  may = search rules;
+  values = record { within = rw (c.stage.ensures.invariant.leaves_are, c.leaf-leaf.ensures.value) c.leaf-leaf.ensures.invariant };
+}

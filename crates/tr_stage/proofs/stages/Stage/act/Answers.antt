@@ -6,7 +6,7 @@ use Rattle.tr_stage.proofs.stages.Stage.act.Goals as goal
 pub act-requires-clause-leaf : goal.act-requires-clause-leaf
 act-requires-clause-leaf g c κs within =
     let made = seen_for (sym c.self.view_is) c.requires.allowed in
-    has_window g.C.Client c.self.invariant made.values.within
+    has_window g.C.Client c.self.invariant made.own.values.within
 
 pub invariant_of-self-2 : goal.invariant_of-self-2
 invariant_of-self-2 g c =

@@ -20,14 +20,14 @@ refit-requires-clause-before g c κs within =
 pub refit-requires-clause-leaves : goal.refit-requires-clause-leaves
 refit-requires-clause-leaves g c κs within =
     let made = seen_for (sym c.self.view_is) c.requires.allowed in
-    leaves_after g.C.Client c.args.edit c.self.invariant c.tree.ensures.invariant.forest made.values c.in-Ok.ensures.allowed
+    leaves_after g.C.Client c.args.edit c.self.invariant c.tree.ensures.invariant.forest made.own.values c.in-Ok.ensures.allowed
     (c.tree-is.ensures.value ∙ c.in-Ok.ensures.tree)
     ∙ sym (windows_count g.C.Client c.self.invariant)
 
 pub edited-requires-clause-leaves : goal.edited-requires-clause-leaves
 edited-requires-clause-leaves g c =
     let made = seen_for (sym c.self.view_is) c.requires.allowed in
-    leaves_after g.C.Client c.args.edit c.self.invariant c.tree.ensures.invariant.forest made.values c.in-Ok.ensures.allowed
+    leaves_after g.C.Client c.args.edit c.self.invariant c.tree.ensures.invariant.forest made.own.values c.in-Ok.ensures.allowed
     (c.tree-is.ensures.value ∙ c.in-Ok.ensures.tree)
     ∙ sym (inboxes_count g.C.Client c.self.invariant)
 

@@ -16,7 +16,7 @@ flushing-requires-clause-window g c κs within =
       actor = c.args.by.now.actor;
       held = c.args.by.now.level;
     } in
-    leaf_within g.C.Client c.args.self.now b c.args.leaf (ap (λ v. v.opening) c.self.view_is) c.self.invariant c.requires.allowed.values
+    leaf_within g.C.Client c.args.self.now b c.args.leaf (ap (λ v. v.opening) c.self.view_is) c.self.invariant c.requires.allowed.own.values
 
 pub batch-requires-after_bounds : goal.batch-requires-after_bounds
 batch-requires-after_bounds g c κs within =
@@ -28,7 +28,7 @@ batch-requires-after_bounds g c κs within =
       actor = c.args.by.now.actor;
       held = c.args.by.now.level;
     } in
-    leaf_within g.C.Client c.args.self.now b c.args.leaf (ap (λ v. v.opening) c.self.view_is) c.self.invariant c.requires.allowed.values
+    leaf_within g.C.Client c.args.self.now b c.args.leaf (ap (λ v. v.opening) c.self.view_is) c.self.invariant c.requires.allowed.own.values
 
 pub clear-requires-after_bounds : goal.clear-requires-after_bounds
 clear-requires-after_bounds g c κs within =
@@ -40,7 +40,7 @@ clear-requires-after_bounds g c κs within =
       actor = c.args.by.now.actor;
       held = c.args.by.now.level;
     } in
-    leaf_within g.C.Client c.args.self.now b c.args.leaf (ap (λ v. v.opening) c.self.view_is) c.self.invariant c.requires.allowed.values
+    leaf_within g.C.Client c.args.self.now b c.args.leaf (ap (λ v. v.opening) c.self.view_is) c.self.invariant c.requires.allowed.own.values
 
 pub invariant_of-self-2 : goal.invariant_of-self-2
 invariant_of-self-2 g c =

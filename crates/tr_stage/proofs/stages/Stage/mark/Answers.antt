@@ -6,7 +6,7 @@ use Rattle.tr_stage.proofs.stages.Stage.mark.Goals as goal
 pub mark-requires-clause-leaf : goal.mark-requires-clause-leaf
 mark-requires-clause-leaf g c κs within =
     let made = seen_for (sym c.self.view_is) c.requires.allowed in
-    has_window g.C.Client c.self.invariant made.values.0.within
+    has_window g.C.Client c.self.invariant made.own.values.0.within
 
 pub invariant_of-self-2 : goal.invariant_of-self-2
 invariant_of-self-2 g c =

@@ -23,7 +23,7 @@ clear-requires-after_bounds g c κs within =
       actor = c.args.by.now.actor;
       held = c.args.by.now.level;
     } in
-    leaf_within g.C.Client c.args.self.now b c.args.leaf (ap (λ v. v.opening) c.self.view_is) c.self.invariant c.requires.allowed.values
+    leaf_within g.C.Client c.args.self.now b c.args.leaf (ap (λ v. v.opening) c.self.view_is) c.self.invariant c.requires.allowed.own.values
 
 pub invariant_of-self-2 : goal.invariant_of-self-2
 invariant_of-self-2 g c =
@@ -74,4 +74,4 @@ put-requires-clause-leaf g c =
     subst (λ (n : ℕ). c.args.leaf.0 < n)
     (sym (ap (λ (t : Seen). leaf_count t.nodes) kept.tree ∙ c.self.invariant.like.leaves
     ∙ ap (λ (v : StageView _ _). leaf_count (tree_of v.opening).nodes) c.self.view_is))
-    c.requires.allowed.values.within
+    c.requires.allowed.own.values.within

@@ -13,12 +13,12 @@ invariant_of-self-in_default g c =
 pub content-requires-after_bounds : goal.content-requires-after_bounds
 content-requires-after_bounds g c κs within =
     let made = seen_for (sym c.self.view_is) c.requires.allowed in
-    has_window g.C.Client c.self.invariant made.values.within
+    has_window g.C.Client c.self.invariant made.own.values.within
 
 pub obey-obeyed-requires-clause-leaf : goal.obey-obeyed-requires-clause-leaf
 obey-obeyed-requires-clause-leaf g c κs within =
     let made = seen_for (sym c.self.view_is) c.requires.allowed in
-    has_window g.C.Client c.self.invariant made.values.within
+    has_window g.C.Client c.self.invariant made.own.values.within
 
 pub invariant_of-self-2 : goal.invariant_of-self-2
 invariant_of-self-2 g c =
