@@ -193,7 +193,8 @@ impl<'a, C: Client, N: NameOf> Run<'a, C, N> {
     /// An actor makes a step, holding exactly the step's levels. Nothing is written.
     fn add(&mut self, actor: Actor, step: Step<C::Cmd>) -> Result<(), NoMemory>
         requires own { IsOwn (tree_of self.old.stage.opening).nodes actor step }
-        ensures made { MakesWithoutReply C.Client self.old.stage self.new.stage actor (stated step) step result }
+        ensures made { MakesWithoutReply C.Client self.old.stage self.new.stage actor
+            (stated step) step result }
         ensures names { self.new.names ≡ self.old.names }
         ensures mode { self.new.mode ≡ self.old.mode }
         ensures text { self.new.text ≡ self.old.text }

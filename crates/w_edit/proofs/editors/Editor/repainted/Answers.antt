@@ -45,4 +45,5 @@ loop-above-preserved c =
     line_shown size self c.shown-shown.result.now above c.index-shown-above.result
     c.shown-shown.ensures c.loop-above-test.true c.index-shown-above.is in
     c.in_ok-push.ensures.ok
-    ∙ rw (c.strip.ensures.edges, c.begin_of.ensures.value, c.in_ok-copy.ensures, line, c.loop-above.invariant) (one_more size self (Tint (whole_of size) Bg) above)
+    ∙ rw (c.strip.ensures.edges, c.begin_of.ensures.value, c.in_ok-copy.ensures, line, c.loop-above.invariant)
+    (one_more size self (Tint (whole_of size) Bg) above)
