@@ -112,7 +112,7 @@ pub trait Client: Sized + Drop + Send + Sync {
         ensures command { IfOk result (λ asked. IfSome asked (λ cmd. Self.Cmd.valid cmd)) }
         ensures answer { IfOk result (λ asked. asked ≡ answer self.now event.now) };
 
-    /// The value that a leaf gets when it reads this content as a selection's.
+    /// The text that another leaf gets when it reads a selection whose owner has this content.
     fn value(&self, alloc: Global) -> Result<Line, NoMemory>
         ensures valid { valid self.now }
         ensures value { IfOk result (λ line. line ≡ value self.now) };

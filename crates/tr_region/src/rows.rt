@@ -19,7 +19,7 @@ pub struct Band<'a> {
 }
 
 impl<'a> Band<'a> {
-    /// Its rectangles that have columns `west <= h < east`.
+    /// Its rectangles that have some of the columns `west <= h < east`.
     pub fn between(&self, west: i32, east: i32) -> &'a [Rect]
         requires { AreApart (spans_of self.now.rects.now) }
         ensures columns { (x : ℤ) → west ≤ℤ x → x <ℤ east →
