@@ -200,7 +200,7 @@ class Mistakes(unittest.TestCase):
     def test_mistakes_are_found(self) -> None:
         text = """# A page
 [here](#a-page) [there](#a-pag) [file](lost.md) `tests/rows` `tests/lost` `tr_io/src/lost.rt` <!-- count: crates -->1
-`tr_stage::Stage::step#reply` `tr_stage::Stage::step#lost` `tr_stage::Stage::{step, lost}`
+`tr_stage::Stage::step#made` `tr_stage::Stage::step#lost` `tr_stage::Stage::{step, lost}`
 
 | function | clause | says |
 |---|---|---|
