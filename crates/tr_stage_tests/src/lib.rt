@@ -27,6 +27,8 @@ mod runs;
 #[cfg(test)]
 mod shares;
 #[cfg(test)]
+mod sizes;
+#[cfg(test)]
 mod slow;
 #[cfg(test)]
 mod traces;
