@@ -1,6 +1,6 @@
 -- A stage after a step that paints: the pixels, the bad points and the windows change.
 use Rattle.std.proofs.Common.{◌≡◌, ℕ, ◌<◌, Bool, true, false, List, [], Option, Some, None, inl, inr, length, refl, sym, ap, subst, ◌∙◌}
-use Rattle.std.specs.Prelude.{IfSome, slice_get}
+use Rattle.std.specs.Prelude.{IfSome, slice_get, unwrap_or}
 use Rattle.tr_base.specs.declared.Point.{Point}
 use Rattle.tr_base.specs.declared.Size.{Size}
 use Rattle.tr_base.specs.declared.LeafId.{LeafId}
@@ -34,6 +34,7 @@ use Rattle.tr_machine.proofs.FlushLemmas.{flush_shows}
 use Rattle.tr_machine.proofs.RepaintLemmas.{repaint_shows}
 use Rattle.tr_machine.proofs.FrameLemmas.{frame_shows}
 use Rattle.tr_windows.specs.declared.exposures.Exposure.{Exposure}
+use Rattle.tr_windows.specs.Presents as held
 use Rattle.tr_windows.specs.Presents.{Present, batch_at, cleared, present, presents}
 use Rattle.tr_windows.specs.Promises.{FlushesByPainting, IsByPainting, LosesNothingOf, Repaints}
 use Rattle.tr_windows.proofs.PresentLemmas.{present_is, presents-batch, presents-flushed, presents-length, presents-repainted}
@@ -240,12 +241,15 @@ module _ {C M : Type 0} (client : Ghosts C M) where
 
   -- ---- a repaint
 
-  -- the batch repaints the leaf's window as it stands
+  -- the batch is a painting, if there is one, else what waits, and repaints the leaf's window as it stands
   pub record IsRepainting (old : Parts C) (leaf : LeafId) (font : List (List ℕ)) (batch : List Paint) : Type 0 where
     pub exposure : Exposure
     pub stands : IsExposure old.surface leaf exposure
+    pub painting : Option (List Paint)
     pub repaints : (w : Present C) → slice_get old.windows leaf.0 ≡ Some w →
-        Repaints client (look_of old.surface.tree.kind font) exposure w batch
+        Repaints client (look_of old.surface.tree.kind font) exposure w (unwrap_or painting w.batch)
+    pub some : IfSome painting (λ cs. batch ≡ cs)
+    pub none : painting ≡ None → batch ≡ batch_at old.windows leaf
 
   pub repaint_made : (b : Before C M) (leaf : LeafId) (new : Parts C) → IsMaking client b (steps.Repaint leaf) → (x : IsPainted b leaf new) →
       IsRepainting b.parts leaf x.font x.batch → IsAfter client b (steps.Repaint leaf) answers.Done [] new
@@ -258,7 +262,8 @@ module _ {C M : Type 0} (client : Ghosts C M) where
         holds = record {
           shows =
               shows (subst (λ (l : Look). Repaints client l y.exposure (own b leaf ready new x) x.batch) (look_is b leaf ready new x)
-              (y.repaints (own b leaf ready new x) (own_at b leaf ready new x)));
+              (subst (λ (batch : List Paint). Repaints client (look_of b.parts.surface.tree.kind x.font) y.exposure (own b leaf ready new x) batch)
+              (chosen y.painting y.some y.none) (y.repaints (own b leaf ready new x) (own_at b leaf ready new x))));
           windows = cleared_windows b leaf ready new x ∙ sym (presents-repainted client m leaf);
           mail = x.mail ∙ making.is.kept.mail;
         };
@@ -274,6 +279,12 @@ module _ {C M : Type 0} (client : Ghosts C M) where
         forest = forest_before client b (steps.Repaint leaf) making;
         leaf_is = (for_actor client b (steps.Repaint leaf) making).own.values;
       }
+
+      -- what is executed
+      chosen : (o : Option (List Paint)) → IfSome o (λ cs. x.batch ≡ cs) → (o ≡ None → x.batch ≡ batch_at b.parts.windows leaf) →
+          unwrap_or o (own b leaf ready new x).batch ≡ x.batch
+      chosen None some none = sym (none refl ∙ ap (λ (w : Option (Present C)). held.batch_in w) (own_at b leaf ready new x))
+      chosen (Some cs) some none = sym some
 
       shows : Repaints client (look m) y.exposure (own b leaf ready new x) x.batch → IsShowing client (repainted client leaf m) new.surface
       shows (inl painting) = by_painting b leaf ready new x y.exposure y.stands painting

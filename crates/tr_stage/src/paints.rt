@@ -67,9 +67,10 @@ impl<C: Client> Stage<C> {
             kind: self.surface.tree().kind(),
             font: self.opening.font(),
         };
-        let batch = self.windows.repainting(leaf, &env, &exposure)?;
-        let executed = self.surface.execute(env.font, leaf, &batch);
-        drop(batch);
+        let painting = self.windows.repainting(leaf, &env, &exposure)?;
+        let batch = either(&painting, self.windows.batch(leaf));
+        let executed = self.surface.execute(env.font, leaf, batch);
+        drop(painting);
         executed?;
         // Called for what it tells the prover: that the surface is still one.
         let _ = self.surface.tree();

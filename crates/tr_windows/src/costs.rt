@@ -14,16 +14,6 @@ use tr_base::{Point, Rect, Size};
 use tr_client::window;
 use tr_paint::{Batch, Paint, Scrolls, points_in};
 
-/// Whether what waits for a window costs less than a painting of it and, as far as is looked at, does as
-/// well: nothing is bad, and no point is lost on the way. Where it is false, painting is right all the same.
-pub(crate) fn is_cheaper(waiting: &Batch, painting: &Batch, exposure: &Exposure) -> bool
-    requires { IsWindowSize exposure.now.size }
-    ensures good { IsTrue result → (q : Point) → has_point exposure.now.bad q ≡ false }
-    ensures keeps { IsTrue result → (look : Look) → LosesNothingOf exposure.now look waiting.now }
-{
-    keeps_all(waiting, exposure) && waiting.cost() < painting.cost()
-}
-
 /// Whether a painting may be made in place of what waits for a window, and may cost less: it costs at least
 /// the area of what it paints, which is all that waits.
 pub(crate) fn is_replaceable(waiting: &Batch, exposure: &Exposure) -> bool
@@ -55,8 +45,9 @@ fn has_touched(clip: &Rect, batch: &Batch, exposure: &Exposure) -> bool
     part.meet(clip) == part
 }
 
-/// Whether nothing of a window is bad, and what waits for it loses nothing, as far as is looked at.
-fn keeps_all(waiting: &Batch, exposure: &Exposure) -> bool
+/// Whether nothing of a window is bad, and what waits for it loses nothing, as far as is looked at. Where it
+/// is false, a painting is right all the same.
+pub(crate) fn keeps_all(waiting: &Batch, exposure: &Exposure) -> bool
     requires { IsWindowSize exposure.now.size }
     ensures good { IsTrue result → (q : Point) → has_point exposure.now.bad q ≡ false }
     ensures keeps { IsTrue result → (look : Look) → LosesNothingOf exposure.now look waiting.now }

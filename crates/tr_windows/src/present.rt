@@ -1,11 +1,11 @@
-ghost use Rattle.std.specs.Prelude.{◌≡◌, [], IfOk, IfSome, OnOk, OnErr};
+ghost use Rattle.std.specs.Prelude.{◌≡◌, [], unwrap_or, IfOk, IfSome, OnOk, OnErr};
 ghost use Rattle.tr_paint.specs.Traces.{look_of};
 ghost use Rattle.tr_client.specs.Laws.{IsWindowSize};
 ghost use Rattle.tr_windows.specs.Presents as spec;
 ghost use Rattle.tr_windows.specs.Promises.{FlushesByPainting, IsByPainting, Repaints};
 
 use crate::areas::{part_in_window, spanned};
-use crate::costs::{is_cheaper, is_replaceable};
+use crate::costs::{is_replaceable, keeps_all};
 use crate::exposures::Exposure;
 use std::alloc::Global;
 use std::marker::Model;
@@ -105,25 +105,23 @@ impl<C: Client> Window<C> {
         self.batch.clear();
     }
 
-    /// A batch that repaints it: a painting of all points that are bad or that the waiting commands
-    /// would touch, or, where that is cheaper and does as well, a copy of these. Nothing is let go.
+    /// A painting of all points that are bad or that the waiting commands would touch; none where
+    /// executing these repaints it as well and costs no more. Nothing is let go.
     pub fn repainting(
         &self,
         alloc: Global,
         env: &Env,
         exposure: &Exposure,
-    ) -> Result<Batch, NoMemory>
+    ) -> Result<Option<Batch>, NoMemory>
         requires { IsWindowSize exposure.now.size }
-        ensures { let look = look_of env.now.kind env.now.font.now in
-            IfOk result (λ batch. Repaints C.Client look exposure.now self.now batch) }
+        ensures { let look = look_of env.now.kind env.now.font.now in IfOk result (λ painting.
+            Repaints C.Client look exposure.now self.now (unwrap_or painting self.now.batch)) }
     {
-        let painting = self.painting(alloc, env, exposure)?;
-        if is_cheaper(&self.batch, &painting, exposure) {
-            drop(painting);
-            let waiting = self.batch.copy()?;
-            return Ok(waiting);
+        if keeps_all(&self.batch, exposure) {
+            return self.flushing(alloc, env, exposure);
         }
-        Ok(painting)
+        let painting = self.painting(alloc, env, exposure)?;
+        Ok(Some(painting))
     }
 
     /// A painting of the points that the waiting commands would touch, if it has the same effect as they

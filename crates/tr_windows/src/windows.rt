@@ -1,4 +1,4 @@
-ghost use Rattle.std.specs.Prelude.{◌≡◌, ◌<◌, [], length, map, slice_get, Some, IsTrue, IfOk, IfSome, OnOk, OnErr};
+ghost use Rattle.std.specs.Prelude.{◌≡◌, ◌<◌, [], length, map, slice_get, unwrap_or, Some, IsTrue, IfOk, IfSome, OnOk, OnErr};
 ghost use Rattle.tr_base.specs.declared.LeafId.{LeafId};
 ghost use Rattle.tr_paint.specs.Traces.{Look, look_of};
 ghost use Rattle.tr_paint.specs.Patches.{IsPatch};
@@ -162,20 +162,20 @@ impl<C: Client> Windows<C> {
         }
     }
 
-    /// A batch that repaints a leaf's window, which stands so on the screen: a painting of all points
-    /// that are bad or that the waiting commands would touch, or, where that is cheaper and does as well,
-    /// a copy of these. Nothing is let go.
+    /// A painting of all points of a leaf's window that are bad or that the waiting commands would touch;
+    /// none where executing these repaints it as well and costs no more. The window stands so on the screen.
+    /// Nothing is let go.
     pub fn repainting(
         &self,
         leaf: LeafId,
         env: &Env,
         exposure: &Exposure,
-    ) -> Result<Batch, NoMemory>
+    ) -> Result<Option<Batch>, NoMemory>
         requires leaf { leaf.0 < length self.now }
         requires size { IsWindowSize exposure.now.size }
-        ensures { let look = look_of env.now.kind env.now.font.now in IfOk result (λ batch.
+        ensures { let look = look_of env.now.kind env.now.font.now in IfOk result (λ painting.
             (w : spec.Present C) → slice_get self.now leaf.0 ≡ Some w →
-            Repaints C.Client look exposure.now w batch) }
+            Repaints C.Client look exposure.now w (unwrap_or painting w.batch)) }
     {
         let alloc = *self.windows.allocator();
         self.windows[usize::from(leaf.0)].repainting(alloc, env, exposure)

@@ -1,4 +1,4 @@
-use Rattle.std.proofs.Common.{ap, refl}
+use Rattle.std.proofs.Common.{ap, refl, ◌∙◌}
 use Rattle.tr_journal.specs.declared.steps.Step.TheVariants.{Repaint}
 use Rattle.tr_stage.specs.Stages.{Parts}
 use Rattle.tr_stage.proofs.PartLemmas.{kept_others}
@@ -17,6 +17,18 @@ repainting-requires-clause-leaf g c κs within =
       held = c.args.by.now.level;
     } in
     leaf_within g.C.Client c.args.self.now b c.args.leaf (ap (λ v. v.opening) c.self.view_is) c.self.invariant c.requires.allowed.own.values
+
+pub batch-requires-after_bounds : goal.batch-requires-after_bounds
+batch-requires-after_bounds g c κs within =
+    let s = c.self.inside in
+    let b : Before g.row.C.Denot g.row.C-Cmd.Denot = record {
+      opening = s.opening;
+      lines = s.journal.lines;
+      parts = record { surface = s.surface; windows = s.windows; mail = s.mail };
+      actor = c.args.by.now.actor;
+      held = c.args.by.now.level;
+    } in
+    leaf_within g.C.Client c.args.self.now b c.args.leaf (ap (λ v. v.opening) c.self.view_is) c.self.invariant c.requires.allowed.values
 
 pub clear-requires-after_bounds : goal.clear-requires-after_bounds
 clear-requires-after_bounds g c κs within =
@@ -55,7 +67,7 @@ invariant_of-self-2 g c =
       tree = c.execute-executed.ensures.tree;
       font = c.font.result.now;
       font_is = c.font.ensures;
-      batch = c.in_ok-batch.batch;
+      batch = c.either-batch.result.now;
       executed = record { known = done.known; unknown = done.unknown; untouched = done.untouched; pixels = done.pixels; others = done.others };
       windows = c.clear.ensures;
       mail = refl;
@@ -63,7 +75,10 @@ invariant_of-self-2 g c =
     (record {
       exposure = c.in_ok-exposure.exposure;
       stands = c.in_ok-exposure.ensures.stands;
-      repaints = rw (c.kind.ensures, c.tree.ensures.value) at c.in_ok-batch.ensures;
+      painting = c.in_ok-painting.painting;
+      repaints = rw (c.kind.ensures, c.tree.ensures.value) at c.in_ok-painting.ensures;
+      some = c.either-batch.ensures.painting;
+      none = λ h. c.either-batch.ensures.waiting h ∙ c.batch.ensures;
     }))
 
 pub returns-clause-others : goal.returns-clause-others
