@@ -16,6 +16,12 @@ changed-length f [] i = refl
 changed-length f (x ∷ xs) zero = refl
 changed-length f (x ∷ xs) (suc i) = ap suc (changed-length f xs i)
 
+-- a change that leaves the element as it is leaves all as it is
+pub unchanged_at : {A : Type 0} (f : A → A) (xs : List A) (i : ℕ) → ((x : A) → slice_get xs i ≡ Some x → f x ≡ x) → changed_at i f xs ≡ xs
+unchanged_at f [] i same = refl
+unchanged_at f (x ∷ xs) zero same = ap (λ y. y ∷ xs) (same x refl)
+unchanged_at f (x ∷ xs) (suc i) same = ap (λ ys. x ∷ ys) (unchanged_at f xs i same)
+
 -- what holds of all elements holds after a change of one, if it holds of what becomes of that
 pub changed-all : {A : Type 0} (Q : A → Type 0) (f : A → A) (xs : List A) (i : ℕ) → ((n : ℕ) (x : A) → slice_get xs n ≡ Some x → Q x) →
     ((x : A) → slice_get xs i ≡ Some x → Q (f x)) → (n : ℕ) (y : A) → slice_get (changed_at i f xs) n ≡ Some y → Q y

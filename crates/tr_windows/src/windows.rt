@@ -157,6 +157,9 @@ impl<C: Client> Windows<C> {
         requires leaves { leaf_count is.now.nodes ≡ length self.old }
         ensures { self.new ≡ changed_at leaf.0 (spec.refitted was.now is.now leaf) self.old }
     {
+        if self.batch(leaf).is_empty() {
+            return;
+        }
         if is_reshaped(was, is, leaf) {
             self.clear(leaf);
         }
