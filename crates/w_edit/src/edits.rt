@@ -160,7 +160,10 @@ impl Editor {
         requires { length self.now.lines < MOST_LINES }
         ensures { IfOk result (λ y. y ≡ spec.broken self.now) }
     {
-        let new = [Line::of(alloc, self.before())?, Line::of(alloc, self.behind())?];
+        let new = [
+            Line::of(alloc, self.before())?,
+            Line::of(alloc, self.behind())?,
+        ];
         let lines = self.lines_with(alloc, self.row, &new, self.row + 1)?;
         Ok(Editor {
             lines,

@@ -28,7 +28,7 @@ batch-requires-after_bounds g c κs within =
       actor = c.args.by.now.actor;
       held = c.args.by.now.level;
     } in
-    leaf_within g.C.Client c.args.self.now b c.args.leaf (ap (λ v. v.opening) c.self.view_is) c.self.invariant c.requires.allowed.values
+    leaf_within g.C.Client c.args.self.now b c.args.leaf (ap (λ v. v.opening) c.self.view_is) c.self.invariant c.requires.allowed.own.values
 
 pub clear-requires-after_bounds : goal.clear-requires-after_bounds
 clear-requires-after_bounds g c κs within =

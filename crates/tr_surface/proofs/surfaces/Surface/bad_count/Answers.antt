@@ -24,7 +24,7 @@ count-requires-in-loop-region c =
     let size = c.count.ensures.size in
     let items = c.deref-region-items.result.now in
     let own : AreOwn c.self.inside.tree items =
-        subst (λ (g : List (List Edges)). AreOwn c.self.inside.tree g) (sym c.deref-region-items.ensures.value) c.self.invariant.own in
+    subst (λ (g : List (List Edges)). AreOwn c.self.inside.tree g) (sym c.deref-region-items.ensures.value) c.self.invariant.own in
     in_square c.region-item.result c.rects.ensures.invariant
     (on_greatest c.self.inside.tree.size c.region-item.result
     (record { some_wide = size.some_wide; wide = size.wide; some_high = size.some_high; high = size.high })

@@ -39,7 +39,7 @@ returns-then-is_other-clause-good g c =
     let at : c.self.inside.tree ≡ s.tree = ap (λ (w : Shown). w.tree) c.self.view_is in
     let forest : IsForest s.tree.nodes = subst (λ (u : Seen). IsForest u.nodes) at c.count.ensures.invariant in
     let like : IsLike s.tree is =
-        subst (λ (u : Seen). IsLike s.tree u) (sym c.requires.is) (like_edited s.tree edit forest c.requires.edit c.requires.allowed) in
+    subst (λ (u : Seen). IsLike s.tree u) (sym c.requires.is) (like_edited s.tree edit forest c.requires.edit c.requires.allowed) in
     let root : HasRoot is = rooted s.tree is like (subst (λ (u : Seen). HasRoot u) at c.self.invariant.root) in
     let other : same_kind s.tree.kind is.kind ≡ false =
     ap (λ (x : Kind). same_kind x is.kind) (sym (c.kind.ensures ∙ ap (λ (u : Seen). u.kind) at))
@@ -60,7 +60,7 @@ returns-then-is_other-clause-follows g c = λ p.
     let at : c.self.inside.tree ≡ s.tree = ap (λ (w : Shown). w.tree) c.self.view_is in
     let forest : IsForest s.tree.nodes = subst (λ (u : Seen). IsForest u.nodes) at c.count.ensures.invariant in
     let like : IsLike s.tree is =
-        subst (λ (u : Seen). IsLike s.tree u) (sym c.requires.is) (like_edited s.tree edit forest c.requires.edit c.requires.allowed) in
+    subst (λ (u : Seen). IsLike s.tree u) (sym c.requires.is) (like_edited s.tree edit forest c.requires.edit c.requires.allowed) in
     let root : HasRoot is = rooted s.tree is like (subst (λ (u : Seen). HasRoot u) at c.self.invariant.root) in
     let other : same_kind s.tree.kind is.kind ≡ false =
     ap (λ (x : Kind). same_kind x is.kind) (sym (c.kind.ensures ∙ ap (λ (u : Seen). u.kind) at))
