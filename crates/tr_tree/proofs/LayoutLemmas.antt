@@ -35,7 +35,7 @@ pub alike_itself : (t : Nodes) → AreAlike t t
 alike_itself t = record { count = refl; root = refl; kinds = λ n. refl; ats = λ n. refl; parents = λ n. refl; children = λ n. refl }
 
 -- a part of the entries that a change of one of them leaves as it is
-part_same : {X : Type 0} (f : Entry → X) (t : Nodes) (n : NodeId) (e : Entry) (m : NodeId) → IsNode t n → f e ≡ f (node t n) →
+pub part_same : {X : Type 0} (f : Entry → X) (t : Nodes) (n : NodeId) (e : Entry) (m : NodeId) → IsNode t n → f e ≡ f (node t n) →
     f (get_or (set t.entries n.0 e) m.0 (fresh kinds.H 0)) ≡ f (node t m)
 part_same f t n e m inside same = by_id m n
     (λ is. subst (λ (k : NodeId). f (get_or (set t.entries n.0 e) k.0 (fresh kinds.H 0)) ≡ f (node t k)) (sym is)
@@ -125,10 +125,6 @@ laid_out_rescreened t u edit kind before after l is new size laid =
 pub places_edited : (t u : Nodes) (edit : Edit) (l : Layout) → u ≡ edited t edit → HavePlaces (length t.entries) l → HavePlaces (length u.entries) l
 places_edited t u edit l new places =
     subst (λ (k : ℕ). HavePlaces k l) (sym (ap (λ (w : Nodes). length w.entries) new ∙ count_edited t edit)) places
-
--- a new size of the screen leaves the shapes
-pub shapes_resized : (t u : Nodes) (edit : Edit) (size : Size) (l : Layout) → edit ≡ edits.Resize size → u ≡ edited t edit → HasShapes t l → HasShapes u l
-shapes_resized t u edit size l is new shapes = subst (λ (w : Nodes). HasShapes w l) (sym (new ∙ ap (edited t) is)) shapes
 
 -- what is seen of an edited tree, and of its edit
 pub seen_edited : (was seen : Seen) (nodes : Nodes) (size : Size) (kind : Kind) (edit : Edit) → was ≡ seen → nodes ≡ edited was.nodes edit →

@@ -2,6 +2,7 @@ pub mod TopLemmas
 pub mod ShapeLemmas
 pub mod FillLemmas
 pub mod LayoutLemmas
+pub mod KeepLemmas
 pub mod KinLemmas
 pub mod FitLemmas
 pub mod DomainLemmas

@@ -1,6 +1,7 @@
 -- Sixteen levels are enough for the shapes, so they meet an equation that counts no levels.
 use Rattle.std.proofs.Common.{◌≡◌, ℕ, zero, suc, ◌+◌, ◌≤◌, true, List, [], ◌∷◌, map, length, refl, sym, ap, ◌∙◌, arith}
 use Rattle.tr_base.specs.declared.NodeId.{NodeId}
+use Rattle.tr_base.specs.declared.Shapes.{Shapes}
 use Rattle.tr_forest.specs.Nodes.{Nodes, Entry, node}
 use Rattle.tr_forest.specs.Families.{is_among, depth}
 use Rattle.tr_forest.specs.Forests.{IsForest}
@@ -30,19 +31,26 @@ shape_enough (suc f) t forest n h =
 pub shape_law : (t : Nodes) → IsForest t → (n : NodeId) → shape t n ≡ shape_of (node t n).kind (map (shape t) (node t n).children)
 shape_law t forest n = sym (shape_enough 16 t forest n (omega (arith, depth_some 16 t n))) ∙ shape_suc 16 t n
 
--- nodes of the same kinds with the same children want the same lengths
-shapes_within_same : (f : ℕ) (t u : Nodes) → ((n : NodeId) → (node u n).kind ≡ (node t n).kind) → ((n : NodeId) → (node u n).children ≡ (node t n).children) →
+-- nodes want the same lengths if each would want the same, whatever its children want
+shapes_within_like : (f : ℕ) (t u : Nodes) → ((n : NodeId) (s : NodeId → Shapes) →
+    shape_of (node u n).kind (map s (node u n).children) ≡ shape_of (node t n).kind (map s (node t n).children)) →
     (n : NodeId) → shape_within f u n ≡ shape_within f t n
 unfolding shape_within
-shapes_within_same zero t u kinds children n = refl
-shapes_within_same (suc f) t u kinds children n =
-    ap (λ k. shape_of k (map (shape_within f u) (node u n).children)) (kinds n)
-    ∙ ap (λ cs. shape_of (node t n).kind (map (shape_within f u) cs)) (children n)
-    ∙ ap (shape_of (node t n).kind) (map_among (node t n).children (shape_within f u) (shape_within f t) (λ c _. shapes_within_same f t u kinds children c))
+shapes_within_like zero t u like n = refl
+shapes_within_like (suc f) t u like n =
+    like n (shape_within f u)
+    ∙ ap (shape_of (node t n).kind) (map_among (node t n).children (shape_within f u) (shape_within f t) (λ c _. shapes_within_like f t u like c))
 
+pub shapes_like : (t u : Nodes) → ((n : NodeId) (s : NodeId → Shapes) →
+    shape_of (node u n).kind (map s (node u n).children) ≡ shape_of (node t n).kind (map s (node t n).children)) →
+    (n : NodeId) → shape u n ≡ shape t n
+shapes_like t u like n = shapes_within_like 16 t u like n
+
+-- nodes of the same kinds with the same children want the same lengths
 pub shapes_same : (t u : Nodes) → ((n : NodeId) → (node u n).kind ≡ (node t n).kind) → ((n : NodeId) → (node u n).children ≡ (node t n).children) →
     (n : NodeId) → shape u n ≡ shape t n
-shapes_same t u kinds children n = shapes_within_same 16 t u kinds children n
+shapes_same t u kinds children n = shapes_like t u (λ m s.
+    ap (λ k. shape_of k (map s (node u m).children)) (kinds m) ∙ ap (λ cs. shape_of (node t m).kind (map s cs)) (children m)) n
 
 -- where there is no node, nothing is wanted
 pub shape_outside : (t : Nodes) (n : NodeId) → length t.entries ≤ n.0 → shape t n ≡ no_shapes

@@ -1,10 +1,12 @@
 -- Private contracts alone cite this file.
 -- The tables of a tree.
-use Rattle.std.specs.Prelude.{◌≡◌, ℕ, ◌<◌, length, vec_len, vec_capacity}
+use Rattle.std.specs.Prelude.{◌≡◌, ℕ, ◌<◌, Bool, true, false, length, vec_len, vec_capacity}
 use Rattle.tr_base.specs.declared.NodeId.{NodeId}
 use Rattle.tr_base.specs.declared.Kind.{Kind}
 use Rattle.tr_base.specs.declared.Size.{Size}
 use Rattle.tr_base.specs.Layouts.{IsDomain}
+use Rattle.tr_forest.specs.declared.Edit.{Edit}
+use Rattle.tr_forest.specs.declared.Edit.TheVariants as edits
 use Rattle.tr_forest.specs.Nodes.{Nodes}
 use Rattle.tr_forest.specs.Edits.{IsScreenSize}
 use Rattle.tr_tree.specs.declared.layouts.Layout.{Layout}
@@ -49,3 +51,13 @@ pub record HasSpare (l : Layout) : Type 0 where
   pub domains : vec_len l.domains < vec_capacity l.domains
   pub room_shapes : vec_len l.room.shapes < vec_capacity l.room.shapes
   pub room_places : vec_len l.room.places < vec_capacity l.room.places
+
+-- an edit after which each node wants the lengths that it wanted
+abbrev pub keeps_shapes : Edit → Bool
+keeps_shapes (edits.Offset n by) = true
+keeps_shapes (edits.Move child at) = true
+keeps_shapes (edits.Lift child) = true
+keeps_shapes (edits.Show n child) = true
+keeps_shapes (edits.Turn n page) = true
+keeps_shapes (edits.Resize size) = true
+keeps_shapes edit = false

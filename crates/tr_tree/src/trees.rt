@@ -9,6 +9,7 @@ ghost use Rattle.tr_forest.specs.Edits.{IsEdit, IsCause, IsScreenSize, refusal, 
 ghost use Rattle.tr_tree.specs.Trees.{size_after, kind_after, edited_tree};
 ghost use Rattle.tr_tree.specs.Wishes.{shape, shape_of};
 ghost use Rattle.tr_tree.specs.Places.{domain, place_below};
+ghost use Rattle.tr_tree.specs.Ready.{keeps_shapes};
 
 use crate::layouts::Layout;
 use std::alloc::Global;
@@ -98,14 +99,21 @@ impl Tree {
             refusal self.old.nodes edit.now ≡ None → IsOk result }
         ensures err { OnErr result (self.new ≡ self.old) }
     {
+        // Called for what it tells the prover: that the nodes are a forest.
+        let _ = self.forest.count();
         self.forest.edit(edit)?;
         self.size = size_after(edit, self.size);
         self.kind = kind_after(edit, self.kind);
         match edit {
             Edit::Tint { .. } => {}
             Edit::Rescreen { .. } => {}
-            Edit::Resize { .. } => self.layout.place(&self.forest, self.size),
-            _ => self.layout.fill(&self.forest, self.size),
+            _ => {
+                if keeps_shapes(edit) {
+                    self.layout.place(&self.forest, self.size);
+                } else {
+                    self.layout.fill(&self.forest, self.size);
+                }
+            }
         }
         Ok(())
     }
@@ -285,5 +293,20 @@ fn kind_after(edit: &Edit, kind: Kind) -> Kind
     match edit {
         Edit::Rescreen { kind } => *kind,
         _ => kind,
+    }
+}
+
+/// Whether each node wants the same lengths after an edit.
+fn keeps_shapes(edit: &Edit) -> bool
+    ensures { result ≡ keeps_shapes edit.now }
+{
+    match edit {
+        Edit::Offset { .. } => true,
+        Edit::Move { .. } => true,
+        Edit::Lift { .. } => true,
+        Edit::Show { .. } => true,
+        Edit::Turn { .. } => true,
+        Edit::Resize { .. } => true,
+        _ => false,
     }
 }

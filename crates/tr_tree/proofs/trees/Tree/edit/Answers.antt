@@ -1,7 +1,8 @@
-use Rattle.std.proofs.Common.{subst, sym}
+use Rattle.std.proofs.Common.{subst, sym, ◌∙◌}
 use Rattle.tr_forest.specs.Edits.{IsEdit}
 use Rattle.tr_tree.specs.Trees.{Seen}
-use Rattle.tr_tree.proofs.LayoutLemmas.{laid_out_tinted, laid_out_rescreened, places_edited, shapes_resized, seen_edited}
+use Rattle.tr_tree.proofs.LayoutLemmas.{laid_out_tinted, laid_out_rescreened, places_edited, seen_edited}
+use Rattle.tr_tree.proofs.KeepLemmas.{shapes_kept}
 use Rattle.tr_tree.proofs.trees.Tree.edit.Goals as goal
 
 pub invariant_of-self-in-Tint : goal.invariant_of-self-in-Tint
@@ -17,20 +18,15 @@ invariant_of-self-in-Rescreen c =
     c.self.inside.size c.size_after-self-inside.result c.self.inside.layout
     c.in-Rescreen.is c.in_ok-edit.ensures.ok c.size_after-self-inside.ensures c.self.invariant
 
-pub invariant_of-self-in-Resize : goal.invariant_of-self-in-Resize
-invariant_of-self-in-Resize c = c.place.ensures
-
-pub invariant_of-self-in_default : goal.invariant_of-self-in_default
-invariant_of-self-in_default c = c.fill.ensures
-
 pub place-requires-clause-places : goal.place-requires-clause-places
 place-requires-clause-places c =
     places_edited c.self.inside.forest c.edit.new.self c.args.edit.now c.self.inside.layout c.in_ok-edit.ensures.ok c.self.invariant.places
 
 pub place-requires-clause-shapes : goal.place-requires-clause-shapes
 place-requires-clause-shapes c =
-    shapes_resized c.self.inside.forest c.edit.new.self c.args.edit.now c.in-Resize.size c.self.inside.layout
-    c.in-Resize.is c.in_ok-edit.ensures.ok c.self.invariant.shapes
+    shapes_kept c.self.inside.forest c.edit.new.self c.args.edit.now c.self.inside.layout c.count.ensures.invariant
+    (subst (λ (t : Seen). IsEdit t.nodes c.args.edit.now) (sym c.self.view_is) c.requires) c.in_ok-edit.ensures.allowed
+    (sym c.keeps_shapes.ensures ∙ c.if-keeps_shapes.true) c.in_ok-edit.ensures.ok c.self.invariant.shapes
 
 pub fill-requires-clause-places : goal.fill-requires-clause-places
 fill-requires-clause-places c =
@@ -43,15 +39,5 @@ returns-in-Tint-clause-ok c =
 
 pub returns-in-Rescreen-clause-ok : goal.returns-in-Rescreen-clause-ok
 returns-in-Rescreen-clause-ok c =
-    seen_edited _ c.args.self.now c.edit.new.self c.size_after-self-inside.result c.kind_after-self-inside.result c.args.edit.now
-    c.self.view_is c.in_ok-edit.ensures.ok c.size_after-self-inside.ensures c.kind_after-self-inside.ensures
-
-pub returns-in-Resize-clause-ok : goal.returns-in-Resize-clause-ok
-returns-in-Resize-clause-ok c =
-    seen_edited _ c.args.self.now c.edit.new.self c.size_after-self-inside.result c.kind_after-self-inside.result c.args.edit.now
-    c.self.view_is c.in_ok-edit.ensures.ok c.size_after-self-inside.ensures c.kind_after-self-inside.ensures
-
-pub returns-in_default-clause-ok : goal.returns-in_default-clause-ok
-returns-in_default-clause-ok c =
     seen_edited _ c.args.self.now c.edit.new.self c.size_after-self-inside.result c.kind_after-self-inside.result c.args.edit.now
     c.self.view_is c.in_ok-edit.ensures.ok c.size_after-self-inside.ensures c.kind_after-self-inside.ensures
