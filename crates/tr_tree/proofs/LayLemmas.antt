@@ -1,5 +1,5 @@
 -- The table that is filled from the root downwards has the domains.
-use Rattle.std.proofs.Common.{◌≡◌, ◌≢◌, ℕ, ◌+◌, ◌-◌, ◌<◌, ◌≤◌, Bool, true, false, not, eqb, ◌⊎◌, inl, inr, List, [], ◌∷◌, Some, None, length, get_or, set, take, drop, All, AllPairs, refl, sym, ap, subst, ◌∙◌, arith}
+use Rattle.std.proofs.Common.{◌≡◌, ◌≢◌, ℕ, ◌+◌, ◌-◌, ◌<◌, ◌≤◌, Bool, true, false, not, ◌==◌, eqb, ◌⊎◌, inl, inr, List, [], ◌∷◌, Some, None, length, get_or, set, take, drop, All, AllPairs, refl, sym, ap, subst, ◌∙◌, arith}
 use Rattle.std.proofs.lemmas.Bool.Decides.{nat_tests}
 use Rattle.std.proofs.lemmas.List.{get_or-set_same, get_or-set_other, get_or-take, get_or_default, get_or_read, drop_more, drop_all}
 use Rattle.tr_base.specs.declared.NodeId.{NodeId}
@@ -149,6 +149,14 @@ pub laying_end : (t : Seen) → IsForest t.nodes → (n : NodeId) (cs : List Nod
 laying_end t forest n cs i old now is le l =
     subst (λ (l : List NodeId). length l ≤ i → Laying t n old l (drop i l) now → Lays t n old now) (sym is)
     (λ most m. laying_last t forest n i old now most m) le l
+
+-- without children nothing is to be done
+pub laying_nothing : (t : Seen) → IsForest t.nodes → (n : NodeId) (cs : List NodeId) (old : List Edges) → cs ≡ (node t.nodes n).children →
+    (length cs == 0) ≡ true → Stands t n old → Lays t n old old
+laying_nothing t forest n [] old is none s =
+    laying_end t forest n [] 0 old old is (omega arith)
+    (record { stays = λ m h. h; here = stands_laid t forest n old s; children = λ c h. cc; done = λ c m h k. cc })
+laying_nothing t forest n (c ∷ cs) old is none s = let no : length (c ∷ cs) ≡ 0 = grind (arith, nat_tests) in absurd (omega arith)
 
 -- the rectangle that was read from the table
 pub domain_read : (t : Seen) (n : NodeId) (table : List Edges) (i : ℕ) (r : Edges) → n.0 < length table → i ≡ n.0 → r ≡ get_or table i r →

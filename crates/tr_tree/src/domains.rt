@@ -69,6 +69,9 @@ fn lay(plan: &Plan<'_>, n: NodeId, room: &mut Room, domains: &mut Vec<Rect>)
     ensures count { length domains.new.items ≡ length plan.now.forest.now.entries }
 {
     let children = plan.forest.children(n);
+    if children.is_empty() {
+        return;
+    }
     gather(plan.shapes, children, &mut room.shapes);
     let parent = Parent {
         forest: plan.forest,

@@ -12,7 +12,7 @@ use Rattle.tr_tree.specs.Laying.{laid, IsOwn}
 use Rattle.tr_tree.proofs.KinLemmas.{few_children}
 use Rattle.tr_tree.proofs.FitLemmas.{at_is_domain}
 use Rattle.tr_tree.proofs.PlaceLemmas.{child_read, shapes_read}
-use Rattle.tr_tree.proofs.LayLemmas.{stands_laid, laying_from, laying_next, laying_end, domain_read}
+use Rattle.tr_tree.proofs.LayLemmas.{stands_laid, laying_from, laying_next, laying_end, laying_nothing, domain_read}
 use Rattle.tr_tree.proofs.domains.+lay.Goals as goal
 
 pub gather-requires-clause-within : goal.gather-requires-clause-within
@@ -138,3 +138,8 @@ returns-clause-room t c = c.loop-child.invariant.room
 
 pub returns-clause-count : goal.returns-clause-count
 returns-clause-count t c = c.loop-child.invariant.count
+
+pub returns-then-is_empty-clause-lays : goal.returns-then-is_empty-clause-lays
+returns-then-is_empty-clause-lays t c =
+    laying_nothing (laid c.args.plan.now.forest.now c.args.plan.now.size) c.requires.forest c.args.n c.children-children.result.now
+    c.args.domains.now.items c.children-children.ensures (sym c.is_empty.ensures ∙ c.if-is_empty.true) c.requires.own
