@@ -1,5 +1,6 @@
 ghost use Rattle.std.specs.Prelude.{◌≡◌, ◌<◌, ◌≤◌, ◌+◌, length, [], false, IfErr, OnOk, OnErr};
 ghost use Rattle.tr_base.specs.Rects.{InReach};
+ghost use Rattle.tr_base.specs.Layouts.{IsDomain};
 ghost use Rattle.tr_forest.specs.Nodes.{leaf_count};
 ghost use Rattle.tr_spot.specs.Spots as spots;
 ghost use Rattle.tr_spot.specs.Leaves as leaves;
@@ -9,7 +10,7 @@ ghost use Rattle.tr_mail.specs.Bounds.{IsUnbounded, is_bounded};
 
 use crate::mails::Mail;
 use crate::outboxes::Outbox;
-use tr_base::{Event, Kind, LeafId, Point, Size, Spot};
+use tr_base::{Event, Kind, LeafId, Point, Rect, Spot};
 use tr_cage::{Cage, holds};
 use tr_desk::DeskFault;
 use tr_spot::{in_leaf, leaf_size, spot_at};
@@ -202,13 +203,19 @@ pub fn is_reshaped(was: &Tree, is: &Tree, leaf: LeafId) -> bool
     requires leaf { leaf.0 < leaf_count is.now.nodes }
     ensures { result ≡ spec.is_reshaped was.now is.now leaf }
 {
-    !(same_size(leaf_size(was, leaf), leaf_size(is, leaf)) && same_kind(was.kind(), is.kind()))
+    let from = was.domain(was.node_of(leaf));
+    let to = is.domain(is.node_of(leaf));
+    !(is_as_large(from, to) && same_kind(was.kind(), is.kind()))
 }
 
-fn same_size(a: Size, b: Size) -> bool
-    ensures { result ≡ leaves.same_size a b }
+/// Whether the rectangles of two windows have the same size. Most windows lie where they lay, so their
+/// edges are compared first.
+fn is_as_large(a: Rect, b: Rect) -> bool
+    requires a { IsDomain a }
+    requires b { IsDomain b }
+    ensures { result ≡ leaves.same_size (spots.size_of a) (spots.size_of b) }
 {
-    a == b
+    a == b || a.size() == b.size()
 }
 
 fn same_kind(a: Kind, b: Kind) -> bool
