@@ -175,6 +175,16 @@ pub moved_more : (n : NodeId) (t : Nodes) (child : NodeId) (regions : List (List
 unfolding in_moved
 moved_more n t child regions p = ap (λ m. in_moved m t child regions p) (add-one n.0)
 
+-- a node of which no point is good adds none
+pub moved_past : (n : NodeId) (t : Nodes) (child : NodeId) (regions : List (List Edges)) (p : Point) → holds (region_of regions n) p ≡ false →
+    in_moved n.0 t child regions p ≡ in_moved (n.0 + 1) t child regions p
+moved_past n t child regions p none = sym (moved_more n t child regions p ∙ plain (in_moved n.0 t child regions p) (is_under t child n) none)
+  where
+    plain : (b u : Bool) → {h : Bool} → h ≡ false → (b || (u && h)) ≡ b
+    plain true u e = refl
+    plain false true e = e
+    plain false false e = refl
+
 or_true : (b : Bool) → (b || true) ≡ true
 or_true true = refl
 or_true false = refl

@@ -231,7 +231,9 @@ impl TreeChange<'_> {
             return Ok(points);
         };
         for i in 0..self.is.count() {
-            points = self.with_node(points, child, good, NodeId(i as u16))?;
+            if !good[i].is_empty() {
+                points = self.with_node(points, child, good, NodeId(i as u16))?;
+            }
         }
         Ok(points)
     }
