@@ -20,6 +20,9 @@ use tr_server::{Mu, Pass, Session, Window};
 /// How many commands may be posted with a pass before one is made under the tree's lock.
 const MOST_POSTED: u8 = 64;
 
+/// A worker draws before a flush only if it has posted so many commands.
+const MANY_POSTED: u8 = 8;
+
 /// So many steps a worker makes before it tells how far it has come.
 const STEPS_A_NOTE: usize = 16;
 
@@ -175,7 +178,20 @@ impl<C: Client, L: Session, R: Wait, G: Gate> Context<'_, C, L, R, G> {
     {
         match step {
             Step::Act { leaf: _, cmd } => self.act(window, pass, cmd),
-            other => self.make_under(pass, other),
+            other => {
+                self.draw_for(window, pass, &other);
+                self.make_under(pass, other)
+            }
+        }
+    }
+
+    /// Before a flush of many commands, while others have the tree's lock, the worker draws what the commands
+    /// leave: under the lock the flush then only puts pixels onto the screen. Few commands take less time than
+    /// a picture, and if the lock is free, painting under it takes less time in all.
+    fn draw_for(&self, window: &Window<C, L>, pass: &Pass<C, L>, step: &Step<C::Cmd>) {
+        let is_flush = matches!(step, Step::Flush { .. });
+        if is_flush && pass.posted() >= MANY_POSTED && self.server.is_busy() {
+            window.draw(self.rt);
         }
     }
 

@@ -1,11 +1,16 @@
 ghost use Rattle.std.specs.Prelude.{◌≡◌, [], IfOk, IfSome};
+ghost use Rattle.tr_client.specs.Laws.{IsWindowSize};
 ghost use Rattle.tr_book.specs.Books.{view_of};
 ghost use Rattle.tr_server.specs.Drawings.{IsDrawnOf};
 
 use std::alloc::Global;
-use tr_base::{Env, NoMemory};
-use tr_client::{Client, Prepared};
+use tr_base::{Env, NoMemory, Rect, Size};
+use tr_client::{Client, Prepared, part_of_window};
 use tr_sketch::{Sketch, fits_screen};
+
+/// Nobody draws a picture of more points: its memory comes in fresh pages, which cost more than the painting
+/// (a window of 1024 by 768 with a flush after each 25 lines took four times the processor time).
+const MOST_POINTS: u64 = 1 << 16;
 
 /// What is drawn of waiting commands outside of the tree's lock: a sketch of what they leave, over what they
 /// touch, and no commands over that content, with which the next ones begin.
@@ -16,12 +21,12 @@ pub(crate) struct Drawn<C: Client> {
     pub(crate) ghost none: { spare.commands.items ≡ [] },
 }
 
-/// What is drawn of prepared commands: nothing where a screen has no room for it, or for want of memory.
+/// What is drawn of prepared commands: nothing where they touch no point or too many, or for want of memory.
 pub(crate) fn drawn_of<C: Client>(prepared: &Prepared<C>) -> Option<Drawn<C>>
     ensures { IfSome result (λ d. IsDrawnOf C.Client (view_of prepared.now) d.sketch) }
 {
     let clip = prepared.batch.hull();
-    if !fits_screen(prepared.size, &clip) {
+    if !fits_screen(prepared.size, &clip) || is_large(prepared.size, &clip) {
         return None;
     }
     let alloc = *prepared.commands.allocator();
@@ -41,6 +46,14 @@ pub(crate) fn drawn_of<C: Client>(prepared: &Prepared<C>) -> Option<Drawn<C>>
         return None;
     };
     Some(Drawn { sketch, spare })
+}
+
+/// Whether the part of a window that lies in a clip has more points than are drawn.
+fn is_large(size: Size, clip: &Rect) -> bool
+    requires { IsWindowSize size }
+{
+    let (wide, high) = part_of_window(size, clip).size();
+    u64::from(wide).saturating_mul(u64::from(high)) > MOST_POINTS
 }
 
 /// No commands over what prepared commands leave.

@@ -129,11 +129,17 @@ impl<C: Client, L: Session> Server<C, L> {
 
     /// Takes the lock, if it is free.
     fn taken_if_free(&self) -> Option<MutexGuard<'_, Locked<C, L>>> {
-        if self.is_taken.load(Ordering::SeqCst) {
+        if self.is_busy() {
             None
         } else {
             self.locked.try_lock()
         }
+    }
+
+    /// Whether somebody has the tree's lock. It is a hint, and promises nothing: the lock may be free a moment
+    /// later.
+    pub fn is_busy(&self) -> bool {
+        self.is_taken.load(Ordering::SeqCst)
     }
 
     /// The window of a leaf.
