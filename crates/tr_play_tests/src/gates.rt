@@ -72,6 +72,22 @@ impl Meeting {
     }
 }
 
+/// The same two clients at a gate that is open, as the program's is: they meet before commands.
+#[derive(Drop)]
+pub struct OpenMeeting {
+    pub meeting: Meeting,
+}
+
+impl Gate for OpenMeeting {
+    fn turn<R: Wait>(&self, rt: &R, actor: Actor, k: u32) {
+        self.meeting.turn(rt, actor, k);
+    }
+
+    fn is_open(&self) -> bool {
+        true
+    }
+}
+
 impl Gate for Meeting {
     fn turn<R: Wait>(&self, _rt: &R, actor: Actor, k: u32) {
         match actor {

@@ -1,6 +1,6 @@
 //! Scripts whose clients wait for one another.
 use crate::ends::made;
-use crate::gates::Meeting;
+use crate::gates::{Meeting, OpenMeeting};
 use std::process::Abort;
 use std::sync::Wait;
 use std::thread::Threads;
@@ -30,7 +30,25 @@ sync
 end
 ";
 
-/// What is written of it.
+/// The same two windows. Each one's client makes a command, and then shows it.
+const TINTS: &[u8] = b"trestle 1
+screen 4 1 map8
+node r h 0
+leaf a 2 2 2 1 1 1 solid 1
+leaf b 2 2 2 1 1 1 solid 2
+put a r
+put b r
+root r
+begin
+@a tint 3
+@b tint 4
+@a flush
+@b flush
+sync
+end
+";
+
+/// What is written of each.
 const PLAYED: &[u8] = b"played threads\n";
 
 /// Plays a script by threads that ask a gate before each step. Where the script isn't played the test ends.
@@ -95,4 +113,15 @@ fn two_clients_meet_at_their_first_steps(rt: HostRuntime) {
     let gate = Meeting::new(1, 1);
     let _ = brings_second_first(&rt, &gate);
     assert!(rt; gate.is_met());
+}
+
+#[test]
+fn two_clients_meet_at_their_first_commands_where_the_gate_is_open(rt: HostRuntime) {
+    let gate = OpenMeeting {
+        meeting: Meeting::new(1, 1),
+    };
+    let end = played(&rt, TINTS, &gate);
+    let is_by_threads = end.text.as_slice() == PLAYED;
+    drop(end);
+    assert!(rt; gate.meeting.is_met() && is_by_threads);
 }
