@@ -27,6 +27,8 @@ MOST_PACKED = 24 << 20
 MOST_PLACES = 2_000_000
 # So many lines of a report are told.
 MOST_PRINTED = 80
+# So many other leaves are named where one has no event to take.
+MOST_OTHERS = 3
 
 Progress = Callable[[str], None]
 
@@ -197,6 +199,7 @@ def moments_of(body: Body, entries: Sequence[Entry], output: str) -> Iterator[Mo
     windows = Windows()
     for line in body.opening:
         windows.add(line)
+    waiting = {name: 0 for name, it in windows.names.items() if it.is_leaf}
     yield Moment(windows.begin_line, 0)
     for line in body.lines:
         words = line.texts()
@@ -205,8 +208,29 @@ def moments_of(body: Body, entries: Sequence[Entry], output: str) -> Iterator[Mo
         elif is_step(line):
             entry = entries[count]
             count += 1
-            yield Moment(line.number, count, entry.answer, meaning(entry, words, windows) or "", entry.events)
+            says = meaning(entry, words, windows) or ""
+            if entry.answer == "empty" and any(waiting.values()):
+                says = f"empty: no event waits for {words[0][1:]}, but {', '.join(others(waiting))}"
+            yield Moment(line.number, count, entry.answer, says, entry.events)
             take_over(windows, entry, words)
+            count_events(waiting, entry, words)
+
+
+def count_events(waiting: Dict[str, int], entry: Entry, words: List[str]) -> None:
+    """Counts the events that wait for each leaf after a step."""
+    if entry.answer.startswith("took "):
+        waiting[words[0][1:]] -= 1
+    for event in entry.events:
+        leaf, kind = event.split(" ")[:2]
+        waiting[leaf] += kind != "dropped"
+
+
+def others(waiting: Dict[str, int]) -> Iterator[str]:
+    """The first leaves for which events wait."""
+    found = [(name, count) for name, count in waiting.items() if count]
+    yield from (f"{count} {'waits' if count == 1 else 'wait'} for {name}" for name, count in found[:MOST_OTHERS])
+    if len(found) > MOST_OTHERS:
+        yield "others for more leaves"
 
 
 def is_edit(entry: Entry, words: List[str]) -> bool:
