@@ -39,6 +39,25 @@ from trestle_tools.traces import (  # noqa: E402
 from trestle_tools.windows import Windows  # noqa: E402
 
 BUTTON = TOP / "docs/examples/testing_button.txt"
+# A press that goes to another window than the one that takes, a motion that is refused, and one that leaves the screen.
+PRESS = """trestle 1
+screen 32 16 map8
+node desk z 7
+leaf first_of_windows 8 8 8 8 8 8 solid 3
+leaf other_of_windows 8 8 8 8 8 8 solid 4
+put first_of_windows desk 0 0
+put other_of_windows desk 16 0
+root desk
+begin
+motion 5 17 2
+motion 4 3 3
+mouse 6 down 1
+@first_of_windows take
+move other_of_windows 20 4
+motion 7 40 -3
+sync
+end
+"""
 
 
 def scripts() -> Iterator[Path]:
@@ -140,6 +159,15 @@ class Traces(unittest.TestCase):
     def test_wrong_answers_are_told(self) -> None:
         trace = trace_of_script(pack(str(TOP / "docs/examples/faults_of_edits.txt")), Asked())
         self.assertEqual(19, sum(bool(it.says) for it in trace.moments))
+
+    def test_empty_takes(self) -> None:
+        """A take that finds no event names the windows for which events wait."""
+        script = pack(str(BUTTON))._replace(script=PRESS.encode(), lines=lines_of(PRESS.encode()))
+        says = {it.line: it.says for it in trace_of_script(script, Asked()).moments if it.says}
+        self.assertEqual([11, 13], list(says))
+        self.assertEqual("empty: no event waits for first_of_windows, but 1 waits for other_of_windows", says[13])
+        found = [*traces.others({"a": 0, "b": 2, "c": 1, "d": 1, "e": 1})]
+        self.assertEqual(["2 wait for b", "1 waits for c", "1 waits for d", "others for more leaves"], found)
 
     def test_lines_that_put_windows_there(self) -> None:
         trace = trace_of_script(pack(str(TOP / "demos/first.txt")), Asked())
@@ -363,6 +391,48 @@ class InBrowser(unittest.TestCase):
         self.assertIn("W E N S 3 7 2 3, put there by line 17", said)
         self.assertIn("where 4 2 leaf left 1 0", said)
         self.assertEqual("17move edge 2 1   = ok", self.browser.wait("document.querySelector('.row.put').textContent"))
+
+    def press(self, line: int) -> None:
+        """Opens the page of the press, and goes to a line."""
+        script = Path(self.folder.name) / "press.txt"
+        script.write_text(PRESS)
+        self.page(script)
+        self.browser.evaluate(f"page.go(page.stopOfLine({line}))")
+        self.browser.wait(f"document.getElementById('where').textContent.endsWith(' line {line}')")
+
+    def test_cursor(self) -> None:
+        """A cross is where the last motion that was made put the cursor."""
+        self.press(10)
+        title = "document.querySelector('.picture p').textContent"
+        self.assertIn("; cursor at (17, 2)", self.browser.wait(f"{title}.includes('cursor') && {title}"))
+        centre = self.browser.evaluate(
+            "(() => { const { marks, scale } = page.sides[0];"
+            " return [...marks.getContext('2d').getImageData(17.5 * scale, 2.5 * scale, 1, 1).data]; })()"
+        )
+        self.assertEqual([0, 0, 0, 255], centre)
+        at, off = {"h": 17, "v": 2}, {"h": 40, "v": -3}
+        self.assertEqual([None, at, at, at, at, at, off], self.browser.evaluate("[0, 1, 2, 3, 4, 5, 6].map((n) => page.sides[0].trace.cursor(n))"))
+        self.browser.evaluate("page.go(page.last)")
+        self.browser.wait(f"{title}.includes('; cursor at (40, -3), off the screen')")
+
+    def test_reason_is_whole(self) -> None:
+        """The reason of the present step has as many lines as it needs, and the rows below make room."""
+        self.press(13)
+        self.browser.wait("document.querySelector('.row.now.reason')")
+        shown = self.browser.evaluate(
+            "(() => { const it = document.querySelector('.row.now.reason'), below = it.nextElementSibling;"
+            " return [it.offsetHeight > 18, it.scrollWidth <= it.clientWidth, below.offsetTop - it.offsetTop - it.offsetHeight]; })()"
+        )
+        self.assertEqual([True, True, 0], shown)
+
+    def test_marks_of_lines(self) -> None:
+        """A line can have put the window there and changed the point; of a point of the first picture that is `begin`."""
+        self.press(15)
+        self.click(21, 5)
+        self.assertEqual("14move other_of_windows 20 4   = ok", self.browser.wait("(document.querySelector('.row.put.painted') || {}).textContent"))
+        self.click(1, 9)
+        self.browser.wait("document.querySelector('.point').textContent.endsWith('pixel 07 since line 9, the first picture')")
+        self.assertEqual(["8root desk", "9begin"], self.browser.evaluate("['put', 'painted'].map((it) => document.querySelector(`.row.${it}`).textContent)"))
 
     def test_where(self) -> None:
         """At all points of some scripts the page says what the program says."""
