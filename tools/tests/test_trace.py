@@ -418,7 +418,7 @@ class InBrowser(unittest.TestCase):
     def test_reason_is_whole(self) -> None:
         """The reason of the present step has as many lines as it needs, and the rows below make room."""
         self.press(13)
-        self.browser.wait("document.querySelector('.row.now.reason')")
+        self.browser.wait("document.querySelector('.row.now.reason') !== null")
         shown = self.browser.evaluate(
             "(() => { const it = document.querySelector('.row.now.reason'), below = it.nextElementSibling;"
             " return [it.offsetHeight > 18, it.scrollWidth <= it.clientWidth, below.offsetTop - it.offsetTop - it.offsetHeight]; })()"
@@ -428,9 +428,9 @@ class InBrowser(unittest.TestCase):
     def test_marks_of_lines(self) -> None:
         """A line can have put the window there and changed the point; of a point of the first picture that is `begin`."""
         self.press(15)
-        self.click(21, 5)
+        self.browser.evaluate("page.clickPoint(page.sides[0], 21, 5)")
         self.assertEqual("14move other_of_windows 20 4   = ok", self.browser.wait("(document.querySelector('.row.put.painted') || {}).textContent"))
-        self.click(1, 9)
+        self.browser.evaluate("page.clickPoint(page.sides[0], 1, 9)")
         self.browser.wait("document.querySelector('.point').textContent.endsWith('pixel 07 since line 9, the first picture')")
         self.assertEqual(["8root desk", "9begin"], self.browser.evaluate("['put', 'painted'].map((it) => document.querySelector(`.row.${it}`).textContent)"))
 
