@@ -23,7 +23,8 @@ from trestle_tools.outputs import take_apart  # noqa: E402
 from trestle_tools.places import Layout  # noqa: E402
 from trestle_tools.program import PLAYED, REFUSED, play  # noqa: E402
 from trestle_tools.scripts import LINES, Line, lines_of  # noqa: E402
-from trestle_tools.streams import Frame, Refused, frame_of, frames_of, stream_of  # noqa: E402
+from trestle_tools.stream_reader import Frame, Refused  # noqa: E402
+from trestle_tools.streams import dump_of, frame_of, frames_of, stream_of  # noqa: E402
 from trestle_tools.traces import (  # noqa: E402
     Asked,
     Trace,
@@ -113,7 +114,7 @@ class Streams(unittest.TestCase):
                 read = list(frames_of(stream))
                 dumps = take_apart(play(script.read_bytes()).text()).dumps()
                 self.assertEqual([frame_of(dump) for dump in dumps], read)
-                self.assertEqual([dump._replace(line=0) for dump in dumps], [frame.dump() for frame in read])
+                self.assertEqual([dump._replace(line=0) for dump in dumps], [dump_of(frame) for frame in read])
                 self.assertEqual(stream, stream_of(read))
 
     def test_refused(self) -> None:

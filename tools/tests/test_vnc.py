@@ -22,7 +22,8 @@ from trestle_tools.commands.vnc import stream_in  # noqa: E402
 from trestle_tools.pictures import UNMARKED, palette, picture_of  # noqa: E402
 from trestle_tools.program import play  # noqa: E402
 from trestle_tools.rfb import OURS, Broken, Format, Server, Show, Timing, format_of  # noqa: E402
-from trestle_tools.streams import Frame, frames_of  # noqa: E402
+from trestle_tools.stream_reader import Frame  # noqa: E402
+from trestle_tools.streams import dump_of, frames_of  # noqa: E402
 
 COLOURS = [tuple(colour) for colour in palette()]
 Pixels = List[List[Tuple[int, ...]]]
@@ -35,7 +36,7 @@ def frames(script: str = "demos/desktop.txt") -> List[Frame]:
 
 def wanted(frame: Frame, width: int, height: int, scale: int = 1) -> Pixels:
     """The picture of a cut on a screen of some size."""
-    rows = [[COLOURS[it] for it in row] for row in picture_of(frame.dump()).rows]
+    rows = [[COLOURS[it] for it in row] for row in picture_of(dump_of(frame)).rows]
     rows = [row + [COLOURS[UNMARKED]] * (width - len(row)) for row in rows]
     rows += [[COLOURS[UNMARKED]] * width] * (height - len(rows))
     return [[pixel for pixel in row for _ in range(scale)] for row in rows for _ in range(scale)]

@@ -25,7 +25,8 @@ Python 3.8 and its standard library. Each module begins with what it is for:
     looks        what dumps show, and what nobody sees
     orders       steps whose order may show where threads play a script
     findings     what is legal in a script and yet hardly meant
-    streams      reads and writes the streams of `mirror`
+    stream_reader  reads a stream of `mirror`: one file, to copy
+    streams      writes streams; their screens as dumps
     traces       a script step by step: answers, events, screens, places and numbers; two of them side by side
     pages        traces as one page of HTML, by the template page.html
     recordings   a script that is written while it is played

@@ -13,7 +13,8 @@ from typing import Any, Callable, Dict, Iterator, List, NamedTuple, Optional, Tu
 
 from .outputs import Dump
 from .pictures import UNMARKED, palette, picture_of
-from .streams import Frame, span_of
+from .stream_reader import Frame
+from .streams import dump_of, span_of
 
 # So many seconds the rest of a message may take, so many bytes a text may have, and so many viewers there may be.
 PATIENCE = 20.0
@@ -106,7 +107,7 @@ class Show:
         self.scale = scale
         self.width = max(frame.width for frame in frames)
         self.height = max(frame.height for frame in frames)
-        self.cuts = [self.rows(frame.dump()) for frame in frames]
+        self.cuts = [self.rows(dump_of(frame)) for frame in frames]
 
     def rows(self, dump: Dump) -> List[bytes]:
         """The rows of a cut."""

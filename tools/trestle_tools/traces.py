@@ -16,7 +16,8 @@ from .outputs import Dump, Entry, take_apart
 from .places import Layout, Rect
 from .program import PLAYED, REFUSED, Trouble, play
 from .scripts import LINES, REPORTS, TEXT_BYTES, Line
-from .streams import Frame, frame_of, frames_of, stream_of
+from .stream_reader import Frame
+from .streams import frame_of, frames_of, stream_of
 from .windows import Window, Windows
 
 # So many pictures a page has at most, and so many points in all of them together; but always those of one copy.

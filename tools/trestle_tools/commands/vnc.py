@@ -8,7 +8,8 @@ from typing import List
 from . import FINE, Parser, write
 from ..program import Trouble, read_bytes
 from ..rfb import Server, Show, Timing
-from ..streams import Frame, Refused, frames_of
+from ..stream_reader import Frame, Refused
+from ..streams import frames_of
 
 WHAT = """\
 Shows the cuts of a stream, as `trestle mirror` writes it, to VNC viewers on this machine: by RFB 3.8 on 127.0.0.1,
