@@ -429,7 +429,7 @@ class InBrowser(unittest.TestCase):
     def test_marks_of_lines(self) -> None:
         """A line can have put the window there and changed the point; of a point of the first picture that is `begin`."""
         self.press(15)
-        self.browser.evaluate("page.clickPoint(page.sides[0], 21, 5)")
+        self.browser.evaluate("page.clickPoint(page.sides[0], 25, 5)")
         self.assertEqual("14move other_of_windows 20 4   = ok", self.browser.wait("(document.querySelector('.row.put.painted') || {}).textContent"))
         self.browser.evaluate("page.clickPoint(page.sides[0], 1, 9)")
         self.browser.wait("document.querySelector('.point').textContent.endsWith('pixel 07 since line 9, the first picture')")
