@@ -39,10 +39,10 @@ fn entries() -> [Entry<WidgetCmd>; 2] {
 /// A window is told something by one call, and another one repainted by two, each with its entry.
 fn shared<P: Played>(rt: &(impl Abort + AllocGlobal)) {
     let mut stage: P = two_beside(rt, 4);
-    let [told, repainted] = entries();
+    let entries = entries();
     stage.hand_over(rt, A, TOLD);
     stage.repaint_apart(rt, B);
-    assert!(rt; stage.has_entry(rt, 0, &told) && stage.has_entry(rt, 1, &repainted));
+    assert!(rt; stage.has_entry(rt, 0, &entries[0]) && stage.has_entry(rt, 1, &entries[1]));
     has_rows(rt, &stage, &[&[0, 0, 2, 2]]);
     peeks(rt, &stage, (2, 1, 0));
     shows(rt, &mut stage, &[&[5, 5, 2, 2]]);
@@ -53,11 +53,12 @@ fn given<P: Played>(rt: &(impl Abort + AllocGlobal)) {
     let mut stage: P = two_beside(rt, 4);
     settle(rt, &mut stage);
     let before = stage.entries();
-    let [told, _] = entries();
+    let entries = entries();
     stage.give(rt, A, TOLD);
     stage.give(rt, A, TOLD);
     assert!(rt;
-        stage.has_entry(rt, before, &told) && stage.has_entry(rt, before.saturating_add(1), &told)
+        stage.has_entry(rt, before, &entries[0])
+            && stage.has_entry(rt, before.saturating_add(1), &entries[0])
     );
     has_rows(rt, &stage, &[&[1, 1, 2, 2]]);
     peeks(rt, &stage, (0, 2, 2));
