@@ -5,7 +5,7 @@ use tr_base::{Event, Line, NoMemory};
 use tr_desk::DeskFault;
 use tr_forest::NodeFault;
 
-/// What a step answers.
+/// The answer of a step.
 #[derive(Debug, Drop)]
 pub enum Answer {
     /// The step is done.
@@ -53,7 +53,7 @@ impl Answer {
     }
 }
 
-/// What a step answers, and how many deliveries it makes.
+/// The answer of a step, and the number of its deliveries.
 #[derive(Debug, Drop)]
 pub struct Reply {
     pub answer: Answer,
