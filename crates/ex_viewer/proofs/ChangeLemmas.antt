@@ -8,7 +8,7 @@ use Rattle.tr_kernel.specs.Differences.{IsFirstDifference, IsLastDifference}
 use Rattle.tr_screen.specs.Pictures.{Picture, IsPicture, row_of}
 use Rattle.tr_mirror.proofs.PixelLemmas.{same_picture}
 use Rattle.ex_viewer.specs.declared.changes.Bounds.{Bounds}
-use Rattle.ex_viewer.specs.Changes.{Has, IsWithin, HasRow, IsRowChange, IsLeast, IsChangeTo, around_of, joined_of}
+use Rattle.ex_viewer.specs.Changes.{Has, LiesWithin, HasChangesOfRow, IsRowChange, IsLeast, IsChangeTo, around_of, joined_of}
 
 -- ---- one row
 
@@ -29,7 +29,7 @@ module _ (v : ℕ) (old new : List ℕ) (i j : ℕ) (long : length old ≡ lengt
     in_row : (h : ℕ) → i ≤ h → h ≤ j → Has b h v
     in_row h from to = record { west = omega arith; east = omega arith; north = omega arith; south = omega arith }
 
-    round_both : (other : Bounds) → Has other i v → Has other j v → IsWithin b other
+    round_both : (other : Bounds) → Has other i v → Has other j v → LiesWithin b other
     round_both other first last = record { west = omega arith; east = omega arith; north = omega arith; south = omega arith }
 
     pub row_is : IsRowChange v old new b
@@ -46,7 +46,7 @@ wider a b h v at = record { west = omega arith; east = omega arith; north = omeg
 wider_by : (a b : Bounds) (h v : ℕ) → Has b h v → Has (around_of a b) h v
 wider_by a b h v at = record { west = omega arith; east = omega arith; north = omega arith; south = omega arith }
 
-both_within : (a b other : Bounds) → IsWithin a other → IsWithin b other → IsWithin (around_of a b) other
+both_within : (a b other : Bounds) → LiesWithin a other → LiesWithin b other → LiesWithin (around_of a b) other
 both_within a b other p q = record { west = omega arith; east = omega arith; north = omega arith; south = omega arith }
 
 module _ (p q : Picture) (v : ℕ) where
@@ -54,18 +54,19 @@ module _ (p q : Picture) (v : ℕ) where
   pub same_row : (o : Option Bounds) → row_of p v ≡ row_of q v → IsChangeTo p q v o → IsChangeTo p q (v + 1) o
   same_row None same before = below_more (λ k. row_of p k ≡ row_of q k) v before same
   same_row (Some b) same before = record {
-    has = below_more (λ k. HasRow k (row_of p k) (row_of q k) b) v before.has (λ h apart. absurd (apart (ap (λ l. slice_index l h) same)));
+    has = below_more (λ k. HasChangesOfRow k (row_of p k) (row_of q k) b) v before.has (λ h apart. absurd (apart (ap (λ l. slice_index l h) same)));
     least = λ other has. before.least other (λ k below. has k (omega arith));
   }
 
   -- a row that isn't, the first one or one more
   pub next_row : (o : Option Bounds) (r : Bounds) → IsChangeTo p q v o → IsRowChange v (row_of p v) (row_of q v) r → IsLeast p q (v + 1) (joined_of o r)
   next_row None r before row = record {
-    has = below_more (λ k. HasRow k (row_of p k) (row_of q k) r) v (λ k below h apart. absurd (apart (ap (λ l. slice_index l h) (before k below)))) row.has;
+    has = below_more (λ k. HasChangesOfRow k (row_of p k) (row_of q k) r) v (λ k below h apart. absurd (apart (ap (λ l. slice_index l h) (before k below))))
+        row.has;
     least = λ other has. row.least other (has v (omega arith));
   }
   next_row (Some b) r before row = record {
-    has = below_more (λ k. HasRow k (row_of p k) (row_of q k) (around_of b r)) v (λ k below h apart. wider b r h k (before.has k below h apart))
+    has = below_more (λ k. HasChangesOfRow k (row_of p k) (row_of q k) (around_of b r)) v (λ k below h apart. wider b r h k (before.has k below h apart))
         (λ h apart. wider_by b r h v (row.has h apart));
     least = λ other has. both_within b r other (before.least other (λ k below. has k (omega arith))) (row.least other (has v (omega arith)));
   }

@@ -14,29 +14,29 @@ pub record Has (b : Bounds) (h v : ℕ) : Type 0 where
   pub south : v < b.south
 
 -- a rectangle lies within another
-pub record IsWithin (inner outer : Bounds) : Type 0 where
+pub record LiesWithin (inner outer : Bounds) : Type 0 where
   pub west : outer.west ≤ inner.west
   pub east : inner.east ≤ outer.east
   pub north : outer.north ≤ inner.north
   pub south : inner.south ≤ outer.south
 
 -- the rectangle has each pixel of row v at which the rows differ
-abbrev pub HasRow : ℕ → List ℕ → List ℕ → Bounds → Type 0
-HasRow v old new b = (h : ℕ) → slice_index old h ≢ slice_index new h → Has b h v
+abbrev pub HasChangesOfRow : ℕ → List ℕ → List ℕ → Bounds → Type 0
+HasChangesOfRow v old new b = (h : ℕ) → slice_index old h ≢ slice_index new h → Has b h v
 
 -- the rectangle has each pixel of the first rows, so many of them, at which the pictures differ
 abbrev pub HasRows : Picture → Picture → ℕ → Bounds → Type 0
-HasRows p q rows b = (v : ℕ) → v < rows → HasRow v (row_of p v) (row_of q v) b
+HasRows p q rows b = (v : ℕ) → v < rows → HasChangesOfRow v (row_of p v) (row_of q v) b
 
 -- the least rectangle that has each pixel of row v at which the rows differ
 pub record IsRowChange (v : ℕ) (old new : List ℕ) (b : Bounds) : Type 0 where
-  pub has : HasRow v old new b
-  pub least : (other : Bounds) → HasRow v old new other → IsWithin b other
+  pub has : HasChangesOfRow v old new b
+  pub least : (other : Bounds) → HasChangesOfRow v old new other → LiesWithin b other
 
 -- the least rectangle that has each pixel of the first rows at which the pictures differ
 pub record IsLeast (p q : Picture) (rows : ℕ) (b : Bounds) : Type 0 where
   pub has : HasRows p q rows b
-  pub least : (other : Bounds) → HasRows p q rows other → IsWithin b other
+  pub least : (other : Bounds) → HasRows p q rows other → LiesWithin b other
 
 -- what changed in the first rows: nothing, or the pixels in a rectangle
 abbrev pub IsChangeTo : Picture → Picture → ℕ → Option Bounds → Type 0

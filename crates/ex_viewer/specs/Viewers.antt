@@ -1,7 +1,7 @@
 -- What a viewer of a stream tells.
 use Rattle.std.specs.Prelude.{◌≡◌, ⊤, ℕ, ◌+◌, List, [], ◌∷◌, length, Option, Some, None}
 use Rattle.tr_screen.specs.Pictures.{Picture}
-use Rattle.tr_mirror.specs.Readings.{Reading, reading_of, shown, last_of}
+use Rattle.tr_mirror.specs.Readings.{Reading, reading_of, screens_shown, last_of}
 use Rattle.ex_viewer.specs.Changes.{IsChange}
 use Rattle.ex_viewer.specs.declared.changes.Change.{Change}
 use Rattle.ex_viewer.specs.declared.refusals.Stopped.{Stopped}
@@ -14,7 +14,7 @@ bytes_of m = m.fed + length m.begun
 -- a viewer read this stream so far, and has the screen of its last cut, if one came
 pub record HasViewed (stream : List ℕ) (m : Reading) (last : Option Picture) : Type 0 where
   pub reading : m ≡ reading_of stream
-  pub last_is : last ≡ last_of (shown stream)
+  pub last_is : last ≡ last_of (screens_shown stream)
 
 -- what is told of the screens that some bytes end, one at most: nothing where they end none, else the change to it
 abbrev pub Tells : Option Picture → List Picture → Option Change → Type 0

@@ -1,7 +1,7 @@
 ghost use Rattle.std.specs.Prelude.{◌≡◌, ◌+◌, ◌<◌, ◌≤◌, ◌++◌, ◌↔◌, ℕ, List, length, take, None};
 ghost use Rattle.std.specs.Prelude.{IfOk, IfErr, IsOk, IsTrue};
 ghost use Rattle.tr_mirror.specs.Readings as spec;
-ghost use Rattle.tr_mirror.specs.Readings.{is_between, longest_stream, read, shown_from};
+ghost use Rattle.tr_mirror.specs.Readings.{is_between, longest_stream, after_bytes, shown_from};
 ghost use Rattle.ex_viewer.specs.Viewers.{HasViewed, IsStopped, Tells, bytes_of};
 
 use crate::changes::{Change, change_between};
@@ -38,7 +38,7 @@ impl Viewer {
         requires room { bytes_of self.old.mirror + length piece.now ≤ longest_stream }
         ensures count { IfOk result (λ r. (0 < r.0) × (r.0 ≤ length piece.now)) }
         ensures bytes { IfOk result (λ r. bytes_of self.new.mirror ≤ bytes_of self.old.mirror + r.0) }
-        ensures read { IfOk result (λ r. self.new.mirror ≡ read self.old.mirror (take r.0 piece.now)) }
+        ensures read { IfOk result (λ r. self.new.mirror ≡ after_bytes self.old.mirror (take r.0 piece.now)) }
 
         // Of the bytes that were read only the last one can end a cut. What is told is what that cut
         // changed.
@@ -48,7 +48,7 @@ impl Viewer {
         // The last screen stays that of the stream's last cut.
         ensures viewed { (stream : List ℕ) → HasViewed stream self.old.mirror self.old.last →
             IfOk result (λ r. HasViewed (stream ++ take r.0 piece.now) self.new.mirror self.new.last) }
-        ensures stopped { IfErr result (IsStopped (read self.old.mirror piece.now)) }
+        ensures stopped { IfErr result (IsStopped (after_bytes self.old.mirror piece.now)) }
     {
         let before = self.mirror.cuts();
         let count = self.mirror.feed_to_cut(piece)?;

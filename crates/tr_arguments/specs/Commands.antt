@@ -20,12 +20,12 @@ alone word =
     else None))))
 
 -- the script that is drawn from a number, which is spelled in one way
-abbrev pub numbered : List ℕ → Option Command
-numbered number = if is_number 0 4294967295 number then Some (Gen (nat_of number)) else None
+abbrev pub gen_of_number : List ℕ → Option Command
+gen_of_number number = if is_number 0 4294967295 number then Some (Gen (nat_of number)) else None
 
 -- what two words ask for: `gen` and a number
 abbrev pub with_number : List ℕ → List ℕ → Option Command
-with_number word number = if bytes_eq word (codes "gen") then numbered number else None
+with_number word number = if bytes_eq word (codes "gen") then gen_of_number number else None
 
 -- what a list of words asks for, if it is an accepted one
 abbrev pub command_of : List (List ℕ) → Option Command

@@ -15,8 +15,8 @@ abbrev pub number_rule : Rule
 number_rule = record (new_rule (codes "number")) { required = true }
 
 -- the program's words without its name: no flags, no `help`, and one of the subcommands
-abbrev pub bare : App
-bare = on_top (λ s. record s {
+abbrev pub bare_words : App
+bare_words = on_top (λ s. record s {
   no_binary_name = true;
   disable_help_flag = true;
   disable_help_subcommand = true;
@@ -27,16 +27,16 @@ abbrev pub gen : App
 gen = with_rule (new_app (codes "gen")) number_rule
 
 -- a subcommand with nothing behind its name
-abbrev pub with_name : App → Text → App
-with_name app name = with_subcommand app (new_shape name)
+abbrev pub with_command_name : App → Text → App
+with_command_name app name = with_subcommand app (new_shape name)
 
 -- the subcommands that take a script and play it
 abbrev pub playing : App
-playing = with_name (with_name (with_name bare (codes "play")) (codes "serial")) (codes "check")
+playing = with_command_name (with_command_name (with_command_name bare_words (codes "play")) (codes "serial")) (codes "check")
 
 -- the whole parser
 abbrev pub parser : App
-parser = with_subcommand (with_name (with_name playing (codes "mirror")) (codes "show")) gen.top
+parser = with_subcommand (with_command_name (with_command_name playing (codes "mirror")) (codes "show")) gen.top
 
 -- a word, if there is one, as a list
 abbrev pub words_of_option : Option Text → List Text

@@ -1,7 +1,7 @@
 //! What the words of the command line ask for.
 ghost use Rattle.std.specs.Prelude.{◌≡◌, ◌∷◌, false, IfOk, option_map, string_bytes};
 ghost use Rattle.std.specs.List.{list_any};
-ghost use Rattle.tr_arguments.specs.Commands.{command_of, numbered, texts_of};
+ghost use Rattle.tr_arguments.specs.Commands.{command_of, gen_of_number, texts_of};
 ghost use Rattle.tr_arguments.specs.Parsers.{command_of_found, is_flag, words_of_option};
 ghost use Rattle.clap.specs.Words.{subcommand_rows_of};
 
@@ -96,7 +96,7 @@ fn named(name: &str, number: Option<&str>) -> Option<Command>
 
 /// The script of a number, which is spelled in one way.
 fn numbered(word: &str) -> Option<Command>
-    ensures { result ≡ numbered word.now }
+    ensures { result ≡ gen_of_number word.now }
 {
     match number(word, 0, u32::MAX) {
         Ok(number) => Some(Command::Gen(number)),

@@ -20,7 +20,7 @@ use Rattle.tr_journal.specs.Differences.{DifferIn}
 use Rattle.tr_journal.proofs.ActorLemmas.{steps_by-short}
 use Rattle.tr_audit.specs.Progress.{IsUpTo, IsProgress, AreFollowed, IsThrough, AreThrough, IsApartFirst, IsApartAt}
 use Rattle.tr_audit.specs.Audits.{HaveSameSteps, IsApart, IsFirstFound, IsOwnApart, IsOwnDifference}
-use Rattle.tr_audit.specs.Progress.{actor_at, between, no_progress, rank_of, step_found}
+use Rattle.tr_audit.specs.Progress.{actor_at, entries_between, no_progress, rank_of, step_found}
 use Rattle.tr_audit.proofs.PlaceLemmas.{here_within, slice_get-take, differ_here, differ_in_here}
 use Rattle.tr_audit.proofs.RankLemmas.{actor_ranked, listed_rank, rank_before, rank_listed, rank_within, ranked_actor}
 
@@ -94,7 +94,7 @@ within_up_to list steps entries same None first left =
 within_up_to list steps entries same (Some k) stops left = inr stops.within
 
 -- all entries behind the first ones
-between_all : {M : Type 0} (from : ℕ) (entries : List (Entry M)) → between from (length entries) entries ≡ drop from entries
+between_all : {M : Type 0} (from : ℕ) (entries : List (Entry M)) → entries_between from (length entries) entries ≡ drop from entries
 between_all from entries = ap (drop from) (take_all (length entries) entries (omega arith))
 
 module _ {M : Type 0} (lists : ListsView M) (entries : List (Entry M)) (from : ℕ) (progress : List Progress) where

@@ -4,7 +4,7 @@ use Rattle.tr_journal.specs.declared.differences.Difference.{Difference}
 use Rattle.tr_journal.specs.declared.differences.Apart.{Apart}
 use Rattle.tr_journal.specs.declared.differences.Apart.TheVariants.{Opening, Kept, Own}
 use Rattle.tr_journal.specs.Lists.{ListsView, list_of}
-use Rattle.tr_journal.specs.Differences.{Account, IsFirst, IsFirstApart, Matches, kept_found, steps_found}
+use Rattle.tr_journal.specs.Differences.{Account, IsFirstDiffering, IsFirstApart, Matches, kept_found, steps_found}
 use Rattle.tr_audit.proofs.PlaceLemmas.{differ_unlike}
 
 module _ {C M : Type 0} (kept : Account C M) (lists : ListsView M) (found : Account C M) where
@@ -15,7 +15,7 @@ module _ {C M : Type 0} (kept : Account C M) (lists : ListsView M) (found : Acco
       differ_unlike (list_of lists actor) (steps_found kept lists found actor) place first.1.first (same.steps actor first.0.listed)
 
   -- where something differs, not all matches
-  pub first_apart : (d : Difference M) → IsFirst kept lists found d → Matches kept lists found → ⊥
+  pub first_apart : (d : Difference M) → IsFirstDiffering kept lists found d → Matches kept lists found → ⊥
   first_apart d first same = no_match d.place d.what first same
 
   abbrev told : ℕ → Apart M → Difference M

@@ -12,8 +12,8 @@ use Rattle.tr_audit.specs.declared.progress.Progress.{Progress}
 use Rattle.tr_journal.specs.Lists.{ListsView, list_of}
 use Rattle.tr_journal.specs.Actors.{is_by, steps_by}
 use Rattle.tr_journal.proofs.ActorLemmas.{actor_same, same_actor, steps_by-append}
-use Rattle.tr_audit.specs.Progress.{AreFirst, StopsAt, IsProgress, Follows, AreFollowed}
-use Rattle.tr_audit.specs.Progress.{actor_at, between, no_progress, rank_of, step_found}
+use Rattle.tr_audit.specs.Progress.{AreFirst, StopsAt, IsProgress, IsNextProgress, AreFollowed}
+use Rattle.tr_audit.specs.Progress.{actor_at, entries_between, no_progress, rank_of, step_found}
 use Rattle.tr_audit.proofs.PlaceLemmas.{slice_get-append, slice_get_push}
 use Rattle.tr_audit.proofs.RankLemmas.{actor_ranked, rank_within, ranked_actor}
 
@@ -61,18 +61,18 @@ stops_still list steps more same step stops =
     }
 
 up_to_stopped : {M : Type 0} (list : List (Step M)) (entries : List (Entry M)) (k same : ℕ) (apart : Option ℕ) → is_some apart ≡ true
-    → Follows list entries k (record { same = same; apart = apart }) (record { same = same; apart = apart })
+    → IsNextProgress list entries k (record { same = same; apart = apart }) (record { same = same; apart = apart })
 up_to_stopped list entries k same None is = cc
 up_to_stopped list entries k same (Some j) is = λ steps e at stops. stops_still list steps (e.step ∷ []) same (step_found entries (Some j)) stops
 
 -- a list that an actor left stays left
 pub follows_stopped : {M : Type 0} (list : List (Step M)) (entries : List (Entry M)) (k : ℕ) (old : Progress) → is_some old.apart ≡ true
-    → Follows list entries k old old
+    → IsNextProgress list entries k old old
 follows_stopped list entries k old is = up_to_stopped list entries k old.same old.apart is
 
 up_to_same : {M : Type 0} (list : List (Step M)) (entries : List (Entry M)) (k same : ℕ) (apart : Option ℕ) (e : Entry M) → is_some apart ≡ false
     → slice_get entries k ≡ Some e → slice_get list same ≡ Some e.step
-    → Follows list entries k (record { same = same; apart = apart }) (record { same = same + 1; apart = None })
+    → IsNextProgress list entries k (record { same = same; apart = apart }) (record { same = same + 1; apart = None })
 up_to_same list entries k same (Some j) e going at is = cc
 up_to_same {M = M} list entries k same None e going at is = λ steps f it first.
     let one : e ≡ f = same_Some e f (sym at ∙ it) in
@@ -81,12 +81,12 @@ up_to_same {M = M} list entries k same None e going at is = λ steps f it first.
 -- an entry with the step of the list
 pub follows_same : {M : Type 0} (list : List (Step M)) (entries : List (Entry M)) (k : ℕ) (old : Progress) (e : Entry M) → is_some old.apart ≡ false
     → slice_get entries k ≡ Some e → slice_get list old.same ≡ Some e.step
-    → Follows list entries k old (record { same = old.same + 1; apart = None })
+    → IsNextProgress list entries k old (record { same = old.same + 1; apart = None })
 follows_same list entries k old e going at is = up_to_same list entries k old.same old.apart e going at is
 
 up_to_apart : {M : Type 0} (list : List (Step M)) (entries : List (Entry M)) (k same : ℕ) (apart : Option ℕ) (e : Entry M) → is_some apart ≡ false
     → slice_get entries k ≡ Some e → (slice_get list same ≡ Some e.step → ⊥)
-    → Follows list entries k (record { same = same; apart = apart }) (record { same = same; apart = Some k })
+    → IsNextProgress list entries k (record { same = same; apart = apart }) (record { same = same; apart = Some k })
 up_to_apart list entries k same (Some j) e going at other = cc
 up_to_apart {M = M} list entries k same None e going at other = λ steps f it first.
     let one : e ≡ f = same_Some e f (sym at ∙ it) in
@@ -96,12 +96,12 @@ up_to_apart {M = M} list entries k same None e going at other = λ steps f it fi
 -- an entry with another step
 pub follows_apart : {M : Type 0} (list : List (Step M)) (entries : List (Entry M)) (k : ℕ) (old : Progress) (e : Entry M) → is_some old.apart ≡ false
     → slice_get entries k ≡ Some e → (slice_get list old.same ≡ Some e.step → ⊥)
-    → Follows list entries k old (record { same = old.same; apart = Some k })
+    → IsNextProgress list entries k old (record { same = old.same; apart = Some k })
 follows_apart list entries k old e going at other = up_to_apart list entries k old.same old.apart e going at other
 
 -- the entries up to one more
 between_more : {M : Type 0} (from k : ℕ) (entries : List (Entry M)) (e : Entry M) → from ≤ k → slice_get entries k ≡ Some e
-    → between from (k + 1) entries ≡ between from k entries ++ e ∷ []
+    → entries_between from (k + 1) entries ≡ entries_between from k entries ++ e ∷ []
 between_more from k entries e order at =
     let low : k < length entries = slice_get_within entries k e at in
     let long : length (take k entries) ≡ k = length-take-le k entries (omega arith) in
@@ -126,22 +126,22 @@ other_rank n rank a o within is other =
 
 module _ {M : Type 0} (lists : ListsView M) (entries : List (Entry M)) (from k : ℕ) (e : Entry M) where
   -- what is known of a list whose actor the next entry is
-  own_more : (a : Actor) (old new : Progress) → from ≤ k → slice_get entries k ≡ Some e → a ≡ e.actor → Follows (list_of lists a) entries k old new
-      → IsProgress (list_of lists a) (steps_by a (between from k entries)) entries old
-      → IsProgress (list_of lists a) (steps_by a (between from (k + 1) entries)) entries new
+  own_more : (a : Actor) (old new : Progress) → from ≤ k → slice_get entries k ≡ Some e → a ≡ e.actor → IsNextProgress (list_of lists a) entries k old new
+      → IsProgress (list_of lists a) (steps_by a (entries_between from k entries)) entries old
+      → IsProgress (list_of lists a) (steps_by a (entries_between from (k + 1) entries)) entries new
   own_more a old new order at is follows known =
-      let steps : steps_by a (between from (k + 1) entries) ≡ steps_by a (between from k entries) ++ e.step ∷ [] =
+      let steps : steps_by a (entries_between from (k + 1) entries) ≡ steps_by a (entries_between from k entries) ++ e.step ∷ [] =
       ap (steps_by a) (between_more from k entries e order at)
-      ∙ by_own a (between from k entries) e (ap (is_by a) (sym is) ∙ actor_same a) in
-      rw steps (follows (steps_by a (between from k entries)) e at known)
+      ∙ by_own a (entries_between from k entries) e (ap (is_by a) (sym is) ∙ actor_same a) in
+      rw steps (follows (steps_by a (entries_between from k entries)) e at known)
 
   -- and of another one
   other_more : (a : Actor) (old : Progress) → from ≤ k → slice_get entries k ≡ Some e → is_by a e.actor ≡ false
-      → IsProgress (list_of lists a) (steps_by a (between from k entries)) entries old
-      → IsProgress (list_of lists a) (steps_by a (between from (k + 1) entries)) entries old
+      → IsProgress (list_of lists a) (steps_by a (entries_between from k entries)) entries old
+      → IsProgress (list_of lists a) (steps_by a (entries_between from (k + 1) entries)) entries old
   other_more a old order at unlike known =
-      let steps : steps_by a (between from (k + 1) entries) ≡ steps_by a (between from k entries) =
-      ap (steps_by a) (between_more from k entries e order at) ∙ by_other a (between from k entries) e unlike in
+      let steps : steps_by a (entries_between from (k + 1) entries) ≡ steps_by a (entries_between from k entries) =
+      ap (steps_by a) (between_more from k entries e order at) ∙ by_other a (entries_between from k entries) e unlike in
       rw steps known
 
   -- an entry more of an actor that has no list
@@ -156,14 +156,14 @@ module _ {M : Type 0} (lists : ListsView M) (entries : List (Entry M)) (from k :
   -- an entry more of an actor that has one
   pub followed_more : (progress : List Progress) (rank : ℕ) (new : Progress) → from ≤ k → slice_get entries k ≡ Some e
       → rank_of (length lists.leaves) e.actor ≡ Some rank
-      → Follows (list_of lists e.actor) entries k (get_or progress rank no_progress) new
+      → IsNextProgress (list_of lists e.actor) entries k (get_or progress rank no_progress) new
       → AreFollowed lists entries from k progress → AreFollowed lists entries from (k + 1) (set progress rank new)
   followed_more progress rank new order at is follows so_far =
       let n : ℕ = length lists.leaves in
       let low : rank < n + 2 = rank_within n e.actor rank is in
       let here : actor_at n rank ≡ e.actor = ranked_actor n e.actor rank is in
       let Known : ℕ → Progress → Type 0 = λ r p.
-      IsProgress (list_of lists (actor_at n r)) (steps_by (actor_at n r) (between from (k + 1) entries)) entries p in
+      IsProgress (list_of lists (actor_at n r)) (steps_by (actor_at n r) (entries_between from (k + 1) entries)) entries p in
       let own : Known rank new =
       own_more (actor_at n rank) (get_or progress rank no_progress) new order at here (rw here follows) (so_far.each rank low) in
       let written : get_or (set progress rank new) rank no_progress ≡ new =

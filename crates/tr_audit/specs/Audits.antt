@@ -31,7 +31,7 @@ module _ {M : Type 0} (lists : ListsView M) (later : List (Entry M)) where
 
 module _ {M : Type 0} (kept : List (Entry M)) (lists : ListsView M) (found : List (Entry M)) where
   -- the entries that were kept are there, and behind them each actor's steps
-  pub record HasAll : Type 0 where
+  pub record HasAllEntries : Type 0 where
     pub entries : kept ≡ take (length kept) found
     pub steps : HaveSameSteps lists (drop (length kept) found)
 

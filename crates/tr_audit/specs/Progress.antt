@@ -36,8 +36,8 @@ abbrev pub no_progress : Progress
 no_progress = record { same = 0; apart = None }
 
 -- the entries behind the first `from`, up to the first `k`
-abbrev pub between : {M : Type 0} → ℕ → ℕ → List (Entry M) → List (Entry M)
-between from k entries = drop from (take k entries)
+abbrev pub entries_between : {M : Type 0} → ℕ → ℕ → List (Entry M) → List (Entry M)
+entries_between from k entries = drop from (take k entries)
 
 module _ {M : Type 0} (list : List (Step M)) where
   -- the steps that an actor made are the first ones of its list
@@ -64,8 +64,8 @@ module _ {M : Type 0} (list : List (Step M)) where
 
   -- what one progress says of some steps, the next one says of these and that of the entry behind `k`
   -- others
-  abbrev pub Follows : List (Entry M) → ℕ → Progress → Progress → Type 0
-  Follows entries k old new =
+  abbrev pub IsNextProgress : List (Entry M) → ℕ → Progress → Progress → Type 0
+  IsNextProgress entries k old new =
       (steps : List (Step M)) (e : Entry M) → slice_get entries k ≡ Some e
       → IsProgress steps entries old → IsProgress (steps ++ e.step ∷ []) entries new
 
@@ -80,14 +80,14 @@ module _ {M : Type 0} (lists : ListsView M) where
   list_at rank = list_of lists (actor_at (length lists.leaves) rank)
 
   -- and its steps among these entries
-  abbrev pub steps_at : ℕ → List (Entry M) → List (Step M)
-  steps_at rank entries = steps_by (actor_at (length lists.leaves) rank) entries
+  abbrev pub steps_of_rank : ℕ → List (Entry M) → List (Step M)
+  steps_of_rank rank entries = steps_by (actor_at (length lists.leaves) rank) entries
 
   -- of each actor that has a list, by its rank, the progress up to the first `k` entries
   pub record AreFollowed (entries : List (Entry M)) (from k : ℕ) (progress : List Progress) : Type 0 where
     pub count : length progress ≡ length lists.leaves + 2
     pub each : (rank : ℕ) → rank < length lists.leaves + 2
-        → IsProgress (list_at rank) (steps_at rank (between from k entries)) entries
+        → IsProgress (list_at rank) (steps_of_rank rank (entries_between from k entries)) entries
         (get_or progress rank no_progress)
 
   -- the actors with the ranks below this are through their lists

@@ -3,7 +3,7 @@ ghost use Rattle.std.specs.Prelude.{◌≡◌, ◌≤◌, ◌↔◌, ◌+◌, �
 ghost use Rattle.std.specs.Option.{ForSome};
 ghost use Rattle.tr_journal.specs.Openings.{DifferAt};
 ghost use Rattle.tr_journal.specs.Actors.{entries_of};
-ghost use Rattle.tr_audit.specs.Audits.{HasAll, HaveSameSteps, IsFirstFound, IsOwnDifference};
+ghost use Rattle.tr_audit.specs.Audits.{HasAllEntries, HaveSameSteps, IsFirstFound, IsOwnDifference};
 ghost use Rattle.tr_audit.specs.Progress.{step_found};
 
 use crate::progress::first_own_apart;
@@ -21,7 +21,7 @@ pub fn first_apart<M: Command>(
     journal: &Journal<M>,
 ) -> Result<Option<Difference<M>>, NoMemory>
     ensures none { let made = entries_of kept.now.lines in let found = entries_of journal.now.lines in
-        IfOk result (λ d. IfNone d (HasAll made lists.now found)) }
+        IfOk result (λ d. IfNone d (HasAllEntries made lists.now found)) }
     ensures some { let made = entries_of kept.now.lines in let found = entries_of journal.now.lines in
         IfOk result (λ d. IfSome d (IsFirstFound made lists.now found)) }
 {

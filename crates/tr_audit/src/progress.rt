@@ -5,7 +5,7 @@ ghost use Rattle.tr_journal.specs.Lists.{HasList, list_of};
 ghost use Rattle.tr_journal.specs.Actors.{entries_of};
 ghost use Rattle.tr_audit.specs.Progress as spec;
 ghost use Rattle.tr_audit.specs.Audits.{HaveSameSteps};
-ghost use Rattle.tr_audit.specs.Progress.{AreFollowed, Follows, IsApartAt, IsThrough, no_progress};
+ghost use Rattle.tr_audit.specs.Progress.{AreFollowed, IsNextProgress, IsApartAt, IsThrough, no_progress};
 
 use std::alloc::Global;
 use tr_base::{Command, LeafId, NoMemory};
@@ -102,7 +102,7 @@ fn follow<M: Command>(
     k: usize,
 ) -> Progress
     requires { k < length journal.now.lines }
-    ensures { Follows list.now (entries_of journal.now.lines) k progress result }
+    ensures { IsNextProgress list.now (entries_of journal.now.lines) k progress result }
 {
     if progress.apart.is_some() {
         return progress;

@@ -8,9 +8,9 @@ abbrev pub is_set : ℕ → ℕ → Bool
 is_set byte place = bit_at byte (7 - place % 8) == 1
 
 -- the place of a coordinate in the tiles: its remainder by 8, which is never negative
-abbrev pub place_of : ℤ → ℕ
-place_of x = unsigned_abs (int_rem_euclid x (pos 8))
+abbrev pub tile_index : ℤ → ℕ
+tile_index x = unsigned_abs (int_rem_euclid x (pos 8))
 
 -- the tile is repeated in all directions: the bit at a point
 abbrev pub tile_bit : Tile → ℤ → ℤ → Bool
-tile_bit tile h v = is_set (slice_index tile.rows (place_of v)) (place_of h)
+tile_bit tile h v = is_set (slice_index tile.rows (tile_index v)) (tile_index h)

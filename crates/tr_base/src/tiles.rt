@@ -17,7 +17,7 @@ pub fn tile_bit(tile: &Tile, h: i32, v: i32) -> bool
 
 /// The place of a coordinate in the tiles: its remainder by 8, which is never negative.
 pub fn place_of(x: i32) -> u8
-    ensures value { result ≡ spec.place_of x }
+    ensures value { result ≡ spec.tile_index x }
     ensures range { result < 8 }
 {
     x.rem_euclid(8) as u8

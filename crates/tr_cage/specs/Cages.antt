@@ -6,6 +6,6 @@ use Rattle.tr_cage.specs.declared.cages.Cage.{Cage}
 use Rattle.tr_cage.specs.declared.cages.Cage.TheVariants.{Everywhere, Only}
 
 -- the cage holds the cursor at a position, whether another window is under it or not
-abbrev pub holds : Cage → Point → Bool → Bool
-holds Everywhere at is_gone = true
-holds (Only rect here gone) at is_gone = has_point rect at && (if is_gone then gone else here)
+abbrev pub cage_holds : Cage → Point → Bool → Bool
+cage_holds Everywhere at is_gone = true
+cage_holds (Only rect here gone) at is_gone = has_point rect at && (if is_gone then gone else here)

@@ -18,7 +18,7 @@ pub enum Cage {
 /// Whether the cage holds the cursor at `at`, relative to the window's north-west corner. The cursor
 /// is gone where another window, or none, is under it.
 pub fn holds(cage: &Cage, at: Point, is_gone: bool) -> bool
-    ensures cases { result ≡ spec.holds cage.now at is_gone }
+    ensures cases { result ≡ spec.cage_holds cage.now at is_gone }
     ensures empty { (here gone : Bool) → cage.now ≡ Cage.Only empty_rect here gone → result ≡ false }
 {
     match cage {

@@ -6,7 +6,7 @@ use Rattle.std.specs.Borrow.{Bor}
 use Rattle.std.specs.Fork.{slice_chunk}
 use Rattle.tr_grammar.specs.States.{SoFar}
 use Rattle.tr_grammar.specs.Faults.{fault_of, nodes_so_far}
-use Rattle.tr_grammar.specs.Scripts.{Refusal, next, first_fault, after_all, IsPlayable}
+use Rattle.tr_grammar.specs.Scripts.{Refusal, after_line, first_bad_line, after_all_lines, IsPlayable}
 use Rattle.tr_words.specs.Answers.{texts}
 use Rattle.tr_reader.specs.Adding.{is_at_steps, with_steps}
 use Rattle.tr_script.specs.Apart.{TakesStep}
@@ -67,9 +67,9 @@ with_nothing : (c : SoFar) → with_steps c [] ≡ c
 with_nothing c = rw (append-nil c.part.steps) refl
 
 -- lines behind lines
-after_lines : (c : SoFar) (lines more : List (List ℕ)) → after_all c (lines ++ more) ≡ after_all (after_all c lines) more
+after_lines : (c : SoFar) (lines more : List (List ℕ)) → after_all_lines c (lines ++ more) ≡ after_all_lines (after_all_lines c lines) more
 after_lines c [] more = refl
-after_lines c (line ∷ lines) more = after_lines (next c line) lines more
+after_lines c (line ∷ lines) more = after_lines (after_line c line) lines more
 
 -- no line makes no step
 pub none_made : (c : SoFar) (n : ℕ) → MakeSteps c n [] []
@@ -82,7 +82,7 @@ none_made c n = record {
 module _ (c : SoFar) where
   -- the first fault of lines behind these steps
   fault_from : Made → ℕ → List (List ℕ) → Option Refusal
-  fault_from before n lines = first_fault (with_steps c before) n lines
+  fault_from before n lines = first_bad_line (with_steps c before) n lines
 
   -- a line more
   pub line_made : (n k : ℕ) (lines : List (List ℕ)) (line : List ℕ) (old new : Made) →
@@ -97,7 +97,7 @@ module _ (c : SoFar) where
             ap (fault_from before n) (append_assoc lines (line ∷ []) later) ∙ made.fault before (line ∷ later)
             ∙ ap (λ m. fault_from (before ++ old) m (line ∷ later)) (sym at) ∙ one ∙ ap (λ m. fault_from (before ++ new) m later) end;
         script = λ before.
-            after_lines (with_steps c before) lines (line ∷ []) ∙ ap (λ (s : SoFar). next s line) (made.script before) ∙ step.script before;
+            after_lines (with_steps c before) lines (line ∷ []) ∙ ap (λ (s : SoFar). after_line s line) (made.script before) ∙ step.script before;
         playable = step.playable made.playable;
       }
 
@@ -113,7 +113,7 @@ module _ (c : SoFar) where
             ∙ ap (λ m. fault_from (before ++ made) m (more ++ later)) (sym at) ∙ b.fault (before ++ made) later
             ∙ ap₂ (λ s m. fault_from s m later) (append_assoc before made then) end;
         script = λ before.
-            after_lines (with_steps c before) lines more ∙ ap (λ (s : SoFar). after_all s more) (a.script before)
+            after_lines (with_steps c before) lines more ∙ ap (λ (s : SoFar). after_all_lines s more) (a.script before)
             ∙ b.script (before ++ made) ∙ ap (λ (xs : Made). with_steps c xs) (append_assoc before made then);
         playable = All-append (IsPlayable (nodes_so_far c)) made then a.playable b.playable;
       }
@@ -230,16 +230,16 @@ stretch_read all i count c made read fits stretch =
     let end : i + 1 + length (take count rest) ≡ i + count + 1 = omega (arith, long) in
     let none : c ≡ with_steps c [] = sym (with_nothing c) in
     record {
-      fault = read.fault ∙ ap₂ (λ (s : SoFar) (ts : List (List ℕ)). first_fault s (i + 1) ts) none cut ∙ stretch.fault [] (drop (i + count) all)
-          ∙ ap (λ (n : ℕ). first_fault (with_steps c made) n (drop (i + count) all)) end;
-      script = read.script ∙ ap₂ (λ (s : SoFar) (ts : List (List ℕ)). after_all s ts) none cut
+      fault = read.fault ∙ ap₂ (λ (s : SoFar) (ts : List (List ℕ)). first_bad_line s (i + 1) ts) none cut ∙ stretch.fault [] (drop (i + count) all)
+          ∙ ap (λ (n : ℕ). first_bad_line (with_steps c made) n (drop (i + count) all)) end;
+      script = read.script ∙ ap₂ (λ (s : SoFar) (ts : List (List ℕ)). after_all_lines s ts) none cut
           ∙ after_lines (with_steps c []) (take count rest) (drop (i + count) all)
-          ∙ ap (λ (s : SoFar). after_all s (drop (i + count) all)) (stretch.script []);
+          ∙ ap (λ (s : SoFar). after_all_lines s (drop (i + count) all)) (stretch.script []);
     }
 
 -- the next line is read
 pub line_read : (lines : List (Bor (List ℕ))) (i : ℕ) (d : Bor (List ℕ)) (c new : SoFar) → i < length lines → IsRead (texts lines) i c →
-    fault_of c (i + 1) (get_or lines i d).now ≡ None → new ≡ next c (get_or lines i d).now → IsRead (texts lines) (i + 1) new
+    fault_of c (i + 1) (get_or lines i d).now ≡ None → new ≡ after_line c (get_or lines i d).now → IsRead (texts lines) (i + 1) new
 line_read lines i d c new lt read none is = rw is (one_read (texts lines) i c (get_or lines i d).now read (drop_texts lines i d lt) none)
 
 -- no line is taken

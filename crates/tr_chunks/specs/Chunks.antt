@@ -8,7 +8,7 @@ use Rattle.tr_journal.specs.declared.Step.{Step}
 use Rattle.tr_widget.specs.declared.WidgetCmd.{WidgetCmd}
 use Rattle.tr_grammar.specs.States.{SoFar}
 use Rattle.tr_grammar.specs.Faults.{nodes_so_far}
-use Rattle.tr_grammar.specs.Scripts.{first_fault, after_all, IsPlayable}
+use Rattle.tr_grammar.specs.Scripts.{first_bad_line, after_all_lines, IsPlayable}
 use Rattle.tr_reader.specs.Adding.{with_steps}
 
 -- steps that lines make, each with who makes it
@@ -19,8 +19,8 @@ Made = List (Actor × Step WidgetCmd)
 -- the first fault is that of what comes later.
 pub record MakeSteps (c : SoFar) (n : ℕ) (lines : List (List ℕ)) (made : Made) : Type 0 where
   pub fault : (before : Made) (later : List (List ℕ)) →
-      first_fault (with_steps c before) n (lines ++ later) ≡ first_fault (with_steps c (before ++ made)) (n + length lines) later
-  pub script : (before : Made) → after_all (with_steps c before) lines ≡ with_steps c (before ++ made)
+      first_bad_line (with_steps c before) n (lines ++ later) ≡ first_bad_line (with_steps c (before ++ made)) (n + length lines) later
+  pub script : (before : Made) → after_all_lines (with_steps c before) lines ≡ with_steps c (before ++ made)
   pub playable : All (IsPlayable (nodes_so_far c)) made
 
 -- the steps that a chunk's lines make; none are answered where it wasn't read, for whatever reason

@@ -1,7 +1,7 @@
 //! The reading of a whole script.
 ghost use Rattle.std.specs.Prelude.{◌≡◌, ◌<◌, ◌≤◌, ◌+◌, ◌^◌, length, true, None, IfOk, IfErr};
-ghost use Rattle.tr_grammar.specs.Scripts.{refusal_of, script_of, first_fault, after_all, whole};
-ghost use Rattle.tr_grammar.specs.Scripts.{IsCause, IsPlayableScript};
+ghost use Rattle.tr_grammar.specs.Scripts.{refusal_of, script_of, first_bad_line, after_all_lines, whole};
+ghost use Rattle.tr_grammar.specs.Scripts.{IsReadCause, IsPlayableScript};
 ghost use Rattle.tr_grammar.specs.States.{nothing_yet};
 ghost use Rattle.tr_words.specs.Answers.{texts};
 ghost use Rattle.tr_reader.specs.Adding.{is_at_steps};
@@ -79,10 +79,10 @@ fn read_lines<R: Threads + Sync>(
     lines: &[&[u8]],
 ) -> Result<Script, ReadRefused>
     requires few { length lines.now + 1 < 2 ^ 32 }
-    ensures valid { IfOk result (λ s. first_fault nothing_yet 1 (texts lines.now) ≡ None) }
-    ensures script { IfOk result (λ s. s ≡ whole (after_all nothing_yet (texts lines.now))) }
+    ensures valid { IfOk result (λ s. first_bad_line nothing_yet 1 (texts lines.now) ≡ None) }
+    ensures script { IfOk result (λ s. s ≡ whole (after_all_lines nothing_yet (texts lines.now))) }
     ensures playable { IfOk result (λ s. IsPlayableScript s) }
-    ensures cause { IfErr result (λ e. IsCause (first_fault nothing_yet 1 (texts lines.now)) e) }
+    ensures cause { IfErr result (λ e. IsReadCause (first_bad_line nothing_yet 1 (texts lines.now)) e) }
 {
     let mut reader = Reader::new(alloc);
     let mut index = 0;
@@ -127,7 +127,7 @@ pub fn read_script_in_chunks<R: Threads + Sync>(
     ensures valid { IfOk result (λ s. refusal_of bytes.now ≡ None) }
     ensures script { IfOk result (λ s. s ≡ script_of bytes.now) }
     ensures playable { IfOk result (λ s. IsPlayableScript s) }
-    ensures cause { IfErr result (λ e. IsCause (refusal_of bytes.now) e) }
+    ensures cause { IfErr result (λ e. IsReadCause (refusal_of bytes.now) e) }
 {
     if bytes.len() > LONGEST_SCRIPT {
         return Err(refused_at(0, Code::B7));

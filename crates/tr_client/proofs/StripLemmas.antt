@@ -11,7 +11,7 @@ use Rattle.tr_base.proofs.RectLemmas.{has_point-rect_of}
 use Rattle.tr_paint.specs.declared.Paint.TheVariants.{Tint, Scroll}
 use Rattle.tr_paint.specs.Traces.{Look, Keep, From, Value}
 use Rattle.tr_paint.proofs.RunLemmas.{left, run_one}
-use Rattle.tr_client.specs.Texts.{strip_of, area_of, upwards, downwards}
+use Rattle.tr_client.specs.Texts.{strip_of, strips_between, upwards, downwards}
 use Rattle.tr_client.proofs.KeepingLemmas.{both_hold}
 
 -- a point of a window lies no higher than its first row
@@ -23,7 +23,7 @@ rows-from size q here = first q.v (both_hold _ _ (sym (has_point-rect_of (pos 0)
 
 -- a point of a window lies in some of its strips where its own strip is one of them
 pub area-has : (size : Size) (above end : ℕ) (q : Point) → has_point (whole_of size) q ≡ true →
-    has_point (area_of size above end) q ≡ nat_le above (strip_of q) && nat_lt (strip_of q) end
+    has_point (strips_between size above end) q ≡ nat_le above (strip_of q) && nat_lt (strip_of q) end
 area-has size above end q here =
     let both = both_hold _ _ (sym (has_point-rect_of (pos 0) (pos size.wide) (pos 0) (pos size.high) q) ∙ here) in
     has_point-rect_of (pos 0) (pos size.wide) (pos (8 * above)) (pos (8 * end)) q
@@ -35,19 +35,19 @@ area-has size above end q here =
     down above end v inside = grind (arith, ints, nat_tests)
 
 -- and in one strip where it is its own
-pub strip-has : (size : Size) (i : ℕ) (q : Point) → has_point (whole_of size) q ≡ true → has_point (area_of size i (i + 1)) q ≡ (strip_of q == i)
+pub strip-has : (size : Size) (i : ℕ) (q : Point) → has_point (whole_of size) q ≡ true → has_point (strips_between size i (i + 1)) q ≡ (strip_of q == i)
 strip-has size i q here = area-has size i (i + 1) q here ∙ tests i (strip_of q)
   where
     tests : (i k : ℕ) → nat_le i k && nat_lt k (i + 1) ≡ (k == i)
     tests i k = grind (arith, nat_tests)
 
 -- a window without columns has no strip
-pub no_columns : (size : Size) (above end : ℕ) → size.wide ≡ 0 → area_of size above end ≡ empty_rect
+pub no_columns : (size : Size) (above end : ℕ) → size.wide ≡ 0 → strips_between size above end ≡ empty_rect
 no_columns size above end flat = ap (λ (wide : ℕ). rect_of (pos 0) (pos wide) (pos (8 * above)) (pos (8 * end))) flat
 
 -- a scroll gives the points of its strips what others had
 pub scroll-left : (look : Look) (size : Size) (above end : ℕ) (delta : Point) (picture : Point → ℕ) (q : Point) → has_point (whole_of size) q ≡ true →
-    run_one look (Scroll (area_of size above end) delta) picture q
+    run_one look (Scroll (strips_between size above end) delta) picture q
     ≡ cond (nat_le above (strip_of q) && nat_lt (strip_of q) end) (picture (before_shift q delta)) (picture q)
 scroll-left look size above end delta picture q here =
     ap (λ b. left look.kind (cond b (From (before_shift q delta)) Keep) picture q) (area-has size above end q here)
@@ -59,7 +59,7 @@ scroll-left look size above end delta picture q here =
 
 -- and the background makes them 0
 pub cleared-left : (look : Look) (size : Size) (above end : ℕ) (picture : Point → ℕ) (q : Point) → has_point (whole_of size) q ≡ true →
-    run_one look (Tint (area_of size above end) Bg) picture q ≡ cond (nat_le above (strip_of q) && nat_lt (strip_of q) end) 0 (picture q)
+    run_one look (Tint (strips_between size above end) Bg) picture q ≡ cond (nat_le above (strip_of q) && nat_lt (strip_of q) end) 0 (picture q)
 cleared-left look size above end picture q here =
     ap (λ b. left look.kind (cond b (Value 0) Keep) picture q) (area-has size above end q here)
     ∙ by_test (nat_le above (strip_of q) && nat_lt (strip_of q) end)

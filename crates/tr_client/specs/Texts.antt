@@ -40,8 +40,8 @@ abbrev pub colour_in : Look → List (List ℕ) → Point → ℕ
 colour_in look lines q = line_colour look (strip_of q) (slice_index_or lines (strip_of q) []) q
 
 -- the strips of a window that have at least `above` and fewer than `end` others above them
-abbrev pub area_of : Size → ℕ → ℕ → Edges
-area_of size above end = rect_of (pos 0) (pos size.wide) (pos (8 * above)) (pos (8 * end))
+abbrev pub strips_between : Size → ℕ → ℕ → Edges
+strips_between size above end = rect_of (pos 0) (pos size.wide) (pos (8 * above)) (pos (8 * end))
 
 -- one line upwards, and one downwards
 abbrev pub upwards : Point

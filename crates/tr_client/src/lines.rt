@@ -36,7 +36,7 @@ pub fn area_of(size: Size, above: usize, end: usize) -> Rect
     requires size { IsWindowSize size }
     requires above { 8 * above ≤ longest }
     requires end { 8 * end ≤ longest }
-    ensures edges { result ≡ spec.area_of size above end }
+    ensures edges { result ≡ spec.strips_between size above end }
     ensures near { IsNearRect result }
 {
     Rect::edges(0, i32::from(size.wide), north_of(above), north_of(end))

@@ -86,10 +86,10 @@ after_mouse d time button down spot = record d {
 }
 
 -- the owner of a selection
-abbrev pub owner : Devices → Selection → Option LeafId
-owner d Key = d.key
-owner d Source = d.source
-owner d Target = d.target
+abbrev pub selection_owner : Devices → Selection → Option LeafId
+selection_owner d Key = d.key
+selection_owner d Source = d.source
+selection_owner d Target = d.target
 
 -- the desk with another owner of a selection, or with none
 abbrev pub owned_by : Option LeafId → Selection → Devices → Devices

@@ -198,7 +198,8 @@ impl Desk {
         time: u32,
     ) -> Result<Option<LeafId>, DeskFault>
         requires { leaf.0 < length self.old.leaves }
-        ensures answer { IfOk result (λ old. old ≡ spec.other_than leaf (spec.owner self.old selection)) }
+        ensures answer { IfOk result
+            (λ old. old ≡ spec.other_than leaf (spec.selection_owner self.old selection)) }
         ensures known { IfOk result (λ old. spec.IsKnown (length self.old.leaves) old) }
         ensures ok { OnOk result (self.new ≡ spec.owned_by (Some leaf) selection self.old) }
         ensures allowed { OnOk result (own_fault self.old leaf time ≡ None) }
@@ -283,7 +284,7 @@ impl Desk {
 
     /// The owner of a selection.
     pub fn owner(&self, selection: Selection) -> Option<LeafId>
-        ensures owner { result ≡ spec.owner self.now selection }
+        ensures owner { result ≡ spec.selection_owner self.now selection }
         ensures known { spec.IsKnown (length self.now.leaves) result }
     {
         match selection {

@@ -9,7 +9,7 @@ use Rattle.tr_base.specs.declared.spots.Spot.{Spot}
 use Rattle.tr_base.specs.declared.spots.Spot.TheVariants as spots
 use Rattle.tr_screen.specs.Pictures.{Picture}
 use Rattle.tr_inbox.specs.declared.deliveries.Delivery.{Delivery}
-use Rattle.tr_inbox.specs.Inboxes.{Contents}
+use Rattle.tr_inbox.specs.Inboxes.{InboxView}
 use Rattle.tr_journal.specs.Journals.{JournalLine}
 use Rattle.tr_journal.specs.declared.peeks.Peek3.{Peek3}
 use Rattle.tr_dump.specs.Values.{spaced, line_text, kind_word, point_words, size_words, event_text}
@@ -46,7 +46,7 @@ abbrev pub event_line : Event → List ℕ
 event_line event = line_text (event_text event ∷ [])
 
 -- what waits for a leaf, the oldest event first, and how many were dropped
-abbrev pub inbox_text : Names → LeafId → Contents → List ℕ
+abbrev pub inbox_text : Names → LeafId → InboxView → List ℕ
 inbox_text names leaf inbox =
     line_text (codes "inbox" ∷ leaf_name names leaf
     ∷ codes "waiting" ∷ decimal (length inbox.events)

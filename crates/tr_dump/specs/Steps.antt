@@ -22,7 +22,7 @@ use Rattle.tr_journal.specs.declared.steps.Step.TheVariants as steps
 use Rattle.tr_journal.specs.declared.answers.Answer.{Answer}
 use Rattle.tr_journal.specs.declared.answers.Answer.TheVariants as answers
 use Rattle.tr_journal.specs.declared.entries.Entry.{Entry}
-use Rattle.tr_journal.specs.Steps.{is_leaf}
+use Rattle.tr_journal.specs.Steps.{is_leaf_actor}
 use Rattle.tr_dump.specs.Values.{spaced, kind_word, selection_word, point_words, size_words, rect_words, shape_words, event_text}
 use Rattle.tr_journal.specs.Names.{Names, node_name, leaf_name}
 
@@ -87,11 +87,11 @@ query_text names (queries.Inbox leaf) = spaced (codes "inbox" ∷ leaf_name name
 
 -- the text of a flush: a leaf's own client doesn't name it
 abbrev pub flush_text : Names → Actor → LeafId → List ℕ
-flush_text names actor leaf = if is_leaf leaf actor then codes "flush" else spaced (codes "flush" ∷ leaf_name names leaf ∷ [])
+flush_text names actor leaf = if is_leaf_actor leaf actor then codes "flush" else spaced (codes "flush" ∷ leaf_name names leaf ∷ [])
 
 -- the text of a repaint: a leaf's own client doesn't name it
 abbrev pub repaint_text : Names → Actor → LeafId → List ℕ
-repaint_text names actor leaf = if is_leaf leaf actor then codes "force" else spaced (codes "repaint" ∷ leaf_name names leaf ∷ [])
+repaint_text names actor leaf = if is_leaf_actor leaf actor then codes "force" else spaced (codes "repaint" ∷ leaf_name names leaf ∷ [])
 
 -- the text of a step, in the words of a script where it stands in one
 abbrev pub step_text : {M : Type 0} → (M → List ℕ) → Names → Actor → Step M → List ℕ

@@ -10,13 +10,13 @@ use Rattle.tr_base.proofs.RectLemmas.{has_point-meet_of, has_point-rect_of, has_
 use Rattle.tr_screen.specs.Pictures.{Picture, pixel_of}
 use Rattle.tr_screen.specs.Runs.{Repaints}
 use Rattle.tr_paint.specs.Paints.{cells_of}
-use Rattle.tr_exec.specs.Executions.{placed}
+use Rattle.tr_exec.specs.Executions.{screen_point}
 use Rattle.tr_exec.proofs.PlacedLemmas.{before-both}
 
 -- the points of an area that is cut by where a picture lies are points of the picture
 pub pixels_within : (a clip : Edges) (size : Size) (origin delta : Point) →
     ((p : Point) → has_point a p ≡ has_point (meet_of clip (shifted (whole_of size) delta)) (before_shift p origin)) →
-    (p : Point) → has_point a p ≡ true → has_point (whole_of size) (before_shift p (placed origin delta)) ≡ true
+    (p : Point) → has_point a p ≡ true → has_point (whole_of size) (before_shift p (screen_point origin delta)) ≡ true
 pixels_within a clip size origin delta area p on =
     let q = before_shift p origin in
     let cut = sym (has_point-meet_of clip (shifted (whole_of size) delta) q) ∙ sym (area p) ∙ on in
@@ -29,7 +29,7 @@ between_from a x n = grind (arith, ints)
 -- the points of an area that is cut by a text's cells are points of the cells
 pub text_within : (a clip : Edges) (n : ℕ) (origin at : Point) →
     ((p : Point) → has_point a p ≡ has_point (meet_of clip (cells_of at n)) (before_shift p origin)) →
-    (p : Point) → has_point a p ≡ true → has_point (rect_of (pos 0) (pos (8 * n)) (pos 0) (pos 8)) (before_shift p (placed origin at)) ≡ true
+    (p : Point) → has_point a p ≡ true → has_point (rect_of (pos 0) (pos (8 * n)) (pos 0) (pos 8)) (before_shift p (screen_point origin at)) ≡ true
 text_within a clip n origin at area p on =
     let q = before_shift p origin in
     let cut = sym (has_point-meet_of clip (cells_of at n) q) ∙ sym (area p) ∙ on in

@@ -12,11 +12,11 @@ use Rattle.tr_screen.specs.Pictures.{Picture, pixel_of}
 use Rattle.tr_paint.specs.declared.Paint.{Paint}
 use Rattle.tr_paint.specs.declared.Paint.TheVariants.{Tint, Texture, Pixels, Text, Scroll, Spoil}
 use Rattle.tr_paint.specs.Paints.{area, is_opaque, op_at}
-use Rattle.tr_paint.specs.Traces.{Look, Base, after, Deed, Keep, Value, Change, deed, deed_within, done}
+use Rattle.tr_paint.specs.Traces.{Look, Base, after, Deed, Keep, Value, Change, deed, deed_within, after_deed}
 use Rattle.tr_paint.proofs.TraceLemmas.{after-last, trace-unseen}
 use Rattle.tr_exec.specs.declared.effects.Effect.{Effect}
 use Rattle.tr_exec.specs.declared.effects.Effect.TheVariants.{Tells, Loses, Keeps, Moves}
-use Rattle.tr_exec.specs.Executions.{placed, base_of}
+use Rattle.tr_exec.specs.Executions.{screen_point, base_of}
 use Rattle.tr_exec.specs.Unknown.{effect_of, lost_by, unseen, unknown_after, TellsUnknown, moved_by, IsMovedBy}
 use Rattle.tr_exec.proofs.PlacedLemmas.{placed-before, before-placed, placed-source}
 
@@ -28,7 +28,7 @@ lost-same Keeps f g p same = same p
 lost-same (Moves delta) f g p same = same (before_shift p delta)
 
 -- an effect on points of the window is the same on points of the screen
-lost-placed : (e : Effect) (f : Point → Bool) (origin q : Point) → lost_by e (λ r. f (placed origin r)) q ≡ lost_by e f (placed origin q)
+lost-placed : (e : Effect) (f : Point → Bool) (origin q : Point) → lost_by e (λ r. f (screen_point origin r)) q ≡ lost_by e f (screen_point origin q)
 lost-placed Tells f origin q = refl
 lost-placed Loses f origin q = refl
 lost-placed Keeps f origin q = refl
@@ -40,14 +40,14 @@ none-map f (Some x) = refl
 
 -- a painting deed tells a point, or keeps what is known of it
 lost-painted : (kind : Kind) (b : Bool) (x : ℕ) (d : Deed) (e : Effect) (known : Point → Option ℕ) (q : Point) →
-    is_none (done kind d known q) ≡ lost_by e (λ r. is_none (known r)) q →
-    is_none (done kind (cond b (Value x) d) known q) ≡ lost_by (cond b Tells e) (λ r. is_none (known r)) q
+    is_none (after_deed kind d known q) ≡ lost_by e (λ r. is_none (known r)) q →
+    is_none (after_deed kind (cond b (Value x) d) known q) ≡ lost_by (cond b Tells e) (λ r. is_none (known r)) q
 lost-painted kind true x d e known q same = refl
 lost-painted kind false x d e known q same = same
 
 -- what a command's deed within its area makes of what is known
 lost-within : (look : Look) (c : Paint) (known : Point → Option ℕ) (q : Point) →
-    is_none (done look.kind (deed_within look c q) known q) ≡ lost_by (effect_of c) (λ r. is_none (known r)) q
+    is_none (after_deed look.kind (deed_within look c q) known q) ≡ lost_by (effect_of c) (λ r. is_none (known r)) q
 lost-within look (Tint clip op) known q =
     let c = Tint clip op in
     lost-painted look.kind (is_opaque c) (eff look.kind (op_at look.font c q) 0)
@@ -66,11 +66,11 @@ lost-within look (Spoil clip) known q = refl
 
 -- the same for its deed anywhere
 lost-deed : (look : Look) (c : Paint) (known : Point → Option ℕ) (q : Point) →
-    is_none (done look.kind (deed look c q) known q) ≡ cond (has_point (area c) q) (lost_by (effect_of c) (λ r. is_none (known r)) q) (is_none (known q))
+    is_none (after_deed look.kind (deed look c q) known q) ≡ cond (has_point (area c) q) (lost_by (effect_of c) (λ r. is_none (known r)) q) (is_none (known q))
 lost-deed look c known q = by_test (has_point (area c) q)
   where
     by_test : (b : Bool) →
-        is_none (done look.kind (cond b (deed_within look c q) Keep) known q)
+        is_none (after_deed look.kind (cond b (deed_within look c q) Keep) known q)
         ≡ cond b (lost_by (effect_of c) (λ r. is_none (known r)) q) (is_none (known q))
     by_test true = lost-within look c known q
     by_test false = refl
@@ -81,16 +81,17 @@ module _ (look : Look) (origin : Point) (visible bad : List Edges) (screen : Pic
 
   -- a point of the window is unknown after the batch where the screen's point isn't visible, or is one of the unknown ones
   unseen-is : (batch : List Paint) (unknown : List Edges) → TellsUnknown look (base_of origin visible bad screen) batch origin visible unknown → (q : Point) →
-      is_none (after look (base_of origin visible bad screen) batch q) ≡ unseen visible unknown (placed origin q)
+      is_none (after look (base_of origin visible bad screen) batch q) ≡ unseen visible unknown (screen_point origin q)
   unseen-is batch unknown tells q =
-      let at : holds unknown (placed origin q) ≡ (holds visible (placed origin q) && is_none (after look (base_of origin visible bad screen) batch q)) =
-      tells (placed origin q)
-      ∙ ap (λ r. holds visible (placed origin q) && is_none (after look (base_of origin visible bad screen) batch r)) (before-placed origin q) in
-      by_sight (holds visible (placed origin q)) refl at
+      let at : holds unknown (screen_point origin q)
+      ≡ (holds visible (screen_point origin q) && is_none (after look (base_of origin visible bad screen) batch q)) =
+      tells (screen_point origin q)
+      ∙ ap (λ r. holds visible (screen_point origin q) && is_none (after look (base_of origin visible bad screen) batch r)) (before-placed origin q) in
+      by_sight (holds visible (screen_point origin q)) refl at
     where
-      by_sight : (b : Bool) → holds visible (placed origin q) ≡ b →
-          holds unknown (placed origin q) ≡ (b && is_none (after look (base_of origin visible bad screen) batch q)) →
-          is_none (after look (base_of origin visible bad screen) batch q) ≡ not b || holds unknown (placed origin q)
+      by_sight : (b : Bool) → holds visible (screen_point origin q) ≡ b →
+          holds unknown (screen_point origin q) ≡ (b && is_none (after look (base_of origin visible bad screen) batch q)) →
+          is_none (after look (base_of origin visible bad screen) batch q) ≡ not b || holds unknown (screen_point origin q)
       by_sight true seen at = sym at
       by_sight false hidden at = ap (λ o. is_none o) (trace-unseen look (base_of origin visible bad screen) _ q hidden)
 
@@ -109,7 +110,7 @@ module _ (look : Look) (origin : Point) (visible bad : List Edges) (screen : Pic
       f : Point → Bool
       f r = is_none (after look (base_of origin visible bad screen) batch r)
 
-      same : (r : Point) → is_none (after look (base_of origin visible bad screen) batch r) ≡ unseen visible unknown (placed origin r)
+      same : (r : Point) → is_none (after look (base_of origin visible bad screen) batch r) ≡ unseen visible unknown (screen_point origin r)
       same r = unseen-is batch unknown tells r
 
       here : is_none (after look (base_of origin visible bad screen) batch (before_shift p origin)) ≡ unseen visible unknown p
@@ -119,7 +120,7 @@ module _ (look : Look) (origin : Point) (visible bad : List Edges) (screen : Pic
           lost_by (effect_of c) (λ r. is_none (after look (base_of origin visible bad screen) batch r)) (before_shift p origin)
           ≡ lost_by (effect_of c) (unseen visible unknown) p
       moved =
-          lost-same (effect_of c) (λ r. is_none (after look (base_of origin visible bad screen) batch r)) (λ r. unseen visible unknown (placed origin r))
+          lost-same (effect_of c) (λ r. is_none (after look (base_of origin visible bad screen) batch r)) (λ r. unseen visible unknown (screen_point origin r))
           (before_shift p origin) (λ r. unseen-is batch unknown tells r)
           ∙ lost-placed (effect_of c) (unseen visible unknown) origin (before_shift p origin)
           ∙ ap (λ r. lost_by (effect_of c) (unseen visible unknown) r) (placed-before origin p)
@@ -129,7 +130,7 @@ module _ (look : Look) (origin : Point) (visible bad : List Edges) (screen : Pic
           ≡ b && is_none (after look (base_of origin visible bad screen) (batch ++ c ∷ []) (before_shift p origin))
       by_sight false hidden = refl
       by_sight true seen =
-          let sight : holds visible (placed origin (before_shift p origin)) ≡ true = ap (λ r. holds visible r) (placed-before origin p) ∙ seen in
+          let sight : holds visible (screen_point origin (before_shift p origin)) ≡ true = ap (λ r. holds visible r) (placed-before origin p) ∙ seen in
           let last = after-last look (base_of origin visible bad screen) batch c (before_shift p origin) in
           let known : Point → Option ℕ = λ r. after look (base_of origin visible bad screen) batch r in
           let told = lost-deed look c known (before_shift p origin) in
@@ -137,7 +138,7 @@ module _ (look : Look) (origin : Point) (visible bad : List Edges) (screen : Pic
           ∙ ap (λ b. cond (has_point (area c) (before_shift p origin)) b (unseen visible unknown p)) (sym moved)
           ∙ ap (λ b. cond (has_point (area c) (before_shift p origin)) (lost_by (effect_of c) (λ r. is_none (known r)) (before_shift p origin)) b) (sym here)
           ∙ sym told
-          ∙ ap (λ b. is_none (cond b (done look.kind (deed look c (before_shift p origin)) known (before_shift p origin)) None)) (sym sight)
+          ∙ ap (λ b. is_none (cond b (after_deed look.kind (deed look c (before_shift p origin)) known (before_shift p origin)) None)) (sym sight)
           ∙ ap (λ o. is_none o) (sym last)
 
   -- before any command the visible bad points are unknown
@@ -147,20 +148,21 @@ module _ (look : Look) (origin : Point) (visible bad : List Edges) (screen : Pic
     where
       at : (r : Point) →
           is_none (after look (base_of origin visible bad screen) [] r)
-          ≡ is_none (cond (holds visible (placed origin r)) (cond (holds bad (placed origin r)) None (Some (pixel_of screen (placed origin r)))) None)
+          ≡ is_none (cond (holds visible (screen_point origin r))
+          (cond (holds bad (screen_point origin r)) None (Some (pixel_of screen (screen_point origin r)))) None)
       at r = refl
 
       by_tests : (v b : Bool) → holds visible p ≡ v → holds bad p ≡ b →
           v && b ≡ v && is_none (after look (base_of origin visible bad screen) [] (before_shift p origin))
       by_tests false b hidden known = refl
       by_tests true b seen known =
-          let there : Point = placed origin (before_shift p origin) in
+          let there : Point = screen_point origin (before_shift p origin) in
           let sight : holds visible there ≡ true = ap (λ r. holds visible r) (placed-before origin p) ∙ seen in
           let faulty : holds bad there ≡ b = ap (λ r. holds bad r) (placed-before origin p) ∙ known in
           none b ∙ ap (λ t. is_none (cond true (cond t None (Some (pixel_of screen there))) None)) (sym faulty)
           ∙ ap (λ t. is_none (cond t (cond (holds bad there) None (Some (pixel_of screen there))) None)) (sym sight)
         where
-          none : (t : Bool) → t ≡ is_none (cond true (cond t None (Some (pixel_of screen (placed origin (before_shift p origin))))) None)
+          none : (t : Bool) → t ≡ is_none (cond true (cond t None (Some (pixel_of screen (screen_point origin (before_shift p origin))))) None)
           none true = refl
           none false = refl
 

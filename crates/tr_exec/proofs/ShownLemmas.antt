@@ -18,10 +18,10 @@ use Rattle.tr_paint.specs.declared.Paint.{Paint}
 use Rattle.tr_paint.specs.declared.Paint.TheVariants.{Tint, Texture, Pixels, Text, Scroll, Spoil}
 use Rattle.tr_paint.specs.Paints.{area, op_at, chosen, both_opaque}
 use Rattle.tr_paint.specs.Batches.{touches}
-use Rattle.tr_paint.specs.Traces.{Look, after, Keep, Value, Change, deed, deed_within, done}
+use Rattle.tr_paint.specs.Traces.{Look, after, Keep, Value, Change, deed, deed_within, after_deed}
 use Rattle.tr_paint.proofs.TraceLemmas.{after-last, trace-unseen}
-use Rattle.tr_exec.specs.Executions.{placed, base_of, LiesOn}
-use Rattle.tr_exec.specs.Painted.{in_sight, IsPainted, IsShown}
+use Rattle.tr_exec.specs.Executions.{screen_point, base_of, RegionLiesOn}
+use Rattle.tr_exec.specs.Painted.{in_sight, IsPainted, ShowsBatch}
 use Rattle.tr_exec.proofs.PlacedLemmas.{placed-before, source-before}
 
 some_is : (a b : ℕ) → Some a ≡ Some b → a ≡ b
@@ -46,7 +46,7 @@ opaque-chosen ops bit h = by_tests (opaque ops.zero) (opaque ops.one) refl refl 
 
 -- a painting deed makes of a colour what its operation makes of the pixel
 painted-done : (kind : Kind) (b : Bool) (op : Op) (known : Point → Option ℕ) (q : Point) (old x : ℕ) → (b ≡ true → opaque op ≡ true) →
-    ((y : ℕ) → known q ≡ Some y → old ≡ y) → done kind (cond b (Value (eff kind op 0)) (Change op)) known q ≡ Some x → eff kind op old ≡ x
+    ((y : ℕ) → known q ≡ Some y → old ≡ y) → after_deed kind (cond b (Value (eff kind op 0)) (Change op)) known q ≡ Some x → eff kind op old ≡ x
 painted-done kind true op known q old x told shows e = eff-opaque kind op old (told refl) ∙ some_is _ x e
 painted-done kind false op known q old x told shows e = by_known (known q) refl e
   where
@@ -101,24 +101,25 @@ touches_more batch c q none = neither _ _ (sym (list_any-append (λ d. has_point
     neither false true h = cc
     neither false false h = (refl, refl)
 
-module _ (look : Look) (origin : Point) (visible bad : List Edges) (first : Picture) (on : LiesOn first.size visible) where
+module _ (look : Look) (origin : Point) (visible bad : List Edges) (first : Picture) (on : RegionLiesOn first.size visible) where
   -- at first each visible point whose colour is known has it
-  pub shown_none : IsShown look (base_of origin visible bad first) [] origin visible first first
+  pub shown_none : ShowsBatch look (base_of origin visible bad first) [] origin visible first first
   shown_none = record { size = refl; kind = refl; shown = shown; untouched = λ p seen none. refl; others = λ p there hidden. refl }
     where
       shown : (p : Point) (x : ℕ) → holds visible p ≡ true →
           after look (base_of origin visible bad first) [] (before_shift p origin) ≡ Some x →
           pixel_of first p ≡ x
-      shown p x seen is = by_tests (holds visible (placed origin (before_shift p origin))) (holds bad (placed origin (before_shift p origin))) is
+      shown p x seen is = by_tests (holds visible (screen_point origin (before_shift p origin))) (holds bad (screen_point origin (before_shift p origin))) is
         where
-          by_tests : (v b : Bool) → cond v (cond b None (Some (pixel_of first (placed origin (before_shift p origin))))) None ≡ Some x → pixel_of first p ≡ x
+          by_tests : (v b : Bool) → cond v (cond b None (Some (pixel_of first (screen_point origin (before_shift p origin))))) None ≡ Some x →
+              pixel_of first p ≡ x
           by_tests true true h = cc
           by_tests true false h = ap (λ r. pixel_of first r) (sym (placed-before origin p)) ∙ some_is _ x h
           by_tests false b h = cc
 
   -- one command more
-  pub shown_more : (batch : List Paint) (c : Paint) (mid new : Picture) → IsShown look (base_of origin visible bad first) batch origin visible first mid →
-      IsPainted look c origin visible mid new → IsShown look (base_of origin visible bad first) (batch ++ c ∷ []) origin visible first new
+  pub shown_more : (batch : List Paint) (c : Paint) (mid new : Picture) → ShowsBatch look (base_of origin visible bad first) batch origin visible first mid →
+      IsPainted look c origin visible mid new → ShowsBatch look (base_of origin visible bad first) (batch ++ c ∷ []) origin visible first new
   shown_more batch c mid new so_far painted = record {
     size = (same_size look c origin visible mid new painted).0 ∙ so_far.size;
     kind = (same_size look c origin visible mid new painted).1 ∙ so_far.kind;
@@ -152,7 +153,7 @@ module _ (look : Look) (origin : Point) (visible bad : List Edges) (first : Pict
               some_none h = cc
 
       within : (p : Point) (x : ℕ) → IsOn mid.size p → holds visible p ≡ true → has_point (area c) (before_shift p origin) ≡ true →
-          done look.kind (deed_within look c (before_shift p origin)) (λ r. after look (base_of origin visible bad first) batch r)
+          after_deed look.kind (deed_within look c (before_shift p origin)) (λ r. after look (base_of origin visible bad first) batch r)
           (before_shift p origin) ≡ Some x → pixel_of new p ≡ x
       within p x there seen inside e = by_command c painted inside e
         where
@@ -169,7 +170,7 @@ module _ (look : Look) (origin : Point) (visible bad : List Edges) (first : Pict
               (ap (λ r. after look (base_of origin visible bad first) batch r) (sym (source-before origin p delta)) ∙ is)
 
           by_command : (d : Paint) → IsPainted look d origin visible mid new → has_point (area d) (before_shift p origin) ≡ true →
-              done look.kind (deed_within look d (before_shift p origin)) (λ r. after look (base_of origin visible bad first) batch r)
+              after_deed look.kind (deed_within look d (before_shift p origin)) (λ r. after look (base_of origin visible bad first) batch r)
               (before_shift p origin) ≡ Some x → pixel_of new p ≡ x
           by_command (Tint clip op) r h e =
               repainted r p there (sight (Tint clip op) h)
@@ -197,14 +198,14 @@ module _ (look : Look) (origin : Point) (visible bad : List Edges) (first : Pict
           after look (base_of origin visible bad first) (batch ++ c ∷ []) (before_shift p origin) ≡ Some x →
           pixel_of new p ≡ x
       shown p x seen is =
-          let sight : holds visible (placed origin (before_shift p origin)) ≡ true = ap (λ r. holds visible r) (placed-before origin p) ∙ seen in
+          let sight : holds visible (screen_point origin (before_shift p origin)) ≡ true = ap (λ r. holds visible r) (placed-before origin p) ∙ seen in
           let last = after-last look (base_of origin visible bad first) batch c (before_shift p origin) in
           let colour : Point → Option ℕ = λ r. after look (base_of origin visible bad first) batch r in
-          let done_is = ap (λ b. cond b (done look.kind (deed look c (before_shift p origin)) colour (before_shift p origin)) None) sight in
+          let done_is = ap (λ b. cond b (after_deed look.kind (deed look c (before_shift p origin)) colour (before_shift p origin)) None) sight in
           by_area (has_point (area c) (before_shift p origin)) refl (sym done_is ∙ sym last ∙ is)
         where
           by_area : (b : Bool) → has_point (area c) (before_shift p origin) ≡ b →
-              done look.kind (cond b (deed_within look c (before_shift p origin)) Keep)
+              after_deed look.kind (cond b (deed_within look c (before_shift p origin)) Keep)
               (λ r. after look (base_of origin visible bad first) batch r) (before_shift p origin) ≡ Some x →
               pixel_of new p ≡ x
           by_area true inside e = within p x (there_too p (on p seen)) seen inside e

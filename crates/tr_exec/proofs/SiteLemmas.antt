@@ -11,12 +11,12 @@ use Rattle.std.proofs.lemmas.Bool.{and_parts}
 use Rattle.tr_region.specs.Points.{holds}
 use Rattle.tr_region.specs.Bands.{IsCanonical}
 use Rattle.tr_region.proofs.OrderLemmas.{IsFull, AreInOrder, AreInOrder-canonical}
-use Rattle.tr_paint.specs.Paints.{IsNear, IsNearPoint, IsNearRect}
+use Rattle.tr_paint.specs.Paints.{IsNearZero, IsNearPoint, IsNearRect}
 use Rattle.tr_paint.proofs.NearLemmas.{rect_of-in_reach}
-use Rattle.tr_exec.specs.Executions.{IsOrigin, LiesOn, greatest_screen}
+use Rattle.tr_exec.specs.Executions.{IsOrigin, RegionLiesOn, greatest_screen}
 
 -- an edge of an area, moved to where the window lies
-edge_in_reach : (x o : ℤ) → IsNear x → neg_ℤ (pos 65536) ≤ℤ o → o ≤ℤ pos 65536 → InReach (x +ℤ o)
+edge_in_reach : (x o : ℤ) → IsNearZero x → neg_ℤ (pos 65536) ≤ℤ o → o ≤ℤ pos 65536 → InReach (x +ℤ o)
 edge_in_reach x o near low high = record { low = omega (arith, ints, near.low, low); high = omega (arith, ints, near.high, high) }
 
 -- an area, moved to where the window lies
@@ -27,7 +27,7 @@ area_in_reach a o near at =
     (edge_in_reach a.north o.v near.north at.north at.south) (edge_in_reach a.south o.v near.south at.north at.south)
 
 -- an edge of the screen, moved by a near coordinate
-screen_edge : (x d : ℤ) → pos 0 ≤ℤ x → x ≤ℤ pos 1024 → IsNear d → InReach (x +ℤ d)
+screen_edge : (x d : ℤ) → pos 0 ≤ℤ x → x ≤ℤ pos 1024 → IsNearZero d → InReach (x +ℤ d)
 screen_edge x d low high near = record { low = omega (arith, ints, near.low, low); high = omega (arith, ints, near.high, high) }
 
 -- the point lies on the greatest screen
@@ -61,7 +61,7 @@ rect_in_reach r d full on near =
 
 -- a region of the screen, moved by a near distance
 pub region_in_reach : (rects : List Edges) (d : Point) →
-    IsCanonical rects → LiesOn greatest_screen rects → IsNearPoint d →
+    IsCanonical rects → RegionLiesOn greatest_screen rects → IsNearPoint d →
     AllByRecursion (λ r. AreInReach (shifted r d)) rects
 region_in_reach rects d canonical on near = each rects (AreInOrder-canonical rects canonical) (λ p held. there p (on p held))
   where
@@ -81,7 +81,7 @@ region_in_reach rects d canonical on near = each rects (AreInOrder-canonical rec
     )
 
 -- what lies on a screen lies on the greatest one
-pub on_greatest : (size : Size) (region : List Edges) → IsScreenSize size → LiesOn size region → LiesOn greatest_screen region
+pub on_greatest : (size : Size) (region : List Edges) → IsScreenSize size → RegionLiesOn size region → RegionLiesOn greatest_screen region
 on_greatest size region is on p held =
     let parts = and_parts _ _ (sym (has_point-rect_of (pos 0) (pos size.wide) (pos 0) (pos size.high) p) ∙ on p held) in
     has_point-rect_of (pos 0) (pos 1024) (pos 0) (pos 1024) p ∙ both _ _ (further size.wide p.h is.wide parts.0) (further size.high p.v is.high parts.1)

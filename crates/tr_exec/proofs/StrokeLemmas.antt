@@ -8,7 +8,7 @@ use Rattle.tr_base.specs.Pixmaps.{PixmapView, pixmap_at}
 use Rattle.tr_base.specs.Fonts.{glyph_of, glyph_bit}
 use Rattle.std.specs.Int.{int_rem_euclid}
 use Rattle.std.proofs.lemmas.Int.{ints, int_rem_euclid_is}
-use Rattle.tr_base.specs.Tiles.{is_set, place_of}
+use Rattle.tr_base.specs.Tiles.{is_set, tile_index}
 use Rattle.tr_exec.specs.Strokes.{IsWithin, AreGlyphRows, east_of}
 
 -- a coordinate from 0 on is a number
@@ -22,7 +22,7 @@ far_east (pos a) = omega (arith, ints)
 far_east (negsuc a) = omega (arith, ints)
 
 -- the place in the tiles, k columns further east
-pub place-later : (x : ℤ) (k : ℕ) → place_of (x +ℤ pos k) % 8 ≡ (k + place_of x) % 8
+pub place-later : (x : ℤ) (k : ℕ) → tile_index (x +ℤ pos k) % 8 ≡ (k + tile_index x) % 8
 place-later x k =
     let j = unsigned_abs x in
     let m = unsigned_abs (x +ℤ pos (j * 8)) in
@@ -30,8 +30,8 @@ place-later x k =
     let there : (x +ℤ pos k) +ℤ pos (j * 8) ≡ pos (k + m) = omega (arith, ints, here) in
     let first : int_rem_euclid x (pos 8) ≡ pos (m % 8) = int_rem_euclid_is x (pos 8) 8 j m (omega arith) refl here in
     let second : int_rem_euclid (x +ℤ pos k) (pos 8) ≡ pos ((k + m) % 8) = int_rem_euclid_is (x +ℤ pos k) (pos 8) 8 j (k + m) (omega arith) refl there in
-    let later : place_of (x +ℤ pos k) ≡ (k + m) % 8 = ap (λ z. unsigned_abs z) second in
-    let now : place_of x ≡ m % 8 = ap (λ z. unsigned_abs z) first in
+    let later : tile_index (x +ℤ pos k) ≡ (k + m) % 8 = ap (λ z. unsigned_abs z) second in
+    let now : tile_index x ≡ m % 8 = ap (λ z. unsigned_abs z) first in
     rw (later, now) (omega arith)
 
 -- a coordinate from 0 on, k columns further east

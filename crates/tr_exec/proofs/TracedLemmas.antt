@@ -8,16 +8,16 @@ use Rattle.tr_base.specs.declared.Size.{Size}
 use Rattle.tr_base.specs.Rects.{Edges, InReach, between, before_shift, empty_rect, has_point, meet_of, rect_of, shifted, whole_of}
 use Rattle.tr_base.proofs.RectLemmas.{has_point-meet_of, has_point-rect_of, has_point-shifted}
 use Rattle.tr_paint.specs.declared.Paint.{Paint}
-use Rattle.tr_paint.specs.Paints.{IsNear, IsNearPoint, IsNearRect, area, cells_of}
+use Rattle.tr_paint.specs.Paints.{IsNearZero, IsNearPoint, IsNearRect, area, cells_of}
 use Rattle.tr_paint.specs.Batches.{IsKept, IsBatch}
-use Rattle.tr_paint.specs.Traces.{Look, Base, after, Keep, deed, deed_within, done}
+use Rattle.tr_paint.specs.Traces.{Look, Base, after, Keep, deed, deed_within, after_deed}
 use Rattle.tr_paint.proofs.TraceLemmas.{after-last, trace-unseen}
 use Rattle.tr_exec.specs.Executions.{IsOrigin}
 use Rattle.tr_exec.specs.Strokes.{IsInCells}
 use Rattle.tr_exec.proofs.PaintingLemmas.{between_from}
 
 -- a near coordinate is within reach
-pub near-reach : (x : ℤ) → IsNear x → InReach x
+pub near-reach : (x : ℤ) → IsNearZero x → InReach x
 near-reach x near = record { low = omega (arith, ints, near.low); high = omega (arith, ints, near.high) }
 
 -- a near point may be a window's corner
@@ -30,10 +30,10 @@ near-origin p near = record {
 }
 
 -- the rectangle of near edges is near
-pub rect_near : (w e n s : ℤ) → IsNear w → IsNear e → IsNear n → IsNear s → IsNearRect (rect_of w e n s)
+pub rect_near : (w e n s : ℤ) → IsNearZero w → IsNearZero e → IsNearZero n → IsNearZero s → IsNearRect (rect_of w e n s)
 rect_near w e n s hw he hn hs = by_test (int_lt w e && int_lt n s)
   where
-    none : IsNear (pos 0)
+    none : IsNearZero (pos 0)
     none = record { low = omega (arith, ints); high = omega (arith, ints) }
 
     by_test : (b : Bool) → IsNearRect (cond b (record { west = w; east = e; north = n; south = s }) empty_rect)
@@ -41,7 +41,7 @@ rect_near w e n s hw he hn hs = by_test (int_lt w e && int_lt n s)
     by_test false = record { west = none; east = none; north = none; south = none }
 
 -- a point of a near rectangle is near
-pub near_point : (e : Edges) (q : Point) → IsNearRect e → has_point e q ≡ true → IsNear q.h × IsNear q.v
+pub near_point : (e : Edges) (q : Point) → IsNearRect e → has_point e q ≡ true → IsNearZero q.h × IsNearZero q.v
 near_point e q near on =
     let s = sides q.h q.v on in (
       record { low = omega (arith, ints, s.0, near.west.low); high = omega (arith, ints, s.1, near.east.high) },
@@ -64,18 +64,18 @@ pub traced_hidden : (look : Look) (base : Base) (paints : List Paint) (q : Point
 traced_hidden look base paints q hidden = sym (trace-unseen look base _ q hidden)
 
 module _ (look : Look) (base : Base) (paints before : List Paint) (c : Paint) (q : Point) (is : paints ≡ before ++ c ∷ []) (seen : base.visible q ≡ true) where
-  last : after look base paints q ≡ done look.kind (deed look c q) (λ r. after look base before r) q
+  last : after look base paints q ≡ after_deed look.kind (deed look c q) (λ r. after look base before r) q
   last =
       ap (λ (cs : List Paint). after look base cs q) is ∙ after-last look base before c q
-      ∙ ap (λ b. cond b (done look.kind (deed look c q) (λ r. after look base before r) q) None) seen
+      ∙ ap (λ b. cond b (after_deed look.kind (deed look c q) (λ r. after look base before r) q) None) seen
 
   -- outside its area the last command does nothing
   pub traced_beside : has_point (area c) q ≡ false → after look base paints q ≡ after look base before q
-  traced_beside outside = last ∙ ap (λ b. done look.kind (cond b (deed_within look c q) Keep) (λ r. after look base before r) q) outside
+  traced_beside outside = last ∙ ap (λ b. after_deed look.kind (cond b (deed_within look c q) Keep) (λ r. after look base before r) q) outside
 
   -- within its area it does what it does there
-  pub traced_within : has_point (area c) q ≡ true → after look base paints q ≡ done look.kind (deed_within look c q) (λ r. after look base before r) q
-  traced_within inside = last ∙ ap (λ b. done look.kind (cond b (deed_within look c q) Keep) (λ r. after look base before r) q) inside
+  pub traced_within : has_point (area c) q ≡ true → after look base paints q ≡ after_deed look.kind (deed_within look c q) (λ r. after look base before r) q
+  traced_within inside = last ∙ ap (λ b. after_deed look.kind (cond b (deed_within look c q) Keep) (λ r. after look base before r) q) inside
 
 -- the part of a pixmap that is cut by a clip has points of the pixmap alone
 pub pixels_part : (clip : Edges) (size : Size) (delta q : Point) → has_point (meet_of clip (shifted (whole_of size) delta)) q ≡ true →

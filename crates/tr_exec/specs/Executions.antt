@@ -16,29 +16,29 @@ pub record IsOrigin (origin : Point) : Type 0 where
   pub south : origin.v ≤ℤ pos 65536
 
 -- all points of a region lie on a screen of this size
-abbrev pub LiesOn : Size → List Edges → Type 0
-LiesOn size region = (p : Point) → holds region p ≡ true → has_point (whole_of size) p ≡ true
+abbrev pub RegionLiesOn : Size → List Edges → Type 0
+RegionLiesOn size region = (p : Point) → holds region p ≡ true → has_point (whole_of size) p ≡ true
 
 -- the greatest size that a screen has
 abbrev pub greatest_screen : Size
 greatest_screen = record { wide = 1024; high = 1024 }
 
 -- the point of the screen at which a window's point lies, by where the window's north-west corner lies
-abbrev pub placed : Point → Point → Point
-placed origin q = record { h = q.h +ℤ origin.h; v = q.v +ℤ origin.v }
+abbrev pub screen_point : Point → Point → Point
+screen_point origin q = record { h = q.h +ℤ origin.h; v = q.v +ℤ origin.v }
 
 -- what there is of a window before a batch: its visible points, and the screen's pixel at each of them that isn't bad
 abbrev pub base_of : Point → List Edges → List Edges → Picture → Base
 base_of origin visible bad screen = record {
-  visible = λ q. holds visible (placed origin q);
-  known = λ q. if holds bad (placed origin q) then None else Some (pixel_of screen (placed origin q));
+  visible = λ q. holds visible (screen_point origin q);
+  known = λ q. if holds bad (screen_point origin q) then None else Some (pixel_of screen (screen_point origin q));
 }
 
 -- the same, where the visible points that are good are told, in place of the bad ones
 abbrev pub known_base : Point → List Edges → List Edges → Picture → Base
 known_base origin visible good screen = record {
-  visible = λ q. holds visible (placed origin q);
-  known = λ q. if holds good (placed origin q) then Some (pixel_of screen (placed origin q)) else None;
+  visible = λ q. holds visible (screen_point origin q);
+  known = λ q. if holds good (screen_point origin q) then Some (pixel_of screen (screen_point origin q)) else None;
 }
 
 -- the colour of a point of the screen after a batch, if it is known: that of the window's point there

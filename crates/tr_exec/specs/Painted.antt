@@ -28,7 +28,7 @@ IsPainted look c origin visible old new =
 
 -- after a batch each visible point whose colour is known has it;
 -- one that no command touches keeps its pixel, and so do the points that aren't visible
-pub record IsShown (look : Look) (base : Base) (batch : List Paint)
+pub record ShowsBatch (look : Look) (base : Base) (batch : List Paint)
     (origin : Point) (visible : List Edges) (old new : Picture) : Type 0 where
   pub size : new.size ≡ old.size
   pub kind : new.kind ≡ old.kind

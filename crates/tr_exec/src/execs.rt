@@ -6,7 +6,7 @@ ghost use Rattle.tr_screen.specs.Pictures.{pixel_of};
 ghost use Rattle.tr_screen.specs.Runs.{IsOn};
 ghost use Rattle.tr_paint.specs.Batches.{touches};
 ghost use Rattle.tr_paint.specs.Traces.{look_of};
-ghost use Rattle.tr_exec.specs.Executions.{IsOrigin, LiesOn, base_of, colour_after, known_base};
+ghost use Rattle.tr_exec.specs.Executions.{IsOrigin, RegionLiesOn, base_of, colour_after, known_base};
 
 use crate::sites::Site;
 use std::alloc::Global;
@@ -35,8 +35,8 @@ pub fn execute(
     bad: &mut Region,
 ) -> Result<(), NoMemory>
     requires origin { IsOrigin origin }
-    requires visible { LiesOn screen.old.size visible.now }
-    requires bad { LiesOn screen.old.size bad.old }
+    requires visible { RegionLiesOn screen.old.size visible.now }
+    requires bad { RegionLiesOn screen.old.size bad.old }
     requires kind { env.now.kind ≡ screen.old.kind }
 
     // Each visible point whose colour is known has it.
@@ -91,7 +91,7 @@ pub fn execute_known(
     screen: &mut Screen,
 ) -> Result<Region, NoMemory>
     requires origin { IsOrigin origin }
-    requires visible { LiesOn screen.old.size visible.now }
+    requires visible { RegionLiesOn screen.old.size visible.now }
     requires good { Includes visible.now good.now }
     requires kind { env.now.kind ≡ screen.old.kind }
 

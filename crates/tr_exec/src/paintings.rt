@@ -9,10 +9,10 @@ ghost use Rattle.tr_region.specs.Points.{holds};
 ghost use Rattle.tr_screen.specs.Pictures.{pixel_of};
 ghost use Rattle.tr_paint.specs.Paints.{IsNearPaint, IsNearPoint};
 ghost use Rattle.tr_paint.specs.Traces.{look_of};
-ghost use Rattle.tr_exec.specs.Executions.{IsOrigin, LiesOn, placed, base_of};
+ghost use Rattle.tr_exec.specs.Executions.{IsOrigin, RegionLiesOn, screen_point, base_of};
 ghost use Rattle.tr_exec.specs.Strokes.{IsCorner};
 ghost use Rattle.tr_exec.specs.Unknown.{IsMovedBy};
-ghost use Rattle.tr_exec.specs.Painted.{IsPainted, IsShown};
+ghost use Rattle.tr_exec.specs.Painted.{IsPainted, ShowsBatch};
 
 use crate::brushes::{PixelsBrush, TextBrush, TextureBrush, TintBrush};
 use crate::sites::Site;
@@ -29,14 +29,14 @@ impl Site<'_> {
     /// Does to the screen what the commands of a batch do, by the points that each moves.
     pub fn paint_all(&self, env: &Env<'_>, batch: &Batch, moves: &[Region], screen: &mut Screen)
         requires origin { IsOrigin self.now.origin }
-        requires visible { LiesOn screen.old.size self.now.visible.now }
+        requires visible { RegionLiesOn screen.old.size self.now.visible.now }
         requires moves { AllZip (IsMovedBy self.now.origin self.now.visible.now)
             batch.now moves.now }
         requires count { length moves.now ≡ length batch.now }
         ensures { let look = look_of env.now.kind env.now.font.now in
             let origin = self.now.origin in
             let visible = self.now.visible.now in
-            (bad : List Edges) → IsShown look (base_of origin visible bad screen.old) batch.now
+            (bad : List Edges) → ShowsBatch look (base_of origin visible bad screen.old) batch.now
             origin visible screen.old screen.new }
     {
         let paints = batch.paints();
@@ -49,7 +49,7 @@ impl Site<'_> {
     fn paint(&self, env: &Env<'_>, paint: &Paint, moved: &Region, screen: &mut Screen)
         requires near { IsNearPaint paint.now }
         requires origin { IsOrigin self.now.origin }
-        requires visible { LiesOn screen.old.size self.now.visible.now }
+        requires visible { RegionLiesOn screen.old.size self.now.visible.now }
         requires moved { IsMovedBy self.now.origin self.now.visible.now paint.now moved.now }
         ensures { let look = look_of env.now.kind env.now.font.now in
             IsPainted look paint.now self.now.origin self.now.visible.now screen.old screen.new }
@@ -105,7 +105,7 @@ impl Site<'_> {
     fn place(&self, q: Point) -> Point
         requires near { IsNearPoint q }
         requires origin { IsOrigin self.now.origin }
-        ensures value { result ≡ placed self.now.origin q }
+        ensures value { result ≡ screen_point self.now.origin q }
         ensures corner { IsCorner result }
     {
         Point {

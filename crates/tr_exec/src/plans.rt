@@ -4,7 +4,7 @@ ghost use Rattle.tr_base.specs.declared.Point.{Point};
 ghost use Rattle.tr_region.specs.Points.{holds};
 ghost use Rattle.tr_screen.specs.Pictures.{Picture};
 ghost use Rattle.tr_paint.specs.Traces.{Look};
-ghost use Rattle.tr_exec.specs.Executions.{IsOrigin, LiesOn, greatest_screen, base_of};
+ghost use Rattle.tr_exec.specs.Executions.{IsOrigin, RegionLiesOn, greatest_screen, base_of};
 ghost use Rattle.tr_exec.specs.Unknown.{IsMovedBy, bad_after};
 
 use crate::effects::effect_of;
@@ -26,7 +26,7 @@ impl Site<'_> {
     /// What a batch is going to move, and which points are bad in the end.
     pub fn plan(&self, batch: &Batch, bad: &Region) -> Result<Plan, NoMemory>
         requires origin { IsOrigin self.now.origin }
-        requires visible { LiesOn greatest_screen self.now.visible.now }
+        requires visible { RegionLiesOn greatest_screen self.now.visible.now }
         ensures moves { IfOk result (λ plan.
             AllZip (IsMovedBy self.now.origin self.now.visible.now) batch.now plan.moves.items) }
         ensures count { IfOk result (λ plan. length plan.moves.items ≡ length batch.now) }

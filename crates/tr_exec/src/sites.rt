@@ -3,7 +3,7 @@ ghost use Rattle.tr_base.specs.declared.Point.{Point};
 ghost use Rattle.tr_base.specs.Rects.{has_point, before_shift};
 ghost use Rattle.tr_region.specs.Points.{holds, Includes};
 ghost use Rattle.tr_paint.specs.Paints.{IsNearPaint, IsNearPoint, area as area_of};
-ghost use Rattle.tr_exec.specs.Executions.{IsOrigin, LiesOn, greatest_screen};
+ghost use Rattle.tr_exec.specs.Executions.{IsOrigin, RegionLiesOn, greatest_screen};
 ghost use Rattle.tr_exec.specs.Unknown as spec;
 
 use crate::effects::Effect;
@@ -40,7 +40,7 @@ impl Site<'_> {
         unknown: Region,
     ) -> Result<Region, NoMemory>
         requires near { spec.IsNearEffect effect }
-        requires visible { LiesOn greatest_screen self.now.visible.now }
+        requires visible { RegionLiesOn greatest_screen self.now.visible.now }
         requires seen { Includes self.now.visible.now unknown }
         ensures { IfOk result (λ r. (p : Point) → holds r p
             ≡ spec.unknown_after effect area.now self.now.visible.now unknown p) }
@@ -61,7 +61,7 @@ impl Site<'_> {
         unknown: &Region,
     ) -> Result<Region, NoMemory>
         requires delta { IsNearPoint delta }
-        requires visible { LiesOn greatest_screen self.now.visible.now }
+        requires visible { RegionLiesOn greatest_screen self.now.visible.now }
         requires seen { Includes self.now.visible.now unknown.now }
         ensures { IfOk result (λ r. (p : Point) → holds r p
             ≡ spec.unknown_after (Effect.Moves delta) area.now self.now.visible.now unknown.now p) }
@@ -74,7 +74,7 @@ impl Site<'_> {
     /// The points that an effect in an area moves: the visible ones whose source is visible.
     pub fn moved_by(&self, effect: Effect, area: &Region) -> Result<Region, NoMemory>
         requires near { spec.IsNearEffect effect }
-        requires visible { LiesOn greatest_screen self.now.visible.now }
+        requires visible { RegionLiesOn greatest_screen self.now.visible.now }
         ensures { IfOk result (λ r. (p : Point) → holds r p
             ≡ spec.moved_by effect area.now self.now.visible.now p) }
     {
@@ -90,7 +90,7 @@ impl Site<'_> {
     /// Points of the screen, each moved by `delta`.
     fn moved(&self, region: &Region, delta: Point) -> Result<Region, NoMemory>
         requires delta { IsNearPoint delta }
-        requires region { LiesOn greatest_screen region.now }
+        requires region { RegionLiesOn greatest_screen region.now }
         ensures { IfOk result (λ r. (p : Point) → holds r p ≡ holds region.now (before_shift p delta)) }
     {
         // Called for what it tells the prover: that the list of a region is canonical.

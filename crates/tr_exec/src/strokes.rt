@@ -1,7 +1,7 @@
 ghost use Rattle.std.specs.Prelude.{◌≡◌, ◌<◌, ◌≤◌, ◌+◌, ◌/◌, ◌*◌, ◌≤ℤ◌, ◌<ℤ◌, ℕ, pos, ◌+ℤ◌, List, ◌++◌, length, slice_index, unsigned_abs};
 ghost use Rattle.std.specs.Simd.Lanes.{chunk, put_chunk};
 ghost use Rattle.tr_base.specs.Ops.{eff, resolved as resolved_of};
-ghost use Rattle.tr_base.specs.Tiles.{tile_bit, place_of as place_in_tile};
+ghost use Rattle.tr_base.specs.Tiles.{tile_bit, tile_index as place_in_tile};
 ghost use Rattle.tr_base.specs.Fonts.{glyph_of, glyph_bit};
 ghost use Rattle.tr_base.specs.Pixmaps.{pixmap_at};
 ghost use Rattle.tr_kernel.specs.Masks.{painted};

@@ -1,8 +1,8 @@
 //! Batches, regions and screens that are drawn at random.
 ghost use Rattle.std.specs.Prelude.{◌≡◌};
 ghost use Rattle.tr_screen.specs.Pictures.{IsScreenSize};
-ghost use Rattle.tr_paint.specs.Paints.{IsNear, IsNearPaint, IsNearPoint, IsNearRect};
-ghost use Rattle.tr_exec.specs.Executions.{IsOrigin, LiesOn};
+ghost use Rattle.tr_paint.specs.Paints.{IsNearZero, IsNearPaint, IsNearPoint, IsNearRect};
+ghost use Rattle.tr_exec.specs.Executions.{IsOrigin, RegionLiesOn};
 
 use super::ends::made;
 use std::process::Abort;
@@ -31,7 +31,7 @@ impl Draw {
 
     /// A coordinate on a small screen, or a little beside it.
     fn coordinate(&mut self) -> i32
-        ensures { IsNear result }
+        ensures { IsNearZero result }
     {
         i32::from(self.byte() % 14) - 2
     }
@@ -49,8 +49,8 @@ impl Draw {
 
     /// Two coordinates, the lesser one first.
     fn sides(&mut self) -> (i32, i32)
-        ensures low { IsNear result.0 }
-        ensures high { IsNear result.1 }
+        ensures low { IsNearZero result.0 }
+        ensures high { IsNearZero result.1 }
     {
         let (a, b) = (self.coordinate(), self.coordinate());
         if a < b { (a, b) } else { (b, a) }
@@ -169,7 +169,7 @@ impl Draw {
 
     /// Some points of a screen.
     pub fn region(&mut self, rt: &(impl Abort + AllocGlobal), size: Size) -> Region
-        ensures { LiesOn size result }
+        ensures { RegionLiesOn size result }
     {
         let alloc = rt.alloc();
         let mut points = Region::empty(alloc);

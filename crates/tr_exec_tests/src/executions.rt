@@ -1,5 +1,5 @@
 //! Small batches on a row of four points.
-ghost use Rattle.tr_exec.specs.Executions.{LiesOn};
+ghost use Rattle.tr_exec.specs.Executions.{RegionLiesOn};
 
 use super::ends::made;
 use std::process::Abort;
@@ -23,7 +23,7 @@ const F: Pair = Pair {
 
 /// The points of a rectangle that lie on a screen.
 fn part(rt: &(impl Abort + AllocGlobal), size: Size, rect: Rect) -> Region
-    ensures { LiesOn size result }
+    ensures { RegionLiesOn size result }
 {
     let all = made(rt, Region::of_rect(rt.alloc(), whole(size)));
     let part = made(rt, Region::of_rect(rt.alloc(), rect));

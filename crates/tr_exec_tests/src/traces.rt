@@ -6,10 +6,10 @@ ghost use Rattle.tr_base.specs.Fonts.{glyph_bit};
 ghost use Rattle.tr_region.specs.Points.{holds};
 ghost use Rattle.tr_screen.specs.Pictures.{pixel_of};
 ghost use Rattle.tr_paint.specs.Paints as spec;
-ghost use Rattle.tr_paint.specs.Paints.{IsNear, IsNearPaint, IsNearPoint};
+ghost use Rattle.tr_paint.specs.Paints.{IsNearZero, IsNearPaint, IsNearPoint};
 ghost use Rattle.tr_paint.specs.Batches.{IsBatch};
 ghost use Rattle.tr_paint.specs.Traces.{after, look_of};
-ghost use Rattle.tr_exec.specs.Executions.{IsOrigin, LiesOn, placed, base_of};
+ghost use Rattle.tr_exec.specs.Executions.{IsOrigin, RegionLiesOn, screen_point, base_of};
 ghost use Rattle.tr_exec.specs.Strokes.{IsCorner, IsInCells};
 
 use super::draws::Draw;
@@ -30,14 +30,14 @@ struct Ground<'a> {
     bad: &'a Region,
     screen: &'a Screen,
     ghost corner: { IsOrigin origin },
-    ghost within: { LiesOn screen.now.size visible.now },
+    ghost within: { RegionLiesOn screen.now.size visible.now },
 }
 
 impl Ground<'_> {
     /// The point of the screen at which a point of the window lies.
     fn place(&self, q: Point) -> Point
         requires { IsCorner q }
-        ensures { result ≡ placed self.now.origin q }
+        ensures { result ≡ screen_point self.now.origin q }
     {
         Point {
             h: moved(q.h, self.origin.h),
@@ -95,8 +95,8 @@ impl Ground<'_> {
     /// the point is bad.
     fn told(&self, paints: &[Paint], p: Point) -> (Option<u8>, bool)
         requires batch { IsBatch paints.now }
-        requires h { IsNear p.h }
-        requires v { IsNear p.v }
+        requires h { IsNearZero p.h }
+        requires v { IsNearZero p.v }
     {
         if self.visible.has(p) {
             let colour = self.traced(paints, earlier(p, self.origin));
@@ -136,8 +136,8 @@ fn shown(screen: &Screen, p: Point) -> Option<u8> {
 
 /// The point that lies `delta` before another one.
 fn earlier(q: Point, delta: Point) -> Point
-    requires h { IsNear q.h }
-    requires v { IsNear q.v }
+    requires h { IsNearZero q.h }
+    requires v { IsNearZero q.v }
     requires delta { IsOrigin delta }
     ensures value { result ≡ before_shift q delta }
     ensures reach { IsCorner result }
@@ -159,8 +159,8 @@ fn difference(x: i32, y: i32) -> i32
 /// The operation of a command at a point of its area.
 fn op_at(font: &Font, paint: &Paint, q: Point) -> Op
     requires near { IsNearPaint paint.now }
-    requires h { IsNear q.h }
-    requires v { IsNear q.v }
+    requires h { IsNearZero q.h }
+    requires v { IsNearZero q.v }
     requires area { has_point (spec.area paint.now) q ≡ true }
     ensures { result ≡ spec.op_at font.now paint.now q }
 {

@@ -14,10 +14,10 @@ use Rattle.tr_base.specs.declared.Point.{Point}
 use Rattle.tr_base.specs.Layouts.{farthest, IsOffset}
 use Rattle.tr_forest.specs.declared.kinds.NodeKind.{NodeKind}
 use Rattle.tr_forest.specs.declared.kinds.NodeKind.TheVariants as kinds
-use Rattle.tr_forest.specs.Nodes.{Entry, Nodes, IsNode, IsNodeKind, IsNextLeaf, node, fresh, is_leaf, is_filter, shown_by, leaf_of, leaf_count}
+use Rattle.tr_forest.specs.Nodes.{Entry, Nodes, IsNode, IsNodeKind, IsNextLeaf, node, new_entry, is_leaf, is_filter, shown_by, leaf_of, leaf_count}
 use Rattle.tr_forest.specs.Families.{levels, is_among, depth, depth_within}
 use Rattle.tr_forest.specs.Forests.{IsForest}
-use Rattle.tr_forest.specs.Tables.{IsKept, in_table}
+use Rattle.tr_forest.specs.Tables.{IsLeafTable, in_table}
 use Rattle.tr_forest.proofs.FamilyLemmas.{by_within, depth_zero, depth_suc}
 use Rattle.tr_forest.proofs.Keeping.{depth_equal, leaf_test}
 
@@ -36,7 +36,7 @@ none_apart i j d lt within = absurd (omega arith)
 no_offset : IsOffset farthest (record { h = pos 0; v = pos 0 })
 no_offset = record { west = omega (arith, ints); east = omega (arith, ints); north = omega (arith, ints); south = omega (arith, ints) }
 
-pub kept_nothing : IsKept nothing []
+pub kept_nothing : IsLeafTable nothing []
 kept_nothing = record {
   forest = record {
     count = omega arith;
@@ -61,8 +61,8 @@ kept_nothing = record {
 
 -- a root
 
-pub kept_rooted : (t : Nodes) (leaves : List NodeId) (n : NodeId) → IsKept t leaves → IsNode t n → (node t n).parent ≡ None →
-    IsKept (record t { root = Some n }) leaves
+pub kept_rooted : (t : Nodes) (leaves : List NodeId) (n : NodeId) → IsLeafTable t leaves → IsNode t n → (node t n).parent ≡ None →
+    IsLeafTable (record t { root = Some n }) leaves
 kept_rooted t leaves n k h top =
     let f : IsForest t = k.forest in
     let new : Nodes = record t { root = Some n } in
@@ -91,7 +91,7 @@ kept_rooted t leaves n k h top =
 -- one more node
 
 abbrev pub added : Nodes → NodeKind → ℕ → Nodes
-added t kind tint = record t { entries = t.entries ++ fresh kind tint ∷ [] }
+added t kind tint = record t { entries = t.entries ++ new_entry kind tint ∷ [] }
 
 -- a part of the nodes in which the new one is like no node
 part_added : {X : Type 0} (part : Entry → X) (es : List Entry) (e d : Entry) (n : ℕ) → part e ≡ part d →
@@ -110,11 +110,11 @@ at_added (x ∷ xs) e d (suc n) = elim (at_added xs e d n) [ inl both ↦ inl (a
 
 leaves_added : (t : Nodes) (kind : NodeKind) (tint : ℕ) → leaf_count (added t kind tint) ≡ leaf_count t + cond (is_leaf kind) 1 0
 leaves_added t kind tint =
-    ap (λ (es : List Entry). length es) (filter-append (λ (e : Entry). is_leaf e.kind) t.entries (fresh kind tint ∷ []))
-    ∙ length-append (filter (λ (e : Entry). is_leaf e.kind) t.entries) (filter (λ (e : Entry). is_leaf e.kind) (fresh kind tint ∷ []))
+    ap (λ (es : List Entry). length es) (filter-append (λ (e : Entry). is_leaf e.kind) t.entries (new_entry kind tint ∷ []))
+    ∙ length-append (filter (λ (e : Entry). is_leaf e.kind) t.entries) (filter (λ (e : Entry). is_leaf e.kind) (new_entry kind tint ∷ []))
     ∙ ap (λ k. leaf_count t + k) (one (is_leaf kind))
   where
-    one : (b : Bool) → length (cond b (fresh kind tint ∷ []) []) ≡ cond b 1 0
+    one : (b : Bool) → length (cond b (new_entry kind tint ∷ []) []) ≡ cond b 1 0
     one true = refl
     one false = refl
 
@@ -139,7 +139,7 @@ pub record CanAdd (t : Nodes) (kind : NodeKind) : Type 0 where
 
 leaf_added : (t : Nodes) (kind : NodeKind) (tint : ℕ) (n : NodeId) (leaf : LeafId) → leaf_of (node (added t kind tint) n).kind ≡ Some leaf →
     ((n.0 ≡ length t.entries) × (leaf_of kind ≡ Some leaf)) ⊎ (leaf_of (node t n).kind ≡ Some leaf)
-leaf_added t kind tint n leaf h = elim (at_added t.entries (fresh kind tint) (fresh kinds.H 0) n.0) [
+leaf_added t kind tint n leaf h = elim (at_added t.entries (new_entry kind tint) (new_entry kinds.H 0) n.0) [
   | inl both ↦ inl (both.0, sym (ap (λ (e : Entry). leaf_of e.kind) both.1) ∙ h)
   | inr same ↦ inr (sym (ap (λ (e : Entry). leaf_of e.kind) same) ∙ h)
 ]
@@ -182,7 +182,7 @@ unlike_added t kind tint m n leaf f next h k = elim (leaf_added t kind tint m le
 
 -- what holds of the new kind and of all old ones holds of all
 kind_added : (P : NodeKind → Type 0) (t : Nodes) (kind : NodeKind) (tint : ℕ) (n : NodeId) → P kind → P (node t n).kind → P (node (added t kind tint) n).kind
-kind_added P t kind tint n here there = elim (at_added t.entries (fresh kind tint) (fresh kinds.H 0) n.0) [
+kind_added P t kind tint n here there = elim (at_added t.entries (new_entry kind tint) (new_entry kinds.H 0) n.0) [
   | inl both ↦ subst (λ (e : Entry). P e.kind) (sym both.1) here
   | inr same ↦ subst (λ (e : Entry). P e.kind) (sym same) there
 ]
@@ -190,31 +190,31 @@ kind_added P t kind tint n here there = elim (at_added t.entries (fresh kind tin
 pub forest_added : (t : Nodes) (kind : NodeKind) (tint : ℕ) → IsForest t → CanAdd t kind → IsForest (added t kind tint)
 forest_added t kind tint f can =
     let new : Nodes = added t kind tint in
-    let up : (n : NodeId) → (node new n).parent ≡ (node t n).parent = λ n. part_added (λ e. e.parent) t.entries (fresh kind tint)
-    (fresh kinds.H 0) n.0 refl in
-    let down : (n : NodeId) → (node new n).children ≡ (node t n).children = λ n. part_added (λ e. e.children) t.entries (fresh kind tint)
-    (fresh kinds.H 0) n.0 refl in
-    let place : (n : NodeId) → (node new n).at ≡ (node t n).at = λ n. part_added (λ e. e.at) t.entries (fresh kind tint) (fresh kinds.H 0) n.0 refl in
+    let up : (n : NodeId) → (node new n).parent ≡ (node t n).parent = λ n. part_added (λ e. e.parent) t.entries (new_entry kind tint)
+    (new_entry kinds.H 0) n.0 refl in
+    let down : (n : NodeId) → (node new n).children ≡ (node t n).children = λ n. part_added (λ e. e.children) t.entries (new_entry kind tint)
+    (new_entry kinds.H 0) n.0 refl in
+    let place : (n : NodeId) → (node new n).at ≡ (node t n).at = λ n. part_added (λ e. e.at) t.entries (new_entry kind tint) (new_entry kinds.H 0) n.0 refl in
     record {
-      count = (let room : length t.entries < 256 = can.room in omega (arith, length-append t.entries (fresh kind tint ∷ [])));
+      count = (let room : length t.entries < 256 = can.room in omega (arith, length-append t.entries (new_entry kind tint ∷ [])));
       parents = λ n p h. ap (is_among n) (down p) ∙ f.parents n p (sym (up n) ∙ h);
       children = λ n c h. up c ∙ f.children n c (sym (ap (is_among c) (down n)) ∙ h);
       once = λ n. subst (λ (cs : List NodeId). AllPairs (λ a b. a.0 ≢ b.0) cs) (sym (down n)) (f.once n);
       depths = λ n. subst (λ (d : ℕ). d ≤ levels) (sym (depth_equal 16 t new up n)) (f.depths n);
       root = λ n h. (let old : IsNode t n = f.root n h in record {
         within =
-            (let lt : n.0 < length t.entries = old.within in omega (arith, length-append t.entries (fresh kind tint ∷ [])));
+            (let lt : n.0 < length t.entries = old.within in omega (arith, length-append t.entries (new_entry kind tint ∷ [])));
       });
       top = λ n h. up n ∙ f.top n h;
-      leaves = λ n h. elim (at_added t.entries (fresh kind tint) (fresh kinds.H 0) n.0) [
+      leaves = λ n h. elim (at_added t.entries (new_entry kind tint) (new_entry kinds.H 0) n.0) [
         | inl both ↦ ap (λ (e : Entry). e.children) both.1
         | inr same ↦ down n ∙ f.leaves n (sym (ap (λ (e : Entry). is_leaf e.kind) same) ∙ h)
       ];
-      filters = λ n h. elim (at_added t.entries (fresh kind tint) (fresh kinds.H 0) n.0) [
+      filters = λ n h. elim (at_added t.entries (new_entry kind tint) (new_entry kinds.H 0) n.0) [
         | inl both ↦ (let none : length (node new n).children ≡ 0 = ap (λ (e : Entry). length e.children) both.1 in omega arith)
         | inr same ↦ subst (λ (cs : List NodeId). length cs ≤ 1) (sym (down n)) (f.filters n (sym (ap (λ (e : Entry). is_filter e.kind) same) ∙ h))
       ];
-      shown = λ n c h. elim (at_added t.entries (fresh kind tint) (fresh kinds.H 0) n.0) [
+      shown = λ n c h. elim (at_added t.entries (new_entry kind tint) (new_entry kinds.H 0) n.0) [
         | inl both ↦ (let no : None ≡ Some c = sym (ap (λ (e : Entry). shown_by e.kind) both.1 ∙ can.shown) ∙ h in absurd cc)
         | inr same ↦ ap (is_among c) (down n) ∙ f.shown n c (sym (ap (λ (e : Entry). shown_by e.kind) same) ∙ h)
       ];
@@ -229,17 +229,17 @@ forest_added t kind tint f can =
 -- a leaf is still that leaf
 leaf_stays : (t : Nodes) (kind : NodeKind) (tint : ℕ) (n : NodeId) (leaf : LeafId) → leaf_of (node t n).kind ≡ Some leaf →
     leaf_of (node (added t kind tint) n).kind ≡ Some leaf
-leaf_stays t kind tint n leaf h = elim (at_added t.entries (fresh kind tint) (fresh kinds.H 0) n.0) [
+leaf_stays t kind tint n leaf h = elim (at_added t.entries (new_entry kind tint) (new_entry kinds.H 0) n.0) [
   | inl both ↦
-      (let past : node t n ≡ fresh kinds.H 0 = get_or-eq_default t.entries (fresh kinds.H 0) (omega (arith, both.0)) in
+      (let past : node t n ≡ new_entry kinds.H 0 = get_or-eq_default t.entries (new_entry kinds.H 0) (omega (arith, both.0)) in
       let no : None ≡ Some leaf = sym (ap (λ (e : Entry). leaf_of e.kind) past) ∙ h in
       absurd cc)
   | inr same ↦ ap (λ (e : Entry). leaf_of e.kind) same ∙ h
 ]
 
 -- a node that is no leaf leaves the table as it is
-pub kept_other : (t : Nodes) (leaves : List NodeId) (kind : NodeKind) (tint : ℕ) → IsKept t leaves → CanAdd t kind → is_leaf kind ≡ false →
-    IsKept (added t kind tint) leaves
+pub kept_other : (t : Nodes) (leaves : List NodeId) (kind : NodeKind) (tint : ℕ) → IsLeafTable t leaves → CanAdd t kind → is_leaf kind ≡ false →
+    IsLeafTable (added t kind tint) leaves
 kept_other t leaves kind tint k can is_none = record {
   forest = forest_added t kind tint k.forest can;
   count = (let more : leaf_count (added t kind tint) ≡ leaf_count t + cond (is_leaf kind) 1 0 = leaves_added t kind tint in
@@ -254,7 +254,7 @@ leaf_is : (t : Nodes) (kind : NodeKind) → IsNextLeaf t kind → is_leaf kind �
 leaf_is t (kinds.Leaf leaf shapes) next h = (let id : ℕ → LeafId = λ k. record { 0 = k } in ap (λ (k : ℕ). Some (id k)) next.next)
 leaf_is t kind next h = cc
 
-place_added : (t : Nodes) (leaves : List NodeId) (kind : NodeKind) (tint : ℕ) (n : NodeId) (i : ℕ) → IsKept t leaves → IsNextLeaf t kind →
+place_added : (t : Nodes) (leaves : List NodeId) (kind : NodeKind) (tint : ℕ) (n : NodeId) (i : ℕ) → IsLeafTable t leaves → IsNextLeaf t kind →
     is_leaf kind ≡ true → n.0 ≡ length t.entries →
     i < length (leaves ++ n ∷ []) → leaf_of (node (added t kind tint) (in_table (leaves ++ n ∷ []) i)).kind ≡ Some (record { 0 = i })
 place_added t leaves kind tint n i k next is_one is h = by_test (nat_lt i (length leaves)) refl
@@ -268,16 +268,16 @@ place_added t leaves kind tint n i k next is_one is h = by_test (nat_lt i (lengt
         let ge : length leaves ≤ i = grind (arith, nat_tests) in
         let last : i ≡ length leaves = omega (arith, length-append leaves (n ∷ [])) in
         let this : in_table (leaves ++ n ∷ []) i ≡ n = ap (in_table (leaves ++ n ∷ [])) last ∙ get_or-append_seam leaves n [] (record { 0 = 0 }) in
-        let new : node (added t kind tint) n ≡ fresh kind tint = ap (λ (x : ℕ). get_or (t.entries ++ fresh kind tint ∷ []) x (fresh kinds.H 0)) is
-        ∙ get_or-append_seam t.entries (fresh kind tint) [] (fresh kinds.H 0) in
+        let new : node (added t kind tint) n ≡ new_entry kind tint = ap (λ (x : ℕ). get_or (t.entries ++ new_entry kind tint ∷ []) x (new_entry kinds.H 0)) is
+        ∙ get_or-append_seam t.entries (new_entry kind tint) [] (new_entry kinds.H 0) in
         let id : ℕ → LeafId = λ x. record { 0 = x } in
         ap (λ (m : NodeId). leaf_of (node (added t kind tint) m).kind) this ∙ ap (λ (e : Entry). leaf_of e.kind) new ∙ leaf_is t kind next is_one
         ∙ ap (λ (x : ℕ). Some (id x)) (sym (last ∙ k.count))
 
 -- a leaf gets the next place of the table
-pub kept_leaf : (t : Nodes) (leaves : List NodeId) (kind : NodeKind) (tint : ℕ) (n : NodeId) → IsKept t leaves → CanAdd t kind → is_leaf kind ≡ true →
+pub kept_leaf : (t : Nodes) (leaves : List NodeId) (kind : NodeKind) (tint : ℕ) (n : NodeId) → IsLeafTable t leaves → CanAdd t kind → is_leaf kind ≡ true →
     n.0 ≡ length t.entries →
-    IsKept (added t kind tint) (leaves ++ n ∷ [])
+    IsLeafTable (added t kind tint) (leaves ++ n ∷ [])
 kept_leaf t leaves kind tint n k can is_one is = record {
   forest = forest_added t kind tint k.forest can;
   count = (let more : leaf_count (added t kind tint) ≡ leaf_count t + cond (is_leaf kind) 1 0 = leaves_added t kind tint in
@@ -288,7 +288,7 @@ kept_leaf t leaves kind tint n k can is_one is = record {
 }
 
 -- the table has the node of each leaf
-pub place_is : (t : Nodes) (leaves : List NodeId) (leaf : LeafId) (n : NodeId) → IsKept t leaves → leaf.0 < leaf_count t → n ≡ get_or leaves leaf.0 n →
+pub place_is : (t : Nodes) (leaves : List NodeId) (leaf : LeafId) (n : NodeId) → IsLeafTable t leaves → leaf.0 < leaf_count t → n ≡ get_or leaves leaf.0 n →
     leaf_of (node t n).kind ≡ Some leaf
 place_is t leaves leaf n k h is =
     let lt : leaf.0 < length leaves = (let same : length leaves ≡ leaf_count t = k.count in omega arith) in

@@ -6,7 +6,7 @@ use Rattle.tr_forest.specs.declared.kinds.NodeKind.TheVariants as kinds
 use Rattle.tr_forest.specs.declared.edits.Edit.{Edit}
 use Rattle.tr_forest.specs.declared.edits.Edit.TheVariants as edits
 use Rattle.tr_forest.specs.declared.edits.NodeFault.TheVariants as faults
-use Rattle.tr_forest.specs.Nodes.{Nodes, node, fresh}
+use Rattle.tr_forest.specs.Nodes.{Nodes, node, new_entry}
 use Rattle.tr_forest.specs.Families.{depth, height, depth_within, height_within, is_under_within}
 use Rattle.tr_forest.specs.Edits.{edited, refusal}
 
@@ -19,7 +19,7 @@ put child parent = edits.Attach (id child) (id parent) (record { h = pos 0; v = 
 
 -- three nodes of one kind, of which 1 and then 2 are attached to 0
 abbrev family : NodeKind → Nodes
-family kind = edited (edited (record { entries = fresh kind 0 ∷ fresh kind 0 ∷ fresh kind 0 ∷ []; root = None }) (put 1 0)) (put 2 0)
+family kind = edited (edited (record { entries = new_entry kind 0 ∷ new_entry kind 0 ∷ new_entry kind 0 ∷ []; root = None }) (put 1 0)) (put 2 0)
 
 -- a Z has the newest child in front, another node has it last
 newest_in_front : (node (family kinds.Z) (id 0)).children ≡ id 2 ∷ id 1 ∷ []

@@ -4,7 +4,7 @@ use Rattle.std.proofs.lemmas.Bool.Decides.{nat_tests}
 use Rattle.std.proofs.Math.ListN.{get_or-eq_default}
 use Rattle.tr_base.specs.declared.NodeId.{NodeId}
 use Rattle.tr_base.specs.Layouts.{greatest_by}
-use Rattle.tr_forest.specs.Nodes.{Entry, Nodes, IsNode, node, fresh}
+use Rattle.tr_forest.specs.Nodes.{Entry, Nodes, IsNode, node, new_entry}
 use Rattle.tr_forest.specs.declared.kinds.NodeKind.TheVariants as kinds
 use Rattle.tr_forest.specs.Families.{levels, is_among, deeper, depth_within, depth, height_within, height, of_parent, is_under_within, is_under}
 use Rattle.tr_forest.specs.Forests.{IsForest}
@@ -62,10 +62,10 @@ among_at (n ∷ ns) (suc k) d h = among_later (get_or ns k d) n ns (among_at ns 
 -- who is a node
 
 -- past the nodes there is nothing
-pub none_there : (t : Nodes) (n : NodeId) → length t.entries ≤ n.0 → node t n ≡ fresh kinds.H 0
-none_there t n h = get_or-eq_default t.entries (fresh kinds.H 0) h
+pub none_there : (t : Nodes) (n : NodeId) → length t.entries ≤ n.0 → node t n ≡ new_entry kinds.H 0
+none_there t n h = get_or-eq_default t.entries (new_entry kinds.H 0) h
 
-pub by_within : {P : Type 0} (t : Nodes) (n : NodeId) → (IsNode t n → P) → (node t n ≡ fresh kinds.H 0 → P) → P
+pub by_within : {P : Type 0} (t : Nodes) (n : NodeId) → (IsNode t n → P) → (node t n ≡ new_entry kinds.H 0 → P) → P
 by_within {P = P} t n within past = by_test (nat_lt n.0 (length t.entries)) refl
   where
     by_test : (b : Bool) → nat_lt n.0 (length t.entries) ≡ b → P

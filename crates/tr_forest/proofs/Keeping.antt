@@ -8,11 +8,11 @@ use Rattle.tr_base.specs.declared.NodeId.{NodeId}
 use Rattle.tr_base.specs.Layouts.{farthest, IsOffset}
 use Rattle.tr_forest.specs.declared.kinds.NodeKind.{NodeKind}
 use Rattle.tr_forest.specs.declared.kinds.NodeKind.TheVariants as kinds
-use Rattle.tr_forest.specs.Nodes.{Entry, Nodes, IsNode, IsNodeKind, node, fresh, is_leaf, is_filter, shown_by, leaf_of, leaf_count}
+use Rattle.tr_forest.specs.Nodes.{Entry, Nodes, IsNode, IsNodeKind, node, new_entry, is_leaf, is_filter, shown_by, leaf_of, leaf_count}
 use Rattle.tr_forest.specs.Families.{levels, is_among, deeper, depth_within, depth}
 use Rattle.tr_forest.specs.Edits.{changed}
 use Rattle.tr_forest.specs.Forests.{IsForest}
-use Rattle.tr_forest.specs.Tables.{IsKept, in_table}
+use Rattle.tr_forest.specs.Tables.{IsLeafTable, in_table}
 use Rattle.tr_forest.proofs.FamilyLemmas.{by_id, deeper_same, depth_zero, depth_suc}
 
 -- what every edit leaves as it was: how many nodes there are, the root, and which leaf each node is
@@ -80,7 +80,7 @@ follows t new f v r l = record {
   };
 }
 
-pub kept : (t new : Nodes) (leaves : List NodeId) → IsKept t leaves → Follows t new → IsKept new leaves
+pub kept : (t new : Nodes) (leaves : List NodeId) → IsLeafTable t leaves → Follows t new → IsLeafTable new leaves
 kept t new leaves k f = record {
   forest = f.forest;
   count = k.count ∙ sym f.values.leaf_count;
@@ -90,10 +90,10 @@ kept t new leaves k f = record {
 -- one node is changed
 
 pub changed_here : (t : Nodes) (n : NodeId) (change : Entry → Entry) → IsNode t n → node (changed n change t) n ≡ change (node t n)
-changed_here t n change h = get_or-set_same t.entries n.0 (change (node t n)) (fresh kinds.H 0) h.within
+changed_here t n change h = get_or-set_same t.entries n.0 (change (node t n)) (new_entry kinds.H 0) h.within
 
 pub changed_other : (t : Nodes) (n m : NodeId) (change : Entry → Entry) → (m.0 == n.0) ≡ false → node (changed n change t) m ≡ node t m
-changed_other t n m change h = get_or-set_other t.entries n.0 m.0 (change (node t n)) (fresh kinds.H 0)
+changed_other t n m change h = get_or-set_other t.entries n.0 m.0 (change (node t n)) (new_entry kinds.H 0)
     (λ e. let test : (m.0 == n.0) ≡ true = grind (arith, nat_tests) in cc)
 
 -- a part of the nodes that the change leaves as it is
@@ -143,7 +143,7 @@ keeps_changed t n change h same = record {
   count = length-set t.entries n.0 (change (node t n));
   root = refl;
   leaf = λ m. changed_part (λ e. leaf_of e.kind) t n m change h same;
-  leaf_count = leaves_set t.entries n.0 (change (node t n)) (fresh kinds.H 0) h.within (same_leaf_test (change (node t n)).kind (node t n).kind same);
+  leaf_count = leaves_set t.entries n.0 (change (node t n)) (new_entry kinds.H 0) h.within (same_leaf_test (change (node t n)).kind (node t n).kind same);
 }
 
 pub ranges_changed : (t : Nodes) (n : NodeId) (change : Entry → Entry) → IsNode t n → HasRanges t → IsNodeKind (change (node t n)).kind →

@@ -10,7 +10,7 @@ use Rattle.tr_base.specs.declared.NodeId.{NodeId}
 use Rattle.tr_base.specs.declared.LeafId.{LeafId}
 use Rattle.tr_forest.specs.declared.kinds.NodeKind.{NodeKind}
 use Rattle.tr_forest.specs.declared.kinds.NodeKind.TheVariants as kinds
-use Rattle.tr_forest.specs.Nodes.{Entry, Nodes, IsNode, node, fresh, is_leaf, is_that_leaf, leaf_of, leaf_count, node_of}
+use Rattle.tr_forest.specs.Nodes.{Entry, Nodes, IsNode, node, new_entry, is_leaf, is_that_leaf, leaf_of, leaf_count, node_of}
 use Rattle.tr_forest.specs.Forests.{IsForest}
 use Rattle.tr_forest.proofs.FamilyLemmas.{either}
 use Rattle.tr_forest.proofs.Adding.{place_is_node}
@@ -45,16 +45,16 @@ first_within p (x ∷ xs) h = by_test (p x) (λ k. first_within p xs k) h
     by_test true later k = omega arith
     by_test false later k = let lt : position_or_len p xs < length xs = later k in omega arith
 
-leaf_at : (leaf : LeafId) (es : List Entry) → has_leaf leaf es ≡ true → leaf_of (get_or es (place_of leaf es) (fresh kinds.H 0)).kind ≡ Some leaf
+leaf_at : (leaf : LeafId) (es : List Entry) → has_leaf leaf es ≡ true → leaf_of (get_or es (place_of leaf es) (new_entry kinds.H 0)).kind ≡ Some leaf
 leaf_at leaf es h =
     let p : Entry → Bool = λ e. is_that_leaf leaf e.kind in
-    tested_kind leaf (get_or es (place_of leaf es) (fresh kinds.H 0)).kind (passes_at_first p es (fresh kinds.H 0) (first_within p es h))
+    tested_kind leaf (get_or es (place_of leaf es) (new_entry kinds.H 0)).kind (passes_at_first p es (new_entry kinds.H 0) (first_within p es h))
 
 -- a node that is a leaf is the node of that leaf
 pub leaf_is_node_of : (t : Nodes) (n : NodeId) (leaf : LeafId) → IsForest t → leaf_of (node t n).kind ≡ Some leaf → n.0 ≡ (node_of t leaf).0
 leaf_is_node_of t n leaf f h =
     let is : IsNode t n = place_is_node t n leaf h in
-    let has : has_leaf leaf t.entries ≡ true = list_any_at (λ (e : Entry). is_that_leaf leaf e.kind) t.entries n.0 (fresh kinds.H 0) is.within
+    let has : has_leaf leaf t.entries ≡ true = list_any_at (λ (e : Entry). is_that_leaf leaf e.kind) t.entries n.0 (new_entry kinds.H 0) is.within
     (kind_test leaf (node t n).kind h) in
     f.unlike n (node_of t leaf) leaf h (leaf_at leaf t.entries has)
 
@@ -87,8 +87,8 @@ numbers_tell leaf (e ∷ es) = step e.kind ∙ ap (λ b. is_that_leaf leaf e.kin
 
 -- no two of the nodes are one leaf
 abbrev AreUnlike : List Entry → Type 0
-AreUnlike es = (i j : ℕ) (leaf : LeafId) → leaf_of (get_or es i (fresh kinds.H 0)).kind ≡ Some leaf →
-    leaf_of (get_or es j (fresh kinds.H 0)).kind ≡ Some leaf → i ≡ j
+AreUnlike es = (i j : ℕ) (leaf : LeafId) → leaf_of (get_or es i (new_entry kinds.H 0)).kind ≡ Some leaf →
+    leaf_of (get_or es j (new_entry kinds.H 0)).kind ≡ Some leaf → i ≡ j
 
 apart : (k : ℕ) (ks : List ℕ) → list_any (eqb k) ks ≡ false → AllByRecursion (λ y. eqb k y ≡ false) ks
 apart k [] h = tt

@@ -153,13 +153,13 @@ faults_of t (edits.Resize size) = []
 faults_of t (edits.Rescreen kind) = []
 
 -- the first fault that is there
-abbrev pub first_fault : List (Bool × NodeFault) → Option NodeFault
-first_fault [] = None
-first_fault (x ∷ xs) = if x.0 then Some x.1 else first_fault xs
+abbrev pub first_node_fault : List (Bool × NodeFault) → Option NodeFault
+first_node_fault [] = None
+first_node_fault (x ∷ xs) = if x.0 then Some x.1 else first_node_fault xs
 
 -- why an edit is refused, where it is
 abbrev pub refusal : Nodes → Edit → Option NodeFault
-refusal t edit = first_fault (faults_of t edit)
+refusal t edit = first_node_fault (faults_of t edit)
 
 -- an edit is refused for its fault; want of memory may come where it has none
 abbrev pub IsCause : Option NodeFault → EditRefused → Type 0

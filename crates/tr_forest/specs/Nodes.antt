@@ -23,12 +23,12 @@ pub record Nodes : Type 0 where
   pub root : Option NodeId
 
 -- a node that was just added: it has no parent and no children
-abbrev pub fresh : NodeKind → ℕ → Entry
-fresh kind tint = record { kind = kind; tint = tint; at = record { h = pos 0; v = pos 0 }; parent = None; children = [] }
+abbrev pub new_entry : NodeKind → ℕ → Entry
+new_entry kind tint = record { kind = kind; tint = tint; at = record { h = pos 0; v = pos 0 }; parent = None; children = [] }
 
 -- the node of this number; a number that is no node's stands for an H that hangs nowhere
 abbrev pub node : Nodes → NodeId → Entry
-node t n = get_or t.entries n.0 (fresh kinds.H 0)
+node t n = get_or t.entries n.0 (new_entry kinds.H 0)
 
 -- the number is that of a node
 pub record IsNode (t : Nodes) (n : NodeId) : Type 0 where

@@ -10,7 +10,7 @@ abbrev pub in_table : List NodeId → ℕ → NodeId
 in_table leaves k = get_or leaves k (record { 0 = 0 })
 
 -- the nodes are a forest, and the table has the node of each leaf
-pub record IsKept (t : Nodes) (leaves : List NodeId) : Type 0 where
+pub record IsLeafTable (t : Nodes) (leaves : List NodeId) : Type 0 where
   pub forest : IsForest t
   pub count : length leaves ≡ leaf_count t
   pub places : (k : ℕ) → k < length leaves → leaf_of (node t (in_table leaves k)).kind ≡ Some (record { 0 = k })

@@ -1,5 +1,5 @@
 ghost use Rattle.std.specs.Prelude.{◌≡◌, true, ◌∷◌, vec_capacity, IfOk, OnOk, OnErr};
-ghost use Rattle.tr_forest.specs.Nodes.{fresh};
+ghost use Rattle.tr_forest.specs.Nodes.{new_entry};
 ghost use Rattle.tr_forest.specs.Families.{is_among};
 ghost use Rattle.tr_forest.specs.Edits.{with_child, hung, bereft, loose, lifting, turned_to, without};
 
@@ -47,7 +47,7 @@ fn put_first(children: &mut Vec<NodeId>, child: NodeId)
 impl Node {
     /// A node that hangs nowhere.
     pub(crate) fn new(alloc: Global, kind: NodeKind, tint: u8) -> Node
-        ensures { result ≡ fresh kind tint }
+        ensures { result ≡ new_entry kind tint }
     {
         Node {
             kind,

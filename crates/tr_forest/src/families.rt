@@ -1,5 +1,5 @@
 ghost use Rattle.std.specs.Prelude.{◌≡◌, ◌<◌, true, [], ◌∷◌, ◌++◌, length, Some, None, IfOk, OnOk, OnErr};
-ghost use Rattle.tr_forest.specs.Nodes.{Nodes, IsNode, node, fresh};
+ghost use Rattle.tr_forest.specs.Nodes.{Nodes, IsNode, node, new_entry};
 ghost use Rattle.tr_forest.specs.Families.{is_among};
 ghost use Rattle.tr_forest.specs.Edits.{changed, with_child, hung, bereft, loose, lifting, turned_to};
 
@@ -94,7 +94,7 @@ impl Family {
 
     pub(crate) fn add(&mut self, kind: NodeKind, tint: u8) -> Result<(), NoMemory>
         ensures ok { OnOk result
-            (self.new ≡ record self.old { entries = self.old.entries ++ fresh kind tint ∷ [] }) }
+            (self.new ≡ record self.old { entries = self.old.entries ++ new_entry kind tint ∷ [] }) }
         ensures err { OnErr result (self.new ≡ self.old) }
     {
         let node = Node::new(*self.nodes.allocator(), kind, tint);

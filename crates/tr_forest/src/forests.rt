@@ -1,11 +1,11 @@
 ghost use Rattle.std.specs.Prelude.{◌≡◌, ◌<◌, ◌+◌, ℕ, ◌∷◌, ◌++◌, [], length, Some, None, ◌==◌, ◌||◌, false, IsOk, IfOk, IfErr, OnOk, OnErr};
 ghost use Rattle.tr_base.specs.declared.NodeId.{NodeId};
 ghost use Rattle.tr_base.specs.Layouts.{greatest_by};
-ghost use Rattle.tr_forest.specs.Nodes.{node, fresh, IsNode, IsNodeKind, IsNextLeaf, shown_by, leaf_of, leaf_count, node_of};
+ghost use Rattle.tr_forest.specs.Nodes.{node, new_entry, IsNode, IsNodeKind, IsNextLeaf, shown_by, leaf_of, leaf_count, node_of};
 ghost use Rattle.tr_forest.specs.Families.{depth, deeper, height, is_under, of_parent};
 ghost use Rattle.tr_forest.specs.Forests.{IsForest};
 ghost use Rattle.tr_forest.specs.Edits.{IsEdit, IsCause, edited, refusal, wants_memory};
-ghost use Rattle.tr_forest.specs.Tables.{IsKept};
+ghost use Rattle.tr_forest.specs.Tables.{IsLeafTable};
 
 use crate::changes::apply;
 use crate::edits::{Edit, EditRefused, NodeFault};
@@ -26,13 +26,13 @@ pub struct Forest {
 
 impl Model for Forest {
     ghost use Rattle.tr_forest.specs.Nodes.{Nodes};
-    ghost use Rattle.tr_forest.specs.Tables.{IsKept};
+    ghost use Rattle.tr_forest.specs.Tables.{IsLeafTable};
 
     ghost Value = { Nodes };
 
     ghost view = { λ f. f.family };
 
-    ghost invariant = { λ f. IsKept f.family f.leaves.items };
+    ghost invariant = { λ f. IsLeafTable f.family f.leaves.items };
 }
 
 impl Forest {
@@ -54,7 +54,7 @@ impl Forest {
         requires leaf { IsNextLeaf self.old kind }
         ensures id { IfOk result (λ n. n.0 ≡ length self.old.entries) }
         ensures ok { OnOk result
-            (self.new ≡ record self.old { entries = self.old.entries ++ fresh kind tint ∷ [] }) }
+            (self.new ≡ record self.old { entries = self.old.entries ++ new_entry kind tint ∷ [] }) }
         ensures err { OnErr result (self.new ≡ self.old) }
     {
         add_in(&mut self.family, &mut self.leaves, kind, tint)
@@ -199,15 +199,15 @@ fn add_in(
     kind: NodeKind,
     tint: u8,
 ) -> Result<NodeId, NoMemory>
-    requires kept { IsKept family.old leaves.old.items }
+    requires kept { IsLeafTable family.old leaves.old.items }
     requires room { length family.old.entries < 256 }
     requires kind { IsNodeKind kind }
     requires shown { shown_by kind ≡ None }
     requires leaf { IsNextLeaf family.old kind }
-    ensures kept { IsKept family.new leaves.new.items }
+    ensures kept { IsLeafTable family.new leaves.new.items }
     ensures id { IfOk result (λ n. n.0 ≡ length family.old.entries) }
     ensures ok { OnOk result
-        (family.new ≡ record family.old { entries = family.old.entries ++ fresh kind tint ∷ [] }) }
+        (family.new ≡ record family.old { entries = family.old.entries ++ new_entry kind tint ∷ [] }) }
     ensures err { OnErr result (family.new ≡ family.old) }
 {
     let n = NodeId(family.count() as u16);
@@ -221,19 +221,19 @@ fn add_in(
 }
 
 fn set_root_in(family: &mut Family, leaves: &[NodeId], n: NodeId)
-    requires kept { IsKept family.old leaves.now }
+    requires kept { IsLeafTable family.old leaves.now }
     requires node { IsNode family.old n }
     requires top { (node family.old n).parent ≡ None }
-    ensures kept { IsKept family.new leaves.now }
+    ensures kept { IsLeafTable family.new leaves.now }
     ensures root { family.new ≡ record family.old { root = Some n } }
 {
     family.set_root(n);
 }
 
 fn edit_in(family: &mut Family, leaves: &[NodeId], edit: &Edit) -> Result<(), EditRefused>
-    requires kept { IsKept family.old leaves.now }
+    requires kept { IsLeafTable family.old leaves.now }
     requires edit { IsEdit family.old edit.now }
-    ensures kept { IsKept family.new leaves.now }
+    ensures kept { IsLeafTable family.new leaves.now }
     ensures ok { OnOk result (family.new ≡ edited family.old edit.now) }
     ensures allowed { OnOk result (refusal family.old edit.now ≡ None) }
     ensures cause { IfErr result (λ e. IsCause (refusal family.old edit.now) e) }

@@ -7,8 +7,8 @@ use Rattle.std.proofs.lemmas.Int.{ints}
 use Rattle.std.proofs.lemmas.List.Sums.{sum_by-append}
 use Rattle.std.proofs.lemmas.Fmt.{decimal_by_steps}
 use Rattle.tr_gen.specs.Draws.{Drawing, number_below, next_state}
-use Rattle.tr_gen.specs.Lines.{number_word, letters, text_line, edge_words, rect_line, swap_line, bar_line, undo_line, tint_line, coordinate_word, child_word, move_line, lift_line, line_of, round_line}
-use Rattle.tr_gen.specs.Scripts.{opening_lines, round_lines, rounds_lines, script_of, sync_after, text_of}
+use Rattle.tr_gen.specs.Lines.{number_word, letters, text_line, drawn_edges, rect_line, swap_line, bar_line, undo_line, tint_line, coordinate_word, child_word, move_line, lift_line, drawn_line, round_line}
+use Rattle.tr_gen.specs.Scripts.{opening_lines, round_lines, rounds_lines, script_of_number, sync_after, text_of_lines}
 use Rattle.tr_gen.proofs.RoundLemmas.{text_of-append, rounds-none, rounds-more-text}
 
 -- how many line feeds a text has
@@ -87,7 +87,7 @@ feeds-edges low wide =
     let second = below 32 wide (omega arith) (omega arith) in
     (feeds-number_word (number_below 64 low) (omega arith), feeds-number_word (number_below 64 low + number_below 32 wide) (omega arith))
 
-edges-one : IsOneLine edge_words
+edges-one : IsOneLine drawn_edges
 edges-one x0 =
     let x1 = next_state x0 in
     let x2 = next_state x1 in
@@ -104,12 +104,12 @@ edges-one x0 =
 
 rect-one : IsOneLine rect_line
 rect-one state =
-    let area = edge_words state in
+    let area = drawn_edges state in
     three (codes "@k rect") area.value (number_word (number_below 256 (next_state area.state)))
     refl (edges-one state) (feeds-drawn 256 (next_state area.state) (omega arith) (omega arith))
 
 swap-one : IsOneLine swap_line
-swap-one state = both (codes "@k swap") (edge_words state).value refl (edges-one state)
+swap-one state = both (codes "@k swap") (drawn_edges state).value refl (edges-one state)
 
 bar-one : IsOneLine bar_line
 bar-one state =
@@ -151,8 +151,8 @@ either : (b : Bool) (one other : Drawing (List ℕ)) → IsOneLine one → IsOne
 either true one other first last = first
 either false one other first last = last
 
-kinds-one : (kind : ℕ) → IsOneLine (line_of kind)
-unfolding line_of
+kinds-one : (kind : ℕ) → IsOneLine (drawn_line kind)
+unfolding drawn_line
 kinds-one kind =
     either (kind == 0) _ _ text-one
     (either (kind == 1) _ _ rect-one
@@ -165,36 +165,36 @@ kinds-one kind =
 round-one : IsOneLine round_line
 round-one state = kinds-one (number_below 8 (next_state state)) (next_state state)
 
-feeds-line : (line : List ℕ) (rest : List (List ℕ)) → feeds line ≡ 0 → feeds (text_of (line ∷ rest)) ≡ 1 + feeds (text_of rest)
+feeds-line : (line : List ℕ) (rest : List (List ℕ)) → feeds line ≡ 0 → feeds (text_of_lines (line ∷ rest)) ≡ 1 + feeds (text_of_lines rest)
 feeds-line line rest one =
     let ended : feeds (line ++ codes "\n") ≡ 1 = feeds-append line (codes "\n") ∙ ap (λ n. n + 1) one in
-    feeds-append (line ++ codes "\n") (text_of rest) ∙ ap (λ n. n + feeds (text_of rest)) ended
+    feeds-append (line ++ codes "\n") (text_of_lines rest) ∙ ap (λ n. n + feeds (text_of_lines rest)) ended
 
-feeds-sync : (round : ℕ) → feeds (text_of (sync_after round)) ≡ cond (round % 100 == 0) 1 0
+feeds-sync : (round : ℕ) → feeds (text_of_lines (sync_after round)) ≡ cond (round % 100 == 0) 1 0
 feeds-sync round = by_test (round % 100 == 0)
   where
-    by_test : (b : Bool) → feeds (text_of (cond b (codes "sync" ∷ []) [])) ≡ cond b 1 0
+    by_test : (b : Bool) → feeds (text_of_lines (cond b (codes "sync" ∷ []) [])) ≡ cond b 1 0
     by_test true = refl
     by_test false = refl
 
-feeds-round : (round state : ℕ) → feeds (text_of (round_lines round state).value) ≡ 1 + cond (round % 100 == 0) 1 0
+feeds-round : (round state : ℕ) → feeds (text_of_lines (round_lines round state).value) ≡ 1 + cond (round % 100 == 0) 1 0
 feeds-round round state = feeds-line (round_line state).value (sync_after round) (round-one state) ∙ ap (λ n. 1 + n) (feeds-sync round)
 
 -- a line for each round, and one more for every hundredth
-feeds-rounds : (n state : ℕ) → feeds (text_of (rounds_lines n state).value) ≡ n + n / 100
+feeds-rounds : (n state : ℕ) → feeds (text_of_lines (rounds_lines n state).value) ≡ n + n / 100
 feeds-rounds zero state = rw rounds-none refl
 feeds-rounds (suc n) state =
-    subst (λ (m : ℕ). feeds (text_of (rounds_lines m state).value) ≡ m + m / 100) (add-one n)
+    subst (λ (m : ℕ). feeds (text_of_lines (rounds_lines m state).value) ≡ m + m / 100) (add-one n)
     (more (feeds-rounds n state) ∙ by_test ((n + 1) % 100 == 0) refl)
   where
     old : List ℕ
-    old = text_of (rounds_lines n state).value
+    old = text_of_lines (rounds_lines n state).value
 
     new : List ℕ
-    new = text_of (round_lines (n + 1) (rounds_lines n state).state).value
+    new = text_of_lines (round_lines (n + 1) (rounds_lines n state).state).value
 
     more : feeds old ≡ n + n / 100 →
-        feeds (text_of (rounds_lines (n + 1) state).value) ≡ (n + n / 100) + (1 + cond ((n + 1) % 100 == 0) 1 0)
+        feeds (text_of_lines (rounds_lines (n + 1) state).value) ≡ (n + n / 100) + (1 + cond ((n + 1) % 100 == 0) 1 0)
     more before =
         let round = feeds-round (n + 1) (rounds_lines n state).state in
         ap feeds (rounds-more-text n state) ∙ feeds-append old new ∙ ap (λ k. k + feeds new) before ∙ ap (λ k. (n + n / 100) + k) round
@@ -203,16 +203,16 @@ feeds-rounds (suc n) state =
     by_test true is = grind (arith, nat_tests)
     by_test false is = grind (arith, nat_tests)
 
-feeds-opening : feeds (text_of opening_lines) ≡ 17
+feeds-opening : feeds (text_of_lines opening_lines) ≡ 17
 unfolding opening_lines
 feeds-opening = refl
 
-pub feeds-script : (number : ℕ) → feeds (script_of number) ≡ 2039
+pub feeds-script : (number : ℕ) → feeds (script_of_number number) ≡ 2039
 feeds-script number =
     let rounds = (rounds_lines 2000 number).value in
     let end = codes "dump" ∷ codes "end" ∷ [] in
-    let cut : feeds (script_of number) ≡ feeds (text_of (opening_lines ++ rounds)) + feeds (text_of end) =
-    ap feeds (text_of-append (opening_lines ++ rounds) end) ∙ feeds-append (text_of (opening_lines ++ rounds)) (text_of end) in
-    let cut_again : feeds (text_of (opening_lines ++ rounds)) ≡ feeds (text_of opening_lines) + feeds (text_of rounds) =
-    ap feeds (text_of-append opening_lines rounds) ∙ feeds-append (text_of opening_lines) (text_of rounds) in
+    let cut : feeds (script_of_number number) ≡ feeds (text_of_lines (opening_lines ++ rounds)) + feeds (text_of_lines end) =
+    ap feeds (text_of-append (opening_lines ++ rounds) end) ∙ feeds-append (text_of_lines (opening_lines ++ rounds)) (text_of_lines end) in
+    let cut_again : feeds (text_of_lines (opening_lines ++ rounds)) ≡ feeds (text_of_lines opening_lines) + feeds (text_of_lines rounds) =
+    ap feeds (text_of-append opening_lines rounds) ∙ feeds-append (text_of_lines opening_lines) (text_of_lines rounds) in
     omega (arith, feeds-opening, feeds-rounds 2000 number)

@@ -2,13 +2,13 @@
 use Rattle.std.specs.Prelude.{ℕ, ◌+◌, ◌*◌, ◌/◌, ◌%◌, ◌^◌, List, length, slice_index}
 
 -- what was made with draws, and the state after them
-pub record Made (A : Type 0) : Type 0 where
+pub record DrawnValue (A : Type 0) : Type 0 where
   pub value : A
   pub state : ℕ
 
 -- what is made with draws follows from the state before them
 abbrev pub Drawing : Type 0 → Type 0
-Drawing A = ℕ → Made A
+Drawing A = ℕ → DrawnValue A
 
 -- this value, without a draw
 abbrev pub give : {A : Type 0} → A → Drawing A

@@ -23,8 +23,8 @@ text_line = do
   give (if n == 0 then codes "@t line" else codes "@t line " ++ text)
 
 -- the edges of a rectangle: west, east, north, south
-abbrev pub edge_words : Drawing (List ℕ)
-edge_words = do
+abbrev pub drawn_edges : Drawing (List ℕ)
+drawn_edges = do
   west ← draw 64
   wide ← draw 32
   north ← draw 64
@@ -34,14 +34,14 @@ edge_words = do
 -- a rectangle of one tint for the canvas
 abbrev pub rect_line : Drawing (List ℕ)
 rect_line = do
-  edges ← edge_words
+  edges ← drawn_edges
   tint ← draw 256
   give (codes "@k rect" ++ edges ++ number_word tint)
 
 -- a rectangle in which the canvas exchanges two pixels
 abbrev pub swap_line : Drawing (List ℕ)
 swap_line = do
-  edges ← edge_words
+  edges ← drawn_edges
   give (codes "@k swap" ++ edges)
 
 -- the canvas loses its last rectangle
@@ -88,8 +88,8 @@ lift_line = do
   give (codes "lift" ++ child)
 
 -- the line of each of the eight kinds
-unfoldable pub line_of : ℕ → Drawing (List ℕ)
-line_of kind =
+unfoldable pub drawn_line : ℕ → Drawing (List ℕ)
+drawn_line kind =
     if kind == 0 then text_line
     else if kind == 1 then rect_line
     else if kind == 2 then swap_line
@@ -103,4 +103,4 @@ line_of kind =
 abbrev pub round_line : Drawing (List ℕ)
 round_line = do
   kind ← draw 8
-  line_of kind
+  drawn_line kind

@@ -48,9 +48,9 @@ abbrev pub script_lines : ℕ → List (List ℕ)
 script_lines number = opening_lines ++ (rounds_lines 2000 number).value ++ codes "dump" ∷ codes "end" ∷ []
 
 -- lines as a text: a line feed ends each of them
-abbrev pub text_of : List (List ℕ) → List ℕ
-text_of lines = flat_map (λ line. line ++ codes "\n") lines
+abbrev pub text_of_lines : List (List ℕ) → List ℕ
+text_of_lines lines = flat_map (λ line. line ++ codes "\n") lines
 
 -- the text of the script of a number
-abbrev pub script_of : ℕ → List ℕ
-script_of number = text_of (script_lines number)
+abbrev pub script_of_number : ℕ → List ℕ
+script_of_number number = text_of_lines (script_lines number)

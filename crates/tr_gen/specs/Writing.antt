@@ -1,15 +1,15 @@
 -- Private contracts alone cite this file.
 -- How a text is continued by what draws make.
 use Rattle.std.specs.Prelude.{ℕ, List, ◌++◌}
-use Rattle.tr_gen.specs.Draws.{Drawing, ◌>>=◌, Made, give}
-use Rattle.tr_gen.specs.Scripts.{text_of}
+use Rattle.tr_gen.specs.Draws.{Drawing, ◌>>=◌, DrawnValue, give}
+use Rattle.tr_gen.specs.Scripts.{text_of_lines}
 
 -- a text, and behind it one that is made with the draws after it
-abbrev pub continued : Made (List ℕ) → Drawing (List ℕ) → Made (List ℕ)
+abbrev pub continued : DrawnValue (List ℕ) → Drawing (List ℕ) → DrawnValue (List ℕ)
 continued text more = let made = more text.state in record { value = text.value ++ made.value; state = made.state }
 
 -- the text of lines that are made with draws
 abbrev pub drawn_text : Drawing (List (List ℕ)) → Drawing (List ℕ)
 drawn_text drawing = do
   lines ← drawing
-  give (text_of lines)
+  give (text_of_lines lines)

@@ -33,7 +33,7 @@ fn append_text_line(script: &mut Writer) -> Result<(), NoMemory>
 }
 
 fn append_edges(script: &mut Writer) -> Result<(), NoMemory>
-    ensures { OnOk result (script.new ≡ continued script.old spec.edge_words) }
+    ensures { OnOk result (script.new ≡ continued script.old spec.drawn_edges) }
 {
     let west = script.draws.draw(64);
     let wide = script.draws.draw(32);
@@ -120,7 +120,7 @@ fn append_lift_line(script: &mut Writer) -> Result<(), NoMemory>
 }
 
 /// Puts the line of the next round at the end, without a line feed.
-#[tactic(auto, unfolding(crate::specs::Lines::line_of))]
+#[tactic(auto, unfolding(crate::specs::Lines::drawn_line))]
 pub fn append_round_line(script: &mut Writer) -> Result<(), NoMemory>
     ensures { OnOk result (script.new ≡ continued script.old spec.round_line) }
 {

@@ -60,7 +60,7 @@ fn append_rounds(script: &mut Writer) -> Result<(), NoMemory>
 /// The text of the script of a number: an opening, 2,000 rounds of one line each with a `sync` after
 /// every hundredth, a dump and the end.
 pub fn script_of(alloc: Global, number: u32) -> Result<Vec<u8>, NoMemory>
-    ensures text { IfOk result (λ text. text.items ≡ spec.script_of number) }
+    ensures text { IfOk result (λ text. text.items ≡ spec.script_of_number number) }
     ensures lines { IfOk result (λ text. count_by (λ byte. byte == 10) text.items ≡ 2039) }
 {
     let mut script = Writer::new(alloc, number)?;

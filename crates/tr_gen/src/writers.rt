@@ -20,9 +20,9 @@ pub struct Writer {
 
 impl Model for Writer {
     ghost use Rattle.std.specs.Prelude.{List, ℕ};
-    ghost use Rattle.tr_gen.specs.Draws.{Made};
+    ghost use Rattle.tr_gen.specs.Draws.{DrawnValue};
 
-    ghost Value = { Made (List ℕ) };
+    ghost Value = { DrawnValue (List ℕ) };
 
     ghost view = { λ w. record { value = w.text.items; state = w.draws } };
 }

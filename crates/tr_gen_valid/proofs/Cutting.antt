@@ -7,7 +7,7 @@ use Rattle.std.proofs.lemmas.List.Folds.{list_all-append}
 use Rattle.std.proofs.lemmas.List.Sums.{AllPass-from_list_all}
 use Rattle.std.proofs.lemmas.List.Splits.{slice_split_none, slice_split_at}
 use Rattle.tr_base.specs.Lines.{is_printable}
-use Rattle.tr_gen.specs.Scripts.{text_of}
+use Rattle.tr_gen.specs.Scripts.{text_of_lines}
 use Rattle.tr_grammar.specs.Texts.{is_plain, lines_of, is_empty_piece, ends_empty, without_empty_end}
 use Rattle.tr_grammar.specs.Words.{words_of}
 
@@ -29,12 +29,12 @@ no_line_feed t e k d within =
     ne_eqb b 10 (λ same. omega arith)
 
 -- a text of lines is cut into them, and an empty piece is left
-pieces_of_text : (ts : List (List ℕ)) → list_all is_plain ts ≡ true → slice_split (λ b. eqb b 10) (text_of ts) ≡ ts ++ [] ∷ []
+pieces_of_text : (ts : List (List ℕ)) → list_all is_plain ts ≡ true → slice_split (λ b. eqb b 10) (text_of_lines ts) ≡ ts ++ [] ∷ []
 pieces_of_text [] plain = refl
 pieces_of_text (t ∷ ts) plain =
     let p = and_parts (is_plain t) (list_all is_plain ts) plain in
-    ap (slice_split (λ (b : ℕ). eqb b 10)) (append_assoc t (10 ∷ []) (text_of ts))
-    ∙ slice_split_at (λ b. eqb b 10) t 10 (text_of ts) (no_line_feed t p.0) refl
+    ap (slice_split (λ (b : ℕ). eqb b 10)) (append_assoc t (10 ∷ []) (text_of_lines ts))
+    ∙ slice_split_at (λ b. eqb b 10) t 10 (text_of_lines ts) (no_line_feed t p.0) refl
     ∙ ap (λ pieces. t ∷ pieces) (pieces_of_text ts p.1)
 
 slice_get_last : (xs : List (List ℕ)) (x : List ℕ) → slice_get (xs ++ x ∷ []) (length xs) ≡ Some x
@@ -55,16 +55,16 @@ empty_end_left_out ts =
     ∙ ap (λ i. take i pieces) last
     ∙ take_before_last ts []
 
-pub lines_of-text_of : (ts : List (List ℕ)) → list_all is_plain ts ≡ true → lines_of (text_of ts) ≡ ts
+pub lines_of-text_of : (ts : List (List ℕ)) → list_all is_plain ts ≡ true → lines_of (text_of_lines ts) ≡ ts
 unfolding lines_of
 lines_of-text_of ts plain = ap without_empty_end (pieces_of_text ts plain) ∙ empty_end_left_out ts
 
-pub length-text_of-le : (ts : List (List ℕ)) → list_all is_plain ts ≡ true → length (text_of ts) ≤ 1025 * length ts
+pub length-text_of-le : (ts : List (List ℕ)) → list_all is_plain ts ≡ true → length (text_of_lines ts) ≤ 1025 * length ts
 length-text_of-le [] plain = omega arith
 length-text_of-le (t ∷ ts) plain =
     let p = and_parts (is_plain t) (list_all is_plain ts) plain in
     let line = length-append t (codes "\n") in
-    omega (arith, line, length-append (t ++ codes "\n") (text_of ts), short_line t p.0, length-text_of-le ts p.1)
+    omega (arith, line, length-append (t ++ codes "\n") (text_of_lines ts), short_line t p.0, length-text_of-le ts p.1)
 
 -- ---- words
 

@@ -9,7 +9,7 @@ use Rattle.tr_grammar.specs.declared.ReadRefused.{ReadRefused}
 use Rattle.tr_grammar.specs.declared.ReadRefused.TheVariants as refused
 use Rattle.tr_grammar.specs.Texts.{lines_of}
 use Rattle.tr_grammar.specs.States.{nothing_yet}
-use Rattle.tr_grammar.specs.Scripts.{first_fault, most_bytes, refusal_of, refused_at, IsCause}
+use Rattle.tr_grammar.specs.Scripts.{first_bad_line, most_script_bytes, refusal_of, refused_at, IsReadCause}
 use Rattle.tr_gen_valid.proofs.Cutting.{lines_of-text_of, length-text_of-le}
 use Rattle.tr_gen_valid.proofs.Passing.{Pass, both_pass}
 use Rattle.tr_gen_valid.proofs.Playing.{Playing, state, at_begin}
@@ -41,25 +41,25 @@ all_pass number =
       count = omega (arith, last, length-append (gen.opening_lines ++ rounds) ending);
     }
 
-pub is_a_script : (number : ℕ) → refusal_of (gen.script_of number) ≡ None
+pub is_a_script : (number : ℕ) → refusal_of (gen.script_of_number number) ≡ None
 unfolding refusal_of
 is_a_script number =
     let ts = gen.script_lines number in
-    let text = gen.script_of number in
+    let text = gen.script_of_number number in
     let all = all_pass number in
-    let short : ltb most_bytes (length text) ≡ false =
-    le-ltb most_bytes (length text) (omega (arith, length-text_of-le ts all.pass.plain, all.count))
+    let short : ltb most_script_bytes (length text) ≡ false =
+    le-ltb most_script_bytes (length text) (omega (arith, length-text_of-le ts all.pass.plain, all.count))
     in
-    ap (λ b. cond b (Some (refused_at 0 B7)) (first_fault nothing_yet 1 (lines_of text))) short
-    ∙ ap (first_fault nothing_yet 1) (lines_of-text_of ts all.pass.plain ∙ sym (append-nil ts))
+    ap (λ b. cond b (Some (refused_at 0 B7)) (first_bad_line nothing_yet 1 (lines_of text))) short
+    ∙ ap (first_bad_line nothing_yet 1) (lines_of-text_of ts all.pass.plain ∙ sym (append-nil ts))
     ∙ all.pass.on []
 
-pub line_count : (number : ℕ) → length (lines_of (gen.script_of number)) ≡ 2039
+pub line_count : (number : ℕ) → length (lines_of (gen.script_of_number number)) ≡ 2039
 line_count number =
     let all = all_pass number in
     ap (λ (ts : List (List ℕ)). length ts) (lines_of-text_of (gen.script_lines number) all.pass.plain) ∙ all.count
 
 -- a reader of it answers at most want of memory
-pub only_memory : (number : ℕ) (e : ReadRefused) → IsCause (refusal_of (gen.script_of number)) e → e ≡ refused.NoMemory
+pub only_memory : (number : ℕ) (e : ReadRefused) → IsReadCause (refusal_of (gen.script_of_number number)) e → e ≡ refused.NoMemory
 only_memory number refused.NoMemory cause = refl
 only_memory number (refused.Refused line code) cause = absurd (none-some _ (sym (is_a_script number) ∙ cause))

@@ -336,8 +336,8 @@ either : (b : Bool) (one other : Drawing (List ℕ)) → MakesStep one → Makes
 either true one other first last = first
 either false one other first last = last
 
-kinds_step : (kind : ℕ) → MakesStep (lines.line_of kind)
-unfolding lines.line_of
+kinds_step : (kind : ℕ) → MakesStep (lines.drawn_line kind)
+unfolding lines.drawn_line
 kinds_step kind =
     either (kind == 0) _ _ text_steps
     (either (kind == 1) _ _ rect_steps

@@ -9,10 +9,10 @@ use Rattle.tr_grammar.specs.declared.Meaning.{Meaning}
 use Rattle.tr_grammar.specs.declared.Meaning.TheVariants as meanings
 use Rattle.tr_grammar.specs.Texts.{is_silent}
 use Rattle.tr_grammar.specs.Words.{word_at}
-use Rattle.tr_grammar.specs.Forms.{Form, fields, filled, form_of}
+use Rattle.tr_grammar.specs.Forms.{Form, fields, field_words, form_of}
 use Rattle.tr_grammar.specs.Meanings.{meaning_of}
 use Rattle.tr_grammar.specs.Faults.{Sort, step_line, sort_of, allows, is_misspelled, is_declared_again, is_undeclared, is_foreign, is_refused, is_one_too_many}
-use Rattle.tr_grammar.specs.Scripts.{after}
+use Rattle.tr_grammar.specs.Scripts.{after_meaning}
 use Rattle.tr_gen_valid.proofs.Cutting.{is_word, words_of-join, plain_words}
 use Rattle.tr_gen_valid.proofs.Passing.{IsOfForm, HaveNoFault, Pass, one_passes}
 use Rattle.tr_gen_valid.proofs.Playing.{names, Playing, state, stepped, IsPlaying}
@@ -40,7 +40,7 @@ computed x f ws = record {
   form = form_of 1 ws;
   sort = sort_of f;
   step = is_step (meaning_of names ws f);
-  again = list_any (is_declared_again (state x)) (filled (fields f) ws);
+  again = list_any (is_declared_again (state x)) (field_words (fields f) ws);
   foreign = is_foreign (state x) (meaning_of names ws f);
   refused = is_refused (state x) (meaning_of names ws f);
   many = is_one_too_many (state x) (meaning_of names ws f);
@@ -63,8 +63,8 @@ of_step f = record {
 -- words of this form make a step, whatever rounds were played
 pub record MakeStep (f : Form) (ws : List (List ℕ)) : Type 0 where
   pub words : list_all is_word ws ≡ true
-  pub spelled : list_any is_misspelled (filled (fields f) ws) ≡ false
-  pub declared : (x : Playing) → list_any (is_undeclared (state x)) (filled (fields f) ws) ≡ false
+  pub spelled : list_any is_misspelled (field_words (fields f) ws) ≡ false
+  pub declared : (x : Playing) → list_any (is_undeclared (state x)) (field_words (fields f) ws) ≡ false
   pub others : (x : Playing) → computed x f ws ≡ of_step f
 
 -- a line of such words
@@ -95,7 +95,7 @@ no_fault_of_step x f ws placed makes =
 
 -- what is added is a step
 adds_step : (x : Playing) (w : List ℕ) (l : Meaning) → is_step l ≡ true →
-    (made : Actor × Step WidgetCmd) × (after (state x) w l ≡ state (stepped x made))
+    (made : Actor × Step WidgetCmd) × (after_meaning (state x) w l ≡ state (stepped x made))
 adds_step x w (meanings.Step actor step) is = ((actor, step), refl)
 adds_step x w l is = absurd (false≢true is)
 

@@ -10,8 +10,8 @@ ghost use Rattle.tr_grammar.specs.Scripts.{refusal_of};
 /// How many lines each drawn script has. Also tells that each is a script.
 #[tactic(auto, using(crate::proofs::DrawnLemmas::line_count, crate::proofs::DrawnLemmas::is_a_script))]
 pub fn lines() -> u32
-    ensures count { (number : ℕ) → length (lines_of (gen.script_of number)) ≡ result }
-    ensures script { (number : ℕ) → refusal_of (gen.script_of number) ≡ None }
+    ensures count { (number : ℕ) → length (lines_of (gen.script_of_number number)) ≡ result }
+    ensures script { (number : ℕ) → refusal_of (gen.script_of_number number) ≡ None }
 {
     2039
 }

@@ -20,7 +20,7 @@ use Rattle.tr_grammar.specs.declared.meanings.Meaning.TheVariants as meanings
 use Rattle.tr_grammar.specs.Texts.{is_plain, is_silent}
 use Rattle.tr_grammar.specs.Words.{words_of, word_at, is_number, is_signed, is_shape, is_hex, is_glyph_byte, is_name, byte_of}
 use Rattle.tr_grammar.specs.Names.{number_of}
-use Rattle.tr_grammar.specs.Forms.{Field, new_name, a_node, a_leaf, at_leaf, number, signed, shape, glyph, rows, text, Form, Version, Screen, Glyph, Split, Page, Border, Rigid, Translate, Pack, Solid, Board, Label, Lines, Canvas, Meter, Editor, Put, PutAt, Root, Begin, Dump, Peek, Journal, Where, Inbox, End, fields, filled, form_of}
+use Rattle.tr_grammar.specs.Forms.{Field, new_name, a_node, a_leaf, at_leaf, number, signed, shape, glyph, rows, text, Form, Version, Screen, Glyph, Split, Page, Border, Rigid, Translate, Pack, Solid, Board, Label, Lines, Canvas, Meter, Editor, Put, PutAt, Root, Begin, Dump, Peek, Journal, Where, Inbox, End, fields, field_words, form_of}
 use Rattle.tr_grammar.specs.Meanings.{meaning_of}
 use Rattle.tr_grammar.specs.States.{SoFar}
 
@@ -166,9 +166,9 @@ module _ (c : SoFar) where
   abbrev pub word_faults : Form → List (List ℕ) → List (Code × Bool)
   word_faults f ws =
       (B5, is_misplaced f)
-      ∷ (B2, list_any is_misspelled (filled (fields f) ws))
-      ∷ (B4, list_any is_declared_again (filled (fields f) ws))
-      ∷ (B3, list_any is_undeclared (filled (fields f) ws))
+      ∷ (B2, list_any is_misspelled (field_words (fields f) ws))
+      ∷ (B4, list_any is_declared_again (field_words (fields f) ws))
+      ∷ (B3, list_any is_undeclared (field_words (fields f) ws))
       ∷ []
 
   -- the faults of what is said, and whether line n has them

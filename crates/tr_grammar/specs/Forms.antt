@@ -119,8 +119,8 @@ abbrev pub edge : Field
 edge = signed 8192 8192
 
 -- a coordinate of the cursor
-abbrev pub place : Field
-place = signed 8192 8191
+abbrev pub cursor_coordinate : Field
+cursor_coordinate = signed 8192 8191
 
 -- a row of an editor's text
 abbrev pub text_row : Field
@@ -180,7 +180,7 @@ fields PutAt = word (codes "put") ∷ a_node ∷ a_node ∷ offset ∷ offset �
 fields Root = word (codes "root") ∷ a_node ∷ []
 fields Begin = word (codes "begin") ∷ []
 fields Mouse = word (codes "mouse") ∷ time ∷ one_of button_words ∷ number 1 5 ∷ []
-fields Motion = word (codes "motion") ∷ time ∷ place ∷ place ∷ []
+fields Motion = word (codes "motion") ∷ time ∷ cursor_coordinate ∷ cursor_coordinate ∷ []
 fields Key = word (codes "key") ∷ time ∷ byte ∷ []
 fields Attach = word (codes "attach") ∷ a_node ∷ a_node ∷ []
 fields AttachAt = word (codes "attach") ∷ a_node ∷ a_node ∷ offset ∷ offset ∷ []
@@ -209,7 +209,7 @@ fields Sync = word (codes "sync") ∷ []
 fields Dump = word (codes "dump") ∷ []
 fields Peek = word (codes "peek") ∷ []
 fields Journal = word (codes "journal") ∷ []
-fields Where = word (codes "where") ∷ place ∷ place ∷ []
+fields Where = word (codes "where") ∷ cursor_coordinate ∷ cursor_coordinate ∷ []
 fields Inbox = word (codes "inbox") ∷ a_leaf ∷ []
 fields End = word (codes "end") ∷ []
 fields SetTint = at_leaf ∷ word (codes "tint") ∷ byte ∷ []
@@ -305,10 +305,10 @@ module _ (version : ℕ) where
   form_of ws = among forms ws
 
 -- each field with the words that stand there
-abbrev pub filled : List Field → List (List ℕ) → List (Field × List (List ℕ))
-filled [] ws = []
-filled (text ∷ fs) ws = (text, ws) ∷ []
-filled (shape ∷ fs) (lo ∷ pref ∷ hi ∷ ws) = (shape, lo ∷ pref ∷ hi ∷ []) ∷ filled fs ws
-filled (shape ∷ fs) ws = []
-filled (f ∷ fs) [] = []
-filled (f ∷ fs) (w ∷ ws) = (f, w ∷ []) ∷ filled fs ws
+abbrev pub field_words : List Field → List (List ℕ) → List (Field × List (List ℕ))
+field_words [] ws = []
+field_words (text ∷ fs) ws = (text, ws) ∷ []
+field_words (shape ∷ fs) (lo ∷ pref ∷ hi ∷ ws) = (shape, lo ∷ pref ∷ hi ∷ []) ∷ field_words fs ws
+field_words (shape ∷ fs) ws = []
+field_words (f ∷ fs) [] = []
+field_words (f ∷ fs) (w ∷ ws) = (f, w ∷ []) ∷ field_words fs ws

@@ -34,7 +34,7 @@ use Rattle.w_lines.specs.declared.LinesCmd.TheVariants as lines
 use Rattle.w_canvas.specs.declared.CanvasCmd.TheVariants as canvas
 use Rattle.w_meter.specs.declared.MeterCmd.TheVariants as meter
 use Rattle.w_edit.specs.declared.EditorCmd.TheVariants as editor
-use Rattle.w_edit.specs.Contents.{fresh}
+use Rattle.w_edit.specs.Contents.{empty_text}
 use Rattle.tr_grammar.specs.declared.meanings.Meaning.{Meaning}
 use Rattle.tr_grammar.specs.declared.meanings.Meaning.TheVariants as meanings
 use Rattle.tr_grammar.specs.Words.{word_at, rest_after, nat_of, int_of, hex_of, byte_of}
@@ -74,16 +74,16 @@ rect ws i =
     rect_of (int_of (word_at ws i)) (int_of (word_at ws (i + 1))) (int_of (word_at ws (i + 2))) (int_of (word_at ws (i + 3)))
 
 -- eight rows
-abbrev pub rows_of : List (List ℕ) → ℕ → List ℕ
-rows_of ws i = hex_of 8 (word_at ws i)
+abbrev pub eight_rows : List (List ℕ) → ℕ → List ℕ
+eight_rows ws i = hex_of 8 (word_at ws i)
 
 -- a tile by its rows
 abbrev pub tile : List (List ℕ) → ℕ → Pattern
-tile ws i = record { rows = rows_of ws i }
+tile ws i = record { rows = eight_rows ws i }
 
 -- the kind of pixels that a word stands for
-abbrev pub kind_of : List ℕ → Kind
-kind_of w = if bytes_eq w (codes "mono") then kinds.Mono else if bytes_eq w (codes "map4") then kinds.Map4 else kinds.Map8
+abbrev pub kind_by_name : List ℕ → Kind
+kind_by_name w = if bytes_eq w (codes "mono") then kinds.Mono else if bytes_eq w (codes "map4") then kinds.Map4 else kinds.Map8
 
 -- the selection
 abbrev pub selection_of : List ℕ → Selection
@@ -131,16 +131,16 @@ module _ (names : Names) (ws : List (List ℕ)) where
   node_at i = record { 0 = numbered names.nodes (word_at ws i) }
 
   -- the leaf that the word names
-  abbrev pub leaf_at : ℕ → LeafId
-  leaf_at i = record { 0 = numbered names.leaves (word_at ws i) }
+  abbrev pub named_leaf : ℕ → LeafId
+  named_leaf i = record { 0 = numbered names.leaves (word_at ws i) }
 
   -- the leaf that the first word names after its @
-  abbrev pub leaf_of : LeafId
-  leaf_of = record { 0 = numbered names.leaves (drop 1 (word_at ws 0)) }
+  abbrev pub addressed_leaf : LeafId
+  addressed_leaf = record { 0 = numbered names.leaves (drop 1 (word_at ws 0)) }
 
   -- a step of that leaf's actor
   abbrev pub stepping : (LeafId → Step WidgetCmd) → Meaning
-  stepping step = meanings.Step (actors.Leaf leaf_of) (step leaf_of)
+  stepping step = meanings.Step (actors.Leaf addressed_leaf) (step addressed_leaf)
 
   -- a command for that leaf's widget
   abbrev pub acting : WidgetCmd → Meaning
@@ -149,8 +149,8 @@ module _ (names : Names) (ws : List (List ℕ)) where
   -- what a line says that has this form and these words
   abbrev pub meaning_of : Form → Meaning
   meaning_of Version = meanings.Version (nat ws 1)
-  meaning_of Screen = meanings.Item (items.Screen (size ws 1) (kind_of (word_at ws 3)))
-  meaning_of Glyph = meanings.Item (items.Glyph (byte_of (word_at ws 1)) (rows_of ws 2))
+  meaning_of Screen = meanings.Item (items.Screen (size ws 1) (kind_by_name (word_at ws 3)))
+  meaning_of Glyph = meanings.Item (items.Glyph (byte_of (word_at ws 1)) (eight_rows ws 2))
   meaning_of Split = a_node_of (split_of (word_at ws 2)) ws
   meaning_of Page = a_node_of (nodes.Page (nat ws 4) 0) ws
   meaning_of Border = a_node_of (nodes.Border (nat ws 4)) ws
@@ -163,7 +163,7 @@ module _ (names : Names) (ws : List (List ℕ)) where
   meaning_of Lines = a_leaf_with (widgets.Lines []) ws
   meaning_of Canvas = a_leaf_with (widgets.Canvas []) ws
   meaning_of Meter = a_leaf_with (widgets.Meter (replicate (nat ws 9) 0)) ws
-  meaning_of Editor = a_leaf_with (widgets.Editor fresh) ws
+  meaning_of Editor = a_leaf_with (widgets.Editor empty_text) ws
   meaning_of Put = meanings.Item (items.Put (node_at 1) (node_at 2) origin)
   meaning_of PutAt = meanings.Item (items.Put (node_at 1) (node_at 2) (point ws 3))
   meaning_of Root = meanings.Item (items.Root (node_at 1))
@@ -184,7 +184,7 @@ module _ (names : Names) (ws : List (List ℕ)) where
   meaning_of Turn = altering (edits.Turn (node_at 1) (nat ws 2))
   meaning_of Reshape = altering (edits.Shapes (node_at 1) (shapes ws 2))
   meaning_of Resize = altering (edits.Resize (size ws 1))
-  meaning_of Rescreen = altering (edits.Rescreen (kind_of (word_at ws 1)))
+  meaning_of Rescreen = altering (edits.Rescreen (kind_by_name (word_at ws 1)))
   meaning_of Mark = stepping (λ leaf. steps.Mark leaf (rect ws 2))
   meaning_of Flush = stepping (λ leaf. steps.Flush leaf)
   meaning_of Force = stepping (λ leaf. steps.Repaint leaf)
@@ -200,7 +200,7 @@ module _ (names : Names) (ws : List (List ℕ)) where
   meaning_of Peek = on queries.Peek
   meaning_of Journal = on queries.Journal
   meaning_of Where = on (queries.Where (point ws 1))
-  meaning_of Inbox = on (queries.Inbox (leaf_at 1))
+  meaning_of Inbox = on (queries.Inbox (named_leaf 1))
   meaning_of End = meanings.End
   meaning_of SetTint = acting (commands.Solid (solid.Tint (nat ws 2)))
   meaning_of SetTile = acting (commands.Board (board.Tile (tile ws 2)))

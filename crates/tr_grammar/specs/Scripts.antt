@@ -42,34 +42,34 @@ with_glyph (items.Glyph byte rows) glyphs = glyphs ++ byte ∷ []
 with_glyph item glyphs = glyphs
 
 -- the script behind a line that says this, and whose second word is w
-abbrev pub after : SoFar → List ℕ → Meaning → SoFar
-after c w (meanings.Version n) = record c { version = n; place = places.Head }
-after c w (meanings.Item item) = record c {
+abbrev pub after_meaning : SoFar → List ℕ → Meaning → SoFar
+after_meaning c w (meanings.Version n) = record c { version = n; place = places.Head }
+after_meaning c w (meanings.Item item) = record c {
   place = places.Opening;
   names = with_name w item c.names;
   items = c.items ++ item ∷ [];
   glyphs = with_glyph item c.glyphs;
 }
-after c w meanings.Begin = record c { place = places.Gap }
-after c w (meanings.Step actor step) = record c {
+after_meaning c w meanings.Begin = record c { place = places.Gap }
+after_meaning c w (meanings.Step actor step) = record c {
   place = places.Steps;
   part = record c.part { steps = c.part.steps ++ (actor, step) ∷ [] };
 }
-after c w meanings.Sync = record c { place = places.Gap; ended = c.ended ++ c.part ∷ []; part = empty_part }
-after c w (meanings.Report query) = record c {
+after_meaning c w meanings.Sync = record c { place = places.Gap; ended = c.ended ++ c.part ∷ []; part = empty_part }
+after_meaning c w (meanings.Report query) = record c {
   place = places.Gap;
   part = record c.part { reports = c.part.reports ++ query ∷ [] };
 }
-after c w meanings.End = record c { place = places.Ended }
+after_meaning c w meanings.End = record c { place = places.Ended }
 
 -- the script behind a line of this form and these words
 abbrev pub after_as : SoFar → Option Form → List (List ℕ) → SoFar
 after_as c None ws = c
-after_as c (Some f) ws = after c (word_at ws 1) (meaning_of c.names ws f)
+after_as c (Some f) ws = after_meaning c (word_at ws 1) (meaning_of c.names ws f)
 
 -- the script behind a line
-unfoldable pub next : SoFar → List ℕ → SoFar
-next c bytes = if is_silent bytes then c else after_as c (form_of c.version (words_of bytes)) (words_of bytes)
+unfoldable pub after_line : SoFar → List ℕ → SoFar
+after_line c bytes = if is_silent bytes then c else after_as c (form_of c.version (words_of bytes)) (words_of bytes)
 
 -- ---- the whole text
 
@@ -88,23 +88,23 @@ or_later None n later = later
 or_later (Some code) n later = Some (refused_at n code)
 
 -- the first line that has a fault, and its first fault, where line n is the first of these; a missing end counts as a line behind them
-abbrev pub first_fault : SoFar → ℕ → List (List ℕ) → Option Refusal
-first_fault c n [] = if has_ended c.place then None else Some (refused_at n B8)
-first_fault c n (t ∷ ts) = or_later (fault_of c n t) n (first_fault (next c t) (n + 1) ts)
+abbrev pub first_bad_line : SoFar → ℕ → List (List ℕ) → Option Refusal
+first_bad_line c n [] = if has_ended c.place then None else Some (refused_at n B8)
+first_bad_line c n (t ∷ ts) = or_later (fault_of c n t) n (first_bad_line (after_line c t) (n + 1) ts)
 
 -- the script behind these lines
-abbrev pub after_all : SoFar → List (List ℕ) → SoFar
-after_all c [] = c
-after_all c (t ∷ ts) = after_all (next c t) ts
+abbrev pub after_all_lines : SoFar → List (List ℕ) → SoFar
+after_all_lines c [] = c
+after_all_lines c (t ∷ ts) = after_all_lines (after_line c t) ts
 
 -- no text is longer: 4 MiB
-abbrev pub most_bytes : ℕ
-most_bytes = 4194304
+abbrev pub most_script_bytes : ℕ
+most_script_bytes = 4194304
 
 -- why a text isn't a script, where it isn't
 unfoldable pub refusal_of : List ℕ → Option Refusal
 refusal_of bytes =
-    if nat_lt most_bytes (length bytes) then Some (refused_at 0 B7) else first_fault nothing_yet 1 (lines_of bytes)
+    if nat_lt most_script_bytes (length bytes) then Some (refused_at 0 B7) else first_bad_line nothing_yet 1 (lines_of bytes)
 
 -- what a contract sees of a script: what its opening has, the names, and its parts
 pub record Script : Type 0 where
@@ -118,7 +118,7 @@ whole c = record { opening = c.items; names = c.names; parts = c.ended ++ c.part
 
 -- what a text says that is a script
 unfoldable pub script_of : List ℕ → Script
-script_of bytes = whole (after_all nothing_yet (lines_of bytes))
+script_of bytes = whole (after_all_lines nothing_yet (lines_of bytes))
 
 -- a step can be played: it is the desk's or a leaf's own, and no report
 pub record IsPlayable (t : Nodes) (made : Actor × Step WidgetCmd) : Type 0 where
@@ -139,6 +139,6 @@ pub record IsPlayableScript (s : Script) : Type 0 where
   pub parts : All (IsPlayablePart (tree_of s.opening).nodes) s.parts
 
 -- why a text is refused, where memory isn't wanting
-abbrev pub IsCause : Option Refusal → ReadRefused → Type 0
-IsCause refusal refused.NoMemory = ⊤
-IsCause refusal (refused.Refused line code) = refusal ≡ Some (record { line = line; code = code })
+abbrev pub IsReadCause : Option Refusal → ReadRefused → Type 0
+IsReadCause refusal refused.NoMemory = ⊤
+IsReadCause refusal (refused.Refused line code) = refusal ≡ Some (record { line = line; code = code })

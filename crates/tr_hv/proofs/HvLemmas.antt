@@ -12,8 +12,8 @@ use Rattle.tr_base.specs.Shapes.{Lengths}
 use Rattle.tr_base.specs.Layouts.{longest, along, turned, placed, places_by, IsPartOf, ShareNoPoint}
 use Rattle.tr_base.proofs.LayoutLemmas.{length-places_by, empty_is_rect, part-placed, part_of_empty, apart_across, turned_is_rect, turned_turned, turned_part, turned_apart, turned_empty}
 use Rattle.tr_hv.specs.declared.places.Wishes.{Wishes}
-use Rattle.tr_hv.specs.Sums.{IsWithin}
-use Rattle.tr_hv.specs.Places.{wishes, granted, length_of, start_of, place_across, place_of}
+use Rattle.tr_hv.specs.Sums.{AreAtMost}
+use Rattle.tr_hv.specs.Places.{wishes, granted, length_of, child_start, place_across, place_of}
 
 -- ---- three lists one after another
 in_first : (xs ys zs : List ℕ) (n k : ℕ) → length xs ≡ n → k < n → get_or (xs ++ ys ++ zs) k 0 ≡ get_or xs k 0
@@ -176,7 +176,7 @@ unfolding granted_before
 granted-zero room cs = omega (arith, sum_before-zero cs)
 
 -- ---- where the children begin
-pub start_of_more : (room : ℕ) (cs : List Lengths) (k : ℕ) → start_of room cs (k + 1) ≡ start_of room cs k + length_of room cs k
+pub start_of_more : (room : ℕ) (cs : List Lengths) (k : ℕ) → child_start room cs (k + 1) ≡ child_start room cs k + length_of room cs k
 start_of_more room cs k =
     let more = map-range_with_len_more (λ (x : ℕ). x) 0 k k (omega arith) in
     let plain : range_with_len 0 (k + 1) ≡ range_with_len 0 k ++ k ∷ [] = rw (map-id (range_with_len 0 (k + 1)), map-id (range_with_len 0 k)) at more in
@@ -185,7 +185,7 @@ start_of_more room cs k =
 -- where a child begins, by what the wishes before its own get
 abbrev IsStart : ℕ → List Lengths → ℕ → Type 0
 IsStart room cs k =
-    start_of room cs k + granted_before room cs (length cs) + granted_before room cs (length cs + length cs)
+    child_start room cs k + granted_before room cs (length cs) + granted_before room cs (length cs + length cs)
     ≡ granted_before room cs k + granted_before room cs (length cs + k) + granted_before room cs (length cs + length cs + k)
 
 next_start : (room : ℕ) (cs : List Lengths) (k : ℕ) → k < length cs → IsStart room cs k → IsStart room cs (k + 1)
@@ -213,7 +213,7 @@ start_of_is room cs (suc k) le =
     subst (IsStart room cs) next (next_start room cs k (omega arith) (start_of_is room cs k (omega arith)))
 
 -- the children end within the room
-pub start_fits : (room : ℕ) (cs : List Lengths) (k : ℕ) → k ≤ length cs → start_of room cs k ≤ room
+pub start_fits : (room : ℕ) (cs : List Lengths) (k : ℕ) → k ≤ length cs → child_start room cs k ≤ room
 start_fits room cs k le =
     omega (
       arith,
@@ -224,40 +224,41 @@ start_fits room cs k le =
       granted_within room cs (length cs + length cs + k),
     )
 
-pub end_fits : (room : ℕ) (cs : List Lengths) (k : ℕ) → k < length cs → start_of room cs k + length_of room cs k ≤ room
+pub end_fits : (room : ℕ) (cs : List Lengths) (k : ℕ) → k < length cs → child_start room cs k + length_of room cs k ≤ room
 end_fits room cs k lt = omega (arith, start_fits room cs (k + 1) (omega arith), start_of_more room cs k)
 
 -- a later child begins where an earlier one ends, or beyond
-pub start_of_grows : (room : ℕ) (cs : List Lengths) (i j : ℕ) → i < j → start_of room cs i + length_of room cs i ≤ start_of room cs j
+pub start_of_grows : (room : ℕ) (cs : List Lengths) (i j : ℕ) → i < j → child_start room cs i + length_of room cs i ≤ child_start room cs j
 start_of_grows room cs i j lt =
     let far : i + 1 + (j - (i + 1)) ≡ j = omega arith in
     let more = rw far at (grows room cs (i + 1) (j - (i + 1))) in
     omega (arith, more, start_of_more room cs i)
   where
-    grows : (room : ℕ) (cs : List Lengths) (i d : ℕ) → start_of room cs i ≤ start_of room cs (i + d)
+    grows : (room : ℕ) (cs : List Lengths) (i d : ℕ) → child_start room cs i ≤ child_start room cs (i + d)
     grows room cs i zero = let same : i + 0 ≡ i = omega arith in rw same (omega arith)
     grows room cs i (suc d) = let next : i + suc d ≡ i + d + 1 = omega arith in rw next (omega (arith, start_of_more room cs (i + d), grows room cs i d))
 
 -- ---- the places
 part_across : (e : Edges) (cs : List Lengths) (k : ℕ) → IsRect e → k < length cs → IsPartOf (place_across e cs k) e
 part_across e cs k is lt =
-    part-placed e (start_of (sides_of e).0 cs k) 0 (length_of (sides_of e).0 cs k, (sides_of e).1) is (end_fits (sides_of e).0 cs k lt) (omega arith)
+    part-placed e (child_start (sides_of e).0 cs k) 0 (length_of (sides_of e).0 cs k, (sides_of e).1) is (end_fits (sides_of e).0 cs k lt) (omega arith)
 
 apart_side_by_side : (e : Edges) (cs : List Lengths) (i j : ℕ) → i < j → ShareNoPoint (place_across e cs i) (place_across e cs j)
 apart_side_by_side e cs i j lt =
     let room : ℕ = (sides_of e).0 in
     let high : ℕ = (sides_of e).1 in
-    apart_across (e.west +ℤ pos (start_of room cs i)) (e.west +ℤ pos (start_of room cs i) +ℤ pos (length_of room cs i)) (e.north +ℤ pos 0)
+    apart_across (e.west +ℤ pos (child_start room cs i)) (e.west +ℤ pos (child_start room cs i) +ℤ pos (length_of room cs i)) (e.north +ℤ pos 0)
     (e.north +ℤ pos 0 +ℤ pos high)
-    (e.west +ℤ pos (start_of room cs j)) (e.west +ℤ pos (start_of room cs j) +ℤ pos (length_of room cs j)) (e.north +ℤ pos 0) (e.north +ℤ pos 0 +ℤ pos high)
-    (behind e.west (start_of room cs i) (length_of room cs i) (start_of room cs j) (start_of_grows room cs i j lt))
+    (e.west +ℤ pos (child_start room cs j)) (e.west +ℤ pos (child_start room cs j) +ℤ pos (length_of room cs j)) (e.north +ℤ pos 0)
+    (e.north +ℤ pos 0 +ℤ pos high)
+    (behind e.west (child_start room cs i) (length_of room cs i) (child_start room cs j) (start_of_grows room cs i j lt))
   where
     behind : (w : ℤ) (x l y : ℕ) → x + l ≤ y → (w +ℤ pos x +ℤ pos l) ≤ℤ (w +ℤ pos y)
     behind w x l y le = omega (arith, ints)
 
 empty_across : (cs : List Lengths) (k : ℕ) → k < length cs → place_across empty_rect cs k ≡ empty_rect
 empty_across cs k lt =
-    let start : ℕ = start_of 0 cs k in
+    let start : ℕ = child_start 0 cs k in
     let size : ℕ = length_of 0 cs k in
     part_of_empty (pos 0 +ℤ pos start) (pos 0 +ℤ pos start +ℤ pos size) (pos 0 +ℤ pos 0) (pos 0 +ℤ pos 0 +ℤ pos 0)
     (part_across empty_rect cs k empty_is_rect lt)
@@ -289,7 +290,7 @@ along_read vertical cs k child c lt is e =
 
 -- what the loop places is the child's place
 pub place_is : (vertical : Bool) (e : Edges) (cs : List Shapes) (k : ℕ) (sides : ℕ × ℕ) (start size : ℕ) → sides ≡ sides_of (turned vertical e) →
-    start ≡ start_of sides.0 (map (along vertical) cs) k → size ≡ length_of sides.0 (map (along vertical) cs) k →
+    start ≡ child_start sides.0 (map (along vertical) cs) k → size ≡ length_of sides.0 (map (along vertical) cs) k →
     turned vertical (placed (turned vertical e) (pos start) (pos 0) (size, sides.1)) ≡ place_of vertical e cs k
 place_is vertical e cs k sides start size is begins lasts = rw (begins, lasts, is) refl
 
@@ -302,7 +303,7 @@ placed_all place items i count e is le =
     subst (λ (k : ℕ). items ≡ places_by place k) same all
 
 -- how great the sums are, with one more child
-pub within_more : (n i : ℕ) (b w next : Wishes) → IsWithin (longest * (n + i)) b → IsWithin longest w →
-    next ≡ record { lo = b.lo + w.lo; pref = b.pref + w.pref; hi = b.hi + w.hi } → IsWithin (longest * (n + (i + 1))) next
+pub within_more : (n i : ℕ) (b w next : Wishes) → AreAtMost (longest * (n + i)) b → AreAtMost longest w →
+    next ≡ record { lo = b.lo + w.lo; pref = b.pref + w.pref; hi = b.hi + w.hi } → AreAtMost (longest * (n + (i + 1))) next
 within_more n i b w next sums one is = rw is
     (record { lo = omega (arith, sums.lo, one.lo); pref = omega (arith, sums.pref, one.pref); hi = omega (arith, sums.hi, one.hi) })

@@ -7,8 +7,8 @@ use Rattle.tr_base.specs.Shapes.{Lengths}
 use Rattle.tr_base.specs.Layouts.{sums_of, maxima_of, along, shapes_of, turned, placed, places_by}
 
 -- along the node the children's lengths add up, and beside it the greatest one counts
-abbrev pub shape : Bool → List Shapes → Shapes
-shape vertical cs =
+abbrev pub hv_shape : Bool → List Shapes → Shapes
+hv_shape vertical cs =
     shapes_of vertical (sums_of (map (along vertical) cs)) (maxima_of (map (along (not vertical)) cs))
 
 -- the wishes in order: each child's lo, then what each lacks to its pref, then what each lacks to its hi
@@ -26,13 +26,13 @@ length_of room cs k =
     + granted room (wishes cs) (length cs + length cs + k)
 
 -- a child begins behind all children before it
-abbrev pub start_of : ℕ → List Lengths → ℕ → ℕ
-start_of room cs k = sum_by (length_of room cs) (range_with_len 0 k)
+abbrev pub child_start : ℕ → List Lengths → ℕ → ℕ
+child_start room cs k = sum_by (length_of room cs) (range_with_len 0 k)
 
 -- the k-th child of an H stands east of the children before it, and has the node's whole height
 abbrev pub place_across : Edges → List Lengths → ℕ → Edges
 place_across e cs k =
-    placed e (pos (start_of (sides_of e).0 cs k)) (pos 0) (length_of (sides_of e).0 cs k, (sides_of e).1)
+    placed e (pos (child_start (sides_of e).0 cs k)) (pos 0) (length_of (sides_of e).0 cs k, (sides_of e).1)
 
 -- the k-th child of an H or a V: a V is an H with across and down exchanged
 abbrev pub place_of : Bool → Edges → List Shapes → ℕ → Edges

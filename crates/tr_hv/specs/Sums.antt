@@ -4,7 +4,7 @@ use Rattle.std.specs.Prelude.{ℕ, ◌≤◌}
 use Rattle.tr_hv.specs.declared.places.Wishes.{Wishes}
 
 -- each of the three is at most so great
-pub record IsWithin (most : ℕ) (w : Wishes) : Type 0 where
+pub record AreAtMost (most : ℕ) (w : Wishes) : Type 0 where
   pub lo : w.lo ≤ most
   pub pref : w.pref ≤ most
   pub hi : w.hi ≤ most

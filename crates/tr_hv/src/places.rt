@@ -1,8 +1,8 @@
 ghost use Rattle.std.specs.Prelude.{◌≡◌, ◌+◌, ◌-◌, ◌*◌, ◌≤◌, min, length, vec_len, map, sum_by, All, AllPairs, IfOk};
 ghost use Rattle.tr_base.specs.Rects.{empty_rect};
 ghost use Rattle.tr_base.specs.Layouts.{longest, along as along_of, IsDomain, IsPartOf, ShareNoPoint};
-ghost use Rattle.tr_hv.specs.Places.{shape, places};
-ghost use Rattle.tr_hv.specs.Sums.{IsWithin};
+ghost use Rattle.tr_hv.specs.Places.{hv_shape, places};
+ghost use Rattle.tr_hv.specs.Sums.{AreAtMost};
 
 use std::alloc::Global;
 use tr_base::{
@@ -13,7 +13,7 @@ use tr_base::{
 /// The shape of a V, or of an H where `vertical` is false: along it the sums of the children's
 /// lengths, which stop at 4096, and beside it the greatest ones. Without children it is 0.
 pub fn shape(vertical: bool, children: &[Shapes]) -> Shapes
-    ensures { result ≡ shape vertical children.now }
+    ensures { result ≡ hv_shape vertical children.now }
 {
     shapes_of(
         vertical,
@@ -80,7 +80,7 @@ fn wishes_of(lengths: &Shape) -> Wishes
     ensures lo { result.lo ≡ lengths.now.lo }
     ensures pref { result.pref ≡ lengths.now.pref - lengths.now.lo }
     ensures hi { result.hi ≡ lengths.now.hi - lengths.now.pref }
-    ensures small { IsWithin longest result }
+    ensures small { AreAtMost longest result }
 {
     Wishes {
         lo: u32::from(lengths.lo),
@@ -90,8 +90,8 @@ fn wishes_of(lengths: &Shape) -> Wishes
 }
 
 fn sum_of(a: &Wishes, b: &Wishes) -> Wishes
-    requires first { IsWithin (longest * 1000) a.now }
-    requires second { IsWithin longest b.now }
+    requires first { AreAtMost (longest * 1000) a.now }
+    requires second { AreAtMost longest b.now }
     ensures { result ≡ record {
       lo = a.now.lo + b.now.lo;
       pref = a.now.pref + b.now.pref;
@@ -110,7 +110,7 @@ fn totals(vertical: bool, children: &[Shapes]) -> Wishes
     requires { length children.now ≤ 255 }
     ensures lo { result.lo ≡ sum_by (λ c. c.lo) (map (along_of vertical) children.now) }
     ensures pref { result.pref ≡ sum_by (λ c. c.pref - c.lo) (map (along_of vertical) children.now) }
-    ensures small { IsWithin (longest * length children.now) result }
+    ensures small { AreAtMost (longest * length children.now) result }
 {
     let mut all = Wishes {
         lo: 0,
@@ -125,7 +125,7 @@ fn totals(vertical: bool, children: &[Shapes]) -> Wishes
 
 /// The sums of the wishes that come before the first child's three.
 fn first_before(all: &Wishes) -> Wishes
-    requires { IsWithin (longest * 255) all.now }
+    requires { AreAtMost (longest * 255) all.now }
     ensures { result ≡ record { lo = 0; pref = all.now.lo; hi = all.now.lo + all.now.pref } }
 {
     Wishes {
@@ -137,7 +137,7 @@ fn first_before(all: &Wishes) -> Wishes
 
 /// What a child's wishes get of the room, after the sums of wishes that come before each of them.
 fn granted(room: u32, before: &Wishes, wishes: &Wishes) -> u32
-    requires { IsWithin longest wishes.now }
+    requires { AreAtMost longest wishes.now }
     ensures { result ≡ min wishes.now.lo (room - before.now.lo)
         + min wishes.now.pref (room - before.now.pref)
         + min wishes.now.hi (room - before.now.hi) }

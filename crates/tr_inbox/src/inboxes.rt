@@ -29,9 +29,9 @@ pub struct Inbox {
 
 impl Model for Inbox {
     ghost use Rattle.std.specs.Prelude.{◌≡◌, ◌≤◌, length};
-    ghost use Rattle.tr_inbox.specs.Inboxes.{Contents};
+    ghost use Rattle.tr_inbox.specs.Inboxes.{InboxView};
 
-    ghost Value = { Contents };
+    ghost Value = { InboxView };
 
     ghost view = { λ i. record { events = i.events.items; dropped = i.dropped } };
 

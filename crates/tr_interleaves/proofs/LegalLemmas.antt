@@ -15,7 +15,7 @@ use Rattle.tr_journal.specs.Actors.{entries_of, is_by, made_in, steps_of}
 use Rattle.tr_journal.specs.Journals.{JournalLine}
 use Rattle.tr_journal.specs.Steps.{IsLeaf, IsOwn, IsStep, may}
 use Rattle.tr_machine.specs.States.{State}
-use Rattle.tr_machine.specs.Replays.{IsLegalFrom, line_of, next}
+use Rattle.tr_machine.specs.Replays.{IsLegalFrom, line_of_step, next}
 use Rattle.tr_interleaves.specs.Interleaves.{steps_in}
 
 -- ---- lists
@@ -109,7 +109,7 @@ module _ {C M : Type 0} (client : Ghosts C M) where
       entry = ap (λ (es : List (Entry M)). first_or x.entry es) same
 
       here : x ≡ y
-      here = first.0.made ∙ ap (λ (e : Entry M). line_of client m e.actor e.level e.step) entry ∙ sym second.0.made
+      here = first.0.made ∙ ap (λ (e : Entry M). line_of_step client m e.actor e.level e.step) entry ∙ sym second.0.made
 
   -- the steps of a legal journal are such ones
   are_made : (t : Nodes) (m : State C M) (lines : List (JournalLine M)) → IsLegalFrom client t m lines → AreMade t (made_of lines)

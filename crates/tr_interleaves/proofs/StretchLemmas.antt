@@ -18,7 +18,7 @@ use Rattle.tr_journal.specs.Steps.{is_player, may}
 use Rattle.tr_journal.proofs.ActorLemmas.{steps_by-append}
 use Rattle.tr_machine.specs.States.{State}
 use Rattle.tr_machine.specs.Replays.{IsLegalFrom, next, replay_from}
-use Rattle.tr_interleaves.specs.Interleaves.{Part, steps_in, is_sync, cut_from, stretches, IsPlayerFirst, IsStretch, AreStretches, AreDumpsSettled}
+use Rattle.tr_interleaves.specs.Interleaves.{Part, steps_in, is_sync, stretches_from, stretches, IsPlayerFirst, IsStretch, AreStretches, AreDumpsSettled}
 use Rattle.tr_interleaves.specs.Stretches.{HasNoMaker, HasNoSync, AreReports, IsPart, AreParts}
 
 -- ---- the steps of an actor
@@ -83,26 +83,26 @@ player_first (x ∷ xs) ys first none = (λ maker. absurd (false-true (sym first
 -- ---- stretches
 
 -- lines without a sync are one stretch
-pub cut_whole : {M : Type 0} (before lines : List (JournalLine M)) → HasNoSync lines → cut_from before lines ≡ (before ++ lines) ∷ []
+pub cut_whole : {M : Type 0} (before lines : List (JournalLine M)) → HasNoSync lines → stretches_from before lines ≡ (before ++ lines) ∷ []
 cut_whole {M} before [] none = ap (λ (ls : List (JournalLine M)). ls ∷ []) (sym (append-nil before))
 cut_whole {M} before (line ∷ lines) none =
-    ap (λ (b : Bool). cond b (before ∷ cut_from [] lines) (cut_from (before ++ line ∷ []) lines)) none.0
+    ap (λ (b : Bool). cond b (before ∷ stretches_from [] lines) (stretches_from (before ++ line ∷ []) lines)) none.0
     ∙ cut_whole (before ++ line ∷ []) lines none.1
     ∙ ap (λ (ls : List (JournalLine M)). ls ∷ []) (append_assoc before (line ∷ []) lines)
 
 -- behind a sync they are one more
 pub cut_more : {M : Type 0} (before lines : List (JournalLine M)) (sync : JournalLine M) (more : List (JournalLine M)) →
-    is_sync sync.entry.step ≡ true → HasNoSync more → cut_from before (lines ++ sync ∷ more) ≡ cut_from before lines ++ more ∷ []
+    is_sync sync.entry.step ≡ true → HasNoSync more → stretches_from before (lines ++ sync ∷ more) ≡ stretches_from before lines ++ more ∷ []
 cut_more {M} before [] sync more is none =
-    ap (λ (b : Bool). cond b (before ∷ cut_from [] more) (cut_from (before ++ sync ∷ []) more)) is
+    ap (λ (b : Bool). cond b (before ∷ stretches_from [] more) (stretches_from (before ++ sync ∷ []) more)) is
     ∙ ap (λ (xss : List (List (JournalLine M))). before ∷ xss) (cut_whole [] more none)
 cut_more {M} before (line ∷ lines) sync more is none =
     by_test (is_sync line.entry.step) (cut_more [] lines sync more is none) (cut_more (before ++ line ∷ []) lines sync more is none)
   where
-    by_test : (b : Bool) → cut_from [] (lines ++ sync ∷ more) ≡ cut_from [] lines ++ more ∷ [] →
-        cut_from (before ++ line ∷ []) (lines ++ sync ∷ more) ≡ cut_from (before ++ line ∷ []) lines ++ more ∷ [] →
-        cond b (before ∷ cut_from [] (lines ++ sync ∷ more)) (cut_from (before ++ line ∷ []) (lines ++ sync ∷ more))
-        ≡ cond b (before ∷ cut_from [] lines) (cut_from (before ++ line ∷ []) lines) ++ more ∷ []
+    by_test : (b : Bool) → stretches_from [] (lines ++ sync ∷ more) ≡ stretches_from [] lines ++ more ∷ [] →
+        stretches_from (before ++ line ∷ []) (lines ++ sync ∷ more) ≡ stretches_from (before ++ line ∷ []) lines ++ more ∷ [] →
+        cond b (before ∷ stretches_from [] (lines ++ sync ∷ more)) (stretches_from (before ++ line ∷ []) (lines ++ sync ∷ more))
+        ≡ cond b (before ∷ stretches_from [] lines) (stretches_from (before ++ line ∷ []) lines) ++ more ∷ []
     by_test true anew on = ap (λ (xss : List (List (JournalLine M))). before ∷ xss) anew
     by_test false anew on = on
 

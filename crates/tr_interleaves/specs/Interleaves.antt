@@ -12,7 +12,7 @@ use Rattle.tr_journal.specs.declared.steps.Step.{Step}
 use Rattle.tr_journal.specs.declared.steps.Step.TheVariants.{Sync, Report}
 use Rattle.tr_journal.specs.Actors.{entries_of, is_maker, steps_by, steps_of}
 use Rattle.tr_journal.specs.Journals.{JournalLine}
-use Rattle.tr_machine.specs.States.{State, batch_of, start}
+use Rattle.tr_machine.specs.States.{State, leaf_batch, start}
 use Rattle.tr_machine.specs.Replays.{next}
 
 -- a part of a script: its reports, and then its steps, each with who makes it
@@ -32,14 +32,14 @@ is_sync Sync = true
 is_sync step = false
 
 -- lines cut at each sync, where the first piece begins with some others
-abbrev pub cut_from : {M : Type 0} → List (JournalLine M) → List (JournalLine M) → List (List (JournalLine M))
-cut_from before [] = before ∷ []
-cut_from before (line ∷ lines) =
-    if is_sync line.entry.step then before ∷ cut_from [] lines else cut_from (before ++ line ∷ []) lines
+abbrev pub stretches_from : {M : Type 0} → List (JournalLine M) → List (JournalLine M) → List (List (JournalLine M))
+stretches_from before [] = before ∷ []
+stretches_from before (line ∷ lines) =
+    if is_sync line.entry.step then before ∷ stretches_from [] lines else stretches_from (before ++ line ∷ []) lines
 
 -- the stretches of a journal: its lines, cut at each sync, which is in none of them
 abbrev pub stretches : {M : Type 0} → List (JournalLine M) → List (List (JournalLine M))
-stretches lines = cut_from [] lines
+stretches lines = stretches_from [] lines
 
 -- behind a line of a leaf or of the desk stands none of the player
 abbrev pub IsPlayerFirst : {M : Type 0} → List (JournalLine M) → Type 0
@@ -66,7 +66,7 @@ module _ {C M : Type 0} (client : Ghosts C M) where
   -- no point of the screen is bad, and no paint command waits
   pub record IsSettled (m : State C M) : Type 0 where
     pub good : (p : Point) → m.bad p ≡ false
-    pub batches : (leaf : LeafId) → batch_of client m leaf ≡ []
+    pub batches : (leaf : LeafId) → leaf_batch client m leaf ≡ []
 
   -- whenever the screen is dumped it is settled, from a state on
   abbrev pub AreDumpsSettled : State C M → List (JournalLine M) → Type 0

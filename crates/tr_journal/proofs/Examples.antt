@@ -9,7 +9,7 @@ use Rattle.tr_journal.specs.declared.entries.Entry.{Entry}
 use Rattle.tr_journal.specs.declared.differences.Apart.TheVariants.{Kept, Own}
 use Rattle.tr_journal.specs.Actors.{steps_by, steps_of}
 use Rattle.tr_journal.specs.Lists.{HasList, ListsView, list_of, no_steps, with_list, with_step}
-use Rattle.tr_journal.specs.Differences.{Account, IsBefore, IsFirst, Matches}
+use Rattle.tr_journal.specs.Differences.{Account, IsBefore, IsFirstDiffering, Matches}
 
 -- the client of the first leaf, and of the second
 abbrev a : Actor
@@ -70,7 +70,7 @@ colour (Act leaf n) = n
 colour step = 0
 
 -- a list that says 8 where the stage has 7
-differs : IsFirst (account []) (lists_with 8) stage (record { place = 1; what = Own a (Some (tint 8)) (Some (tint 7)) })
+differs : IsFirstDiffering (account []) (lists_with 8) stage (record { place = 1; what = Own a (Some (tint 8)) (Some (tint 7)) })
 differs = (
   record { listed = lit< tt; opening = refl; entries = refl; steps = λ other listed before. nobody other before },
   record {
@@ -102,7 +102,7 @@ first = by a (tint 1)
 abbrev second : Entry ℕ
 second = by b (tint 2)
 
-misses : IsFirst (account (first ∷ second ∷ [])) (no_steps 2) (account (first ∷ [])) (record { place = 2; what = Kept (Some second) None })
+misses : IsFirstDiffering (account (first ∷ second ∷ [])) (no_steps 2) (account (first ∷ [])) (record { place = 2; what = Kept (Some second) None })
 misses = (
   refl,
   record {

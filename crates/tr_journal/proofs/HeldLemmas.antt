@@ -6,7 +6,7 @@ use Rattle.std.proofs.lemmas.Bool.Decides.{same_from_decides, Decides-by_or, Dec
 use Rattle.std.proofs.lemmas.List.Elements.{Decides-contains}
 use Rattle.tr_levels.specs.declared.Level.{Level}
 use Rattle.tr_levels.specs.declared.Level.TheVariants.{Mu, Share, Win}
-use Rattle.tr_journal.specs.Steps.{is_level, is_held}
+use Rattle.tr_journal.specs.Steps.{is_level, is_level_held}
 
 -- the test of two levels says whether they are the same
 Decides-level : (a b : Level) → Decides (is_level a b) (b ≡ a)
@@ -21,6 +21,6 @@ Decides-level (Win a) (Share b) = search rules
 Decides-level (Win a) (Win b) = Decides-like _ (λ e. grind (arith, e)) (λ e. grind (arith, e)) (Decides-eqb a.0 b.0)
 
 -- an answer that is true just where a level is held is that of the test
-pub is_held-from : (answer : Bool) (held : List Level) (level : Level) → (IsTrue answer ↔ Contains held level) → answer ≡ is_held held level
-is_held-from answer held level h = same_from_decides answer (is_held held level) h
+pub is_held-from : (answer : Bool) (held : List Level) (level : Level) → (IsTrue answer ↔ Contains held level) → answer ≡ is_level_held held level
+is_held-from answer held level h = same_from_decides answer (is_level_held held level) h
     (Decides-contains held level _ (Decides-by_or (is_level level) (λ l. l ≡ level) (list_any (is_level level)) (Decides-level level) refl (λ _ _. refl) held))

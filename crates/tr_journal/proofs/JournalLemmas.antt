@@ -8,7 +8,7 @@ use Rattle.std.proofs.lemmas.List.Elements.{All-from_recursion}
 use Rattle.std.proofs.lemmas.List.Sums.{sum_by-cons, sum_by_push, sum_by-take-le}
 use Rattle.tr_inbox.specs.declared.deliveries.Delivery.{Delivery}
 use Rattle.tr_journal.specs.declared.entries.Entry.{Entry}
-use Rattle.tr_journal.specs.Journals.{JournalLine, IsCounted, AreKept, total, lines_of}
+use Rattle.tr_journal.specs.Journals.{JournalLine, IsCounted, AreKept, total, journal_lines}
 
 -- the first entry has its deliveries, and the others have the rest
 rest_of : {M : Type 0} (x : Entry M) (es : List (Entry M)) (sent : List Delivery) → length sent ≡ total (x ∷ es) →
@@ -19,7 +19,7 @@ rest_of {M} x es sent all =
 
 -- one entry more, with its deliveries, is one line more
 pub lines_of-push : {M : Type 0} (es : List (Entry M)) (sent : List Delivery) (line : JournalLine M) → length sent ≡ total es → IsCounted line →
-    lines_of (es ++ line.entry ∷ []) (sent ++ line.sent) ≡ lines_of es sent ++ line ∷ []
+    journal_lines (es ++ line.entry ∷ []) (sent ++ line.sent) ≡ journal_lines es sent ++ line ∷ []
 lines_of-push [] sent line all counted =
     let count = counted.count in
     rw (nil_from_length sent all) (ap (λ ds. record { entry = line.entry; sent = ds } ∷ []) (take_all line.entry.reply.sent line.sent (omega arith)))
@@ -29,12 +29,12 @@ lines_of-push (x ∷ es) sent line all counted =
     (ap (λ ls. record { entry = x; sent = take x.reply.sent sent } ∷ ls) (lines_of-push es (drop x.reply.sent sent) line rest.1 counted))
 
 -- there is a line for each entry
-pub length-lines_of : {M : Type 0} (es : List (Entry M)) (sent : List Delivery) → length (lines_of es sent) ≡ length es
+pub length-lines_of : {M : Type 0} (es : List (Entry M)) (sent : List Delivery) → length (journal_lines es sent) ≡ length es
 length-lines_of [] sent = refl
 length-lines_of (x ∷ es) sent = ap suc (length-lines_of es (drop x.reply.sent sent))
 
 -- the entries of the lines are the entries
-pub entries-lines_of : {M : Type 0} (es : List (Entry M)) (sent : List Delivery) → map (λ line. line.entry) (lines_of es sent) ≡ es
+pub entries-lines_of : {M : Type 0} (es : List (Entry M)) (sent : List Delivery) → map (λ line. line.entry) (journal_lines es sent) ≡ es
 entries-lines_of [] sent = refl
 entries-lines_of (x ∷ es) sent = ap (λ xs. x ∷ xs) (entries-lines_of es (drop x.reply.sent sent))
 
@@ -46,7 +46,7 @@ shifted_range sent n a b =
 
 -- what an entry sent lies between the totals of the entries before it and of those up to it
 pub sent-lines_of : {M : Type 0} (es : List (Entry M)) (sent : List Delivery) (k : ℕ) → k < length es →
-    slice_get (map (λ line. line.sent) (lines_of es sent)) k ≡ Some (slice_range sent (total (take k es)) (total (take (k + 1) es)))
+    slice_get (map (λ line. line.sent) (journal_lines es sent)) k ≡ Some (slice_range sent (total (take k es)) (total (take (k + 1) es)))
 sent-lines_of [] sent k lt = absurd (omega (arith, lt))
 sent-lines_of {M} (x ∷ es) sent zero lt =
     let one : x.reply.sent ≡ total (x ∷ []) - 0 = omega (arith, sum_by-cons (λ (e : Entry M). e.reply.sent) x []) in
@@ -62,10 +62,10 @@ sent-lines_of {M} (x ∷ es) sent (suc k) lt =
     ∙ ap (λ n. Some (slice_range sent (total (x ∷ take k es)) n)) (sym after)
 
 -- each line has as many deliveries as its entry says
-pub counted-lines_of : {M : Type 0} (es : List (Entry M)) (sent : List Delivery) → length sent ≡ total es → All IsCounted (lines_of es sent)
-counted-lines_of es sent all = All-from_recursion IsCounted (lines_of es sent) (each es sent all)
+pub counted-lines_of : {M : Type 0} (es : List (Entry M)) (sent : List Delivery) → length sent ≡ total es → All IsCounted (journal_lines es sent)
+counted-lines_of es sent all = All-from_recursion IsCounted (journal_lines es sent) (each es sent all)
   where
-    each : {M : Type 0} (es : List (Entry M)) (sent : List Delivery) → length sent ≡ total es → AllByRecursion IsCounted (lines_of es sent)
+    each : {M : Type 0} (es : List (Entry M)) (sent : List Delivery) → length sent ≡ total es → AllByRecursion IsCounted (journal_lines es sent)
     each [] sent all = tt
     each (x ∷ es) sent all =
         let rest = rest_of x es sent all in
@@ -120,5 +120,5 @@ within-kept {M} es ends sent k kept lt =
 
 -- what lies between where an entry's deliveries begin and end is what the entry sent
 pub sent-kept : {M : Type 0} (es : List (Entry M)) (ends : List ℕ) (sent : List Delivery) (k : ℕ) → AreKept es ends sent → k < length es →
-    slice_get (map (λ line. line.sent) (lines_of es sent)) k ≡ Some (slice_range sent (get_or (0 ∷ ends) k 0) (get_or ends k 0))
+    slice_get (map (λ line. line.sent) (journal_lines es sent)) k ≡ Some (slice_range sent (get_or (0 ∷ ends) k 0) (get_or ends k 0))
 sent-kept es ends sent k kept lt = rw (start-kept es ends sent k kept lt, kept.each k lt) (sent-lines_of es sent k lt)

@@ -16,7 +16,7 @@ use Rattle.tr_forest.specs.declared.NodeKind.TheVariants as kinds
 use Rattle.tr_forest.specs.declared.Edit.TheVariants as edits
 use Rattle.tr_forest.specs.declared.NodeFault.{NodeFault}
 use Rattle.tr_forest.specs.declared.NodeFault.TheVariants as faults
-use Rattle.tr_forest.specs.Nodes.{Entry, Nodes, IsNode, node, fresh, is_leaf, leaf_count}
+use Rattle.tr_forest.specs.Nodes.{Entry, Nodes, IsNode, node, new_entry, is_leaf, leaf_count}
 use Rattle.tr_forest.specs.Families.{levels, depth, height, is_under}
 use Rattle.tr_forest.specs.Edits.{edited, changed, with_child, hung, hangs, is_root, is_occupied, refusal}
 use Rattle.tr_forest.proofs.Keeping.{KeepsValues, keeps_changed, still_node}
@@ -25,7 +25,7 @@ use Rattle.tr_client.specs.declared.clients.Client.{Ghosts}
 use Rattle.tr_journal.specs.declared.items.Item.{Item}
 use Rattle.tr_journal.specs.declared.items.Item.TheVariants.{Leaf}
 use Rattle.tr_journal.specs.Openings.{no_screen, with_node, tree_after, tree_of, font_after, font_of, content_in, contents_of}
-use Rattle.tr_journal.specs.Kept.{leaf_places, IsKept, loose_count}
+use Rattle.tr_journal.specs.Kept.{leaf_places, IsTreeOfItems, loose_count}
 
 pub tree_more : {C : Type 0} (items : List (Item C)) (item : Item C) → tree_of (items ++ item ∷ []) ≡ tree_after (tree_of items) item
 tree_more items item = fold-append tree_after no_screen items (item ∷ [])
@@ -57,9 +57,9 @@ contents_other items item h = rw (filter_map-append content_in items (item ∷ [
 
 -- an item that is no leaf's
 pub kept_other : {C M : Type 0} {client : Ghosts C M} {items : List (Item C)} {tree : Seen} {font : List (List ℕ)} {leaves : List ℕ}
-    (item : Item C) → IsKept client items tree font leaves → content_in item ≡ None →
+    (item : Item C) → IsTreeOfItems client items tree font leaves → content_in item ≡ None →
     length (tree_after tree item).nodes.entries ≤ 256 → leaf_count (tree_after tree item).nodes ≡ leaf_count tree.nodes →
-    IsKept client (items ++ item ∷ []) (tree_after tree item) (font_after font item) leaves
+    IsTreeOfItems client (items ++ item ∷ []) (tree_after tree item) (font_after font item) leaves
 kept_other {items = items} item kept none few same = record {
   tree_is = ap (λ t. tree_after t item) kept.tree_is ∙ sym (tree_more items item);
   font_is = ap (λ f. font_after f item) kept.font_is ∙ sym (font_more items item);
@@ -75,9 +75,9 @@ with_leaf shapes t = with_node (kinds.Leaf (record { 0 = leaf_count t.nodes }) s
 
 -- an item that is a leaf's
 pub kept_leaf : {C M : Type 0} {client : Ghosts C M} {items : List (Item C)} {tree : Seen} {font : List (List ℕ)} {leaves : List ℕ}
-    (shapes : Shapes) (content : C) → IsKept client items tree font leaves → client.valid content →
+    (shapes : Shapes) (content : C) → IsTreeOfItems client items tree font leaves → client.valid content →
     length (with_leaf shapes tree).nodes.entries ≤ 256 → leaf_count (with_leaf shapes tree).nodes ≡ leaf_count tree.nodes + 1 →
-    IsKept client (items ++ Leaf shapes content ∷ []) (with_leaf shapes tree) font (leaves ++ length items ∷ [])
+    IsTreeOfItems client (items ++ Leaf shapes content ∷ []) (with_leaf shapes tree) font (leaves ++ length items ∷ [])
 kept_leaf {client = client} {items = items} shapes content kept valid few more = record {
   tree_is = ap (with_leaf shapes) kept.tree_is ∙ sym (tree_more items (Leaf shapes content));
   font_is = kept.font_is ∙ sym (font_more items (Leaf shapes content));
@@ -114,19 +114,19 @@ length_places (x ∷ items) = length-map (leaf_places items) suc ∙ length_plac
 
 -- each leaf has a place
 pub kept_count : {C M : Type 0} {client : Ghosts C M} {items : List (Item C)} {tree : Seen} {font : List (List ℕ)} {leaves : List ℕ} →
-    IsKept client items tree font leaves → length leaves ≡ length (contents_of items)
+    IsTreeOfItems client items tree font leaves → length leaves ≡ length (contents_of items)
 kept_count {items = items} kept = ap length kept.leaves_are ∙ length_places items
 
 -- the place that is kept for a leaf is that of its item
 pub placed : {C M : Type 0} {client : Ghosts C M} {items : List (Item C)} {tree : Seen} {font : List (List ℕ)} {leaves : List ℕ}
-    (k place : ℕ) → IsKept client items tree font leaves → k < length leaves → place ≡ get_or leaves k place → IsPlaced items k place
+    (k place : ℕ) → IsTreeOfItems client items tree font leaves → k < length leaves → place ≡ get_or leaves k place → IsPlaced items k place
 placed {items = items} k place kept within is =
     let at : get_or (leaf_places items) k place ≡ place = ap (λ ps. get_or ps k place) (sym kept.leaves_are) ∙ sym is in
     subst (λ (q : ℕ). IsPlaced items k q) at (placed_at items k place (rw (← kept.leaves_are) within))
 
 -- each leaf's content is one
 pub kept_valid : {C M : Type 0} {client : Ghosts C M} {items : List (Item C)} {tree : Seen} {font : List (List ℕ)} {leaves : List ℕ}
-    (k : ℕ) (x : C) → IsKept client items tree font leaves → slice_get (contents_of items) k ≡ Some x → client.valid x
+    (k : ℕ) (x : C) → IsTreeOfItems client items tree font leaves → slice_get (contents_of items) k ≡ Some x → client.valid x
 kept_valid {client = client} {items = items} k x kept is =
     subst client.valid (get_or_from_slice_get (contents_of items) k x x is) (kept.contents k x (slice_get_within (contents_of items) k x is))
 
@@ -169,12 +169,12 @@ put_keeps t child parent at is up =
 pub node_leaves : (t : Seen) (kind : NodeKind) (tint : ℕ) → is_leaf kind ≡ false → leaf_count (with_node kind tint t).nodes ≡ leaf_count t.nodes
 node_leaves t kind tint h =
     let p : Entry → Bool = λ e. is_leaf e.kind in
-    ap length (filter-append p t.nodes.entries (fresh kind tint ∷ []) ∙ rw h (append-nil (filter p t.nodes.entries)))
+    ap length (filter-append p t.nodes.entries (new_entry kind tint ∷ []) ∙ rw h (append-nil (filter p t.nodes.entries)))
 
 pub leaf_leaves : (t : Seen) (leaf : LeafId) (shapes : Shapes) → leaf_count (with_node (kinds.Leaf leaf shapes) 0 t).nodes ≡ leaf_count t.nodes + 1
 leaf_leaves t leaf shapes =
     let p : Entry → Bool = λ e. is_leaf e.kind in
-    let e : Entry = fresh (kinds.Leaf leaf shapes) 0 in
+    let e : Entry = new_entry (kinds.Leaf leaf shapes) 0 in
     ap length (filter-append p t.nodes.entries (e ∷ [])) ∙ length-append (filter p t.nodes.entries) (e ∷ [])
 
 count_hung : (os : List (Option NodeId)) (i : ℕ) (up : NodeId) (d : Option NodeId) → i < length os → get_or os i d ≡ None →
@@ -190,14 +190,14 @@ pub loose_put : (t : Nodes) (child parent : NodeId) (at : Point) → IsNode t ch
 loose_put t child parent at is h =
     let up : Entry → Option NodeId = λ e. e.parent in
     let one : Nodes = changed parent (with_child child) t in
-    let same : map up one.entries ≡ map up t.entries = map-set_same up t.entries parent.0 (with_child child (node t parent)) (fresh kinds.H 0) refl in
+    let same : map up one.entries ≡ map up t.entries = map-set_same up t.entries parent.0 (with_child child (node t parent)) (new_entry kinds.H 0) refl in
     let all : map up (edited t (edits.Attach child parent at)).entries ≡ set (map up t.entries) child.0 (Some parent) =
     map-set up one.entries child.0 (hung parent at (node one child)) ∙ ap (λ os. set os child.0 (Some parent)) same in
     let lt : child.0 < length t.entries = is.within in
     let long : length (map up t.entries) ≡ length t.entries = length-map t.entries up in
     let within : child.0 < length (map up t.entries) = omega arith in
     let none : get_or (map up t.entries) child.0 None ≡ None =
-    get_or-map up t.entries child.0 (fresh kinds.H 0) None is.within ∙ loose_child t child parent at h in
+    get_or-map up t.entries child.0 (new_entry kinds.H 0) None is.within ∙ loose_child t child parent at h in
     ap (λ os. count_by is_none os + 1) all ∙ count_hung (map up t.entries) child.0 parent None within none
 
 -- at most 256 nodes have no parent

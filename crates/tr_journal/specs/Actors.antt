@@ -5,11 +5,11 @@ use Rattle.tr_journal.specs.declared.steps.Actor.TheVariants as actors
 use Rattle.tr_journal.specs.declared.steps.Step.{Step}
 use Rattle.tr_journal.specs.declared.entries.Entry.{Entry}
 use Rattle.tr_journal.specs.Journals.{JournalLine}
-use Rattle.tr_journal.specs.Steps.{is_leaf, is_desk, is_painter, is_player}
+use Rattle.tr_journal.specs.Steps.{is_leaf_actor, is_desk, is_painter, is_player}
 
 -- both are the same actor
 abbrev pub is_by : Actor → Actor → Bool
-is_by (actors.Leaf leaf) other = is_leaf leaf other
+is_by (actors.Leaf leaf) other = is_leaf_actor leaf other
 is_by actors.Desk other = is_desk other
 is_by actors.Painter other = is_painter other
 is_by actors.Player other = is_player other

@@ -67,5 +67,5 @@ module _ {C M : Type 0} (kept : Account C M) (lists : ListsView M) (found : Acco
   IsFirstApart place (Own actor x y) = MatchesBefore actor × DifferIn (list_of lists actor) (steps_found actor) place x y
 
   -- the first difference
-  abbrev pub IsFirst : Difference M → Type 0
-  IsFirst d = IsFirstApart d.place d.what
+  abbrev pub IsFirstDiffering : Difference M → Type 0
+  IsFirstDiffering d = IsFirstApart d.place d.what

@@ -28,10 +28,10 @@ abbrev pub total : {M : Type 0} → List (Entry M) → ℕ
 total entries = sum_by (λ e. e.reply.sent) entries
 
 -- the lines of entries whose deliveries are in one list: each entry takes the number of deliveries that it states
-abbrev pub lines_of : {M : Type 0} → List (Entry M) → List Delivery → List (JournalLine M)
-lines_of [] sent = []
-lines_of (entry ∷ entries) sent =
-    record { entry = entry; sent = take entry.reply.sent sent } ∷ lines_of entries (drop entry.reply.sent sent)
+abbrev pub journal_lines : {M : Type 0} → List (Entry M) → List Delivery → List (JournalLine M)
+journal_lines [] sent = []
+journal_lines (entry ∷ entries) sent =
+    record { entry = entry; sent = take entry.reply.sent sent } ∷ journal_lines entries (drop entry.reply.sent sent)
 
 -- the deliveries of each entry end at the total of the entries so far, and there are no others
 pub record AreKept {M : Type 0} (entries : List (Entry M)) (ends : List ℕ) (sent : List Delivery) : Type 0 where

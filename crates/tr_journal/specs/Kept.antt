@@ -15,7 +15,8 @@ leaf_places (Leaf shapes content ∷ items) = 0 ∷ map suc (leaf_places items)
 leaf_places (item ∷ items) = map suc (leaf_places items)
 
 -- The tree, the font and the places are those of the items, and each leaf has a content.
-pub record IsKept {C M : Type 0} (client : Ghosts C M) (items : List (Item C)) (tree : Seen) (font : List (List ℕ)) (leaves : List ℕ) :
+pub record IsTreeOfItems {C M : Type 0} (client : Ghosts C M) (items : List (Item C)) (tree : Seen) (font : List (List ℕ))
+    (leaves : List ℕ) :
     Type 0 where
   pub tree_is : tree ≡ tree_of items
   pub font_is : font ≡ font_of items
@@ -29,5 +30,5 @@ abbrev pub loose_count : Nodes → ℕ
 loose_count t = count_by is_none (map (λ e. e.parent) t.entries)
 
 -- there is room for a Put of each node without a parent
-pub record HasRoom (count capacity : ℕ) (t : Nodes) : Type 0 where
+pub record HasRoomForPuts (count capacity : ℕ) (t : Nodes) : Type 0 where
   pub room : count + loose_count t ≤ capacity

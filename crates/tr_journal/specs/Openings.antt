@@ -9,7 +9,7 @@ use Rattle.tr_forest.specs.declared.NodeKind.TheVariants as kinds
 use Rattle.tr_forest.specs.declared.Edit.TheVariants as edits
 use Rattle.tr_forest.specs.declared.NodeFault.{NodeFault}
 use Rattle.tr_forest.specs.declared.NodeFault.TheVariants as faults
-use Rattle.tr_forest.specs.Nodes.{Nodes, fresh, leaf_count}
+use Rattle.tr_forest.specs.Nodes.{Nodes, new_entry, leaf_count}
 use Rattle.tr_forest.specs.Forests.{IsForest}
 use Rattle.tr_forest.specs.Edits.{IsScreenSize, hangs}
 use Rattle.tr_tree.specs.Trees.{Seen, edited_tree}
@@ -27,7 +27,7 @@ no_screen = record { nodes = no_nodes; size = record { wide = 0; high = 0 }; kin
 
 -- the tree with one more node, which has no parent
 abbrev pub with_node : NodeKind → ℕ → Seen → Seen
-with_node kind tint t = record t { nodes = record t.nodes { entries = t.nodes.entries ++ fresh kind tint ∷ [] } }
+with_node kind tint t = record t { nodes = record t.nodes { entries = t.nodes.entries ++ new_entry kind tint ∷ [] } }
 
 -- the tree after an item
 abbrev pub tree_after : {C : Type 0} → Seen → Item C → Seen

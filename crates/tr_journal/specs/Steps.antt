@@ -18,9 +18,9 @@ use Rattle.tr_journal.specs.declared.steps.Step.{Step}
 use Rattle.tr_journal.specs.declared.steps.Step.TheVariants as steps
 
 -- the actor is this leaf's
-abbrev pub is_leaf : LeafId → Actor → Bool
-is_leaf leaf (actors.Leaf own) = own.0 == leaf.0
-is_leaf leaf actor = false
+abbrev pub is_leaf_actor : LeafId → Actor → Bool
+is_leaf_actor leaf (actors.Leaf own) = own.0 == leaf.0
+is_leaf_actor leaf actor = false
 
 -- the actor is the desk
 abbrev pub is_desk : Actor → Bool
@@ -39,19 +39,19 @@ is_player actor = false
 
 -- the actor has the right to make the step
 abbrev pub may : {M : Type 0} → Actor → Step M → Bool
-may actor (steps.Act leaf cmd) = is_leaf leaf actor
-may actor (steps.Mark leaf clip) = is_leaf leaf actor
-may actor (steps.Take leaf) = is_leaf leaf actor
-may actor (steps.SetCage leaf cage) = is_leaf leaf actor
-may actor (steps.Own leaf selection time) = is_leaf leaf actor
-may actor (steps.Disown leaf selection) = is_leaf leaf actor
-may actor (steps.Read leaf selection) = is_leaf leaf actor
+may actor (steps.Act leaf cmd) = is_leaf_actor leaf actor
+may actor (steps.Mark leaf clip) = is_leaf_actor leaf actor
+may actor (steps.Take leaf) = is_leaf_actor leaf actor
+may actor (steps.SetCage leaf cage) = is_leaf_actor leaf actor
+may actor (steps.Own leaf selection time) = is_leaf_actor leaf actor
+may actor (steps.Disown leaf selection) = is_leaf_actor leaf actor
+may actor (steps.Read leaf selection) = is_leaf_actor leaf actor
 may actor (steps.Mouse time button down) = is_desk actor
 may actor (steps.Motion time at) = is_desk actor
 may actor (steps.Key time code) = is_desk actor
 may actor (steps.Alter edit) = is_desk actor
-may actor (steps.Flush leaf) = is_leaf leaf actor || is_painter actor
-may actor (steps.Repaint leaf) = is_leaf leaf actor || is_painter actor
+may actor (steps.Flush leaf) = is_leaf_actor leaf actor || is_painter actor
+may actor (steps.Repaint leaf) = is_leaf_actor leaf actor || is_painter actor
 may actor steps.PaintFrame = is_painter actor
 may actor steps.Sync = is_player actor
 may actor (steps.Report query) = is_player actor
@@ -64,8 +64,8 @@ is_level (Win a) (Win b) = a.0 == b.0
 is_level a b = false
 
 -- the level is one of those that are held
-abbrev pub is_held : List Level → Level → Bool
-is_held held level = list_any (is_level level) held
+abbrev pub is_level_held : List Level → Level → Bool
+is_level_held held level = list_any (is_level level) held
 
 -- the levels that a step requires
 abbrev pub stated : {M : Type 0} → Step M → List Level
@@ -80,8 +80,8 @@ stated step = Mu ∷ []
 
 -- all levels that a step requires are held; for a repaint, the leaf's share may replace the tree's lock
 abbrev pub covers : {M : Type 0} → List Level → Step M → Bool
-covers held (steps.Repaint leaf) = is_held held Mu || is_held held (Share leaf)
-covers held step = list_all (is_held held) (stated step)
+covers held (steps.Repaint leaf) = is_level_held held Mu || is_level_held held (Share leaf)
+covers held step = list_all (is_level_held held) (stated step)
 
 -- the number is that of a leaf
 pub record IsLeaf (t : Nodes) (leaf : LeafId) : Type 0 where

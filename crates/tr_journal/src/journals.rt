@@ -22,12 +22,12 @@ pub struct Journal<M: Drop> {
 
 impl<M: Drop> Model for Journal<M> {
     ghost use Rattle.std.specs.Prelude.{◌-◌, min, vec_len, vec_capacity};
-    ghost use Rattle.tr_journal.specs.Journals.{JournalView, AreKept, lines_of, spare_of};
+    ghost use Rattle.tr_journal.specs.Journals.{JournalView, AreKept, journal_lines, spare_of};
 
     ghost Value = { JournalView M };
 
     ghost view = { λ j. record {
-      lines = lines_of j.entries.items j.sent.items;
+      lines = journal_lines j.entries.items j.sent.items;
       spare = spare_of
           (vec_capacity j.entries - vec_len j.entries)
           (vec_capacity j.ends - vec_len j.ends)

@@ -30,14 +30,14 @@ pub struct Opening<C: Client> {
 impl<C: Client> Model for Opening<C> {
     ghost use Rattle.std.specs.Prelude.{List, vec_len, vec_capacity};
     ghost use Rattle.tr_journal.specs.declared.items.Item.{Item};
-    ghost use Rattle.tr_journal.specs.Kept.{IsKept, HasRoom};
+    ghost use Rattle.tr_journal.specs.Kept.{IsTreeOfItems, HasRoomForPuts};
 
     ghost Value = { List (Item C) };
 
     ghost view = { λ o. o.items.items };
 
-    ghost invariant = { λ o. IsKept C.Client o.items.items o.tree o.font o.leaves.items
-        × HasRoom (vec_len o.items) (vec_capacity o.items) o.tree.nodes };
+    ghost invariant = { λ o. IsTreeOfItems C.Client o.items.items o.tree o.font o.leaves.items
+        × HasRoomForPuts (vec_len o.items) (vec_capacity o.items) o.tree.nodes };
 }
 
 impl<C: Client> Opening<C> {

@@ -69,7 +69,7 @@ pub fn stated<M>(step: &Step<M>) -> Held
 
 /// Whether the level is held.
 fn is_held(held: &Held, level: Level) -> bool
-    ensures { result ≡ spec.is_held held.now level }
+    ensures { result ≡ spec.is_level_held held.now level }
 {
     held.has(level)
 }

@@ -4,10 +4,10 @@ use Rattle.tr_levels.specs.declared.levels.Level.{Level}
 use Rattle.tr_levels.specs.declared.levels.Level.TheVariants.{Mu, Share, Win}
 
 -- the sorts of levels in order: the tree's lock, then shares, then windows
-abbrev pub sort_of : Level → ℕ
-sort_of Mu = 0
-sort_of (Share leaf) = 1
-sort_of (Win leaf) = 2
+abbrev pub level_sort : Level → ℕ
+level_sort Mu = 0
+level_sort (Share leaf) = 1
+level_sort (Win leaf) = 2
 
 -- a level comes before another: the tree's lock before all others, then shares by their number, then windows by theirs
 abbrev pub IsBelow : Level → Level → Type 0
@@ -24,7 +24,7 @@ IsRising levels = AllPairs IsBelow levels
 
 -- no level of this one's sort or of a later one is held
 abbrev pub Admits : List Level → Level → Type 0
-Admits held level = All (λ l. sort_of l < sort_of level) held
+Admits held level = All (λ l. level_sort l < level_sort level) held
 
 -- the level is the tree's lock, and no leaf's share or window
 abbrev pub IsTreeLock : Level → Type 0

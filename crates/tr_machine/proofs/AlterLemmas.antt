@@ -32,14 +32,14 @@ use Rattle.tr_spot.specs.Leaves.{in_leaf, leaf_size, same_kind, same_size}
 use Rattle.tr_spot.proofs.LeafLemmas.{IsPartOf, part_of}
 use Rattle.tr_spot.proofs.WayLemmas.{and_left, and_right, equal_numbers, equal_test}
 use Rattle.tr_surface.specs.Surfaces.{Shown, IsShown, is_on, is_bad}
-use Rattle.tr_surface.specs.TreeSteps.{Keeping, bad_after, good_after, is_kept, moved_child, same_point, source, survives}
+use Rattle.tr_surface.specs.TreeSteps.{Keeping, bad_after_edit, good_after, is_kept, moved_child, same_point, source, survives}
 use Rattle.tr_surface.proofs.KnownLemmas.{IsGood, good_parts}
 use Rattle.tr_mail.specs.Deliveries.{is_reshaped}
 use Rattle.tr_machine.specs.Windows.{Window, content, updated}
-use Rattle.tr_machine.specs.States.{State, batch_of, content_of, look, window_of}
+use Rattle.tr_machine.specs.States.{State, leaf_batch, content_of, look, window_of}
 use Rattle.tr_machine.specs.Edits.{altered, keeping, keeps_in, refitted}
 use Rattle.tr_machine.specs.Paintings.{is_visible}
-use Rattle.tr_machine.specs.Pictures.{colour_by, colour_in, shown, shown_of}
+use Rattle.tr_machine.specs.Pictures.{colour_by, content_colour, shown, shown_of}
 use Rattle.tr_machine.specs.Promises.{Fits}
 use Rattle.tr_machine.proofs.ListLemmas.{leaf_by_number, refitted_window}
 use Rattle.tr_machine.proofs.ShownLemmas.{IsShowing, colour_look, untouched_colour}
@@ -144,7 +144,7 @@ module _ {C M : Type 0} (client : Ghosts C M) where
     pub tree : n.tree ≡ edited_tree s.tree edit
     pub kept : Keeping
     pub kept_is : kept ≡ keeping client m
-    pub bad : (p : Point) → is_bad n p ≡ bad_after kept s.tree n.tree edit (is_bad s) p
+    pub bad : (p : Point) → is_bad n p ≡ bad_after_edit kept s.tree n.tree edit (is_bad s) p
     pub pixels : (p : Point) → good_after kept s.tree n.tree edit (is_bad s) p ≡ true →
         pixel_of n.screen p ≡ pixel_of s.screen (source s.tree n.tree edit p)
     pub old_sizes : (leaf : LeafId) → IsWindowSize (leaf_size s.tree leaf)
@@ -203,13 +203,13 @@ module _ {C M : Type 0} (client : Ghosts C M) where
 
     -- a point that a window keeps has its content's colour at both sizes
     kept_colour : (leaf : LeafId) (q : Point) → has_point (keeps_in client (window_of m leaf) (leaf_size m.tree leaf) (leaf_size is leaf)) q ≡ true →
-        colour_in client m (leaf_size m.tree leaf) q (content_of client m leaf) ≡ colour_in client m (leaf_size is leaf) q (content_of client m leaf)
+        content_colour client m (leaf_size m.tree leaf) q (content_of client m leaf) ≡ content_colour client m (leaf_size is leaf) q (content_of client m leaf)
     kept_colour leaf q has = by_window (window_of m leaf) refl has
       where
         by_window : (o : Option (Window C M)) → window_of m leaf ≡ o →
             has_point (keeps_in client o (leaf_size m.tree leaf) (leaf_size is leaf)) q ≡ true →
-            colour_in client m (leaf_size m.tree leaf) q (option_map (content client) o)
-            ≡ colour_in client m (leaf_size is leaf) q (option_map (content client) o)
+            content_colour client m (leaf_size m.tree leaf) q (option_map (content client) o)
+            ≡ content_colour client m (leaf_size is leaf) q (option_map (content client) o)
         by_window None e h = refl
         by_window (Some w) e h =
             (a.keeps.each leaf w e (leaf_size m.tree leaf) (leaf_size is leaf) (old_size leaf) (new_size leaf)).colours q h
@@ -217,8 +217,8 @@ module _ {C M : Type 0} (client : Ghosts C M) where
     -- a good point of a leaf that lasts has its colour still
     leaf_lasts : (leaf : LeafId) (from to : Point) → is_visible m leaf from ≡ true → m.bad from ≡ false →
         IsLasting (keeping client m) m.tree is leaf from to →
-        colour_in client m (leaf_size m.tree leaf) (in_leaf m.tree leaf from) (shown_of m leaf)
-        ≡ colour_in client next (leaf_size is leaf) (in_leaf is leaf to) (shown_of next leaf)
+        content_colour client m (leaf_size m.tree leaf) (in_leaf m.tree leaf from) (shown_of m leaf)
+        ≡ content_colour client next (leaf_size is leaf) (in_leaf is leaf to) (shown_of next leaf)
     leaf_lasts leaf from to seen good last = by_size last.size ∙ sym (colour_look client m next (leaf_size is leaf) r (shown_of next leaf) same_look)
       where
         same_look : look next ≡ look m
@@ -237,22 +237,22 @@ module _ {C M : Type 0} (client : Ghosts C M) where
         by_size : (same_size (leaf_size m.tree leaf) (leaf_size is leaf) ≡ true)
             ⊎ ((same_size (leaf_size m.tree leaf) (leaf_size is leaf) ≡ false)
             × (is_kept (keeping client m) leaf (leaf_size m.tree leaf) (leaf_size is leaf) r ≡ true)) →
-            colour_in client m (leaf_size m.tree leaf) q (shown_of m leaf) ≡ colour_in client m (leaf_size is leaf) r (shown_of next leaf)
+            content_colour client m (leaf_size m.tree leaf) q (shown_of m leaf) ≡ content_colour client m (leaf_size is leaf) r (shown_of next leaf)
         by_size (inl same) =
             let stays : is_reshaped m.tree is leaf ≡ false = ap (λ b. not (b && same_kind m.tree.kind is.kind)) same ∙ ap not last.kind in
-            ap (λ (z : Size). colour_in client m z q (shown_of m leaf)) (sizes_equal _ _ same)
-            ∙ ap (λ (x : Point). colour_in client m (leaf_size is leaf) x (shown_of m leaf)) last.point
-            ∙ ap (λ (o : Option C). colour_in client m (leaf_size is leaf) r o) (sym (shown_still leaf stays))
+            ap (λ (z : Size). content_colour client m z q (shown_of m leaf)) (sizes_equal _ _ same)
+            ∙ ap (λ (x : Point). content_colour client m (leaf_size is leaf) x (shown_of m leaf)) last.point
+            ∙ ap (λ (o : Option C). content_colour client m (leaf_size is leaf) r o) (sym (shown_still leaf stays))
         by_size (inr both) =
             let changes : is_reshaped m.tree is leaf ≡ true = ap (λ b. not (b && same_kind m.tree.kind is.kind)) both.0 in
             let held : Bool = has_point (keeps_in client (window_of m leaf) (leaf_size m.tree leaf) (leaf_size is leaf)) q in
-            let alone : Bool = not (touches (batch_of client m leaf) q) in
+            let alone : Bool = not (touches (leaf_batch client m leaf) q) in
             let kept : (held && alone) ≡ true =
             ap (λ (x : Point). is_kept (keeping client m) leaf (leaf_size m.tree leaf) (leaf_size is leaf) x) last.point ∙ both.1 in
-            untouched_colour client m leaf from a.fits seen good (untrue (touches (batch_of client m leaf) q) (and_right held alone kept))
+            untouched_colour client m leaf from a.fits seen good (untrue (touches (leaf_batch client m leaf) q) (and_right held alone kept))
             ∙ kept_colour leaf q (and_left held alone kept)
-            ∙ ap (λ (x : Point). colour_in client m (leaf_size is leaf) x (content_of client m leaf)) last.point
-            ∙ ap (λ (o : Option C). colour_in client m (leaf_size is leaf) r o) (sym (shown_anew leaf changes))
+            ∙ ap (λ (x : Point). content_colour client m (leaf_size is leaf) x (content_of client m leaf)) last.point
+            ∙ ap (λ (o : Option C). content_colour client m (leaf_size is leaf) r o) (sym (shown_anew leaf changes))
 
     -- a good point that survives has its colour still
     spot_lasts : (from to : Point) → m.bad from ≡ false → survives (keeping client m) (spot m.tree from) (spot is to) ≡ true →
@@ -324,7 +324,7 @@ module _ {C M : Type 0} (client : Ghosts C M) where
     pub alter_shows : IsShowing client (altered client edit m) n
     alter_shows = record {
       tree = same_tree;
-      bad = λ p. a.bad p ∙ by_state (λ k was now bad. bad_after k was now edit bad p);
+      bad = λ p. a.bad p ∙ by_state (λ k was now bad. bad_after_edit k was now edit bad p);
       agrees = record {
         size = a.is.size ∙ ap (λ (t : Seen). t.size) same_tree;
         kind = a.is.kind ∙ ap (λ (t : Seen). t.kind) same_tree;

@@ -10,9 +10,9 @@ use Rattle.tr_base.specs.declared.Spot.TheVariants as spots
 use Rattle.tr_base.specs.Ops.{eff}
 use Rattle.tr_base.specs.Rects.{has_point, whole_of}
 use Rattle.tr_paint.specs.declared.paints.Paint.{Paint}
-use Rattle.tr_paint.specs.Traces.{Look, Deed, Keep, Lose, From, Value, Change, deed, Base, done, trace, after}
+use Rattle.tr_paint.specs.Traces.{Look, Deed, Keep, Lose, From, Value, Change, deed, Base, after_deed, trace, after}
 use Rattle.tr_paint.specs.Patches.{LiesIn, Shows}
-use Rattle.tr_exec.specs.Executions.{placed}
+use Rattle.tr_exec.specs.Executions.{screen_point}
 use Rattle.tr_exec.proofs.PlacedLemmas.{placed-before, before-placed}
 use Rattle.tr_client.specs.declared.clients.Client.{Ghosts}
 use Rattle.tr_forest.specs.Forests.{IsForest}
@@ -33,7 +33,7 @@ pub record AreAlike (a b : Base) : Type 0 where
   pub known : (q : Point) → b.visible q ≡ true → a.known q ≡ b.known q
 
 -- a deed depends on the colours before it alone
-done-alike : (kind : Kind) (d : Deed) (f g : Point → Option ℕ) (q : Point) → ((r : Point) → f r ≡ g r) → done kind d f q ≡ done kind d g q
+done-alike : (kind : Kind) (d : Deed) (f g : Point → Option ℕ) (q : Point) → ((r : Point) → f r ≡ g r) → after_deed kind d f q ≡ after_deed kind d g q
 done-alike kind Keep f g q same = same q
 done-alike kind Lose f g q same = refl
 done-alike kind (From r) f g q same = same r
@@ -48,7 +48,7 @@ trace-alike look a b alike [] q = ap (λ v. cond v (a.known q) None) (alike.visi
     by_sight true seen = alike.known q seen
     by_sight false unseen = refl
 trace-alike look a b alike (c ∷ before) q =
-    ap (λ v. cond v (done look.kind (deed look c q) (trace look a before) q) None) (alike.visible q)
+    ap (λ v. cond v (after_deed look.kind (deed look c q) (trace look a before) q) None) (alike.visible q)
     ∙ ap (λ o. cond (b.visible q) o None) (done-alike look.kind (deed look c q) _ _ q (λ r. trace-alike look a b alike before r))
 
 -- a batch makes the same of alike bases
@@ -58,11 +58,11 @@ after-alike look a b alike batch q = trace-alike look a b alike (reverse batch) 
 -- ---- the points of a leaf
 
 -- a point of the window, placed on the screen and looked at again
-pub in_leaf-placed : (t : Seen) (leaf : LeafId) (q : Point) → in_leaf t leaf (placed (leaf_corner t leaf) q) ≡ q
+pub in_leaf-placed : (t : Seen) (leaf : LeafId) (q : Point) → in_leaf t leaf (screen_point (leaf_corner t leaf) q) ≡ q
 in_leaf-placed t leaf q = before-placed (leaf_corner t leaf) q
 
 -- a point of the screen, looked at in the window and placed again
-pub placed-in_leaf : (t : Seen) (leaf : LeafId) (p : Point) → placed (leaf_corner t leaf) (in_leaf t leaf p) ≡ p
+pub placed-in_leaf : (t : Seen) (leaf : LeafId) (p : Point) → screen_point (leaf_corner t leaf) (in_leaf t leaf p) ≡ p
 placed-in_leaf t leaf p = placed-before (leaf_corner t leaf) p
 
 -- a point whose spot is a leaf's is on the screen
@@ -89,12 +89,12 @@ module _ {C M : Type 0} (client : Ghosts C M) where
   pub base-lies : (m : State C M) (leaf : LeafId) → IsForest m.tree.nodes → LiesIn (leaf_size m.tree leaf) (base client m leaf)
   base-lies m leaf forest q seen =
       ap (λ (r : Point). has_point (whole_of (leaf_size m.tree leaf)) r) (sym (in_leaf-placed m.tree leaf q))
-      ∙ leaf_within m.tree leaf (placed (leaf_corner m.tree leaf) q) forest seen
+      ∙ leaf_within m.tree leaf (screen_point (leaf_corner m.tree leaf) q) forest seen
 
   -- what it knows of them is the shown content's picture
   pub base-shows : (m : State C M) (leaf : LeafId) (w : Window C M) → window_of m leaf ≡ Some w →
       Shows (client.pic (look m) (leaf_size m.tree leaf) w.shown) (base client m leaf)
-  base-shows m leaf w is q seen = by_good (m.bad (placed (leaf_corner m.tree leaf) q))
+  base-shows m leaf w is q seen = by_good (m.bad (screen_point (leaf_corner m.tree leaf) q))
     where
       picture : Window C M → ℕ
       picture v = client.pic (look m) (leaf_size m.tree leaf) v.shown q
@@ -105,7 +105,7 @@ module _ {C M : Type 0} (client : Ghosts C M) where
 
   -- where a leaf has no window, nothing is known
   pub base-nothing : (m : State C M) (leaf : LeafId) → window_of m leaf ≡ None → (q : Point) → (base client m leaf).known q ≡ None
-  base-nothing m leaf none q = by_good (m.bad (placed (leaf_corner m.tree leaf) q))
+  base-nothing m leaf none q = by_good (m.bad (screen_point (leaf_corner m.tree leaf) q))
     where
       by_good : (b : Bool) → cond b None (shown_at client m leaf q) ≡ None
       by_good true = refl

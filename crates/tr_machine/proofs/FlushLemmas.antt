@@ -21,9 +21,9 @@ use Rattle.tr_spot.proofs.WayLemmas.{equal_numbers, equal_test}
 use Rattle.tr_surface.specs.Surfaces.{Shown, IsShown, is_on, leaf_base, is_bad}
 use Rattle.tr_surface.proofs.ShownLemmas.{IsExecuted}
 use Rattle.tr_machine.specs.Windows.{Window, content, updated}
-use Rattle.tr_machine.specs.States.{State, base, batch_of, content_of, look, window_of, with_window}
+use Rattle.tr_machine.specs.States.{State, base, leaf_batch, content_of, look, window_of, with_window}
 use Rattle.tr_machine.specs.Paintings.{flushed, is_visible}
-use Rattle.tr_machine.specs.Pictures.{colour_in, shown, shown_of}
+use Rattle.tr_machine.specs.Pictures.{content_colour, shown, shown_of}
 use Rattle.tr_machine.specs.Promises.{Fits}
 use Rattle.tr_machine.proofs.ListLemmas.{leaf_by_number, window_here, window_there}
 use Rattle.tr_machine.proofs.ShownLemmas.{IsShowing, after-base, bad_state, base_sees, colour_in_leaf, colour_same, on_tree}
@@ -76,7 +76,7 @@ module _ {C M : Type 0} (client : Ghosts C M) where
     pub batch : List Paint
     pub executed : IsExecuted s n m.font leaf batch
     pub brings : (q : Point) → (base client m leaf).visible q ≡ true →
-        IfSome (after (look m) (base client m leaf) batch q) (λ x. x ≡ colour_in client m (leaf_size m.tree leaf) q (content_of client m leaf))
+        IfSome (after (look m) (base client m leaf) batch q) (λ x. x ≡ content_colour client m (leaf_size m.tree leaf) q (content_of client m leaf))
     pub inside : (p : Point) → is_visible m leaf p ≡ true → bad p ≡ is_none (after (look m) (base client m leaf) batch (in_leaf m.tree leaf p))
     pub outside : (p : Point) → is_visible m leaf p ≡ false → bad p ≡ m.bad p
 
@@ -125,12 +125,12 @@ module _ {C M : Type 0} (client : Ghosts C M) where
         let q : Point = in_leaf m.tree leaf p in
         let known : (x : ℕ) × (after (look m) (base client m leaf) b.batch q ≡ Some x) =
         some_of (after (look m) (base client m leaf) b.batch q) (sym (b.inside p seen) ∙ good) in
-        let P : Option ℕ → Type 0 = λ o. IfSome o (λ x. x ≡ colour_in client m (leaf_size m.tree leaf) q (content_of client m leaf)) in
-        let right : known.0 ≡ colour_in client m (leaf_size m.tree leaf) q (content_of client m leaf) =
+        let P : Option ℕ → Type 0 = λ o. IfSome o (λ x. x ≡ content_colour client m (leaf_size m.tree leaf) q (content_of client m leaf)) in
+        let right : known.0 ≡ content_colour client m (leaf_size m.tree leaf) q (content_of client m leaf) =
         subst P known.1 (b.brings q (base_sees client m leaf p seen)) in
         done.known p known.0 seen (made p ∙ known.1) ∙ right
         ∙ sym (colour_in_leaf client (shown_of (brought leaf bad m)) (brought leaf bad m) leaf p forest seen
-        ∙ ap (λ (o : Option C). colour_in client m (leaf_size m.tree leaf) q o) (now_shown m leaf bad))
+        ∙ ap (λ (o : Option C). content_colour client m (leaf_size m.tree leaf) q o) (now_shown m leaf bad))
 
     -- a good point of another leaf, or of a frame, has its pixel still
     outside_good : (p : Point) → is_on m.tree p ≡ true → is_visible m leaf p ≡ false → bad p ≡ false →
@@ -173,13 +173,13 @@ module _ {C M : Type 0} (client : Ghosts C M) where
     pub font : List (List ℕ)
     pub font_is : font ≡ m.font
     pub batch : List Paint
-    pub batch_is : batch ≡ batch_of client m leaf
+    pub batch_is : batch ≡ leaf_batch client m leaf
     pub executed : IsExecuted s n font leaf batch
 
   -- after a flush the surface shows the machine's next state
   pub flush_shows : (m : State C M) (s n : Shown) (leaf : LeafId) → IsFlush m s n leaf → IsShowing client (flushed client leaf m) n
   flush_shows m s n leaf f =
-      let found : Point → Bool = λ p. is_none (after (look m) (base client m leaf) (batch_of client m leaf) (in_leaf m.tree leaf p)) in
+      let found : Point → Bool = λ p. is_none (after (look m) (base client m leaf) (leaf_batch client m leaf) (in_leaf m.tree leaf p)) in
       brought_shows m s n leaf (flushed client leaf m).bad
       (record {
         was = f.was;
@@ -188,7 +188,7 @@ module _ {C M : Type 0} (client : Ghosts C M) where
         showing = f.showing;
         window = f.window;
         at = f.at;
-        batch = batch_of client m leaf;
+        batch = leaf_batch client m leaf;
         executed = by_state s n leaf f.font_is f.batch_is f.executed;
         brings = f.fits.each leaf;
         inside = λ p seen. ap (λ b. cond b (found p) (m.bad p)) seen;

@@ -19,8 +19,8 @@ use Rattle.tr_journal.specs.Steps.{AreLevels, IsLeaf, IsLevel, is_level}
 use Rattle.tr_machine.specs.Windows.{Window, Command, with_change}
 use Rattle.tr_machine.specs.States.{State, changed_at, with_window}
 use Rattle.tr_machine.specs.Paintings.{acted}
-use Rattle.tr_machine.specs.Replays.{IsLegalFrom, line_of, lines_by, replay_from}
-use Rattle.tr_machine.specs.Handing.{act_entries, acts}
+use Rattle.tr_machine.specs.Replays.{IsLegalFrom, line_of_step, lines_by, replay_from}
+use Rattle.tr_machine.specs.Handing.{act_entries, act_steps}
 use Rattle.tr_machine.proofs.ListLemmas.{changed_at-twice, unchanged}
 
 -- ---- levels
@@ -82,7 +82,7 @@ module _ {C M : Type 0} (client : Ghosts C M) where
 
   -- the state after their lines
   pub replay_handed : (m : State C M) (leaf : LeafId) (cmds : List M) (levels : List (List Level)) → length levels ≡ length cmds →
-      replay_from client m (lines_by client (Leaf leaf) m (acts leaf cmds levels)) ≡ handed leaf cmds m
+      replay_from client m (lines_by client (Leaf leaf) m (act_steps leaf cmds levels)) ≡ handed leaf cmds m
   replay_handed m leaf [] [] same = sym (handed_none leaf m)
   replay_handed m leaf [] (l ∷ levels) same = absurd (omega arith)
   replay_handed m leaf (c ∷ cmds) [] same = absurd (omega arith)
@@ -93,16 +93,16 @@ module _ {C M : Type 0} (client : Ghosts C M) where
 
   -- they send nothing, and depend on no state
   pub handed_lines : (m : State C M) (leaf : LeafId) (cmds : List M) (levels : List (List Level)) →
-      lines_by client (Leaf leaf) m (acts leaf cmds levels) ≡ silent (act_entries leaf cmds levels)
+      lines_by client (Leaf leaf) m (act_steps leaf cmds levels) ≡ silent (act_entries leaf cmds levels)
   handed_lines m leaf [] levels = refl
   handed_lines m leaf (c ∷ cmds) [] = refl
   handed_lines m leaf (c ∷ cmds) (l ∷ levels) =
-      ap (λ (ls : List (JournalLine M)). line_of client m (Leaf leaf) (l ++ Win leaf ∷ []) (Act leaf c) ∷ ls)
+      ap (λ (ls : List (JournalLine M)). line_of_step client m (Leaf leaf) (l ++ Win leaf ∷ []) (Act leaf c) ∷ ls)
       (handed_lines (acted leaf c m) leaf cmds levels)
 
   -- they are the machine's
   pub legal_handed : (t : Nodes) (m : State C M) (leaf : LeafId) (cmds : List M) (levels : List (List Level)) → IsLeaf t leaf →
-      HaveLevels cmds levels → IsLegalFrom client t m (lines_by client (Leaf leaf) m (acts leaf cmds levels))
+      HaveLevels cmds levels → IsLegalFrom client t m (lines_by client (Leaf leaf) m (act_steps leaf cmds levels))
   legal_handed t m leaf [] levels is have = tt
   legal_handed t m leaf (c ∷ cmds) [] is have = tt
   legal_handed t m leaf (c ∷ cmds) (l ∷ levels) is have = (

@@ -12,7 +12,7 @@ use Rattle.tr_journal.specs.Journals.{JournalLine}
 use Rattle.tr_journal.specs.Openings.{tree_of}
 use Rattle.tr_journal.specs.Steps.{IsFor}
 use Rattle.tr_machine.specs.States.{State, start}
-use Rattle.tr_machine.specs.Replays.{after_steps, line_of, lines_by, lines_of, next, replay_from, replay, IsLegalLine, IsLegalFrom, IsLegal}
+use Rattle.tr_machine.specs.Replays.{after_steps, line_of_step, lines_by, lines_of_steps, next, replay_from, replay, IsLegalLine, IsLegalFrom, IsLegal}
 
 -- what holds of all elements of a list holds of each
 pub all_at : {A : Type 0} (P : A → Type 0) (xs : List A) (k : ℕ) (d : A) → AllByRecursion P xs → k < length xs → P (get_or xs k d)
@@ -72,28 +72,28 @@ module _ {C M : Type 0} (client : Ghosts C M) where
 
   -- their lines
   pub lines_of-append : (actor : Actor) (held : List Level) (m : State C M) (xs ys : List (Step M)) →
-      lines_of client actor held m (xs ++ ys) ≡ lines_of client actor held m xs ++ lines_of client actor held (after_steps client m xs) ys
+      lines_of_steps client actor held m (xs ++ ys) ≡ lines_of_steps client actor held m xs ++ lines_of_steps client actor held (after_steps client m xs) ys
   lines_of-append actor held m [] ys = refl
   lines_of-append actor held m (x ∷ xs) ys =
-      ap (λ (ls : List (JournalLine M)). line_of client m actor held x ∷ ls) (lines_of-append actor held (next client m x) xs ys)
+      ap (λ (ls : List (JournalLine M)). line_of_step client m actor held x ∷ ls) (lines_of-append actor held (next client m x) xs ys)
 
   -- the lines of one step more
   pub lines_of-more : (actor : Actor) (held : List Level) (m : State C M) (xs : List (Step M)) (step : Step M) →
-      lines_of client actor held m (xs ++ step ∷ [])
-      ≡ lines_of client actor held m xs ++ line_of client (after_steps client m xs) actor held step ∷ []
+      lines_of_steps client actor held m (xs ++ step ∷ [])
+      ≡ lines_of_steps client actor held m xs ++ line_of_step client (after_steps client m xs) actor held step ∷ []
   lines_of-more actor held m xs step = lines_of-append actor held m xs (step ∷ [])
 
   -- and their lines
   pub lines_of-take : (actor : Actor) (held : List Level) (m : State C M) (steps : List (Step M)) (k : ℕ) (d : Step M) → k < length steps →
-      lines_of client actor held m (take (k + 1) steps)
-      ≡ lines_of client actor held m (take k steps) ++ line_of client (after_steps client m (take k steps)) actor held (get_or steps k d) ∷ []
+      lines_of_steps client actor held m (take (k + 1) steps)
+      ≡ lines_of_steps client actor held m (take k steps) ++ line_of_step client (after_steps client m (take k steps)) actor held (get_or steps k d) ∷ []
   lines_of-take actor held m steps k d lt =
-      ap (λ (xs : List (Step M)). lines_of client actor held m xs) (take_more steps k d lt)
+      ap (λ (xs : List (Step M)). lines_of_steps client actor held m xs) (take_more steps k d lt)
       ∙ lines_of-more actor held m (take k steps) (get_or steps k d)
 
   -- the replay of the lines of steps is the state after the steps
   pub replay_from-lines_of : (actor : Actor) (held : List Level) (m : State C M) (xs : List (Step M)) →
-      replay_from client m (lines_of client actor held m xs) ≡ after_steps client m xs
+      replay_from client m (lines_of_steps client actor held m xs) ≡ after_steps client m xs
   replay_from-lines_of actor held m [] = refl
   replay_from-lines_of actor held m (x ∷ xs) = replay_from-lines_of actor held (next client m x) xs
 
@@ -103,15 +103,15 @@ module _ {C M : Type 0} (client : Ghosts C M) where
       ≡ lines_by client actor m xs ++ lines_by client actor (replay_from client m (lines_by client actor m xs)) ys
   lines_by-append actor m [] ys = refl
   lines_by-append actor m (x ∷ xs) ys =
-      ap (λ (ls : List (JournalLine M)). line_of client m actor x.0 x.1 ∷ ls) (lines_by-append actor (next client m x.1) xs ys)
+      ap (λ (ls : List (JournalLine M)). line_of_step client m actor x.0 x.1 ∷ ls) (lines_by-append actor (next client m x.1) xs ys)
 
   -- a step that is for its actor makes a legal line
   pub legal_line : (t : Nodes) (m : State C M) (actor : Actor) (held : List Level) (step : Step M) → IsFor t actor held step →
-      IsLegalLine client t m (line_of client m actor held step)
+      IsLegalLine client t m (line_of_step client m actor held step)
   legal_line t m actor held step is = record { allowed = is; made = refl }
 
   -- steps in a row that are for their actor make legal lines
   pub legal_lines : (t : Nodes) (m : State C M) (actor : Actor) (held : List Level) (steps : List (Step M)) →
-      AllByRecursion (IsFor t actor held) steps → IsLegalFrom client t m (lines_of client actor held m steps)
+      AllByRecursion (IsFor t actor held) steps → IsLegalFrom client t m (lines_of_steps client actor held m steps)
   legal_lines t m actor held [] all = tt
   legal_lines t m actor held (x ∷ xs) all = (legal_line t m actor held x all.0, legal_lines t (next client m x) actor held xs all.1)

@@ -26,7 +26,7 @@ use Rattle.tr_journal.specs.Steps.{AreAsMany, IsLeaf, IsQuery, IsStep}
 use Rattle.tr_machine.specs.Windows.{Window, Command, Mark, updated, with_change}
 use Rattle.tr_machine.specs.States.{State, content_of, with_window}
 use Rattle.tr_machine.specs.Paintings.{acted, flushed, repainted, framed}
-use Rattle.tr_machine.specs.Machines.{edited, obeyed, asked_of, taken, unless}
+use Rattle.tr_machine.specs.Machines.{edit_step, obeyed, asked_of, taken, unless}
 use Rattle.tr_machine.specs.Replays.{next}
 use Rattle.tr_machine.proofs.ListLemmas.{refitted_from-length, with_window-length}
 
@@ -68,15 +68,15 @@ module _ {C M : Type 0} (client : Ghosts C M) where
   kept_taken m leaf None forest = kept_itself m forest
   kept_taken m leaf (Some event) forest = by_command (asked_of client (content_of client m leaf) event)
     where
-      by_command : (o : Option M) → IsKept m (obeyed client leaf o (record m { mail = mail.taken leaf m.mail }))
-      by_command None = kept_mail m (mail.taken leaf m.mail) forest
+      by_command : (o : Option M) → IsKept m (obeyed client leaf o (record m { mail = mail.front_taken leaf m.mail }))
+      by_command None = kept_mail m (mail.front_taken leaf m.mail) forest
       by_command (Some cmd) =
-          kept_but m m.bad (mail.taken leaf m.mail) (acted leaf cmd m).windows forest (with_window-length leaf (with_change (Command cmd)) m)
+          kept_but m m.bad (mail.front_taken leaf m.mail) (acted leaf cmd m).windows forest (with_window-length leaf (with_change (Command cmd)) m)
 
   -- an edit that the tree refuses, or not
   kept_edited : (m : State C M) (edit : Edit) → IsForest m.tree.nodes → IsEdit m.tree.nodes edit →
       (o : Option NodeFault) → refusal m.tree.nodes edit ≡ o →
-      IsKept m (edited client o edit m).state
+      IsKept m (edit_step client o edit m).state
   kept_edited m edit forest fits None allowed =
       let f : Follows m.tree.nodes (edited_tree m.tree edit).nodes = follows_edited m.tree.nodes edit forest fits allowed in
       record {
@@ -100,7 +100,7 @@ module _ {C M : Type 0} (client : Ghosts C M) where
   kept_next m (steps.Read leaf selection) forest fits = kept_itself m forest
   kept_next m (steps.Mouse time button down) forest fits =
       kept_unless (mouse_fault m.mail.desk time button down) m (mail.moused m.tree time button down m.mail) forest
-  kept_next m (steps.Motion time at) forest fits = kept_unless (time_fault m.mail.desk time) m (mail.moved m.tree time at m.mail) forest
+  kept_next m (steps.Motion time at) forest fits = kept_unless (time_fault m.mail.desk time) m (mail.cursor_moved m.tree time at m.mail) forest
   kept_next m (steps.Key time code) forest fits = kept_unless (time_fault m.mail.desk time) m (mail.keyed time code m.mail) forest
   kept_next m (steps.Alter edit) forest fits = kept_edited m edit forest fits (refusal m.tree.nodes edit) refl
   kept_next m (steps.Flush leaf) forest fits = kept_window m leaf (updated client) (flushed client leaf m).bad forest

@@ -13,7 +13,7 @@ use Rattle.tr_spot.specs.Spots.{spot, is_in_leaf}
 use Rattle.tr_spot.specs.Leaves.{in_leaf}
 use Rattle.tr_spot.proofs.WayLemmas.{and_left, and_right, equal_test}
 use Rattle.tr_surface.specs.Surfaces.{is_on}
-use Rattle.tr_machine.specs.States.{State, batch_of, content_of}
+use Rattle.tr_machine.specs.States.{State, leaf_batch, content_of}
 use Rattle.tr_machine.specs.Paintings.{is_visible}
 use Rattle.tr_machine.specs.Pictures.{colour_by, is_stale, shown, shown_of, want}
 use Rattle.tr_machine.specs.Promises.{Agrees, Fits, IsAwaited, Lags}
@@ -25,7 +25,7 @@ module _ {C M : Type 0} (client : Ghosts C M) where
       (shown client m p ≡ want client m p) ⊎ IsAwaited client m p
   good_shows m forest fits p good = by_spot (spot m.tree p) refl
     where
-      by_leaf : (leaf : LeafId) → is_visible m leaf p ≡ true → (b : Bool) → touches (batch_of client m leaf) (in_leaf m.tree leaf p) ≡ b →
+      by_leaf : (leaf : LeafId) → is_visible m leaf p ≡ true → (b : Bool) → touches (leaf_batch client m leaf) (in_leaf m.tree leaf p) ≡ b →
           (shown client m p ≡ want client m p) ⊎ IsAwaited client m p
       by_leaf leaf seen true touched = inr (record { leaf = leaf; visible = seen; touched = touched })
       by_leaf leaf seen false none = inl
@@ -35,7 +35,8 @@ module _ {C M : Type 0} (client : Ghosts C M) where
 
       by_spot : (s : Spot) → spot m.tree p ≡ s → (shown client m p ≡ want client m p) ⊎ IsAwaited client m p
       by_spot (spots.Leaf leaf q size kind) e =
-          by_leaf leaf (ap (λ (s : Spot). is_in_leaf leaf s) e ∙ equal_test leaf.0 leaf.0 refl) (touches (batch_of client m leaf) (in_leaf m.tree leaf p)) refl
+          by_leaf leaf (ap (λ (s : Spot). is_in_leaf leaf s) e ∙ equal_test leaf.0 leaf.0 refl) (touches (leaf_batch client m leaf) (in_leaf m.tree leaf p))
+          refl
       by_spot (spots.Frame n tint kind) e =
           inl (ap (λ (s : Spot). colour_by client (shown_of m) m s) e ∙ sym (ap (λ (s : Spot). colour_by client (content_of client m) m s) e))
       by_spot spots.Off e =

@@ -14,7 +14,7 @@ use Rattle.tr_paint.specs.Batches.{kept}
 use Rattle.tr_paint.specs.Patches.{IsPatch}
 use Rattle.tr_paint.proofs.PatchLemmas.{Gives, kept_patch, no_patch, two_patches}
 use Rattle.tr_client.specs.declared.clients.Client.{Ghosts}
-use Rattle.tr_machine.specs.Windows.{Change, Command, Mark, Window, batch, content, content_after, fresh, paints_from, paints_of, updated, with_change}
+use Rattle.tr_machine.specs.Windows.{Change, Command, Mark, Window, batch, content, changed_content, fresh, paints_from, paints_of, updated, with_change}
 
 -- no command leads from a picture to itself
 pub empty_patch : (look : Look) (size : Size) (picture : Point → ℕ) → IsPatch look size [] picture picture
@@ -37,17 +37,17 @@ mark_patch look size clip picture = kept_patch look size (Spoil clip) picture pi
 
 module _ {C M : Type 0} (client : Ghosts C M) where
   -- the content after one change more
-  pub content-more : (w : Window C M) (change : Change M) → content client (with_change change w) ≡ content_after client (content client w) change
-  content-more w change = fold-append (content_after client) w.shown w.made (change ∷ [])
+  pub content-more : (w : Window C M) (change : Change M) → content client (with_change change w) ≡ changed_content client (content client w) change
+  content-more w change = fold-append (changed_content client) w.shown w.made (change ∷ [])
 
   -- the paint commands of changes in a row and of one more
   paints-more : (look : Look) (size : Size) (x : C) (changes : List (Change M)) (change : Change M) →
       paints_from client look size x (changes ++ change ∷ [])
-      ≡ paints_from client look size x changes ++ paints_of client look size (fold (content_after client) x changes) change
+      ≡ paints_from client look size x changes ++ paints_of client look size (fold (changed_content client) x changes) change
   paints-more look size x [] change = append-nil (paints_of client look size x change)
   paints-more look size x (c ∷ changes) change =
-      let next : C = content_after client x c in
-      let last : List Paint = paints_of client look size (fold (content_after client) next changes) change in
+      let next : C = changed_content client x c in
+      let last : List Paint = paints_of client look size (fold (changed_content client) next changes) change in
       ap (λ (ps : List Paint). paints_of client look size x c ++ ps) (paints-more look size next changes change)
       ∙ sym (append_assoc (paints_of client look size x c) (paints_from client look size next changes) last)
 
@@ -71,14 +71,14 @@ module _ {C M : Type 0} (client : Ghosts C M) where
   -- one change more, whose paint commands lead from the present picture to the next one
   pub led_more : (look : Look) (size : Size) (w : Window C M) (change : Change M) → IsLed look size w →
       IsPatch look size (paints_of client look size (content client w) change)
-      (client.pic look size (content client w)) (client.pic look size (content_after client (content client w) change)) →
+      (client.pic look size (content client w)) (client.pic look size (changed_content client (content client w) change)) →
       IsLed look size (with_change change w)
   led_more look size w change led more =
       let now : C = content client w in
       let P : List Paint → C → Type 0 = λ ps x. IsPatch look size ps (client.pic look size w.shown) (client.pic look size x) in
-      let both : P (batch client look size w ++ paints_of client look size now change) (content_after client now change) =
+      let both : P (batch client look size w ++ paints_of client look size now change) (changed_content client now change) =
       two_patches look size (batch client look size w) (paints_of client look size now change) (client.pic look size w.shown)
-      (client.pic look size now) (client.pic look size (content_after client now change)) led more in
+      (client.pic look size now) (client.pic look size (changed_content client now change)) led more in
       let by_content : P (batch client look size w ++ paints_of client look size now change) (content client (with_change change w)) =
       subst (λ (x : C). P (batch client look size w ++ paints_of client look size now change) x) (sym (content-more w change)) both in
       subst (λ (ps : List Paint). P ps (content client (with_change change w))) (sym (batch-more look size w change)) by_content

@@ -14,7 +14,7 @@ use Rattle.tr_client.specs.declared.clients.Client.{Ghosts}
 use Rattle.tr_forest.specs.Forests.{IsForest}
 use Rattle.tr_spot.specs.Leaves.{in_leaf}
 use Rattle.tr_surface.specs.Surfaces.{is_on}
-use Rattle.tr_machine.specs.States.{State, batch_of}
+use Rattle.tr_machine.specs.States.{State, leaf_batch}
 use Rattle.tr_machine.specs.Pictures.{render, shown, want}
 use Rattle.tr_machine.specs.Promises.{Agrees, Fits, IsAwaited}
 use Rattle.tr_machine.proofs.LagLemmas.{good_shows}
@@ -40,7 +40,7 @@ module _ {C M : Type 0} (client : Ghosts C M) where
   -- no point of the screen is bad, and no command waits
   pub record IsIdle (m : State C M) : Type 0 where
     pub good : (p : Point) → is_on m.tree p ≡ true → m.bad p ≡ false
-    pub batches : (leaf : LeafId) → batch_of client m leaf ≡ []
+    pub batches : (leaf : LeafId) → leaf_batch client m leaf ≡ []
 
   -- each point of the screen then has the colour that it is to have
   pub idle_pixel : (m : State C M) (screen : Picture) → IsForest m.tree.nodes → Fits client m → IsIdle m → Agrees client m screen → (p : Point) →

@@ -14,16 +14,16 @@ use Rattle.tr_paint.specs.declared.Paint.{Paint}
 use Rattle.tr_paint.specs.Batches.{touches}
 use Rattle.tr_paint.specs.Paintings.{IsPainting}
 use Rattle.tr_paint.specs.Traces.{after}
-use Rattle.tr_exec.specs.Executions.{placed}
+use Rattle.tr_exec.specs.Executions.{screen_point}
 use Rattle.tr_client.specs.declared.clients.Client.{Ghosts}
 use Rattle.tr_spot.specs.Leaves.{leaf_corner, leaf_size, in_leaf}
 use Rattle.tr_spot.proofs.WayLemmas.{and_right}
 use Rattle.tr_surface.specs.Surfaces.{Shown, IsShown, is_bad}
 use Rattle.tr_surface.proofs.ShownLemmas.{IsExecuted}
 use Rattle.tr_machine.specs.Windows.{Window, content}
-use Rattle.tr_machine.specs.States.{State, base, batch_of, content_of, look, window_of}
+use Rattle.tr_machine.specs.States.{State, base, leaf_batch, content_of, look, window_of}
 use Rattle.tr_machine.specs.Paintings.{is_visible, repainted}
-use Rattle.tr_machine.specs.Pictures.{colour_in, shown_of}
+use Rattle.tr_machine.specs.Pictures.{content_colour, shown_of}
 use Rattle.tr_machine.specs.Promises.{Fits}
 use Rattle.tr_machine.proofs.BaseLemmas.{base-lies, in_leaf-placed}
 use Rattle.tr_machine.proofs.ShownLemmas.{IsShowing, after-untouched, base_good, base_sees, untouched_colour}
@@ -56,7 +56,7 @@ module _ {C M : Type 0} (client : Ghosts C M) where
     pub paints : IsPainting (look m) (meet_of (whole_of (leaf_size m.tree leaf)) clip) batch
         (client.pic (look m) (leaf_size m.tree leaf) (content client window))
     pub bad : (p : Point) → is_visible m leaf p ≡ true → is_bad s p ≡ true → has_point clip (in_leaf m.tree leaf p) ≡ true
-    pub waiting : (q : Point) → touches (batch_of client m leaf) q ≡ true → has_point clip q ≡ true
+    pub waiting : (q : Point) → touches (leaf_batch client m leaf) q ≡ true → has_point clip q ≡ true
 
   module _ (m : State C M) (s n : Shown) (leaf : LeafId) (r : IsRepaint m s n leaf) where
     -- the size of the window
@@ -72,8 +72,8 @@ module _ {C M : Type 0} (client : Ghosts C M) where
     AreAllPainted = (q : Point) → (base client m leaf).visible q ≡ true → after (look m) (base client m leaf) r.batch q ≡ Some (picture q)
 
     -- the colour of the present content
-    content_here : (q : Point) → colour_in client m size q (content_of client m leaf) ≡ picture q
-    content_here q = ap (λ (o : Option (Window C M)). colour_in client m size q (option_map (content client) o)) r.at
+    content_here : (q : Point) → content_colour client m size q (content_of client m leaf) ≡ picture q
+    content_here q = ap (λ (o : Option (Window C M)). content_colour client m size q (option_map (content client) o)) r.at
 
     module _ (y : IsByPainting m s leaf r.window r.batch) where
       -- a point of the clip is painted
@@ -84,15 +84,15 @@ module _ {C M : Type 0} (client : Ghosts C M) where
           (has_point-meet_of (whole_of size) y.clip q ∙ and_from _ _ (base-lies client m leaf (forest_of client m s r.was r.showing) q seen) held)
 
       -- a point outside the clip is good
-      outside_good : (q : Point) → (base client m leaf).visible q ≡ true → has_point y.clip q ≡ false → m.bad (placed (leaf_corner m.tree leaf) q) ≡ false
+      outside_good : (q : Point) → (base client m leaf).visible q ≡ true → has_point y.clip q ≡ false → m.bad (screen_point (leaf_corner m.tree leaf) q) ≡ false
       outside_good q seen out =
-          let p : Point = placed (leaf_corner m.tree leaf) q in
+          let p : Point = screen_point (leaf_corner m.tree leaf) q in
           fails (m.bad p) (has_point y.clip q)
           (λ bad. ap (λ (x : Point). has_point y.clip x) (sym (in_leaf-placed m.tree leaf q)) ∙ y.bad p seen (r.showing.bad p ∙ bad)) out
 
       -- no waiting command touches it
-      outside_waiting : (q : Point) → has_point y.clip q ≡ false → touches (batch_of client m leaf) q ≡ false
-      outside_waiting q out = fails (touches (batch_of client m leaf) q) (has_point y.clip q) (y.waiting q) out
+      outside_waiting : (q : Point) → has_point y.clip q ≡ false → touches (leaf_batch client m leaf) q ≡ false
+      outside_waiting q out = fails (touches (leaf_batch client m leaf) q) (has_point y.clip q) (y.waiting q) out
 
       -- nor one of the painting
       outside_painting : (q : Point) → has_point y.clip q ≡ false → touches r.batch q ≡ false
@@ -102,14 +102,14 @@ module _ {C M : Type 0} (client : Ghosts C M) where
 
       -- what it shows is its colour in the present content's picture
       outside_colour : (q : Point) → (base client m leaf).visible q ≡ true → has_point y.clip q ≡ false →
-          colour_in client m size q (shown_of m leaf) ≡ colour_in client m size q (content_of client m leaf)
+          content_colour client m size q (shown_of m leaf) ≡ content_colour client m size q (content_of client m leaf)
       outside_colour q seen out =
-          let p : Point = placed (leaf_corner m.tree leaf) q in
+          let p : Point = screen_point (leaf_corner m.tree leaf) q in
           let back : in_leaf m.tree leaf p ≡ q = in_leaf-placed m.tree leaf q in
-          let P : Point → Type 0 = λ x. colour_in client m size x (shown_of m leaf) ≡ colour_in client m size x (content_of client m leaf) in
+          let P : Point → Type 0 = λ x. content_colour client m size x (shown_of m leaf) ≡ content_colour client m size x (content_of client m leaf) in
           subst P back
           (untouched_colour client m leaf p r.fits seen (outside_good q seen out)
-          (ap (λ (x : Point). touches (batch_of client m leaf) x) back ∙ outside_waiting q out))
+          (ap (λ (x : Point). touches (leaf_batch client m leaf) x) back ∙ outside_waiting q out))
 
       -- and so it keeps that colour
       outside_clip : (q : Point) → (base client m leaf).visible q ≡ true → has_point y.clip q ≡ false →
@@ -120,7 +120,7 @@ module _ {C M : Type 0} (client : Ghosts C M) where
           ∙ by_window (window_of m leaf) r.at (outside_colour q seen out)
         where
           by_window : (o : Option (Window C M)) → o ≡ Some r.window →
-              colour_in client m size q (option_map (λ w. w.shown) o) ≡ colour_in client m size q (option_map (content client) o) →
+              content_colour client m size q (option_map (λ w. w.shown) o) ≡ content_colour client m size q (option_map (content client) o) →
               option_map (λ w. client.pic (look m) size w.shown q) o ≡ Some (picture q)
           by_window None e same = absurd (none-some r.window e)
           by_window (Some w) e same =
@@ -137,7 +137,7 @@ module _ {C M : Type 0} (client : Ghosts C M) where
     -- after a repaint the surface shows the machine's next state
     painted_shows : AreAllPainted → IsShowing client (repainted client leaf m) n
     painted_shows all_painted =
-        let found : Point → Bool = λ p. is_none (after (look m) (base client m leaf) (batch_of client m leaf) (in_leaf m.tree leaf p)) in
+        let found : Point → Bool = λ p. is_none (after (look m) (base client m leaf) (leaf_batch client m leaf) (in_leaf m.tree leaf p)) in
         brought_shows client m s n leaf (repainted client leaf m).bad
         (record {
           was = r.was;
@@ -149,7 +149,7 @@ module _ {C M : Type 0} (client : Ghosts C M) where
           batch = r.batch;
           executed = by_state s n leaf r.font_is refl r.executed;
           brings = λ q seen.
-              let P : Option ℕ → Type 0 = λ o. IfSome o (λ x. x ≡ colour_in client m size q (content_of client m leaf)) in
+              let P : Option ℕ → Type 0 = λ o. IfSome o (λ x. x ≡ content_colour client m size q (content_of client m leaf)) in
               subst P (sym (all_painted q seen)) (sym (content_here q));
           inside = λ p seen.
               ap (λ b. cond b (found p) (m.bad p) && not b) seen ∙ and_false (found p)

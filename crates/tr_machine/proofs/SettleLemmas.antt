@@ -31,9 +31,9 @@ use Rattle.tr_journal.specs.declared.steps.Step.TheVariants.{Repaint, PaintFrame
 use Rattle.tr_journal.specs.Steps.{IsFor}
 use Rattle.tr_journal.proofs.LevelLemmas.{lock_level}
 use Rattle.tr_machine.specs.Windows.{Window, content, updated}
-use Rattle.tr_machine.specs.States.{State, base, batch_in, batch_of, changed_at, content_of, look, window_of}
+use Rattle.tr_machine.specs.States.{State, base, batch_in, leaf_batch, changed_at, content_of, look, window_of}
 use Rattle.tr_machine.specs.Paintings.{repainted, is_visible}
-use Rattle.tr_machine.specs.Pictures.{colour_in, colour_by, shown, shown_of, want}
+use Rattle.tr_machine.specs.Pictures.{content_colour, colour_by, shown, shown_of, want}
 use Rattle.tr_machine.specs.Promises.{IsSound}
 use Rattle.tr_machine.specs.Replays.{IsLegalFrom, after_steps}
 use Rattle.tr_machine.specs.Settling.{frame_steps, is_frame_bad, is_unsettled, repaint_steps, repaints_below, settling, settling_lines}
@@ -125,7 +125,7 @@ module _ {C M : Type 0} (client : Ghosts C M) where
       ap with_bad (fun_ext (λ p. by_sight p (is_visible m leaf p)))
     where
       lost : Point → Bool
-      lost p = is_none (colour_after (look m) (base client m leaf) (batch_of client m leaf) (leaf_corner m.tree leaf) p)
+      lost p = is_none (colour_after (look m) (base client m leaf) (leaf_batch client m leaf) (leaf_corner m.tree leaf) p)
 
       by_sight : (p : Point) (b : Bool) → (cond b (lost p) (m.bad p) && not b) ≡ (m.bad p && not b)
       by_sight p true = and_none _ ∙ sym (and_none (m.bad p))
@@ -207,11 +207,11 @@ module _ {C M : Type 0} (client : Ghosts C M) where
       by_test false none = refl
 
   -- nothing waits for a leaf that needn't be repainted
-  quiet_batch : (m : State C M) (leaf : LeafId) → must m leaf ≡ false → batch_of client m leaf ≡ []
-  quiet_batch m leaf quiet = no_batch (batch_of client m leaf) (or_parts (not (length (batch_of client m leaf) == 0)) _ quiet).0
+  quiet_batch : (m : State C M) (leaf : LeafId) → must m leaf ≡ false → leaf_batch client m leaf ≡ []
+  quiet_batch m leaf quiet = no_batch (leaf_batch client m leaf) (or_parts (not (length (leaf_batch client m leaf) == 0)) _ quiet).0
 
   -- nothing waits for any leaf then
-  pub settled-batch : (m : State C M) (leaf : LeafId) → batch_of client (settled m) leaf ≡ []
+  pub settled-batch : (m : State C M) (leaf : LeafId) → leaf_batch client (settled m) leaf ≡ []
   settled-batch m leaf = ap (batch_in client m leaf) (settled-window m leaf) ∙ by_test (must m leaf) refl
     where
       painted : (o : Option (Window C M)) → batch_in client m leaf (option_map (updated client) o) ≡ []
@@ -285,7 +285,7 @@ module _ {C M : Type 0} (client : Ghosts C M) where
       by_test : (b : Bool) → must m leaf ≡ b → (repainted_all m).bad p ≡ false
       by_test true is = good_passed (length m.windows) m leaf p lt (record { is = is; seen = seen })
       by_test false quiet =
-          let none : any_on m.tree.size is_bad ≡ false = (or_parts (not (length (batch_of client m leaf) == 0)) (any_on m.tree.size is_bad) quiet).1 in
+          let none : any_on m.tree.size is_bad ≡ false = (or_parts (not (length (leaf_batch client m leaf) == 0)) (any_on m.tree.size is_bad) quiet).1 in
           let good : m.bad p ≡ false = and_first (m.bad p) (is_visible m leaf p) (none_on m.tree.size is_bad none p on) seen in
           unless_before ((repainted_all m).bad p) (m.bad p) (bad_before (length m.windows) m p) good
 
@@ -321,7 +321,7 @@ module _ {C M : Type 0} (client : Ghosts C M) where
   -- a visible point of a leaf shows its content's colour: where the leaf needn't be repainted, no command leads from the shown picture to
   -- the present one
   leaf_shows : (m : State C M) (leaf : LeafId) (q : Point) → IsSound client m → has_point (whole_of (leaf_size m.tree leaf)) q ≡ true →
-      let colour = colour_in client m (leaf_size m.tree leaf) q in
+      let colour = content_colour client m (leaf_size m.tree leaf) q in
       colour (shown_of (settled m) leaf) ≡ colour (content_of client m leaf)
   leaf_shows m leaf q sound within = ap (λ o. old o) (settled-window m leaf) ∙ by_test (must m leaf) refl
     where
@@ -329,10 +329,10 @@ module _ {C M : Type 0} (client : Ghosts C M) where
       size = leaf_size m.tree leaf
 
       old : Option (Window C M) → ℕ
-      old o = colour_in client m size q (option_map (λ w. w.shown) o)
+      old o = content_colour client m size q (option_map (λ w. w.shown) o)
 
       new : Option (Window C M) → ℕ
-      new o = colour_in client m size q (option_map (content client) o)
+      new o = content_colour client m size q (option_map (content client) o)
 
       painted : (o : Option (Window C M)) → old (option_map (updated client) o) ≡ new o
       painted None = refl
@@ -368,7 +368,7 @@ module _ {C M : Type 0} (client : Ghosts C M) where
   settled-want m p = by_spot (spot m.tree p)
     where
       by_spot : (s : Spot) → colour_by client (content_of client (settled m)) m s ≡ colour_by client (content_of client m) m s
-      by_spot (spots.Leaf leaf q size kind) = ap (λ o. colour_in client m size q o) (settled-content m leaf)
+      by_spot (spots.Leaf leaf q size kind) = ap (λ o. content_colour client m size q o) (settled-content m leaf)
       by_spot (spots.Frame n tint kind) = refl
       by_spot spots.Off = refl
 
@@ -381,7 +381,7 @@ module _ {C M : Type 0} (client : Ghosts C M) where
     pub tree : new.tree ≡ m.tree
     pub font : new.font ≡ m.font
     pub mail : new.mail ≡ m.mail
-    pub batches : (leaf : LeafId) → batch_of client new leaf ≡ []
+    pub batches : (leaf : LeafId) → leaf_batch client new leaf ≡ []
     pub contents : (leaf : LeafId) → content_of client new leaf ≡ content_of client m leaf
     pub good : (p : Point) → new.bad p ≡ false
     pub shown : (p : Point) → shown client new p ≡ want client m p

@@ -25,7 +25,7 @@ use Rattle.tr_journal.specs.Journals.{JournalLine}
 use Rattle.tr_journal.specs.Steps.{IsFor}
 use Rattle.tr_journal.proofs.LevelLemmas.{lock_level}
 use Rattle.tr_machine.specs.Windows.{Window, content, updated}
-use Rattle.tr_machine.specs.States.{State, batch_in, batch_of, content_of, window_of}
+use Rattle.tr_machine.specs.States.{State, batch_in, leaf_batch, content_of, window_of}
 use Rattle.tr_machine.specs.Paintings.{flushed, is_visible, repainted}
 use Rattle.tr_machine.specs.Pictures.{want}
 use Rattle.tr_machine.specs.Replays.{after_steps, replay, replay_from}
@@ -137,33 +137,33 @@ module _ {C M : Type 0} (client : Ghosts C M) where
   updated_batch m leaf (Some w) = refl
 
   -- nothing waits for a leaf that is flushed
-  flushed_here : (m : State C M) (leaf other : LeafId) → leaf.0 ≡ other.0 → batch_of client (flushed client leaf m) other ≡ []
+  flushed_here : (m : State C M) (leaf other : LeafId) → leaf.0 ≡ other.0 → leaf_batch client (flushed client leaf m) other ≡ []
   flushed_here m leaf other same =
       ap (batch_in client m other) (window_here leaf other (updated client) m same) ∙ updated_batch m other (window_of m other)
 
   -- what waits for another one stays
-  flushed_there : (m : State C M) (leaf other : LeafId) → (leaf.0 ≡ other.0 → ⊥) → batch_of client (flushed client leaf m) other ≡ batch_of client m other
+  flushed_there : (m : State C M) (leaf other : LeafId) → (leaf.0 ≡ other.0 → ⊥) → leaf_batch client (flushed client leaf m) other ≡ leaf_batch client m other
   flushed_there m leaf other apart = ap (batch_in client m other) (window_there leaf other (updated client) m apart)
 
   -- what waits for a leaf once the first n are flushed
   flushed_later : (n : ℕ) (m : State C M) (leaf : LeafId) → n ≤ leaf.0 →
-      batch_of client (after_steps client m (flushes_below client n m)) leaf ≡ batch_of client m leaf
+      leaf_batch client (after_steps client m (flushes_below client n m)) leaf ≡ leaf_batch client m leaf
   flushed_later zero m leaf le = refl
   flushed_later (suc n) m leaf le =
-      ap (λ (s : State C M). batch_of client s leaf) (after_steps-append client m (flushes_below client n m) _)
+      ap (λ (s : State C M). leaf_batch client s leaf) (after_steps-append client m (flushes_below client n m) _)
       ∙ by_test (waits client m (record { 0 = n })) ∙ flushed_later n m leaf (omega (arith, le))
     where
       s : State C M
       s = after_steps client m (flushes_below client n m)
 
-      by_test : (b : Bool) → batch_of client (after_steps client s (cond b (Flush (record { 0 = n }) ∷ []) [])) leaf ≡ batch_of client s leaf
+      by_test : (b : Bool) → leaf_batch client (after_steps client s (cond b (Flush (record { 0 = n }) ∷ []) [])) leaf ≡ leaf_batch client s leaf
       by_test true = flushed_there s (record { 0 = n }) leaf (λ e. omega (arith, e, le))
       by_test false = refl
 
-  flushed_before : (n : ℕ) (m : State C M) (leaf : LeafId) → leaf.0 < n → batch_of client (after_steps client m (flushes_below client n m)) leaf ≡ []
+  flushed_before : (n : ℕ) (m : State C M) (leaf : LeafId) → leaf.0 < n → leaf_batch client (after_steps client m (flushes_below client n m)) leaf ≡ []
   flushed_before zero m leaf lt = absurd (omega (arith, lt))
   flushed_before (suc n) m leaf lt =
-      ap (λ (s : State C M). batch_of client s leaf) (after_steps-append client m (flushes_below client n m) _)
+      ap (λ (s : State C M). leaf_batch client s leaf) (after_steps-append client m (flushes_below client n m) _)
       ∙ by_number (λ less. flushed_before n m leaf less) (cases_lt leaf.0 n)
     where
       s : State C M
@@ -172,26 +172,26 @@ module _ {C M : Type 0} (client : Ghosts C M) where
       last : Bool → State C M
       last b = after_steps client s (cond b (Flush (record { 0 = n }) ∷ []) [])
 
-      by_less : (b : Bool) → leaf.0 < n → batch_of client (last b) leaf ≡ batch_of client s leaf
+      by_less : (b : Bool) → leaf.0 < n → leaf_batch client (last b) leaf ≡ leaf_batch client s leaf
       by_less true less = flushed_there s (record { 0 = n }) leaf (λ e. omega (arith, e, less))
       by_less false less = refl
 
-      by_here : (b : Bool) → n ≡ leaf.0 → waits client m leaf ≡ b → batch_of client (last b) leaf ≡ []
+      by_here : (b : Bool) → n ≡ leaf.0 → waits client m leaf ≡ b → leaf_batch client (last b) leaf ≡ []
       by_here true same is = flushed_here s (record { 0 = n }) leaf same
-      by_here false same is = flushed_later n m leaf (omega (arith, same)) ∙ no_batch (batch_of client m leaf) is
+      by_here false same is = flushed_later n m leaf (omega (arith, same)) ∙ no_batch (leaf_batch client m leaf) is
 
-      by_number : (leaf.0 < n → batch_of client s leaf ≡ []) → (leaf.0 < n) ⊎ (n ≤ leaf.0) →
-          batch_of client (last (waits client m (record { 0 = n }))) leaf ≡ []
+      by_number : (leaf.0 < n → leaf_batch client s leaf ≡ []) → (leaf.0 < n) ⊎ (n ≤ leaf.0) →
+          leaf_batch client (last (waits client m (record { 0 = n }))) leaf ≡ []
       by_number before (inl less) = by_less (waits client m (record { 0 = n })) less ∙ before less
       by_number before (inr le) =
           let same : n ≡ leaf.0 = omega (arith, le, lt) in
           by_here (waits client m (record { 0 = n })) same (ap (waits client m) (leaf_by_number leaf (record { 0 = n }) (sym same)))
 
   -- nothing waits once all are flushed
-  pub flushed_all : (m : State C M) (leaf : LeafId) → batch_of client (after_steps client m (flushing client m)) leaf ≡ []
+  pub flushed_all : (m : State C M) (leaf : LeafId) → leaf_batch client (after_steps client m (flushing client m)) leaf ≡ []
   flushed_all m leaf = by_number (cases_lt leaf.0 (length m.windows))
     where
-      by_number : (leaf.0 < length m.windows) ⊎ (length m.windows ≤ leaf.0) → batch_of client (after_steps client m (flushing client m)) leaf ≡ []
+      by_number : (leaf.0 < length m.windows) ⊎ (length m.windows ≤ leaf.0) → leaf_batch client (after_steps client m (flushing client m)) leaf ≡ []
       by_number (inl less) = flushed_before (length m.windows) m leaf less
       by_number (inr le) = flushed_later (length m.windows) m leaf le ∙ ap (batch_in client m leaf) (slice_get_past m.windows leaf.0 le)
 
@@ -224,15 +224,15 @@ module _ {C M : Type 0} (client : Ghosts C M) where
   -- ---- the repaints
 
   -- after a repaint nothing waits for a leaf for which nothing waited
-  repainted_batch : (m : State C M) (leaf other : LeafId) → batch_of client m other ≡ [] → batch_of client (repainted client leaf m) other ≡ []
+  repainted_batch : (m : State C M) (leaf other : LeafId) → leaf_batch client m other ≡ [] → leaf_batch client (repainted client leaf m) other ≡ []
   repainted_batch m leaf other none = by_leaf (cases_eq leaf.0 other.0)
     where
-      by_leaf : (leaf.0 ≡ other.0) ⊎ (leaf.0 ≡ other.0 → ⊥) → batch_of client (repainted client leaf m) other ≡ []
+      by_leaf : (leaf.0 ≡ other.0) ⊎ (leaf.0 ≡ other.0 → ⊥) → leaf_batch client (repainted client leaf m) other ≡ []
       by_leaf (inl same) = flushed_here m leaf other same
       by_leaf (inr apart) = flushed_there m leaf other apart ∙ none
 
-  pub each_batch : (m : State C M) (leaves : List LeafId) → ((leaf : LeafId) → batch_of client m leaf ≡ []) → (leaf : LeafId) →
-      batch_of client (repainted_each client m leaves) leaf ≡ []
+  pub each_batch : (m : State C M) (leaves : List LeafId) → ((leaf : LeafId) → leaf_batch client m leaf ≡ []) → (leaf : LeafId) →
+      leaf_batch client (repainted_each client m leaves) leaf ≡ []
   each_batch m [] none leaf = none leaf
   each_batch m (l ∷ leaves) none leaf = each_batch (repainted client l m) leaves (λ other. repainted_batch m l other (none other)) leaf
 
@@ -357,10 +357,10 @@ module _ {C M : Type 0} (client : Ghosts C M) where
       by_frames true e = by_frame (is_frame (spot s.tree p)) refl
       by_frames false e = by_point (s.bad p) (is_frame (spot s.tree p)) refl refl e
 
-  pub framing_batch : (s : State C M) (leaf : LeafId) → batch_of client (after_steps client s (frame_steps s)) leaf ≡ batch_of client s leaf
+  pub framing_batch : (s : State C M) (leaf : LeafId) → leaf_batch client (after_steps client s (frame_steps s)) leaf ≡ leaf_batch client s leaf
   framing_batch s leaf = by_frames (is_frame_bad s)
     where
-      by_frames : (b : Bool) → batch_of client (after_steps client s (cond b (PaintFrame ∷ []) [])) leaf ≡ batch_of client s leaf
+      by_frames : (b : Bool) → leaf_batch client (after_steps client s (cond b (PaintFrame ∷ []) [])) leaf ≡ leaf_batch client s leaf
       by_frames true = refl
       by_frames false = refl
 

@@ -16,7 +16,7 @@ use Rattle.tr_paint.specs.Paints.{area}
 use Rattle.tr_paint.specs.Batches.{touches}
 use Rattle.tr_paint.specs.Traces.{Look, Base, after, left_by}
 use Rattle.tr_paint.proofs.TraceLemmas.{after-first}
-use Rattle.tr_exec.specs.Executions.{placed}
+use Rattle.tr_exec.specs.Executions.{screen_point}
 use Rattle.tr_client.specs.declared.clients.Client.{Ghosts}
 use Rattle.tr_forest.specs.Forests.{IsForest}
 use Rattle.tr_tree.specs.Trees.{Seen}
@@ -26,9 +26,9 @@ use Rattle.tr_spot.proofs.LeafLemmas.{part_of}
 use Rattle.tr_spot.proofs.WayLemmas.{equal_test}
 use Rattle.tr_surface.specs.Surfaces.{Shown, is_frame, frame_colour, leaf_base, is_bad}
 use Rattle.tr_machine.specs.Windows.{Window}
-use Rattle.tr_machine.specs.States.{State, base, batch_of, content_of, look, shown_at, window_of}
+use Rattle.tr_machine.specs.States.{State, base, leaf_batch, content_of, look, shown_at, window_of}
 use Rattle.tr_machine.specs.Paintings.{is_visible}
-use Rattle.tr_machine.specs.Pictures.{colour_by, colour_in, shown, shown_of}
+use Rattle.tr_machine.specs.Pictures.{colour_by, content_colour, shown, shown_of}
 use Rattle.tr_machine.specs.Promises.{Agrees, Fits}
 use Rattle.tr_machine.proofs.BaseLemmas.{after-alike, base-visible, in_leaf-placed, placed-in_leaf}
 
@@ -66,7 +66,8 @@ module _ {C M : Type 0} (client : Ghosts C M) where
   colour_on_frame contents m spots.Off h = absurd (false-true h)
 
   -- a content has the same colours if the pixels' kind and the font are the same
-  pub colour_look : (m n : State C M) (size : Size) (q : Point) (o : Option C) → look n ≡ look m → colour_in client n size q o ≡ colour_in client m size q o
+  pub colour_look : (m n : State C M) (size : Size) (q : Point) (o : Option C) → look n ≡ look m →
+      content_colour client n size q o ≡ content_colour client m size q o
   colour_look m n size q None same = refl
   colour_look m n size q (Some x) same = ap (λ (l : Look). client.pic l size x q) same
 
@@ -74,27 +75,27 @@ module _ {C M : Type 0} (client : Ghosts C M) where
   pub colour_same : (was is : LeafId → Option C) (m n : State C M) (s : Spot) → look n ≡ look m →
       ((leaf : LeafId) → is_in_leaf leaf s ≡ true → is leaf ≡ was leaf) → colour_by client is n s ≡ colour_by client was m s
   colour_same was is m n (spots.Leaf leaf q size kind) same contents =
-      ap (λ (o : Option C). colour_in client n size q o) (contents leaf (equal_test leaf.0 leaf.0 refl)) ∙ colour_look m n size q (was leaf) same
+      ap (λ (o : Option C). content_colour client n size q o) (contents leaf (equal_test leaf.0 leaf.0 refl)) ∙ colour_look m n size q (was leaf) same
   colour_same was is m n (spots.Frame k tint kind) same contents = refl
   colour_same was is m n spots.Off same contents = refl
 
   -- a visible point of a leaf has the colour of the leaf's content
   pub colour_in_leaf : (contents : LeafId → Option C) (m : State C M) (leaf : LeafId) (p : Point) → IsForest m.tree.nodes → is_visible m leaf p ≡ true →
-      colour_by client contents m (spot m.tree p) ≡ colour_in client m (leaf_size m.tree leaf) (in_leaf m.tree leaf p) (contents leaf)
+      colour_by client contents m (spot m.tree p) ≡ content_colour client m (leaf_size m.tree leaf) (in_leaf m.tree leaf p) (contents leaf)
   colour_in_leaf contents m leaf p forest seen = ap (λ (s : Spot). colour_by client contents m s) (part_of m.tree forest leaf p seen).is
 
   -- so has a point of a leaf's window, where the screen shows it
   pub colour_placed : (contents : LeafId → Option C) (m : State C M) (leaf : LeafId) (q : Point) → IsForest m.tree.nodes →
-      is_visible m leaf (placed (leaf_corner m.tree leaf) q) ≡ true →
-      colour_by client contents m (spot m.tree (placed (leaf_corner m.tree leaf) q)) ≡ colour_in client m (leaf_size m.tree leaf) q (contents leaf)
+      is_visible m leaf (screen_point (leaf_corner m.tree leaf) q) ≡ true →
+      colour_by client contents m (spot m.tree (screen_point (leaf_corner m.tree leaf) q)) ≡ content_colour client m (leaf_size m.tree leaf) q (contents leaf)
   colour_placed contents m leaf q forest seen =
-      colour_in_leaf contents m leaf (placed (leaf_corner m.tree leaf) q) forest seen
-      ∙ ap (λ (r : Point). colour_in client m (leaf_size m.tree leaf) r (contents leaf)) (in_leaf-placed m.tree leaf q)
+      colour_in_leaf contents m leaf (screen_point (leaf_corner m.tree leaf) q) forest seen
+      ∙ ap (λ (r : Point). content_colour client m (leaf_size m.tree leaf) r (contents leaf)) (in_leaf-placed m.tree leaf q)
 
   -- ---- a leaf's base
 
   -- what is known of a good point of a window is what the window shows there
-  pub base_good : (m : State C M) (leaf : LeafId) (q : Point) → m.bad (placed (leaf_corner m.tree leaf) q) ≡ false →
+  pub base_good : (m : State C M) (leaf : LeafId) (q : Point) → m.bad (screen_point (leaf_corner m.tree leaf) q) ≡ false →
       (base client m leaf).known q ≡ shown_at client m leaf q
   base_good m leaf q good = ap (λ b. cond b None (shown_at client m leaf q)) good
 
@@ -109,9 +110,9 @@ module _ {C M : Type 0} (client : Ghosts C M) where
 
   -- at a good visible point that no waiting command touches a leaf shows its present content
   pub untouched_colour : (m : State C M) (leaf : LeafId) (p : Point) → Fits client m → is_visible m leaf p ≡ true → m.bad p ≡ false →
-      touches (batch_of client m leaf) (in_leaf m.tree leaf p) ≡ false →
-      colour_in client m (leaf_size m.tree leaf) (in_leaf m.tree leaf p) (shown_of m leaf)
-      ≡ colour_in client m (leaf_size m.tree leaf) (in_leaf m.tree leaf p) (content_of client m leaf)
+      touches (leaf_batch client m leaf) (in_leaf m.tree leaf p) ≡ false →
+      content_colour client m (leaf_size m.tree leaf) (in_leaf m.tree leaf p) (shown_of m leaf)
+      ≡ content_colour client m (leaf_size m.tree leaf) (in_leaf m.tree leaf p) (content_of client m leaf)
   untouched_colour m leaf p fits seen good none = by_window (window_of m leaf) refl
     where
       q : Point
@@ -123,20 +124,20 @@ module _ {C M : Type 0} (client : Ghosts C M) where
       there : (base client m leaf).visible q ≡ true
       there = base_sees m leaf p seen
 
-      known : after (look m) (base client m leaf) (batch_of client m leaf) q ≡ shown_at client m leaf q
-      known = after-untouched (look m) (base client m leaf) (batch_of client m leaf) q there none ∙ base_good_at m leaf p good
+      known : after (look m) (base client m leaf) (leaf_batch client m leaf) q ≡ shown_at client m leaf q
+      known = after-untouched (look m) (base client m leaf) (leaf_batch client m leaf) q there none ∙ base_good_at m leaf p good
 
-      fit : IfSome (shown_at client m leaf q) (λ x. x ≡ colour_in client m size q (content_of client m leaf))
-      fit = subst (λ (o : Option ℕ). IfSome o (λ x. x ≡ colour_in client m size q (content_of client m leaf))) known (fits.each leaf q there)
+      fit : IfSome (shown_at client m leaf q) (λ x. x ≡ content_colour client m size q (content_of client m leaf))
+      fit = subst (λ (o : Option ℕ). IfSome o (λ x. x ≡ content_colour client m size q (content_of client m leaf))) known (fits.each leaf q there)
 
       by_window : (o : Option (Window C M)) → window_of m leaf ≡ o →
-          colour_in client m size q (shown_of m leaf) ≡ colour_in client m size q (content_of client m leaf)
+          content_colour client m size q (shown_of m leaf) ≡ content_colour client m size q (content_of client m leaf)
       by_window None e = rw e refl
       by_window (Some w) e =
           let here : shown_at client m leaf q ≡ Some (client.pic (look m) size w.shown q) =
           ap (λ (o : Option (Window C M)). option_map (λ v. client.pic (look m) size v.shown q) o) e in
-          ap (λ (o : Option (Window C M)). colour_in client m size q (option_map (λ v. v.shown) o)) e
-          ∙ subst (λ (o : Option ℕ). IfSome o (λ x. x ≡ colour_in client m size q (content_of client m leaf))) here fit
+          ap (λ (o : Option (Window C M)). content_colour client m size q (option_map (λ v. v.shown) o)) e
+          ∙ subst (λ (o : Option ℕ). IfSome o (λ x. x ≡ content_colour client m size q (content_of client m leaf))) here fit
 
   -- ---- a surface and a state
 
@@ -164,11 +165,11 @@ module _ {C M : Type 0} (client : Ghosts C M) where
   same_known m s leaf w forest is at q seen = ap (λ b. cond b None (Some (pixel_of s.screen p))) (bad_state m s is p) ∙ by_bad (m.bad p) refl
     where
       p : Point
-      p = placed (leaf_corner m.tree leaf) q
+      p = screen_point (leaf_corner m.tree leaf) q
 
       colour : shown client m p ≡ client.pic (look m) (leaf_size m.tree leaf) w.shown q
       colour = colour_placed (shown_of m) m leaf q forest seen
-          ∙ ap (λ (o : Option (Window C M)). colour_in client m (leaf_size m.tree leaf) q (option_map (λ v. v.shown) o)) at
+          ∙ ap (λ (o : Option (Window C M)). content_colour client m (leaf_size m.tree leaf) q (option_map (λ v. v.shown) o)) at
 
       by_bad : (b : Bool) → m.bad p ≡ b → cond b None (Some (pixel_of s.screen p)) ≡ cond b None (shown_at client m leaf q)
       by_bad true is_bad = refl

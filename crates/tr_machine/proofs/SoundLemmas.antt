@@ -40,11 +40,11 @@ use Rattle.tr_journal.specs.declared.steps.Step.TheVariants as steps
 use Rattle.tr_journal.specs.Openings.{tree_of, contents_of}
 use Rattle.tr_journal.specs.Steps.{IsStep}
 use Rattle.tr_machine.specs.Windows.{Window, Command, Mark, content, fresh, updated, with_change}
-use Rattle.tr_machine.specs.States.{State, base, batch_in, batch_of, content_of, look, start, window_of, with_window}
+use Rattle.tr_machine.specs.States.{State, base, batch_in, leaf_batch, content_of, look, start, window_of, with_window}
 use Rattle.tr_machine.specs.Paintings.{acted, marked, flushed, repainted, framed, is_visible}
 use Rattle.tr_machine.specs.Edits.{altered, keeping, refitted}
-use Rattle.tr_machine.specs.Machines.{edited, obeyed, asked_of, taken, unless}
-use Rattle.tr_machine.specs.Pictures.{colour_in}
+use Rattle.tr_machine.specs.Machines.{edit_step, obeyed, asked_of, taken, unless}
+use Rattle.tr_machine.specs.Pictures.{content_colour}
 use Rattle.tr_machine.specs.Replays.{next}
 use Rattle.tr_machine.specs.Promises.{Fits, IsSound, Leads}
 use Rattle.tr_machine.proofs.ListLemmas.{fresh-length, fresh_window, refitted_from-length, refitted_window, with_window-length, window_here, window_there}
@@ -145,7 +145,7 @@ module _ {C M : Type 0} (client : Ghosts C M) where
       (λ p h. by_sight p (is_visible m leaf p) refl h)
     where
       by_sight : (p : Point) (b : Bool) → is_visible m leaf p ≡ b →
-          cond b (is_none (colour_after (look m) (base client m leaf) (batch_of client m leaf) (leaf_corner m.tree leaf) p)) (m.bad p) ≡ true →
+          cond b (is_none (colour_after (look m) (base client m leaf) (leaf_batch client m leaf) (leaf_corner m.tree leaf) p)) (m.bad p) ≡ true →
           is_on m.tree p ≡ true
       by_sight p true seen h = leaf_on m.tree leaf p seen
       by_sight p false unseen h = sound.bad p h
@@ -205,7 +205,7 @@ module _ {C M : Type 0} (client : Ghosts C M) where
     where
       by_window : (leaf : LeafId) (q : Point) → (base client m leaf).visible q ≡ true → (o : Option (Window C M)) → window_of m leaf ≡ o →
           IfSome (after (look m) (base client m leaf) (batch_in client m leaf o) q)
-          (λ x. x ≡ colour_in client m (leaf_size m.tree leaf) q (option_map (content client) o))
+          (λ x. x ≡ content_colour client m (leaf_size m.tree leaf) q (option_map (content client) o))
       by_window leaf q seen None none = rw (seen, base-nothing client m leaf none q) tt
       by_window leaf q seen (Some w) is =
           sound.leads leaf w is (base client m leaf) (base-lies client m leaf forest) (base-shows client m leaf w is) q seen
@@ -238,15 +238,15 @@ module _ {C M : Type 0} (client : Ghosts C M) where
   sound_taken m leaf (Some event) sound obeys = by_command (asked_of client (content_of client m leaf) event) refl
     where
       after_mail : State C M
-      after_mail = record m { mail = mail.taken leaf m.mail }
+      after_mail = record m { mail = mail.front_taken leaf m.mail }
 
       by_command : (o : Option M) → asked_of client (content_of client m leaf) event ≡ o → IsSound client (obeyed client leaf o after_mail)
-      by_command None none = sound_mail m (mail.taken leaf m.mail) sound
-      by_command (Some cmd) asked = sound_acted after_mail leaf cmd (sound_mail m (mail.taken leaf m.mail) sound) (obeys event cmd asked)
+      by_command None none = sound_mail m (mail.front_taken leaf m.mail) sound
+      by_command (Some cmd) asked = sound_acted after_mail leaf cmd (sound_mail m (mail.front_taken leaf m.mail) sound) (obeys event cmd asked)
 
   -- an edit that the tree refuses, or not
   sound_edited : (m : State C M) (edit : Edit) → IsForest m.tree.nodes → IsEdit m.tree.nodes edit → IsSound client m →
-      (o : Option NodeFault) → refusal m.tree.nodes edit ≡ o → IsSound client (edited client o edit m).state
+      (o : Option NodeFault) → refusal m.tree.nodes edit ≡ o → IsSound client (edit_step client o edit m).state
   sound_edited m edit forest fits sound None allowed = sound_altered m edit sound (follows_edited m.tree.nodes edit forest fits allowed).values.leaf_count
   sound_edited m edit forest fits sound (Some fault) refused = sound
 
@@ -264,7 +264,7 @@ module _ {C M : Type 0} (client : Ghosts C M) where
   sound_next m (steps.Read leaf selection) forest fits sound obeys = sound
   sound_next m (steps.Mouse time button down) forest fits sound obeys =
       sound_unless (mouse_fault m.mail.desk time button down) m (mail.moused m.tree time button down m.mail) sound
-  sound_next m (steps.Motion time at) forest fits sound obeys = sound_unless (time_fault m.mail.desk time) m (mail.moved m.tree time at m.mail) sound
+  sound_next m (steps.Motion time at) forest fits sound obeys = sound_unless (time_fault m.mail.desk time) m (mail.cursor_moved m.tree time at m.mail) sound
   sound_next m (steps.Key time code) forest fits sound obeys = sound_unless (time_fault m.mail.desk time) m (mail.keyed time code m.mail) sound
   sound_next m (steps.Alter edit) forest fits sound obeys = sound_edited m edit forest fits sound (refusal m.tree.nodes edit) refl
   sound_next m (steps.Flush leaf) forest fits sound obeys = sound_flushed m leaf sound

@@ -6,10 +6,10 @@ use Rattle.tr_base.specs.Rects.{Edges, empty_rect}
 use Rattle.tr_client.specs.declared.clients.Client.{Ghosts}
 use Rattle.tr_forest.specs.declared.Edit.{Edit}
 use Rattle.tr_tree.specs.Trees.{Seen, edited_tree}
-use Rattle.tr_surface.specs.TreeSteps.{Keeping, bad_after}
-use Rattle.tr_mail.specs.Deliveries.{edited, is_reshaped}
+use Rattle.tr_surface.specs.TreeSteps.{Keeping, bad_after_edit}
+use Rattle.tr_mail.specs.Deliveries.{tree_edited, is_reshaped}
 use Rattle.tr_machine.specs.Windows.{Window, content, updated}
-use Rattle.tr_machine.specs.States.{State, batch_of, window_of}
+use Rattle.tr_machine.specs.States.{State, leaf_batch, window_of}
 
 module _ {C M : Type 0} (client : Ghosts C M) where
   -- what a window keeps of its points when its size changes
@@ -21,7 +21,7 @@ module _ {C M : Type 0} (client : Ghosts C M) where
   abbrev pub keeping : State C M → Keeping
   keeping m = record {
     keeps = λ leaf from to. keeps_in (window_of m leaf) from to;
-    batch = λ leaf. batch_of client m leaf;
+    batch = λ leaf. leaf_batch client m leaf;
   }
 
   -- a window whose size or kind of pixels changes is to show its content from then on, and nothing waits for it
@@ -40,7 +40,7 @@ module _ {C M : Type 0} (client : Ghosts C M) where
       let is = edited_tree m.tree edit in
       record m {
         tree = is;
-        bad = bad_after (keeping m) m.tree is edit m.bad;
-        mail = (edited m.tree is m.mail).mail;
+        bad = bad_after_edit (keeping m) m.tree is edit m.bad;
+        mail = (tree_edited m.tree is m.mail).mail;
         windows = refitted_from 0 m.tree is m.windows;
       }

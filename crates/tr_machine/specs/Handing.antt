@@ -10,9 +10,9 @@ use Rattle.tr_journal.specs.declared.steps.Step.TheVariants.{Act}
 use Rattle.tr_journal.specs.declared.entries.Entry.{Entry}
 
 -- the steps of commands in a row, each with what was held where its command was posted, and the window
-abbrev pub acts : {M : Type 0} → LeafId → List M → List (List Level) → List (List Level × Step M)
-acts leaf (cmd ∷ cmds) (level ∷ levels) = (level ++ Win leaf ∷ [], Act leaf cmd) ∷ acts leaf cmds levels
-acts leaf cmds levels = []
+abbrev pub act_steps : {M : Type 0} → LeafId → List M → List (List Level) → List (List Level × Step M)
+act_steps leaf (cmd ∷ cmds) (level ∷ levels) = (level ++ Win leaf ∷ [], Act leaf cmd) ∷ act_steps leaf cmds levels
+act_steps leaf cmds levels = []
 
 -- the entry of a command of the leaf's client: it is done, and sends nothing
 abbrev pub act_entry : {M : Type 0} → LeafId → (List Level × Step M) → Entry M
@@ -25,4 +25,4 @@ act_entry leaf made = record {
 
 -- the entries of commands in a row
 abbrev pub act_entries : {M : Type 0} → LeafId → List M → List (List Level) → List (Entry M)
-act_entries leaf cmds levels = map (act_entry leaf) (acts leaf cmds levels)
+act_entries leaf cmds levels = map (act_entry leaf) (act_steps leaf cmds levels)

@@ -10,7 +10,7 @@ use Rattle.tr_tree.specs.Trees.{edited_tree}
 use Rattle.tr_inbox.specs.declared.Delivery.{Delivery}
 use Rattle.tr_desk.specs.declared.desks.DeskFault.{DeskFault}
 use Rattle.tr_desk.specs.declared.desks.DeskFault.TheVariants.{Unowned}
-use Rattle.tr_desk.specs.Desks.{owner}
+use Rattle.tr_desk.specs.Desks.{selection_owner}
 use Rattle.tr_desk.specs.Faults.{time_fault, mouse_fault, own_fault, disown_fault}
 use Rattle.tr_mail.specs.Mails.{Sending}
 use Rattle.tr_mail.specs.Deliveries as mail
@@ -61,7 +61,7 @@ module _ {C M : Type 0} (client : Ghosts C M) where
   taken leaf None m = answered answers.Empty m
   taken leaf (Some event) m =
       answered (answers.Taken event)
-      (obeyed leaf (asked_of (content_of client m leaf) event) (record m { mail = mail.taken leaf m.mail }))
+      (obeyed leaf (asked_of (content_of client m leaf) event) (record m { mail = mail.front_taken leaf m.mail }))
 
   -- the value of a content, if there is a content
   abbrev pub value_in : Option C → Answer
@@ -74,12 +74,12 @@ module _ {C M : Type 0} (client : Ghosts C M) where
   read (Some leaf) m = value_in (content_of client m leaf)
 
   -- the tree refuses an edit, or is edited
-  abbrev pub edited : Option NodeFault → Edit → State C M → Outcome C M
-  edited (Some fault) edit m = answered (answers.Tree fault) m
-  edited None edit m = record {
+  abbrev pub edit_step : Option NodeFault → Edit → State C M → Outcome C M
+  edit_step (Some fault) edit m = answered (answers.Tree fault) m
+  edit_step None edit m = record {
     state = altered client edit m;
     answer = answers.Done;
-    sent = (mail.edited m.tree (edited_tree m.tree edit) m.mail).sent;
+    sent = (mail.tree_edited m.tree (edited_tree m.tree edit) m.mail).sent;
   }
 
   -- a step of the machine
@@ -92,12 +92,12 @@ module _ {C M : Type 0} (client : Ghosts C M) where
       unless (own_fault m.mail.desk leaf time) m (mail.owned leaf selection m.mail)
   step m (steps.Disown leaf selection) =
       unless (disown_fault m.mail.desk leaf selection) m (mail.disowned selection m.mail)
-  step m (steps.Read leaf selection) = answered (read (owner m.mail.desk selection) m) m
+  step m (steps.Read leaf selection) = answered (read (selection_owner m.mail.desk selection) m) m
   step m (steps.Mouse time button down) =
       unless (mouse_fault m.mail.desk time button down) m (mail.moused m.tree time button down m.mail)
-  step m (steps.Motion time at) = unless (time_fault m.mail.desk time) m (mail.moved m.tree time at m.mail)
+  step m (steps.Motion time at) = unless (time_fault m.mail.desk time) m (mail.cursor_moved m.tree time at m.mail)
   step m (steps.Key time code) = unless (time_fault m.mail.desk time) m (mail.keyed time code m.mail)
-  step m (steps.Alter edit) = edited (refusal m.tree.nodes edit) edit m
+  step m (steps.Alter edit) = edit_step (refusal m.tree.nodes edit) edit m
   step m (steps.Flush leaf) = done (flushed client leaf m)
   step m (steps.Repaint leaf) = done (repainted client leaf m)
   step m steps.PaintFrame = done (framed m)

@@ -9,7 +9,7 @@ use Rattle.tr_spot.specs.Spots.{spot, is_in_leaf}
 use Rattle.tr_spot.specs.Leaves.{leaf_corner}
 use Rattle.tr_surface.specs.Surfaces.{is_frame}
 use Rattle.tr_machine.specs.Windows.{Command, Mark, updated, with_change}
-use Rattle.tr_machine.specs.States.{State, base, batch_of, look, with_window}
+use Rattle.tr_machine.specs.States.{State, base, leaf_batch, look, with_window}
 
 -- a client's command changes its leaf's content, and what that paints waits
 abbrev pub acted : {C M : Type 0} → LeafId → M → State C M → State C M
@@ -29,7 +29,7 @@ module _ {C M : Type 0} (client : Ghosts C M) where
   flushed leaf m = record (with_window leaf (updated client) m) {
     bad = λ p.
         if is_visible m leaf p then
-        is_none (colour_after (look m) (base client m leaf) (batch_of client m leaf) (leaf_corner m.tree leaf) p)
+        is_none (colour_after (look m) (base client m leaf) (leaf_batch client m leaf) (leaf_corner m.tree leaf) p)
         else m.bad p;
   }
 

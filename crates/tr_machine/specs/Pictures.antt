@@ -11,7 +11,7 @@ use Rattle.tr_client.specs.declared.clients.Client.{Ghosts}
 use Rattle.tr_spot.specs.Spots.{spot}
 use Rattle.tr_surface.specs.Surfaces.{frame_colour}
 use Rattle.tr_surface.specs.Counts.{count_on}
-use Rattle.tr_machine.specs.States.{State, batch_of, content_of, look, window_of}
+use Rattle.tr_machine.specs.States.{State, leaf_batch, content_of, look, window_of}
 
 -- the content of a leaf at its last flush or repaint, or when its size or kind of pixels last changed, else its first one
 abbrev pub shown_of : {C M : Type 0} → State C M → LeafId → Option C
@@ -19,14 +19,14 @@ shown_of m leaf = option_map (λ w. w.shown) (window_of m leaf)
 
 module _ {C M : Type 0} (client : Ghosts C M) where
   -- the colour of a content at a point of a window of this size; where there is no content, 0
-  abbrev pub colour_in : State C M → Size → Point → Option C → ℕ
-  colour_in m size q None = 0
-  colour_in m size q (Some content) = client.pic (look m) size content q
+  abbrev pub content_colour : State C M → Size → Point → Option C → ℕ
+  content_colour m size q None = 0
+  content_colour m size q (Some content) = client.pic (look m) size content q
 
   -- the colour of a spot, by the leaves' contents: a leaf's is that of its content's picture, and a frame's is its tint as the kind
   -- of the pixels has it
   abbrev pub colour_by : (LeafId → Option C) → State C M → Spot → ℕ
-  colour_by contents m (spots.Leaf leaf q size kind) = colour_in m size q (contents leaf)
+  colour_by contents m (spots.Leaf leaf q size kind) = content_colour m size q (contents leaf)
   colour_by contents m spot = frame_colour spot
 
   -- the colour that a point of the screen is to have: that of the present contents
@@ -52,7 +52,7 @@ module _ {C M : Type 0} (client : Ghosts C M) where
   -- how many paint commands wait for the leaves; the count stops at 2^64 - 1
   abbrev pub waiting_count : State C M → ℕ
   waiting_count m =
-      min (sum_by (λ n. length (batch_of client m (record { 0 = n }))) (range_with_len 0 (length m.windows))) (2 ^ 64 - 1)
+      min (sum_by (λ n. length (leaf_batch client m (record { 0 = n }))) (range_with_len 0 (length m.windows))) (2 ^ 64 - 1)
 
 -- how many points are bad
 abbrev pub bad_count : {C M : Type 0} → State C M → ℕ

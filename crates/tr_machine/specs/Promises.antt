@@ -11,16 +11,16 @@ use Rattle.tr_forest.specs.Nodes.{leaf_count}
 use Rattle.tr_spot.specs.Leaves.{in_leaf, leaf_size}
 use Rattle.tr_surface.specs.Surfaces.{is_on}
 use Rattle.tr_machine.specs.Windows.{Window, batch, content}
-use Rattle.tr_machine.specs.States.{State, base, batch_of, content_of, look, window_of}
+use Rattle.tr_machine.specs.States.{State, base, leaf_batch, content_of, look, window_of}
 use Rattle.tr_machine.specs.Paintings.{is_visible}
-use Rattle.tr_machine.specs.Pictures.{colour_in, shown, want}
+use Rattle.tr_machine.specs.Pictures.{content_colour, shown, want}
 
 module _ {C M : Type 0} (client : Ghosts C M) where
   -- A state fits: after its batch each visible point of a leaf is unknown, or has its colour in the present content's picture.
   pub record Fits (m : State C M) : Type 0 where
     pub each : (leaf : LeafId) (q : Point) → (base client m leaf).visible q ≡ true →
-        IfSome (after (look m) (base client m leaf) (batch_of client m leaf) q)
-        (λ x. x ≡ colour_in client m (leaf_size m.tree leaf) q (content_of client m leaf))
+        IfSome (after (look m) (base client m leaf) (leaf_batch client m leaf) q)
+        (λ x. x ≡ content_colour client m (leaf_size m.tree leaf) q (content_of client m leaf))
 
   -- A screen agrees with a state: it has the tree's size and kind, and each good point has its shown colour.
   pub record Agrees (m : State C M) (screen : Picture) : Type 0 where
@@ -32,7 +32,7 @@ module _ {C M : Type 0} (client : Ghosts C M) where
   pub record IsAwaited (m : State C M) (p : Point) : Type 0 where
     pub leaf : LeafId
     pub visible : is_visible m leaf p ≡ true
-    pub touched : touches (batch_of client m leaf) (in_leaf m.tree leaf p) ≡ true
+    pub touched : touches (leaf_batch client m leaf) (in_leaf m.tree leaf p) ≡ true
 
   -- Each pixel that isn't the one wanted lies in the bad region, or in the area of a waiting command of its leaf.
   pub record Lags (m : State C M) (screen : Picture) : Type 0 where

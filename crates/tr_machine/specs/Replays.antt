@@ -22,8 +22,8 @@ module _ {C M : Type 0} (client : Ghosts C M) where
   next m step = (machine.step client m step).state
 
   -- the line of a journal that a step makes: by whom, with which levels held, what it answers, and what it sends
-  abbrev pub line_of : State C M → Actor → List Level → Step M → JournalLine M
-  line_of m actor level step =
+  abbrev pub line_of_step : State C M → Actor → List Level → Step M → JournalLine M
+  line_of_step m actor level step =
       let out = machine.step client m step in
       record {
         entry = record {
@@ -38,11 +38,11 @@ module _ {C M : Type 0} (client : Ghosts C M) where
   -- the lines that steps in a row make, all by one actor, each with its levels held
   abbrev pub lines_by : Actor → State C M → List (List Level × Step M) → List (JournalLine M)
   lines_by actor m [] = []
-  lines_by actor m (made ∷ later) = line_of m actor made.0 made.1 ∷ lines_by actor (next m made.1) later
+  lines_by actor m (made ∷ later) = line_of_step m actor made.0 made.1 ∷ lines_by actor (next m made.1) later
 
   -- those of steps with the same levels held
-  abbrev pub lines_of : Actor → List Level → State C M → List (Step M) → List (JournalLine M)
-  lines_of actor level m steps = lines_by actor m (under level steps)
+  abbrev pub lines_of_steps : Actor → List Level → State C M → List (Step M) → List (JournalLine M)
+  lines_of_steps actor level m steps = lines_by actor m (under level steps)
 
   -- the state after steps in a row
   abbrev pub after_steps : State C M → List (Step M) → State C M
@@ -62,7 +62,7 @@ module _ {C M : Type 0} (client : Ghosts C M) where
   -- machine's
   pub record IsLegalLine (t : Nodes) (m : State C M) (line : JournalLine M) : Type 0 where
     pub allowed : IsFor t line.entry.actor line.entry.level line.entry.step
-    pub made : line ≡ line_of m line.entry.actor line.entry.level line.entry.step
+    pub made : line ≡ line_of_step m line.entry.actor line.entry.level line.entry.step
 
   -- each line is one that the machine makes, from a state on
   abbrev pub IsLegalFrom : Nodes → State C M → List (JournalLine M) → Type 0

@@ -10,9 +10,9 @@ use Rattle.tr_journal.specs.declared.steps.Actor.TheVariants.{Painter}
 use Rattle.tr_journal.specs.declared.steps.Step.{Step}
 use Rattle.tr_journal.specs.declared.steps.Step.TheVariants.{Repaint, PaintFrame}
 use Rattle.tr_journal.specs.Journals.{JournalLine}
-use Rattle.tr_machine.specs.States.{State, batch_of}
+use Rattle.tr_machine.specs.States.{State, leaf_batch}
 use Rattle.tr_machine.specs.Paintings.{is_visible}
-use Rattle.tr_machine.specs.Replays.{lines_of}
+use Rattle.tr_machine.specs.Replays.{lines_of_steps}
 
 -- a point of a frame is bad
 abbrev pub is_frame_bad : {C M : Type 0} → State C M → Bool
@@ -26,7 +26,7 @@ module _ {C M : Type 0} (client : Ghosts C M) where
   -- a paint command waits for the leaf, or a visible point of it is bad
   abbrev pub is_unsettled : State C M → LeafId → Bool
   is_unsettled m leaf =
-      not (length (batch_of client m leaf) == 0) || any_on m.tree.size (λ p. m.bad p && is_visible m leaf p)
+      not (length (leaf_batch client m leaf) == 0) || any_on m.tree.size (λ p. m.bad p && is_visible m leaf p)
 
   -- a leaf is repainted, if it must be
   abbrev pub repaint_steps : State C M → LeafId → List (Step M)
@@ -43,4 +43,4 @@ module _ {C M : Type 0} (client : Ghosts C M) where
 
   -- the lines that settle a state: the painter's, under the tree's lock
   abbrev pub settling_lines : State C M → List (JournalLine M)
-  settling_lines m = lines_of client Painter (Mu ∷ []) m (settling m)
+  settling_lines m = lines_of_steps client Painter (Mu ∷ []) m (settling m)

@@ -14,7 +14,7 @@ use Rattle.tr_journal.specs.declared.steps.Actor.TheVariants.{Painter}
 use Rattle.tr_journal.specs.declared.steps.Step.{Step}
 use Rattle.tr_journal.specs.declared.steps.Step.TheVariants.{Flush, Repaint}
 use Rattle.tr_journal.specs.Journals.{JournalLine}
-use Rattle.tr_machine.specs.States.{State, batch_of}
+use Rattle.tr_machine.specs.States.{State, leaf_batch}
 use Rattle.tr_machine.specs.Paintings.{is_visible}
 use Rattle.tr_machine.specs.Pictures.{want}
 use Rattle.tr_machine.specs.Replays.{after_steps, lines_by, under}
@@ -47,7 +47,7 @@ at_shares leaves = map (λ leaf. (Share leaf ∷ [], Repaint leaf)) leaves
 module _ {C M : Type 0} (client : Ghosts C M) where
   -- a paint command waits for the leaf
   abbrev pub waits : State C M → LeafId → Bool
-  waits m leaf = not (length (batch_of client m leaf) == 0)
+  waits m leaf = not (length (leaf_batch client m leaf) == 0)
 
   -- of the first n leaves those are flushed for which something waits, in the order of their numbers
   abbrev pub flushes_below : ℕ → State C M → List (Step M)

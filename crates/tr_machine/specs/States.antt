@@ -5,7 +5,7 @@ use Rattle.tr_base.specs.declared.Point.{Point}
 use Rattle.tr_base.specs.declared.LeafId.{LeafId}
 use Rattle.tr_paint.specs.declared.Paint.{Paint}
 use Rattle.tr_paint.specs.Traces.{Base, Look, look_of}
-use Rattle.tr_exec.specs.Executions.{placed}
+use Rattle.tr_exec.specs.Executions.{screen_point}
 use Rattle.tr_client.specs.declared.clients.Client.{Ghosts}
 use Rattle.tr_forest.specs.Nodes.{leaf_count}
 use Rattle.tr_tree.specs.Trees.{Seen}
@@ -66,8 +66,8 @@ module _ {C M : Type 0} (client : Ghosts C M) where
   batch_in m leaf (Some w) = windows.batch client (look m) (leaf_size m.tree leaf) w
 
   -- the paint commands that wait for a leaf
-  abbrev pub batch_of : State C M → LeafId → List Paint
-  batch_of m leaf = batch_in m leaf (window_of m leaf)
+  abbrev pub leaf_batch : State C M → LeafId → List Paint
+  leaf_batch m leaf = batch_in m leaf (window_of m leaf)
 
   -- the colour that a window shows at a point of it
   abbrev pub shown_at : State C M → LeafId → Point → Option ℕ
@@ -76,6 +76,6 @@ module _ {C M : Type 0} (client : Ghosts C M) where
   -- what there is of a leaf before its batch: its visible points, in its own coordinates, and the shown colour of those that aren't bad
   abbrev pub base : State C M → LeafId → Base
   base m leaf = record {
-    visible = λ q. is_in_leaf leaf (spot m.tree (placed (leaf_corner m.tree leaf) q));
-    known = λ q. if m.bad (placed (leaf_corner m.tree leaf) q) then None else shown_at m leaf q;
+    visible = λ q. is_in_leaf leaf (spot m.tree (screen_point (leaf_corner m.tree leaf) q));
+    known = λ q. if m.bad (screen_point (leaf_corner m.tree leaf) q) then None else shown_at m leaf q;
   }

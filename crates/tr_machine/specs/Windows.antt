@@ -28,13 +28,13 @@ with_change change w = record w { made = w.made ++ change ∷ [] }
 
 module _ {C M : Type 0} (client : Ghosts C M) where
   -- the content after a change: a mark leaves it
-  abbrev pub content_after : C → Change M → C
-  content_after content (Command cmd) = client.next content cmd
-  content_after content (Mark clip) = content
+  abbrev pub changed_content : C → Change M → C
+  changed_content content (Command cmd) = client.next content cmd
+  changed_content content (Mark clip) = content
 
   -- the window's present content
   abbrev pub content : Window C M → C
-  content w = fold content_after w.shown w.made
+  content w = fold changed_content w.shown w.made
 
   -- the paint commands of a change of a content, in a window of this size: the command's patch, or the mark, cut by the window
   abbrev pub paints_of : Look → Size → C → Change M → List Paint
@@ -45,7 +45,7 @@ module _ {C M : Type 0} (client : Ghosts C M) where
   abbrev pub paints_from : Look → Size → C → List (Change M) → List Paint
   paints_from look size content [] = []
   paints_from look size content (change ∷ changes) =
-      paints_of look size content change ++ paints_from look size (content_after content change) changes
+      paints_of look size content change ++ paints_from look size (changed_content content change) changes
 
   -- the window's batch: the paint commands that wait
   abbrev pub batch : Look → Size → Window C M → List Paint

@@ -6,7 +6,7 @@ use Rattle.tr_base.specs.declared.Point.{Point}
 use Rattle.tr_base.specs.declared.LeafId.{LeafId}
 use Rattle.tr_cage.specs.declared.Cage.{Cage}
 use Rattle.tr_cage.specs.declared.Cage.TheVariants.{Everywhere, Only}
-use Rattle.tr_cage.specs.Cages.{holds}
+use Rattle.tr_cage.specs.Cages.{cage_holds}
 use Rattle.tr_desk.specs.Desks.{Devices, state_of, untold}
 use Rattle.tr_tree.specs.Trees.{Seen}
 use Rattle.tr_spot.specs.Leaves.{in_leaf}
@@ -15,7 +15,7 @@ use Rattle.tr_mail.specs.Deliveries.{is_gone, tell, tell_below, told}
 use Rattle.tr_mail.specs.Bounds.{IsUnbounded, is_bounded}
 
 -- a cage that is everywhere holds the cursor
-holds-unbounded : (cage : Cage) (at : Point) (is_gone : Bool) → is_bounded cage ≡ false → holds cage at is_gone ≡ true
+holds-unbounded : (cage : Cage) (at : Point) (is_gone : Bool) → is_bounded cage ≡ false → cage_holds cage at is_gone ≡ true
 holds-unbounded Everywhere at is_gone e = refl
 holds-unbounded (Only rect here gone) at is_gone e = cc
 

@@ -7,8 +7,8 @@ use Rattle.tr_base.specs.declared.Event.{Event}
 use Rattle.tr_base.specs.declared.Event.TheVariants as events
 use Rattle.tr_cage.specs.declared.Cage.{Cage}
 use Rattle.tr_cage.specs.declared.Cage.TheVariants.{Everywhere}
-use Rattle.tr_cage.specs.Cages.{holds}
-use Rattle.tr_desk.specs.Desks.{Devices, state_of, with_state, click, receiver, after_mouse, owner, owned_by, other_than}
+use Rattle.tr_cage.specs.Cages.{cage_holds}
+use Rattle.tr_desk.specs.Desks.{Devices, state_of, with_state, click, receiver, after_mouse, selection_owner, owned_by, other_than}
 use Rattle.tr_tree.specs.Trees.{Seen}
 use Rattle.tr_spot.specs.Spots.{spot, is_in_leaf}
 use Rattle.tr_spot.specs.Leaves.{leaf_size, in_leaf, same_size, same_kind}
@@ -33,7 +33,7 @@ is_gone t cursor leaf = not (is_in_leaf leaf (spot t cursor))
 
 -- the leaf's cage holds the cursor
 abbrev pub is_caged : Seen → Devices → LeafId → Bool
-is_caged t d leaf = holds (state_of d leaf).cage (in_leaf t leaf d.cursor) (is_gone t d.cursor leaf)
+is_caged t d leaf = cage_holds (state_of d leaf).cage (in_leaf t leaf d.cursor) (is_gone t d.cursor leaf)
 
 -- a leaf has another cage
 abbrev pub with_cage : LeafId → Cage → Mails → Mails
@@ -57,8 +57,8 @@ abbrev pub told : Seen → Sending → Sending
 told t s = tell_below (length s.mail.inboxes) t s
 
 -- the cursor moves
-abbrev pub moved : Seen → ℕ → Point → Mails → Sending
-moved t time at m = told t (unsent (record m { desk = record m.desk { cursor = at; time = time } }))
+abbrev pub cursor_moved : Seen → ℕ → Point → Mails → Sending
+cursor_moved t time at m = told t (unsent (record m { desk = record m.desk { cursor = at; time = time } }))
 
 -- a leaf asks for another cage
 abbrev pub caged : Seen → LeafId → Cage → Mails → Sending
@@ -79,8 +79,8 @@ reshape_below zero was is s = s
 reshape_below (suc n) was is s = reshape was is (record { 0 = n }) (reshape_below n was is s)
 
 -- the tree was edited: first all reshapes, then all positions
-abbrev pub edited : Seen → Seen → Mails → Sending
-edited was is m = told is (reshape_below (length m.inboxes) was is (unsent m))
+abbrev pub tree_edited : Seen → Seen → Mails → Sending
+tree_edited was is m = told is (reshape_below (length m.inboxes) was is (unsent m))
 
 -- the old owner of a selection, if it is another leaf, is told that it lost it
 abbrev pub send_lost : Option LeafId → Selection → Sending → Sending
@@ -90,7 +90,7 @@ send_lost (Some leaf) selection s = send leaf (events.Lost selection) s
 -- a leaf takes a selection
 abbrev pub owned : LeafId → Selection → Mails → Sending
 owned leaf selection m =
-    send_lost (other_than leaf (owner m.desk selection)) selection
+    send_lost (other_than leaf (selection_owner m.desk selection)) selection
     (unsent (record m { desk = owned_by (Some leaf) selection m.desk }))
 
 -- a leaf gives a selection up
@@ -112,5 +112,5 @@ abbrev pub front_of : Mails → LeafId → Option Event
 front_of m leaf = first (inbox_of m leaf).events
 
 -- it is taken out
-abbrev pub taken : LeafId → Mails → Mails
-taken leaf m = with_inbox leaf (record (inbox_of m leaf) { events = later (inbox_of m leaf).events }) m
+abbrev pub front_taken : LeafId → Mails → Mails
+front_taken leaf m = with_inbox leaf (record (inbox_of m leaf) { events = later (inbox_of m leaf).events }) m

@@ -4,16 +4,16 @@ use Rattle.tr_base.specs.declared.LeafId.{LeafId}
 use Rattle.tr_base.specs.declared.Event.{Event}
 use Rattle.tr_base.specs.Rects.{InReach}
 use Rattle.tr_inbox.specs.declared.Delivery.{Delivery}
-use Rattle.tr_inbox.specs.Inboxes.{Contents}
+use Rattle.tr_inbox.specs.Inboxes.{InboxView}
 use Rattle.tr_desk.specs.Desks.{Devices, idle, state_of, with_state}
 
 -- the input devices, and what waits for each leaf
 pub record Mails : Type 0 where
   pub desk : Devices
-  pub inboxes : List Contents
+  pub inboxes : List InboxView
 
 -- nothing waits, and nothing was dropped
-abbrev pub nothing : Contents
+abbrev pub nothing : InboxView
 nothing = record { events = []; dropped = 0 }
 
 -- at the beginning of so many leaves
@@ -21,21 +21,21 @@ abbrev pub no_mail : ℕ → Mails
 no_mail count = record { desk = idle count; inboxes = replicate count nothing }
 
 -- what waits for a leaf
-abbrev pub inbox_of : Mails → LeafId → Contents
+abbrev pub inbox_of : Mails → LeafId → InboxView
 inbox_of m leaf = get_or m.inboxes leaf.0 nothing
 
 -- 64 events wait: one more is dropped
-abbrev pub is_full : Contents → Bool
+abbrev pub is_full : InboxView → Bool
 is_full inbox = nat_le 64 (length inbox.events)
 
 -- an inbox after an event came: it waits behind the others, or is dropped and counted; the count stops at 2^32 - 1
-abbrev pub put_into : Event → Contents → Contents
+abbrev pub put_into : Event → InboxView → InboxView
 put_into event inbox =
     if is_full inbox then record inbox { dropped = min (inbox.dropped + 1) (2 ^ 32 - 1) }
     else record inbox { events = inbox.events ++ event ∷ [] }
 
 -- the mail with something else waiting for a leaf
-abbrev pub with_inbox : LeafId → Contents → Mails → Mails
+abbrev pub with_inbox : LeafId → InboxView → Mails → Mails
 with_inbox leaf inbox m = record m { inboxes = set m.inboxes leaf.0 inbox }
 
 -- the mail, and what was sent so far in one step

@@ -1,7 +1,7 @@
 ghost use Rattle.std.specs.Prelude.{◌≡◌, ◌<◌, ◌≤◌, length, get_or, set, replicate, IfOk};
 ghost use Rattle.tr_desk.specs.Desks.{IsDesk};
 ghost use Rattle.tr_mail.specs.Mails.{IsMail, no_mail, nothing, inbox_of, put_into, is_full};
-ghost use Rattle.tr_mail.specs.Deliveries.{front_of, taken, first, later};
+ghost use Rattle.tr_mail.specs.Deliveries.{front_of, front_taken, first, later};
 
 use std::alloc::Global;
 use std::marker::Model;
@@ -71,7 +71,7 @@ impl Mail {
     pub fn take(&mut self, leaf: LeafId) -> Option<Event>
         requires { leaf.0 < length self.old.inboxes }
         ensures event { result ≡ front_of self.old leaf }
-        ensures taken { self.new ≡ taken leaf self.old }
+        ensures taken { self.new ≡ front_taken leaf self.old }
     {
         take_at(&mut self.inboxes, leaf)
     }

@@ -30,7 +30,7 @@ impl Mail {
         requires across { InReach at.h }
         requires down { InReach at.v }
         ensures ok { OnOk result
-            (record { mail = self.new; sent = out.new } ≡ spec.moved tree.now time at self.old) }
+            (record { mail = self.new; sent = out.new } ≡ spec.cursor_moved tree.now time at self.old) }
         ensures few { length out.new ≤ length self.old.inboxes }
         ensures allowed { OnOk result (time_fault self.old.desk time ≡ None) }
         ensures fault { IfErr result (λ e. time_fault self.old.desk time ≡ Some e) }
@@ -64,7 +64,7 @@ impl Mail {
         requires root { spots.HasRoot is.now }
         requires before { leaf_count was.now.nodes ≡ length self.old.inboxes }
         requires leaves { leaf_count is.now.nodes ≡ length self.old.inboxes }
-        ensures sent { record { mail = self.new; sent = out.new } ≡ spec.edited was.now is.now self.old }
+        ensures sent { record { mail = self.new; sent = out.new } ≡ spec.tree_edited was.now is.now self.old }
         ensures few { length out.new ≤ length self.old.inboxes + length self.old.inboxes }
     {
         // Called for what it tells the prover: that there are at most 32 leaves.

@@ -4,7 +4,7 @@ use Rattle.std.proofs.lemmas.Bool.{cases_eq}
 use Rattle.std.proofs.Math.Seq.{take-append_seam}
 use Rattle.tr_mirror.specs.Headers.{header_len, header_of}
 use Rattle.tr_mirror.specs.Standings.{Standing}
-use Rattle.tr_mirror.specs.Readings.{Reading, read, taken, IsReading, listed, cut_between, shown_from}
+use Rattle.tr_mirror.specs.Readings.{Reading, after_bytes, record_taken, IsReading, list_of_option, cut_between, shown_from}
 use Rattle.tr_mirror.specs.Pieces.{TakesFront, IsFaultless}
 use Rattle.tr_mirror.proofs.ReadingLemmas.{read-append, read_failed, read_none, header_len_range, after_sized, nothing_begun}
 use Rattle.tr_mirror.proofs.ShownLemmas.{no_cut, shown_from-append, cut_screen}
@@ -14,7 +14,7 @@ use Rattle.tr_mirror.proofs.RecordLemmas.{Reads, Reads-faultless}
 pub record HasRead (old new : Reading) (piece rest : List ℕ) : Type 0 where
   pub front : List ℕ
   pub parts : front ++ rest ≡ piece
-  pub came : read old front ≡ new
+  pub came : after_bytes old front ≡ new
   pub shown : shown_from old front ≡ cut_between old.standing new.standing
   pub screen : new.standing.cuts ≢ old.standing.cuts → IsSome new.standing.screen
 
@@ -29,7 +29,7 @@ HasRead-none m piece = record {
 
 -- what came from a standing with as many cuts came from the other one, too
 cut_from : (s t u : Standing) → s.cuts ≡ t.cuts → cut_between s u ≡ cut_between t u
-cut_from s t u same = ap (λ (n : ℕ). if n == u.cuts then [] else listed u.screen) same
+cut_from s t u same = ap (λ (n : ℕ). if n == u.cuts then [] else list_of_option u.screen) same
 
 -- before a cut one front more is read
 pub HasRead-more : (old m new : Reading) (piece rest after : List ℕ) → m.standing.cuts ≡ old.standing.cuts → HasRead old m piece rest →
@@ -37,9 +37,9 @@ pub HasRead-more : (old m new : Reading) (piece rest after : List ℕ) → m.sta
 HasRead-more old m new piece rest after same h t = record {
   front = h.front ++ t.front;
   parts = append_assoc h.front t.front after ∙ ap (λ l. h.front ++ l) t.parts ∙ h.parts;
-  came = read-append old h.front t.front ∙ ap (λ r. read r t.front) h.came ∙ t.came;
+  came = read-append old h.front t.front ∙ ap (λ r. after_bytes r t.front) h.came ∙ t.came;
   shown = shown_from-append old h.front t.front
-      ∙ ap (λ l. l ++ shown_from (read old h.front) t.front) (h.shown ∙ no_cut old.standing m.standing (sym same))
+      ∙ ap (λ l. l ++ shown_from (after_bytes old h.front) t.front) (h.shown ∙ no_cut old.standing m.standing (sym same))
       ∙ ap (λ r. shown_from r t.front) h.came ∙ t.shown ∙ cut_from m.standing old.standing new.standing same;
   screen = λ more. t.screen (λ e. more (e ∙ same));
 }
@@ -55,17 +55,17 @@ module _ (old new : Reading) (piece rest : List ℕ) (h : HasRead old new piece 
   pub front_is : take (length piece - length rest) piece ≡ h.front
   front_is = ap (λ (n : ℕ). take n piece) count_read ∙ ap (λ l. take (length h.front) l) (sym h.parts) ∙ take-append_seam h.front rest
 
-  pub read_is : new ≡ read old (take (length piece - length rest) piece)
-  read_is = sym h.came ∙ ap (λ l. read old l) (sym front_is)
+  pub read_is : new ≡ after_bytes old (take (length piece - length rest) piece)
+  read_is = sym h.came ∙ ap (λ l. after_bytes old l) (sym front_is)
 
   pub shown_is : shown_from old (take (length piece - length rest) piece) ≡ cut_between old.standing new.standing
   shown_is = ap (λ l. shown_from old l) front_is ∙ h.shown
 
   -- after a fault the rest changes nothing
-  pub all_is : is_some new.fault ≡ true → new ≡ read old piece
+  pub all_is : is_some new.fault ≡ true → new ≡ after_bytes old piece
   all_is failed =
-      sym (read_failed new rest failed) ∙ ap (λ r. read r rest) (sym h.came) ∙ sym (read-append old h.front rest)
-      ∙ ap (λ l. read old l) h.parts
+      sym (read_failed new rest failed) ∙ ap (λ r. after_bytes r rest) (sym h.came) ∙ sym (read-append old h.front rest)
+      ∙ ap (λ l. after_bytes old l) h.parts
 
   -- so far it was read, since none is left, or there was a fault or a cut
   abbrev pub Ends : Type 0
@@ -84,16 +84,16 @@ module _ (old new : Reading) (piece rest : List ℕ) (h : HasRead old new piece 
 
 -- a whole record without a fault, of which nothing was read before, may come at once
 module _ (m : Reading) (front : List ℕ) (free : m.fault ≡ None) (none : m.begun ≡ []) (f : IsFaultless m.standing front) where
-  reads_front : Reads m front (taken m front)
+  reads_front : Reads m front (record_taken m front)
   reads_front = Reads-faultless m front free none f
 
   pub some_front : 0 < length front
   some_front = omega (arith, (header_len_range front).0, f.whole)
 
-  pub read-faultless : (rest : List ℕ) → read (taken m front) rest ≡ read m (front ++ rest)
-  read-faultless rest = ap (λ r. read r rest) (sym reads_front.read) ∙ sym (read-append m front rest)
+  pub read-faultless : (rest : List ℕ) → after_bytes (record_taken m front) rest ≡ after_bytes m (front ++ rest)
+  read-faultless rest = ap (λ r. after_bytes r rest) (sym reads_front.read) ∙ sym (read-append m front rest)
 
-  pub TakesFront-faultless : (rest : List ℕ) → TakesFront m (taken m front) (front ++ rest) rest
+  pub TakesFront-faultless : (rest : List ℕ) → TakesFront m (record_taken m front) (front ++ rest) rest
   TakesFront-faultless rest = record {
     front = front;
     parts = refl;
@@ -103,5 +103,5 @@ module _ (m : Reading) (front : List ℕ) (free : m.fault ≡ None) (none : m.be
     screen = cut_screen m.standing (header_of front) (drop (header_len front) front) f.header;
   }
 
-  pub IsReading-faultless : IsReading m → IsReading (taken m front)
-  IsReading-faultless w = nothing_begun (taken m front) refl (after_sized m.standing (header_of front) (drop (header_len front) front) f.header w.sized)
+  pub IsReading-faultless : IsReading m → IsReading (record_taken m front)
+  IsReading-faultless w = nothing_begun (record_taken m front) refl (after_sized m.standing (header_of front) (drop (header_len front) front) f.header w.sized)

@@ -8,10 +8,10 @@ use Rattle.tr_mirror.specs.declared.headers.Segment.{Segment}
 use Rattle.tr_mirror.specs.declared.headers.Header.{Header}
 use Rattle.tr_mirror.specs.declared.headers.Header.TheVariants.{Screen, Run, Fill, Cut}
 use Rattle.tr_mirror.specs.Headers.{tag_of, header_len, header_of, header_bytes, record_len, pixel_count, short_at, long_at}
-use Rattle.tr_mirror.specs.Standings.{Standing, after, header_fault, pixel_fault}
-use Rattle.tr_mirror.specs.Readings.{Reading, fault_of, is_unknown, taken, unfinished, tried, next, read, try_len, cut_between, shown_from}
+use Rattle.tr_mirror.specs.Standings.{Standing, after_record, header_fault, pixel_fault}
+use Rattle.tr_mirror.specs.Readings.{Reading, record_fault, is_unknown, record_taken, unfinished, tried, after_byte, after_bytes, try_len, cut_between, shown_from}
 use Rattle.tr_mirror.specs.Streams.{Record, record_bytes, spelled}
-use Rattle.tr_mirror.specs.Faults.{Fits, IsSound, after_all, AreSound}
+use Rattle.tr_mirror.specs.Faults.{IsSpellable, IsSoundRecord, after_records, AreSound}
 use Rattle.tr_mirror.specs.Pieces.{IsFaultless}
 use Rattle.tr_mirror.proofs.ReadingLemmas.{tag_of-append, header_len_range, header_len-append, header_of-append, waits, gathers, next_free, read-append, IsQuiet, IsQuiet-append, try_first, try_header, try_record, tried_again}
 use Rattle.tr_mirror.proofs.ShownLemmas.{len_of, header_len-is, no_cut, shown_from-append}
@@ -25,7 +25,7 @@ same_segment : (s : Segment) (a b c : ℕ) → a ≡ s.west → b ≡ s.v → c 
 same_segment s a b c e f g = ap (λ x. record { west = x; v = b; count = c }) e ∙ ap (λ x. record { west = s.west; v = x; count = c }) f
     ∙ ap (λ x. record { west = s.west; v = s.v; count = x }) g
 
-pub header_again : (h : Header) (rest : List ℕ) → Fits h → header_of (header_bytes h ++ rest) ≡ h
+pub header_again : (h : Header) (rest : List ℕ) → IsSpellable h → header_of (header_bytes h ++ rest) ≡ h
 unfolding header_of header_bytes short_at long_at
 header_again (Screen wide high kind) rest f = same_screen _ _ wide high kind (from_be_bytes-to_be_bytes_2 wide f.0) (from_be_bytes-to_be_bytes_2 high f.1)
 header_again (Run s) rest f = ap (λ x. Run x) (same_segment s _ _ _ (from_be_bytes-to_be_bytes_2 s.west f.west) (from_be_bytes-to_be_bytes_2 s.v f.v)
@@ -51,21 +51,21 @@ known (Cut number) rest = refl
 -- ---- bytes that are read, of which at most the last ends a record
 
 pub record Reads (m : Reading) (bytes : List ℕ) (n : Reading) : Type 0 where
-  pub read : read m bytes ≡ n
+  pub read : after_bytes m bytes ≡ n
   pub shown : shown_from m bytes ≡ cut_between m.standing n.standing
 
 pub gathers_shown : (m : Reading) (front : List ℕ) → m.fault ≡ None → 0 < length front → length m.begun + length front ≤ try_len m.begun →
     shown_from m front ≡ cut_between m.standing (tried m (m.begun ++ front)).standing
 gathers_shown m [] free some reach = absurd (omega arith)
 gathers_shown m (b ∷ []) free some reach =
-    append-nil (cut_between m.standing (next m b).standing) ∙ ap (λ n. cut_between m.standing n.standing) (next_free m b free)
+    append-nil (cut_between m.standing (after_byte m b).standing) ∙ ap (λ n. cut_between m.standing n.standing) (next_free m b free)
 gathers_shown m (b ∷ c ∷ rest) free some reach =
     let a : List ℕ = m.begun in
     let one : List ℕ = b ∷ [] in
     let begins : 0 < length a = elim (cases_eq (length a) 0) as (λ _. 0 < length a) [ inl e ↦ absurd (omega (arith, try_first a e)) | inr n ↦ omega arith ] in
     let q : IsQuiet a one = IsQuiet-append a one begins (omega arith) (omega arith) in
     let n : Reading = unfinished m (a ++ one) in
-    let step : next m b ≡ n = next_free m b free ∙ waits m (a ++ one) q.long q.no_header q.no_record in
+    let step : after_byte m b ≡ n = next_free m b free ∙ waits m (a ++ one) q.long q.no_header q.no_record in
     let ih = gathers_shown n (c ∷ rest) free (omega arith) (omega (arith, length-append a one, q.next)) in
     ap (λ x. cut_between m.standing x.standing ++ shown_from x (c ∷ rest)) step
     ∙ ap (λ l. l ++ shown_from n (c ∷ rest)) (no_cut m.standing m.standing refl)
@@ -78,25 +78,25 @@ Reads-front m front free some reach = record { read = gathers m front free some 
 
 Reads-then : (m n o : Reading) (xs ys : List ℕ) → Reads m xs n → n.standing ≡ m.standing → Reads n ys o → Reads m (xs ++ ys) o
 Reads-then m n o xs ys f same g = record {
-  read = read-append m xs ys ∙ ap (λ x. read x ys) f.read ∙ g.read;
+  read = read-append m xs ys ∙ ap (λ x. after_bytes x ys) f.read ∙ g.read;
   shown = shown_from-append m xs ys
-      ∙ ap (λ l. l ++ shown_from (read m xs) ys) (f.shown ∙ no_cut m.standing n.standing (ap (λ (s : Standing). s.cuts) (sym same)))
+      ∙ ap (λ l. l ++ shown_from (after_bytes m xs) ys) (f.shown ∙ no_cut m.standing n.standing (ap (λ (s : Standing). s.cuts) (sym same)))
       ∙ ap (λ x. shown_from x ys) f.read ∙ g.shown ∙ ap (λ (s : Standing). cut_between s o.standing) same;
 }
 
 -- ---- the faults that a record's bytes show
 
-fault_first : (s : Standing) (bytes : List ℕ) → length bytes ≡ 1 → is_unknown bytes ≡ false → fault_of s bytes ≡ None
-unfolding fault_of
+fault_first : (s : Standing) (bytes : List ℕ) → length bytes ≡ 1 → is_unknown bytes ≡ false → record_fault s bytes ≡ None
+unfolding record_fault
 fault_first s bytes one known = rw (eq-eqb (length bytes) 1 one, known) refl
 
-fault_header : (s : Standing) (bytes : List ℕ) → 1 < length bytes → length bytes ≡ header_len bytes → fault_of s bytes ≡ header_fault s (header_of bytes)
-unfolding fault_of
+fault_header : (s : Standing) (bytes : List ℕ) → 1 < length bytes → length bytes ≡ header_len bytes → record_fault s bytes ≡ header_fault s (header_of bytes)
+unfolding record_fault
 fault_header s bytes long whole = rw (ne_eqb (length bytes) 1 (λ e. omega arith), eq-eqb (length bytes) (header_len bytes) whole) refl
 
 fault_pixels : (s : Standing) (bytes : List ℕ) → header_len bytes < length bytes → length bytes ≡ record_len bytes →
-    fault_of s bytes ≡ pixel_fault s (drop (header_len bytes) bytes)
-unfolding fault_of
+    record_fault s bytes ≡ pixel_fault s (drop (header_len bytes) bytes)
+unfolding record_fault
 fault_pixels s bytes long whole =
     let least = (header_len_range bytes).0 in
     rw (
@@ -105,11 +105,11 @@ fault_pixels s bytes long whole =
       eq-eqb (length bytes) (record_len bytes) whole,
     ) refl
 
-takes : (m : Reading) (bytes : List ℕ) → fault_of m.standing bytes ≡ None → length bytes ≡ record_len bytes → tried m bytes ≡ taken m bytes
+takes : (m : Reading) (bytes : List ℕ) → record_fault m.standing bytes ≡ None → length bytes ≡ record_len bytes → tried m bytes ≡ record_taken m bytes
 unfolding tried
 takes m bytes none whole = rw (none, eq-eqb (length bytes) (record_len bytes) whole) refl
 
-waits_for : (m : Reading) (bytes : List ℕ) → fault_of m.standing bytes ≡ None → (length bytes ≡ record_len bytes → ⊥) → tried m bytes ≡ unfinished m bytes
+waits_for : (m : Reading) (bytes : List ℕ) → record_fault m.standing bytes ≡ None → (length bytes ≡ record_len bytes → ⊥) → tried m bytes ≡ unfinished m bytes
 unfolding tried
 waits_for m bytes none part = rw (none, ne_eqb (length bytes) (record_len bytes) part) refl
 
@@ -174,7 +174,7 @@ module _ (m : Reading) (bytes : List ℕ) (free : m.fault ≡ None) (none : m.be
   -- what is known of its bytes
   record IsWhole : Type 0 where
     tried : Reads m bytes (tried m bytes)
-    clean : fault_of m.standing bytes ≡ None
+    clean : record_fault m.standing bytes ≡ None
 
   to_end : IsWhole
   to_end =
@@ -184,12 +184,12 @@ module _ (m : Reading) (bytes : List ℕ) (free : m.fault ≡ None) (none : m.be
       let k : IsHeader hb bytes = IsHeader-front bytes (omega (arith, f.whole)) in
       let all : hb ++ px ≡ bytes = take-append-drop (header_len bytes) bytes in
       let count = length-drop (header_len bytes) bytes in
-      let sound : fault_of m.standing hb ≡ None =
+      let sound : record_fault m.standing hb ≡ None =
       fault_header m.standing hb (omega (arith, k.len)) (k.len ∙ sym k.same) ∙ ap (λ x. header_fault m.standing x) k.is ∙ f.header in
       elim (cases_eq (length px) 0) [
         | inl e ↦
             let same : hb ≡ bytes = sym (ap (λ l. hb ++ l) (none_left px e) ∙ append-nil hb) ∙ all in
-            record { tried = subst (λ l. Reads m l (tried m l)) same (to_header hb k); clean = ap (λ l. fault_of m.standing l) (sym same) ∙ sound }
+            record { tried = subst (λ l. Reads m l (tried m l)) same (to_header hb k); clean = ap (λ l. record_fault m.standing l) (sym same) ∙ sound }
         | inr n ↦
             let more : length px ≢ 0 = n in
             let part : length hb ≡ record_len hb → ⊥ = λ e. omega (arith, k.len, k.same, ap (λ x. pixel_count x) k.is, f.whole) in
@@ -206,12 +206,12 @@ module _ (m : Reading) (bytes : List ℕ) (free : m.fault ≡ None) (none : m.be
       ]
 
   -- it is put on
-  pub Reads-faultless : Reads m bytes (taken m bytes)
+  pub Reads-faultless : Reads m bytes (record_taken m bytes)
   Reads-faultless = subst (λ x. Reads m bytes x) (takes m bytes to_end.clean f.whole) to_end.tried
 
 -- a record that is spelled is put on
-pub Reads-record : (s : Standing) (fed : ℕ) (r : Record) → IsSound s r →
-    Reads (ready s fed) (record_bytes r) (ready (after s r.header r.pixels) (fed + length (record_bytes r)))
+pub Reads-record : (s : Standing) (fed : ℕ) (r : Record) → IsSoundRecord s r →
+    Reads (ready s fed) (record_bytes r) (ready (after_record s r.header r.pixels) (fed + length (record_bytes r)))
 Reads-record s fed r k =
     let m : Reading = ready s fed in
     let h : Header = r.header in
@@ -227,8 +227,8 @@ Reads-record s fed r k =
       header = ap (λ x. header_fault s x) again ∙ k.header;
       pixels = ap (λ l. pixel_fault s l) left ∙ k.pixels;
     } in
-    let is : taken m all ≡ ready (after s h px) (fed + length all) =
-    ap (λ x. ready (after s x (drop (header_len all) all)) (fed + length all)) again ∙ ap (λ l. ready (after s h l) (fed + length all)) left in
+    let is : record_taken m all ≡ ready (after_record s h px) (fed + length all) =
+    ap (λ x. ready (after_record s x (drop (header_len all) all)) (fed + length all)) again ∙ ap (λ l. ready (after_record s h l) (fed + length all)) left in
     subst (λ x. Reads m all x) is (Reads-faultless m all refl refl fine)
 
 -- ---- records one after the other
@@ -236,36 +236,36 @@ Reads-record s fed r k =
 -- the screens at their cuts
 abbrev pub shown_by : Standing → List Record → List Picture
 shown_by s [] = []
-shown_by s (r ∷ rs) = cut_between s (after s r.header r.pixels) ++ shown_by (after s r.header r.pixels) rs
+shown_by s (r ∷ rs) = cut_between s (after_record s r.header r.pixels) ++ shown_by (after_record s r.header r.pixels) rs
 
 pub reads_all : (s : Standing) (fed : ℕ) (rs : List Record) → AreSound s rs →
-    read (ready s fed) (spelled rs) ≡ ready (after_all s rs) (fed + length (spelled rs))
+    after_bytes (ready s fed) (spelled rs) ≡ ready (after_records s rs) (fed + length (spelled rs))
 reads_all s fed [] k = ap (λ n. ready s n) (omega arith)
 reads_all s fed (r ∷ rs) k =
-    let t : Standing = after s r.header r.pixels in
+    let t : Standing = after_record s r.header r.pixels in
     let one : List ℕ = record_bytes r in
-    read-append (ready s fed) one (spelled rs) ∙ ap (λ m. read m (spelled rs)) (Reads-record s fed r k.0).read ∙ reads_all t (fed + length one) rs k.1
-    ∙ ap (λ n. ready (after_all t rs) n) (omega (arith, length-append one (spelled rs)))
+    read-append (ready s fed) one (spelled rs) ∙ ap (λ m. after_bytes m (spelled rs)) (Reads-record s fed r k.0).read ∙ reads_all t (fed + length one) rs k.1
+    ∙ ap (λ n. ready (after_records t rs) n) (omega (arith, length-append one (spelled rs)))
 
 pub shown_all : (s : Standing) (fed : ℕ) (rs : List Record) → AreSound s rs → shown_from (ready s fed) (spelled rs) ≡ shown_by s rs
 shown_all s fed [] k = refl
 shown_all s fed (r ∷ rs) k =
-    let t : Standing = after s r.header r.pixels in
+    let t : Standing = after_record s r.header r.pixels in
     let one : List ℕ = record_bytes r in
     let here = Reads-record s fed r k.0 in
-    shown_from-append (ready s fed) one (spelled rs) ∙ ap (λ l. l ++ shown_from (read (ready s fed) one) (spelled rs)) here.shown
+    shown_from-append (ready s fed) one (spelled rs) ∙ ap (λ l. l ++ shown_from (after_bytes (ready s fed) one) (spelled rs)) here.shown
     ∙ ap (λ m. cut_between s t ++ shown_from m (spelled rs)) here.read ∙ ap (λ l. cut_between s t ++ l) (shown_all t (fed + length one) rs k.1)
 
-pub after_all-append : (s : Standing) (xs ys : List Record) → after_all s (xs ++ ys) ≡ after_all (after_all s xs) ys
+pub after_all-append : (s : Standing) (xs ys : List Record) → after_records s (xs ++ ys) ≡ after_records (after_records s xs) ys
 after_all-append s [] ys = refl
-after_all-append s (x ∷ xs) ys = after_all-append (after s x.header x.pixels) xs ys
+after_all-append s (x ∷ xs) ys = after_all-append (after_record s x.header x.pixels) xs ys
 
-pub AreSound-append : (s : Standing) (xs ys : List Record) → AreSound s xs → AreSound (after_all s xs) ys → AreSound s (xs ++ ys)
+pub AreSound-append : (s : Standing) (xs ys : List Record) → AreSound s xs → AreSound (after_records s xs) ys → AreSound s (xs ++ ys)
 AreSound-append s [] ys a b = b
-AreSound-append s (x ∷ xs) ys a b = (a.0, AreSound-append (after s x.header x.pixels) xs ys a.1 b)
+AreSound-append s (x ∷ xs) ys a b = (a.0, AreSound-append (after_record s x.header x.pixels) xs ys a.1 b)
 
-pub shown_by-append : (s : Standing) (xs ys : List Record) → shown_by s (xs ++ ys) ≡ shown_by s xs ++ shown_by (after_all s xs) ys
+pub shown_by-append : (s : Standing) (xs ys : List Record) → shown_by s (xs ++ ys) ≡ shown_by s xs ++ shown_by (after_records s xs) ys
 shown_by-append s [] ys = refl
 shown_by-append s (x ∷ xs) ys =
-    let t : Standing = after s x.header x.pixels in
-    ap (λ l. cut_between s t ++ l) (shown_by-append t xs ys) ∙ sym (append_assoc (cut_between s t) (shown_by t xs) (shown_by (after_all t xs) ys))
+    let t : Standing = after_record s x.header x.pixels in
+    ap (λ l. cut_between s t ++ l) (shown_by-append t xs ys) ∙ sym (append_assoc (cut_between s t) (shown_by t xs) (shown_by (after_records t xs) ys))

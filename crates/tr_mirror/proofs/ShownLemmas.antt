@@ -7,8 +7,8 @@ use Rattle.tr_mirror.specs.declared.headers.Segment.{Segment}
 use Rattle.tr_mirror.specs.declared.headers.Header.{Header}
 use Rattle.tr_mirror.specs.declared.headers.Header.TheVariants.{Screen, Run, Fill, Cut}
 use Rattle.tr_mirror.specs.Headers.{tag_of, header_len, header_of, record_len, pixel_count}
-use Rattle.tr_mirror.specs.Standings.{Standing, after, header_fault, is_on}
-use Rattle.tr_mirror.specs.Readings.{Reading, at_first, fault_of, failed, judged, tried, next, read, try_len, IsReading, listed, cut_between, shown_from, shown, reading_of, last_of}
+use Rattle.tr_mirror.specs.Standings.{Standing, after_record, header_fault, is_segment_on}
+use Rattle.tr_mirror.specs.Readings.{Reading, at_first, record_fault, failed, judged, tried, after_byte, after_bytes, try_len, IsReading, list_of_option, cut_between, shown_from, screens_shown, reading_of, last_of}
 use Rattle.tr_mirror.proofs.HeaderLemmas.{no_fault}
 use Rattle.tr_mirror.proofs.ReadingLemmas.{IsClean, IsClean-append, IsReading-tried, next_free}
 
@@ -36,7 +36,7 @@ pub record IsPut (m n : Reading) : Type 0 where
   pub header : Header
   pub pixels : List ℕ
   pub sound : header_fault m.standing header ≡ None
-  pub standing : n.standing ≡ after m.standing header pixels
+  pub standing : n.standing ≡ after_record m.standing header pixels
   pub fed : n.fed ≡ m.fed + (len_of header + pixel_count header)
 
 pub record IsStill (m n : Reading) : Type 0 where
@@ -59,12 +59,13 @@ moves_judged m bytes None clean = elim (cases_eq (length bytes) (record_len byte
 moves_tried : (m : Reading) (front : List ℕ) → IsReading m → 0 < length front → length m.begun + length front ≤ try_len m.begun →
     IsStill m (tried m (m.begun ++ front)) ⊎ IsPut m (tried m (m.begun ++ front))
 unfolding tried
-moves_tried m front w some reach = moves_judged m (m.begun ++ front) (fault_of m.standing (m.begun ++ front)) (λ none. IsClean-append m front w some reach none)
+moves_tried m front w some reach = moves_judged m (m.begun ++ front) (record_fault m.standing (m.begun ++ front))
+    (λ none. IsClean-append m front w some reach none)
 
 -- a record that counts a cut has a screen
 pub cut_screen : (s : Standing) (header : Header) (pixels : List ℕ) → header_fault s header ≡ None →
-    (after s header pixels).cuts ≢ s.cuts → IsSome (after s header pixels).screen
-unfolding after
+    (after_record s header pixels).cuts ≢ s.cuts → IsSome (after_record s header pixels).screen
+unfolding after_record
 cut_screen s (Screen wide high kind) pixels sound more = absurd (more refl)
 cut_screen s (Run segment) pixels sound more = absurd (more refl)
 cut_screen s (Fill segment) pixels sound more = absurd (more refl)
@@ -92,15 +93,15 @@ pub record IsStep (m n : Reading) : Type 0 where
   pub moves : IsStill m n ⊎ IsPut m n
   pub reading : IsReading n
 
-step_by : (m : Reading) (b : ℕ) (o : Option _) → m.fault ≡ o → IsReading m → IsStep m (next m b)
+step_by : (m : Reading) (b : ℕ) (o : Option _) → m.fault ≡ o → IsReading m → IsStep m (after_byte m b)
 step_by m b None free w =
     let fits : length m.begun + 1 ≤ try_len m.begun = omega (arith, w.short) in
     rw (next_free m b free) (record { moves = moves_tried m (b ∷ []) w (omega arith) fits; reading = IsReading-tried m (b ∷ []) w (omega arith) fits })
 step_by m b (Some fault) failed w =
-    let same : next m b ≡ m = ap (λ o. if is_some o then m else tried m (m.begun ++ b ∷ [])) failed in
+    let same : after_byte m b ≡ m = ap (λ o. if is_some o then m else tried m (m.begun ++ b ∷ [])) failed in
     rw same (record { moves = inl (record { standing = refl; fed = refl }); reading = w })
 
-pub IsStep-next : (m : Reading) (b : ℕ) → IsReading m → IsStep m (next m b)
+pub IsStep-next : (m : Reading) (b : ℕ) → IsReading m → IsStep m (after_byte m b)
 IsStep-next m b w = step_by m b m.fault refl w
 
 -- ---- what is kept byte by byte
@@ -127,7 +128,8 @@ no_cut s t same = rw (eq-eqb s.cuts t.cuts same) refl
 same_list : (before xs : List Picture) → xs ≡ [] → before ++ xs ≡ before
 same_list before xs none = rw none (append-nil before)
 
-segment_facts : (o : Option Picture) (segment : Segment) → is_on o segment ≡ true → ((p : Picture) → o ≡ Some p → IsScreenSize p.size) → (segment.v < 1024)
+segment_facts : (o : Option Picture) (segment : Segment) → is_segment_on o segment ≡ true → ((p : Picture) → o ≡ Some p → IsScreenSize p.size) →
+    (segment.v < 1024)
     × (segment.count ≤ 1024)
 segment_facts None segment h sized = absurd (cc)
 segment_facts (Some p) segment h sized =
@@ -151,13 +153,13 @@ spent_none : (b : Bool) (cuts south fed : ℕ) → fed ≤ 1055755 * cuts + (if 
 spent_none true cuts south fed a b = absurd (cc)
 spent_none false cuts south fed a b = omega arith
 
-cut_listed : (o : Option Picture) (before : List Picture) → is_none o ≡ false → (length (before ++ listed o) ≡ length before + 1)
-    × (last_of (before ++ listed o) ≡ o)
+cut_listed : (o : Option Picture) (before : List Picture) → is_none o ≡ false → (length (before ++ list_of_option o) ≡ length before + 1)
+    × (last_of (before ++ list_of_option o) ≡ o)
 cut_listed None before h = absurd (cc)
 cut_listed (Some p) before h = (length-append before (p ∷ []), last_of-push before p)
 
 module _ (s : Standing) (fed : ℕ) (before : List Picture) (k : IsAccount s fed before) (sized : (p : Picture) → s.screen ≡ Some p → IsScreenSize p.size) where
-  row_put : (segment : Segment) (t : Standing) (n : ℕ) → is_on s.screen segment ≡ true → nat_lt segment.v s.south ≡ false → n ≤ 1031 →
+  row_put : (segment : Segment) (t : Standing) (n : ℕ) → is_segment_on s.screen segment ≡ true → nat_lt segment.v s.south ≡ false → n ≤ 1031 →
       t.cuts ≡ s.cuts → t.within ≡ true → t.south ≡ segment.v + 1 → IsAccount t (fed + n) (before ++ cut_between s t)
   row_put segment t n on rises few cuts within south =
       let facts = segment_facts s.screen segment on sized in
@@ -171,10 +173,10 @@ module _ (s : Standing) (fed : ℕ) (before : List Picture) (k : IsAccount s fed
       }
 
   pub IsAccount-after : (header : Header) (pixels : List ℕ) → header_fault s header ≡ None →
-      IsAccount (after s header pixels) (fed + (len_of header + pixel_count header)) (before ++ cut_between s (after s header pixels))
-  unfolding after
+      IsAccount (after_record s header pixels) (fed + (len_of header + pixel_count header)) (before ++ cut_between s (after_record s header pixels))
+  unfolding after_record
   IsAccount-after (Screen wide high kind) pixels sound =
-      let t : Standing = after s (Screen wide high kind) pixels in
+      let t : Standing = after_record s (Screen wide high kind) pixels in
       let first : s.within ≡ false = (no_fault s (Screen wide high kind) sound).1 in
       let few = spent_none s.within s.cuts s.south fed k.spent first in
       record {
@@ -186,18 +188,19 @@ module _ (s : Standing) (fed : ℕ) (before : List Picture) (k : IsAccount s fed
       }
   IsAccount-after (Run segment) pixels sound =
       let f = no_fault s (Run segment) sound in
-      let on = not-false (is_on s.screen segment) f.2 in
-      row_put segment (after s (Run segment) pixels) (7 + segment.count) on (or_parts (is_none s.screen) (nat_lt segment.v s.south) f.1).1
+      let on = not-false (is_segment_on s.screen segment) f.2 in
+      row_put segment (after_record s (Run segment) pixels) (7 + segment.count) on (or_parts (is_none s.screen) (nat_lt segment.v s.south) f.1).1
       (omega (arith, (segment_facts s.screen segment on sized).1)) refl refl refl
   IsAccount-after (Fill segment) pixels sound =
       let f = no_fault s (Fill segment) sound in
-      row_put segment (after s (Fill segment) pixels) 8 (not-false (is_on s.screen segment) f.2) (or_parts (is_none s.screen) (nat_lt segment.v s.south) f.1).1
+      row_put segment (after_record s (Fill segment) pixels) 8 (not-false (is_segment_on s.screen segment) f.2)
+      (or_parts (is_none s.screen) (nat_lt segment.v s.south) f.1).1
       (omega arith) refl refl refl
   IsAccount-after (Cut number) pixels sound =
-      let t : Standing = after s (Cut number) pixels in
+      let t : Standing = after_record s (Cut number) pixels in
       let some = (or_parts (is_none s.screen) (not (number == s.cuts + 1)) (no_fault s (Cut number) sound).1).0 in
       let added = cut_listed s.screen before some in
-      let new : cut_between s t ≡ listed s.screen = rw (ne_eqb s.cuts (s.cuts + 1) (λ e. omega arith)) refl in
+      let new : cut_between s t ≡ list_of_option s.screen = rw (ne_eqb s.cuts (s.cuts + 1) (λ e. omega arith)) refl in
       record {
         cuts = rw new (omega (arith, added.0, k.cuts));
         last = λ _. rw new added.1;
@@ -218,24 +221,24 @@ pub record IsKept (m : Reading) (before : List Picture) : Type 0 where
   pub reading : IsReading m
   pub account : IsAccount m.standing m.fed before
 
-pub IsKept-read : (m : Reading) (before : List Picture) (xs : List ℕ) → IsKept m before → IsKept (read m xs) (before ++ shown_from m xs)
+pub IsKept-read : (m : Reading) (before : List Picture) (xs : List ℕ) → IsKept m before → IsKept (after_bytes m xs) (before ++ shown_from m xs)
 IsKept-read m before [] k = rw (append-nil before) k
 IsKept-read m before (x ∷ xs) k =
-    let n : Reading = next m x in
+    let n : Reading = after_byte m x in
     let step = IsStep-next m x k.reading in
     let now : List Picture = before ++ cut_between m.standing n.standing in
     let more = IsKept-read n now xs (record { reading = step.reading; account = account_step m n before k.reading k.account step }) in
-    subst (λ l. IsKept (read n xs) l) (append_assoc before (cut_between m.standing n.standing) (shown_from n xs)) more
+    subst (λ l. IsKept (after_bytes n xs) l) (append_assoc before (cut_between m.standing n.standing) (shown_from n xs)) more
 
 -- what every stream's reading has
-pub IsKept-reading_of : (stream : List ℕ) → IsKept (reading_of stream) (shown stream)
+pub IsKept-reading_of : (stream : List ℕ) → IsKept (reading_of stream) (screens_shown stream)
 IsKept-reading_of stream = IsKept-read at_first [] stream (record {
   reading = record { short = omega arith; sound = λ some. absurd (omega arith); sized = λ p h. absurd (cc) };
   account = record { cuts = refl; last = λ _. refl; spent = omega arith; south = omega arith; rested = λ _. refl };
 })
 
-pub shown_from-append : (m : Reading) (xs ys : List ℕ) → shown_from m (xs ++ ys) ≡ shown_from m xs ++ shown_from (read m xs) ys
+pub shown_from-append : (m : Reading) (xs ys : List ℕ) → shown_from m (xs ++ ys) ≡ shown_from m xs ++ shown_from (after_bytes m xs) ys
 shown_from-append m [] ys = refl
 shown_from-append m (x ∷ xs) ys =
-    ap (λ l. cut_between m.standing (next m x).standing ++ l) (shown_from-append (next m x) xs ys)
-    ∙ sym (append_assoc (cut_between m.standing (next m x).standing) (shown_from (next m x) xs) (shown_from (read (next m x) xs) ys))
+    ap (λ l. cut_between m.standing (after_byte m x).standing ++ l) (shown_from-append (after_byte m x) xs ys)
+    ∙ sym (append_assoc (cut_between m.standing (after_byte m x).standing) (shown_from (after_byte m x) xs) (shown_from (after_bytes (after_byte m x) xs) ys))

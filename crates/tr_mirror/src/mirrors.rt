@@ -3,8 +3,8 @@ ghost use Rattle.std.specs.Prelude.{Some, None, IsSome, IsTrue, IfOk, IfErr, OnO
 ghost use Rattle.tr_mirror.specs.declared.faults.MirrorFault.{MirrorFault};
 ghost use Rattle.tr_mirror.specs.Faults.{IsBytes, IsFirstFault, IsFailedAs, IsReadAs};
 ghost use Rattle.tr_mirror.specs.Readings as spec;
-ghost use Rattle.tr_mirror.specs.Readings.{at_first, read, reading_of, cut_between, shown_from};
-ghost use Rattle.tr_mirror.specs.Readings.{shown, last_of, outcome_of, longest_stream};
+ghost use Rattle.tr_mirror.specs.Readings.{at_first, after_bytes, reading_of, cut_between, shown_from};
+ghost use Rattle.tr_mirror.specs.Readings.{screens_shown, last_of, outcome_of, longest_stream};
 
 use crate::faults::MirrorFault;
 use crate::readers::Reader;
@@ -46,7 +46,7 @@ impl Mirror {
     /// fault each later call returns the same fault, and changes nothing.
     pub fn feed(&mut self, piece: &[u8]) -> Result<(), MirrorFault>
         requires { self.old.fed + length self.old.begun + length piece.now ≤ longest_stream }
-        ensures read { self.new ≡ read self.old piece.now }
+        ensures read { self.new ≡ after_bytes self.old piece.now }
         ensures outcome { result ≡ outcome_of self.new.fault }
 
         // No byte counts twice.
@@ -84,7 +84,7 @@ impl Mirror {
         requires { self.old.fed + length self.old.begun + length piece.now ≤ longest_stream }
         ensures count { IfOk result (λ n. n ≤ length piece.now) }
         ensures some { 0 < length piece.now → IfOk result (λ n. 0 < n) }
-        ensures read { IfOk result (λ n. self.new ≡ read self.old (take n piece.now)) }
+        ensures read { IfOk result (λ n. self.new ≡ after_bytes self.old (take n piece.now)) }
         ensures fine { OnOk result (self.new.fault ≡ None) }
 
         // No byte counts twice.
@@ -101,7 +101,7 @@ impl Mirror {
 
         // The fault is that of the whole piece.
         ensures fault { IfErr result (λ fault. self.new.fault ≡ Some fault) }
-        ensures err { OnErr result (self.new ≡ read self.old piece.now) }
+        ensures err { OnErr result (self.new ≡ after_bytes self.old piece.now) }
     {
         let cuts = self.reader.replica().cuts();
         let mut rest = piece;
@@ -133,7 +133,7 @@ impl Mirror {
     pub fn cuts(&self) -> u32
         ensures value { result ≡ self.now.standing.cuts }
         ensures stream { (stream : List ℕ) → self.now ≡ reading_of stream →
-            result ≡ length (shown stream) }
+            result ≡ length (screens_shown stream) }
     {
         self.reader.replica().cuts()
     }
@@ -151,7 +151,7 @@ impl Mirror {
         ensures value { IfOk result (λ s. self.now.standing.screen ≡ Some s) }
         ensures stream { (stream : List ℕ) → self.now ≡ reading_of stream →
             IsTrue (spec.is_between self.now) →
-            IfOk result (λ s. last_of (shown stream) ≡ Some s) }
+            IfOk result (λ s. last_of (screens_shown stream) ≡ Some s) }
     {
         self.reader.replica().screen()
     }

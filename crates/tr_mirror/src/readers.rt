@@ -3,7 +3,7 @@ ghost use Rattle.std.specs.Prelude.{IfOk, IfSome, OnSome, IsTrue};
 ghost use Rattle.tr_mirror.specs.Standings.{header_fault};
 ghost use Rattle.tr_mirror.specs.Headers.{header_len, header_of, record_len};
 ghost use Rattle.tr_mirror.specs.Readings as spec;
-ghost use Rattle.tr_mirror.specs.Readings.{IsReading, at_first, failed, taken, tried, read, longest_stream};
+ghost use Rattle.tr_mirror.specs.Readings.{IsReading, at_first, failed, record_taken, tried, after_bytes, longest_stream};
 ghost use Rattle.tr_mirror.specs.Pieces.{TakesFront, IsFaultless};
 
 use crate::begun::Begun;
@@ -62,10 +62,10 @@ fn is_whole(bytes: &[u8]) -> bool
 }
 
 /// The code of the fault that the last of a record's bytes so far shows.
-#[tactic(auto, unfolding(crate::specs::Readings::fault_of))]
+#[tactic(auto, unfolding(crate::specs::Readings::record_fault))]
 fn fault_of(replica: &Replica, bytes: &[u8]) -> Option<u8>
     requires { 0 < length bytes.now }
-    ensures { result ≡ spec.fault_of replica.now bytes.now }
+    ensures { result ≡ spec.record_fault replica.now bytes.now }
 {
     let header = header_len(bytes);
     if bytes.len() == 1 {
@@ -162,7 +162,7 @@ impl Reader {
         requires free { self.old.fault ≡ None }
         requires reading { IsReading self.old }
         requires limit { self.old.fed + length self.old.begun + length piece.now ≤ longest_stream }
-        ensures read { read self.new result.now ≡ read self.old piece.now }
+        ensures read { after_bytes self.new result.now ≡ after_bytes self.old piece.now }
         ensures front { TakesFront self.old self.new piece.now result.now }
         ensures shorter { length result.now < length piece.now }
         ensures reading { IsReading self.new }
@@ -199,7 +199,7 @@ impl Reader {
         requires begun { self.old.begun ≡ [] }
         requires fine { IsFaultless self.old.standing whole.now }
         requires limit { self.old.fed + length whole.now ≤ longest_stream }
-        ensures { self.new ≡ taken self.old whole.now }
+        ensures { self.new ≡ record_taken self.old whole.now }
     {
         self.replica
             .put(header_of(whole), &whole[header_len(whole)..]);
@@ -213,7 +213,7 @@ impl Reader {
         requires free { self.old.fault ≡ None }
         requires reading { IsReading self.old }
         requires limit { self.old.fed + length self.old.begun + length piece.now ≤ longest_stream }
-        ensures read { read self.new result.now ≡ read self.old piece.now }
+        ensures read { after_bytes self.new result.now ≡ after_bytes self.old piece.now }
         ensures front { TakesFront self.old self.new piece.now result.now }
         ensures shorter { length result.now < length piece.now }
         ensures reading { IsReading self.new }
@@ -263,7 +263,7 @@ impl Reader {
         requires whole { length self.old.begun ≡ record_len self.old.begun }
         requires sound { header_fault self.old.standing (header_of self.old.begun) ≡ None }
         requires limit { self.old.fed + length self.old.begun ≤ longest_stream }
-        ensures { self.new ≡ taken self.old self.old.begun }
+        ensures { self.new ≡ record_taken self.old self.old.begun }
     {
         let bytes = self.begun.as_slice();
         self.replica

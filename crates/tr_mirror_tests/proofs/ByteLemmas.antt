@@ -1,14 +1,14 @@
 -- A stream that is read byte by byte.
 use Rattle.std.proofs.Common.{◌≡◌, ℕ, ◌+◌, ◌<◌, ◌≤◌, List, [], ◌∷◌, ◌++◌, length, take, get_or, is_some, Bool, true, false, sym, ap, subst, ◌∙◌, arith, if◌then◌else◌}
 use Rattle.std.proofs.lemmas.List.{take_more, length-append}
-use Rattle.tr_mirror.specs.Readings.{Reading, IsReading, at_first, reading_of, next, tried, try_len}
+use Rattle.tr_mirror.specs.Readings.{Reading, IsReading, at_first, reading_of, after_byte, tried, try_len}
 use Rattle.tr_mirror.proofs.ReadingLemmas.{IsReading-tried, tried_fed, read-append}
 
 -- what has begun has room for a byte more
 one_more : (m : Reading) (byte : ℕ) → IsReading m → length m.begun + length (byte ∷ []) ≤ try_len m.begun
 one_more m byte w = omega (arith, w.short)
 
-IsReading-next : (m : Reading) (byte : ℕ) → IsReading m → IsReading (next m byte)
+IsReading-next : (m : Reading) (byte : ℕ) → IsReading m → IsReading (after_byte m byte)
 IsReading-next m byte w = by_fault (is_some m.fault)
   where
     by_fault : (b : Bool) → IsReading (if b then m else tried m (m.begun ++ byte ∷ []))
@@ -16,7 +16,7 @@ IsReading-next m byte w = by_fault (is_some m.fault)
     by_fault false = IsReading-tried m (byte ∷ []) w (omega arith) (one_more m byte w)
 
 -- no byte counts twice
-next_fed : (m : Reading) (byte : ℕ) → (next m byte).fed + length (next m byte).begun ≤ m.fed + length m.begun + 1
+next_fed : (m : Reading) (byte : ℕ) → (after_byte m byte).fed + length (after_byte m byte).begun ≤ m.fed + length m.begun + 1
 next_fed m byte = by_fault (is_some m.fault)
   where
     by_fault : (b : Bool) → (if b then m else tried m (m.begun ++ byte ∷ [])).fed
@@ -34,18 +34,18 @@ IsReading-first = record {
 
 -- the reading of one byte more
 reading_more : (stream : List ℕ) (i byte : ℕ) → i < length stream → get_or stream i 0 ≡ byte →
-    next (reading_of (take i stream)) byte ≡ reading_of (take (i + 1) stream)
+    after_byte (reading_of (take i stream)) byte ≡ reading_of (take (i + 1) stream)
 reading_more stream i byte within is =
     let at : ℕ = get_or stream i 0 in
-    ap (λ b. next (reading_of (take i stream)) b) (sym is) ∙ sym (read-append at_first (take i stream) (at ∷ []))
+    ap (λ b. after_byte (reading_of (take i stream)) b) (sym is) ∙ sym (read-append at_first (take i stream) (at ∷ []))
     ∙ sym (ap (λ l. reading_of l) (take_more stream i 0 within))
 
 -- ---- one byte more was read
 
-module _ (old new : Reading) (byte : ℕ) (is : new ≡ next old byte) where
+module _ (old new : Reading) (byte : ℕ) (is : new ≡ after_byte old byte) where
   pub more_read : (stream : List ℕ) (i : ℕ) → i < length stream → get_or stream i 0 ≡ byte → old ≡ reading_of (take i stream) →
       new ≡ reading_of (take (i + 1) stream)
-  more_read stream i within at done = is ∙ ap (λ r. next r byte) done ∙ reading_more stream i byte within at
+  more_read stream i within at done = is ∙ ap (λ r. after_byte r byte) done ∙ reading_more stream i byte within at
 
   pub goes_on : IsReading old → IsReading new
   goes_on w = subst IsReading (sym is) (IsReading-next old byte w)

@@ -3,7 +3,7 @@ ghost use Rattle.std.specs.Prelude.{◌≡◌, ◌+◌, ◌≤◌, ◌<◌, leng
 ghost use Rattle.tr_mirror.specs.Headers.{header_len, header_of, record_len};
 ghost use Rattle.tr_mirror.specs.Standings.{header_fault};
 ghost use Rattle.tr_mirror.specs.Readings as spec;
-ghost use Rattle.tr_mirror.specs.Readings.{IsReading, at_first, failed, taken, next, reading_of, longest_stream};
+ghost use Rattle.tr_mirror.specs.Readings.{IsReading, at_first, failed, record_taken, after_byte, reading_of, longest_stream};
 
 use crate::heads::{head_of, header_len, is_whole};
 use crate::plain_standings::PlainStanding;
@@ -53,7 +53,7 @@ impl PlainReading {
     fn take_byte(&mut self, alloc: Global, byte: u8) -> Result<(), NoMemory>
         requires reading { IsReading self.old }
         requires limit { self.old.fed + length self.old.begun < longest_stream }
-        ensures { OnOk result (self.new ≡ next self.old byte) }
+        ensures { OnOk result (self.new ≡ after_byte self.old byte) }
     {
         if self.fault.is_some() {
             return Ok(());
@@ -86,7 +86,7 @@ impl PlainReading {
         requires whole { length self.old.begun ≡ record_len self.old.begun }
         requires sound { header_fault self.old.standing (header_of self.old.begun) ≡ None }
         requires limit { self.old.fed + length self.old.begun ≤ longest_stream }
-        ensures { OnOk result (self.new ≡ taken self.old self.old.begun) }
+        ensures { OnOk result (self.new ≡ record_taken self.old self.old.begun) }
     {
         let bytes = self.begun.as_slice();
         self.standing
@@ -98,10 +98,10 @@ impl PlainReading {
 }
 
 /// The code of the fault that the last of a record's bytes so far shows.
-#[tactic(auto, unfolding(tr_mirror::specs::Readings::fault_of))]
+#[tactic(auto, unfolding(tr_mirror::specs::Readings::record_fault))]
 fn fault_of(standing: &PlainStanding, bytes: &[u8]) -> Option<u8>
     requires { 0 < length bytes.now }
-    ensures { result ≡ spec.fault_of standing.now bytes.now }
+    ensures { result ≡ spec.record_fault standing.now bytes.now }
 {
     let header = header_len(bytes);
     if bytes.len() == 1 {

@@ -6,7 +6,7 @@ ghost use Rattle.tr_base.specs.Ops.{values_of};
 ghost use Rattle.tr_screen.specs.Pictures.{IsScreenSize, written_at};
 ghost use Rattle.tr_mirror.specs.Headers.{pixel_count};
 ghost use Rattle.tr_mirror.specs.Standings as spec;
-ghost use Rattle.tr_mirror.specs.Standings.{start, begun, with_pixels, cut_off, painted, after};
+ghost use Rattle.tr_mirror.specs.Standings.{stream_start, begun, with_pixels, cut_off, pixels_written, after_record};
 ghost use Rattle.tr_mirror_tests.specs.Heads.{segment, header};
 
 use crate::heads::{Head, Place};
@@ -43,7 +43,7 @@ impl Model for PlainStanding {
 
 impl PlainStanding {
     pub fn new(alloc: Global) -> Result<PlainStanding, NoMemory>
-        ensures { IfOk result (λ s. s ≡ start) }
+        ensures { IfOk result (λ s. s ≡ stream_start) }
     {
         Ok(PlainStanding {
             screen: Screen::blank(alloc, Size { wide: 1, high: 1 }, Kind::Mono)?,
@@ -68,7 +68,7 @@ impl PlainStanding {
     }
 
     fn is_misplaced(&self, head: Head) -> bool
-        ensures { result ≡ spec.is_misplaced self.now (header head) }
+        ensures { result ≡ spec.is_out_of_place self.now (header head) }
     {
         match head {
             Head::Screen(..) => self.within,
@@ -78,7 +78,7 @@ impl PlainStanding {
     }
 
     fn is_on(&self, place: Place) -> bool
-        ensures { result ≡ spec.is_on self.now.screen (segment place) }
+        ensures { result ≡ spec.is_segment_on self.now.screen (segment place) }
     {
         let size = self.screen.size();
         self.came
@@ -126,11 +126,11 @@ impl PlainStanding {
     }
 
     /// Does what a whole record says.
-    #[tactic(auto, unfolding(tr_mirror::specs::Standings::after))]
+    #[tactic(auto, unfolding(tr_mirror::specs::Standings::after_record))]
     pub fn put(&mut self, alloc: Global, head: Head, pixels: &[u8]) -> Result<(), NoMemory>
         requires count { length pixels.now ≡ pixel_count (header head) }
         requires sound { spec.header_fault self.old (header head) ≡ None }
-        ensures { OnOk result (self.new ≡ after self.old (header head) pixels.now) }
+        ensures { OnOk result (self.new ≡ after_record self.old (header head) pixels.now) }
     {
         match head {
             Head::Screen(wide, high, kind) => self.begin(alloc, Size { wide, high }, kind_of(kind)),
@@ -155,7 +155,7 @@ impl PlainStanding {
     }
 
     fn write(&mut self, place: Place, pixels: &[u8])
-        requires on { spec.is_on self.old.screen (segment place) ≡ true }
+        requires on { spec.is_segment_on self.old.screen (segment place) ≡ true }
         requires count { length pixels.now ≡ place.count }
         ensures { self.new ≡ with_pixels self.old (segment place) pixels.now }
     {
@@ -175,11 +175,11 @@ impl PlainStanding {
 }
 
 /// Writes pixels over row `v`, from place `west` on.
-#[tactic(auto, unfolding(tr_mirror::specs::Standings::painted))]
+#[tactic(auto, unfolding(tr_mirror::specs::Standings::pixels_written))]
 fn paint(screen: &mut Screen, v: u16, west: u16, pixels: &[u8])
     requires row { v < screen.old.size.high }
     requires room { west + length pixels.now ≤ screen.old.size.wide }
-    ensures painted { screen.new ≡ painted screen.old v west pixels.now }
+    ensures painted { screen.new ≡ pixels_written screen.old v west pixels.now }
     ensures range { IsScreenSize screen.old.size }
 {
     write_over(screen.row_mut(v), usize::from(west), pixels);

@@ -13,7 +13,7 @@ use Rattle.tr_base.specs.Layouts.{greatest_by, turned, placed, IsPartOf, ShareNo
 use Rattle.tr_base.proofs.RectLemmas.{has_point-rect_of, has_point-meet_of}
 use Rattle.tr_base.proofs.LayoutLemmas.{ordered, turned_is_rect, turned_apart, turned-meet_of, part-meet_of, part_of_empty, all_pairs_cons, all_pairs_append}
 use Rattle.tr_pack.specs.Cuts.{Extent, extents, joined, cut}
-use Rattle.tr_pack.specs.Packs.{PlaceOf, room_of, pack_places, depth_of, row_start, start_in_row, place_across, place_of, row_places, all_places}
+use Rattle.tr_pack.specs.Packs.{PlaceOf, room_of, pack_places, depth_of, start_of_row, start_in_row, place_in_row_across, place_in_row, row_places, all_places}
 use Rattle.tr_pack.proofs.PackLemmas.{length-extents}
 use Rattle.tr_pack.proofs.CutLemmas.{cut_is_right}
 
@@ -71,19 +71,19 @@ from_low : (low high x : ℤ) → between low high x ≡ true → (low ≤ℤ x)
 from_low low high x h = (grind (arith, ints), grind (arith, ints))
 
 place_after : (e : Edges) (gap : ℕ) (rows : List (List Extent)) (row : List Extent) (x : Extent) →
-    IsAfter e (start_in_row gap row) (place_across e gap rows row x)
+    IsAfter e (start_in_row gap row) (place_in_row_across e gap rows row x)
 place_after e gap rows row x = record {
   points = λ p on.
-      let all = place_has e (start_in_row gap row) (row_start gap (sides_of e).1 rows) (x.long, x.deep) p on in
+      let all = place_has e (start_in_row gap row) (start_of_row gap (sides_of e).1 rows) (x.long, x.deep) p on in
       let mine = (both_true _ _ all).1 in
       (from_low _ _ _ (both_true _ _ mine).0).0;
 }
 
 place_before : (e : Edges) (gap : ℕ) (rows : List (List Extent)) (row : List Extent) (x : Extent) →
-    IsBefore e (start_in_row gap row + x.long) (place_across e gap rows row x)
+    IsBefore e (start_in_row gap row + x.long) (place_in_row_across e gap rows row x)
 place_before e gap rows row x = record {
   points = λ p on.
-      let all = place_has e (start_in_row gap row) (row_start gap (sides_of e).1 rows) (x.long, x.deep) p on in
+      let all = place_has e (start_in_row gap row) (start_of_row gap (sides_of e).1 rows) (x.long, x.deep) p on in
       let mine = (both_true _ _ all).1 in
       as_one e.west p.h (start_in_row gap row) x.long (from_low _ _ _ (both_true _ _ mine).0).1;
 }
@@ -92,22 +92,22 @@ place_before e gap rows row x = record {
     as_one w h m n lt = omega (arith, ints)
 
 place_under : (e : Edges) (gap : ℕ) (rows : List (List Extent)) (row : List Extent) (x : Extent) →
-    IsUnder e (row_start gap (sides_of e).1 rows) (place_across e gap rows row x)
+    IsUnder e (start_of_row gap (sides_of e).1 rows) (place_in_row_across e gap rows row x)
 place_under e gap rows row x = record {
   points = λ p on.
-      let all = place_has e (start_in_row gap row) (row_start gap (sides_of e).1 rows) (x.long, x.deep) p on in
+      let all = place_has e (start_in_row gap row) (start_of_row gap (sides_of e).1 rows) (x.long, x.deep) p on in
       let mine = (both_true _ _ all).1 in
       (from_low _ _ _ (both_true _ _ mine).1).0;
 }
 
 place_over : (e : Edges) (gap : ℕ) (rows : List (List Extent)) (row : List Extent) (x : Extent) → IsRect e →
-    IsOver e (min (row_start gap (sides_of e).1 rows + x.deep) (sides_of e).1) (place_across e gap rows row x)
+    IsOver e (min (start_of_row gap (sides_of e).1 rows + x.deep) (sides_of e).1) (place_in_row_across e gap rows row x)
 place_over e gap rows row x is = record {
   points = λ p on.
-      let all = both_true _ _ (place_has e (start_in_row gap row) (row_start gap (sides_of e).1 rows) (x.long, x.deep) p on) in
+      let all = both_true _ _ (place_has e (start_in_row gap row) (start_of_row gap (sides_of e).1 rows) (x.long, x.deep) p on) in
       let node = (from_low _ _ _ (both_true _ _ all.0).1).1 in
       let mine = (from_low _ _ _ (both_true _ _ all.1).1).1 in
-      within e.north e.south p.v (row_start gap (sides_of e).1 rows) x.deep (ordered e is).1 node mine;
+      within e.north e.south p.v (start_of_row gap (sides_of e).1 rows) x.deep (ordered e is).1 node mine;
 }
   where
     within : (n s v : ℤ) (y d : ℕ) → n ≤ℤ s → v <ℤ s → v <ℤ (n +ℤ pos y +ℤ pos d) → v <ℤ (n +ℤ pos (min (y + d) (unsigned_abs (s -ℤ n))))
@@ -124,36 +124,37 @@ start_grows : (gap : ℕ) (row : List Extent) (x : Extent) → start_in_row gap 
 start_grows gap row x = omega (arith, sum_by_push (λ (x : Extent). x.long + gap) row x)
 
 row_after : (e : Edges) (gap : ℕ) (rows : List (List Extent)) (row xs : List Extent) →
-    All (IsAfter e (start_in_row gap row)) (row_places (place_across e gap) rows row xs)
+    All (IsAfter e (start_in_row gap row)) (row_places (place_in_row_across e gap) rows row xs)
 row_after e gap rows row [] = All-nil (IsAfter e (start_in_row gap row))
 row_after e gap rows row (x ∷ xs) =
-    let rest = row_places (place_across e gap) rows (row ++ x ∷ []) xs in
-    All-cons (IsAfter e (start_in_row gap row)) (place_across e gap rows row x) rest (place_after e gap rows row x)
+    let rest = row_places (place_in_row_across e gap) rows (row ++ x ∷ []) xs in
+    All-cons (IsAfter e (start_in_row gap row)) (place_in_row_across e gap rows row x) rest (place_after e gap rows row x)
     (All-weaker (IsAfter e (start_in_row gap (row ++ x ∷ []))) (IsAfter e (start_in_row gap row))
     (λ r h. no_more_after e (start_in_row gap (row ++ x ∷ [])) (start_in_row gap row) r (omega (arith, start_grows gap row x)) h) rest
     (row_after e gap rows (row ++ x ∷ []) xs))
 
-row_apart : (e : Edges) (gap : ℕ) (rows : List (List Extent)) (row xs : List Extent) → AllPairs ShareNoPoint (row_places (place_across e gap) rows row xs)
+row_apart : (e : Edges) (gap : ℕ) (rows : List (List Extent)) (row xs : List Extent) →
+    AllPairs ShareNoPoint (row_places (place_in_row_across e gap) rows row xs)
 row_apart e gap rows row [] = λ i j d lt below. absurd (omega arith)
 row_apart e gap rows row (x ∷ xs) =
-    let rest = row_places (place_across e gap) rows (row ++ x ∷ []) xs in
-    all_pairs_cons ShareNoPoint (place_across e gap rows row x) rest
-    (All-weaker (IsAfter e (start_in_row gap (row ++ x ∷ []))) (ShareNoPoint (place_across e gap rows row x))
-    (λ r h. beside e (start_in_row gap row + x.long) (start_in_row gap (row ++ x ∷ [])) (place_across e gap rows row x) r (start_grows gap row x)
+    let rest = row_places (place_in_row_across e gap) rows (row ++ x ∷ []) xs in
+    all_pairs_cons ShareNoPoint (place_in_row_across e gap rows row x) rest
+    (All-weaker (IsAfter e (start_in_row gap (row ++ x ∷ []))) (ShareNoPoint (place_in_row_across e gap rows row x))
+    (λ r h. beside e (start_in_row gap row + x.long) (start_in_row gap (row ++ x ∷ [])) (place_in_row_across e gap rows row x) r (start_grows gap row x)
     (place_before e gap rows row x) h)
     rest (row_after e gap rows (row ++ x ∷ []) xs))
     (row_apart e gap rows (row ++ x ∷ []) xs)
 
 -- a row ends before the next one begins
 row_over : (e : Edges) (gap deep : ℕ) (rows : List (List Extent)) (row xs : List Extent) → IsRect e → greatest_by (λ (x : Extent). x.deep) xs ≤ deep →
-    All (IsOver e (min (row_start gap (sides_of e).1 rows + deep) (sides_of e).1)) (row_places (place_across e gap) rows row xs)
-row_over e gap deep rows row [] is le = All-nil (IsOver e (min (row_start gap (sides_of e).1 rows + deep) (sides_of e).1))
+    All (IsOver e (min (start_of_row gap (sides_of e).1 rows + deep) (sides_of e).1)) (row_places (place_in_row_across e gap) rows row xs)
+row_over e gap deep rows row [] is le = All-nil (IsOver e (min (start_of_row gap (sides_of e).1 rows + deep) (sides_of e).1))
 row_over e gap deep rows row (x ∷ xs) is le =
-    let y : ℕ = row_start gap (sides_of e).1 rows in
+    let y : ℕ = start_of_row gap (sides_of e).1 rows in
     let side : ℕ = (sides_of e).1 in
     let small : x.deep ≤ deep = omega arith in
-    All-cons (IsOver e (min (y + deep) side)) (place_across e gap rows row x) (row_places (place_across e gap) rows (row ++ x ∷ []) xs)
-    (no_more_over e (min (y + x.deep) side) (min (y + deep) side) (place_across e gap rows row x) (grows y x.deep deep side small)
+    All-cons (IsOver e (min (y + deep) side)) (place_in_row_across e gap rows row x) (row_places (place_in_row_across e gap) rows (row ++ x ∷ []) xs)
+    (no_more_over e (min (y + x.deep) side) (min (y + deep) side) (place_in_row_across e gap rows row x) (grows y x.deep deep side small)
     (place_over e gap rows row x is))
     (row_over e gap deep rows (row ++ x ∷ []) xs is (omega arith))
   where
@@ -169,35 +170,35 @@ all_of_places P place passed (row ∷ rows) each =
     (all_of_places P place (passed ++ row ∷ []) rows each)
 
 next_row : (gap side : ℕ) (rows : List (List Extent)) (row : List Extent) →
-    min (row_start gap side rows + depth_of row) side ≤ row_start gap side (rows ++ row ∷ [])
+    min (start_of_row gap side rows + depth_of row) side ≤ start_of_row gap side (rows ++ row ∷ [])
 next_row gap side rows row = by_sum (sum_by (λ (r : List Extent). depth_of r + gap) rows) (depth_of row)
     (sum_by (λ (r : List Extent). depth_of r + gap) (rows ++ row ∷ [])) (sum_by_push (λ (r : List Extent). depth_of r + gap) rows row)
   where
     by_sum : (s d t : ℕ) → t ≡ s + (d + gap) → min (min s side + d) side ≤ min t side
     by_sum s d t h = omega arith
 
-row_start_grows : (gap side : ℕ) (rows : List (List Extent)) (row : List Extent) → row_start gap side rows ≤ row_start gap side (rows ++ row ∷ [])
+row_start_grows : (gap side : ℕ) (rows : List (List Extent)) (row : List Extent) → start_of_row gap side rows ≤ start_of_row gap side (rows ++ row ∷ [])
 row_start_grows gap side rows row = omega (arith, sum_by_push (λ (r : List Extent). depth_of r + gap) rows row)
 
 rows_under : (e : Edges) (gap : ℕ) (passed rows : List (List Extent)) →
-    All (IsUnder e (row_start gap (sides_of e).1 passed)) (all_places (place_across e gap) passed rows)
-rows_under e gap passed [] = All-nil (IsUnder e (row_start gap (sides_of e).1 passed))
+    All (IsUnder e (start_of_row gap (sides_of e).1 passed)) (all_places (place_in_row_across e gap) passed rows)
+rows_under e gap passed [] = All-nil (IsUnder e (start_of_row gap (sides_of e).1 passed))
 rows_under e gap passed (row ∷ rows) =
-    let top : ℕ = row_start gap (sides_of e).1 passed in
-    let next : ℕ = row_start gap (sides_of e).1 (passed ++ row ∷ []) in
-    let rest = all_places (place_across e gap) (passed ++ row ∷ []) rows in
-    All-append (IsUnder e top) (row_places (place_across e gap) passed [] row) rest
-    (all_of_row (IsUnder e top) (place_across e gap) passed [] row (λ r x. place_under e gap passed r x))
+    let top : ℕ = start_of_row gap (sides_of e).1 passed in
+    let next : ℕ = start_of_row gap (sides_of e).1 (passed ++ row ∷ []) in
+    let rest = all_places (place_in_row_across e gap) (passed ++ row ∷ []) rows in
+    All-append (IsUnder e top) (row_places (place_in_row_across e gap) passed [] row) rest
+    (all_of_row (IsUnder e top) (place_in_row_across e gap) passed [] row (λ r x. place_under e gap passed r x))
     (All-weaker (IsUnder e next) (IsUnder e top) (λ r h. no_more_under e next top r (row_start_grows gap (sides_of e).1 passed row) h) rest
     (rows_under e gap (passed ++ row ∷ []) rows))
 
-places_apart : (e : Edges) (gap : ℕ) (passed rows : List (List Extent)) → IsRect e → AllPairs ShareNoPoint (all_places (place_across e gap) passed rows)
+places_apart : (e : Edges) (gap : ℕ) (passed rows : List (List Extent)) → IsRect e → AllPairs ShareNoPoint (all_places (place_in_row_across e gap) passed rows)
 places_apart e gap passed [] is = λ i j d lt below. absurd (omega arith)
 places_apart e gap passed (row ∷ rows) is =
-    let first = row_places (place_across e gap) passed [] row in
-    let rest = all_places (place_across e gap) (passed ++ row ∷ []) rows in
-    let bottom : ℕ = min (row_start gap (sides_of e).1 passed + depth_of row) (sides_of e).1 in
-    let top : ℕ = row_start gap (sides_of e).1 (passed ++ row ∷ []) in
+    let first = row_places (place_in_row_across e gap) passed [] row in
+    let rest = all_places (place_in_row_across e gap) (passed ++ row ∷ []) rows in
+    let bottom : ℕ = min (start_of_row gap (sides_of e).1 passed + depth_of row) (sides_of e).1 in
+    let top : ℕ = start_of_row gap (sides_of e).1 (passed ++ row ∷ []) in
     all_pairs_append ShareNoPoint first rest (row_apart e gap passed [] row) (places_apart e gap (passed ++ row ∷ []) rows is)
     (All-weaker (IsOver e bottom) (λ (a : Edges). All (ShareNoPoint a) rest)
     (λ a over. All-weaker (IsUnder e top) (ShareNoPoint a) (λ b under. above e bottom top a b (next_row gap (sides_of e).1 passed row) over under) rest
@@ -206,19 +207,19 @@ places_apart e gap passed (row ∷ rows) is =
 
 -- ---- in both axes
 turned_row : (down : Bool) (e : Edges) (gap : ℕ) (rows : List (List Extent)) (row xs : List Extent) →
-    row_places (place_of down e gap) rows row xs ≡ map (turned down) (row_places (place_across (turned down e) gap) rows row xs)
+    row_places (place_in_row down e gap) rows row xs ≡ map (turned down) (row_places (place_in_row_across (turned down e) gap) rows row xs)
 turned_row down e gap rows row [] = refl
-turned_row down e gap rows row (x ∷ xs) = ap (λ (l : List Edges). place_of down e gap rows row x ∷ l) (turned_row down e gap rows (row ++ x ∷ []) xs)
+turned_row down e gap rows row (x ∷ xs) = ap (λ (l : List Edges). place_in_row down e gap rows row x ∷ l) (turned_row down e gap rows (row ++ x ∷ []) xs)
 
 turned_places : (down : Bool) (e : Edges) (gap : ℕ) (passed rows : List (List Extent)) →
-    all_places (place_of down e gap) passed rows ≡ map (turned down) (all_places (place_across (turned down e) gap) passed rows)
+    all_places (place_in_row down e gap) passed rows ≡ map (turned down) (all_places (place_in_row_across (turned down e) gap) passed rows)
 turned_places down e gap passed [] = refl
 turned_places down e gap passed (row ∷ rows) =
-    ap (λ (l : List Edges). l ++ all_places (place_of down e gap) (passed ++ row ∷ []) rows) (turned_row down e gap passed [] row)
-    ∙ ap (λ (l : List Edges). map (turned down) (row_places (place_across (turned down e) gap) passed [] row) ++ l)
+    ap (λ (l : List Edges). l ++ all_places (place_in_row down e gap) (passed ++ row ∷ []) rows) (turned_row down e gap passed [] row)
+    ∙ ap (λ (l : List Edges). map (turned down) (row_places (place_in_row_across (turned down e) gap) passed [] row) ++ l)
     (turned_places down e gap (passed ++ row ∷ []) rows)
-    ∙ sym (map-append (turned down) (row_places (place_across (turned down e) gap) passed [] row)
-    (all_places (place_across (turned down e) gap) (passed ++ row ∷ []) rows))
+    ∙ sym (map-append (turned down) (row_places (place_in_row_across (turned down e) gap) passed [] row)
+    (all_places (place_in_row_across (turned down e) gap) (passed ++ row ∷ []) rows))
 
 apart_turned : (down : Bool) (xs : List Edges) → AllPairs ShareNoPoint xs → AllPairs ShareNoPoint (map (turned down) xs)
 apart_turned down xs h i j d lt below =
@@ -228,20 +229,20 @@ apart_turned down xs h i j d lt below =
     (turned_apart down (get_or xs i empty_rect) (get_or xs j empty_rect) (h i j empty_rect lt within))
 
 -- the children of a node are parts of it, no two share a point, and in an empty node they are empty
-packed_apart : (down : Bool) (gap : ℕ) (e : Edges) (rows : List (List Extent)) → IsRect e → AllPairs ShareNoPoint (all_places (place_of down e gap) [] rows)
+packed_apart : (down : Bool) (gap : ℕ) (e : Edges) (rows : List (List Extent)) → IsRect e → AllPairs ShareNoPoint (all_places (place_in_row down e gap) [] rows)
 packed_apart down gap e rows is =
     rw (turned_places down e gap [] rows)
-    (apart_turned down (all_places (place_across (turned down e) gap) [] rows) (places_apart (turned down e) gap [] rows (turned_is_rect down e is)))
+    (apart_turned down (all_places (place_in_row_across (turned down e) gap) [] rows) (places_apart (turned down e) gap [] rows (turned_is_rect down e is)))
 
-packed_part : (down : Bool) (gap : ℕ) (e : Edges) (rows : List (List Extent)) → All (λ (r : Edges). IsPartOf r e) (all_places (place_of down e gap) [] rows)
-packed_part down gap e rows = all_of_places (λ (r : Edges). IsPartOf r e) (place_of down e gap) [] rows (λ rs r x.
+packed_part : (down : Bool) (gap : ℕ) (e : Edges) (rows : List (List Extent)) → All (λ (r : Edges). IsPartOf r e) (all_places (place_in_row down e gap) [] rows)
+packed_part down gap e rows = all_of_places (λ (r : Edges). IsPartOf r e) (place_in_row down e gap) [] rows (λ rs r x.
     rw turned-meet_of (part-meet_of e (turned down
-    (placed (turned down e) (pos (start_in_row gap r)) (pos (row_start gap (sides_of (turned down e)).1 rs)) (x.long, x.deep)))))
+    (placed (turned down e) (pos (start_in_row gap r)) (pos (start_of_row gap (sides_of (turned down e)).1 rs)) (x.long, x.deep)))))
 
 packed_empty : (down : Bool) (gap : ℕ) (e : Edges) (rows : List (List Extent)) → e ≡ empty_rect →
-    All (λ (r : Edges). r ≡ empty_rect) (all_places (place_of down e gap) [] rows)
-packed_empty down gap e rows h = all_of_places (λ (r : Edges). r ≡ empty_rect) (place_of down e gap) [] rows (λ rs r x.
-    let whole = placed (turned down e) (pos (start_in_row gap r)) (pos (row_start gap (sides_of (turned down e)).1 rs)) (x.long, x.deep) in
+    All (λ (r : Edges). r ≡ empty_rect) (all_places (place_in_row down e gap) [] rows)
+packed_empty down gap e rows h = all_of_places (λ (r : Edges). r ≡ empty_rect) (place_in_row down e gap) [] rows (λ rs r x.
+    let whole = placed (turned down e) (pos (start_in_row gap r)) (pos (start_of_row gap (sides_of (turned down e)).1 rs)) (x.long, x.deep) in
     turned-meet_of down e whole ∙ ap (λ (n : Edges). meet_of n (turned down whole)) h ∙ none (turned down whole))
   where
     none : (t : Edges) → meet_of empty_rect t ≡ empty_rect
@@ -276,4 +277,4 @@ pub length-pack_places : (down : Bool) (gap : ℕ) (e : Edges) (cs : List Shapes
 length-pack_places down gap e cs =
     let room : ℕ = room_of down e in
     let xs : List Extent = extents down room cs in
-    length-all_places (place_of down e gap) [] (cut room gap xs) ∙ ap length (cut_is_right room gap xs).whole ∙ length-extents down room cs
+    length-all_places (place_in_row down e gap) [] (cut room gap xs) ∙ ap length (cut_is_right room gap xs).whole ∙ length-extents down room cs

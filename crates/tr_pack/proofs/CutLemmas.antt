@@ -5,7 +5,7 @@ use Rattle.std.proofs.lemmas.Bool.Decides.{nat_tests}
 use Rattle.std.proofs.lemmas.List.{append_assoc, append_cancel_left, take-append-le, take_at, length-take}
 use Rattle.std.proofs.lemmas.List.Sums.{sum_by-take-le}
 use Rattle.std.proofs.Math.Nat.{mul-le-mul_left}
-use Rattle.tr_pack.specs.Cuts.{Extent, row_length, IsRow, IsFull, AreRows, joined, IsCut, cut_from, cut}
+use Rattle.tr_pack.specs.Cuts.{Extent, row_length, IsRow, IsFull, AreRows, joined, IsRowCut, cut_from, cut}
 
 -- ---- the cut is right
 
@@ -55,7 +55,7 @@ joined-cut_from room gap row (x ∷ xs) =
     by_test true longer next = longer ∙ append_assoc row (x ∷ []) xs
     by_test false longer next = ap (λ (l : List Extent). row ++ l) next
 
-pub cut_is_right : (room gap : ℕ) (xs : List Extent) → IsCut room gap xs (cut room gap xs)
+pub cut_is_right : (room gap : ℕ) (xs : List Extent) → IsRowCut room gap xs (cut room gap xs)
 cut_is_right room gap [] = record { whole = refl; right = tt }
 cut_is_right room gap (x ∷ xs) = record { whole = joined-cut_from room gap (x ∷ []) xs; right = rows_from room gap (x ∷ []) xs (one_row room gap x) }
 
@@ -109,7 +109,7 @@ same_rows room gap (r ∷ rs) (s ∷ ss) is are same = by_tests (nat_lt (length 
     by_tests false false h k rest = equal (grind (arith, nat_tests)) rest
 
 -- whatever rows are right, they are the cut
-pub only_cut : (room gap : ℕ) (xs : List Extent) (rows : List (List Extent)) → IsCut room gap xs rows → rows ≡ cut room gap xs
+pub only_cut : (room gap : ℕ) (xs : List Extent) (rows : List (List Extent)) → IsRowCut room gap xs rows → rows ≡ cut room gap xs
 only_cut room gap xs rows is =
     let right = cut_is_right room gap xs in
     same_rows room gap rows (cut room gap xs) is.right right.right (is.whole ∙ sym right.whole)

@@ -11,7 +11,7 @@ use Rattle.tr_base.specs.Layouts.{turned, placed}
 use Rattle.tr_base.proofs.LayoutLemmas.{greatest_by_push, turned-meet_of}
 use Rattle.tr_pack.specs.declared.packs.Pen.{Pen}
 use Rattle.tr_pack.specs.Cuts.{Extent, extent_of, extents, row_length, cut_from, cut}
-use Rattle.tr_pack.specs.Packs.{PlaceOf, depth_of, row_start, start_in_row, place_of, row_places, all_places}
+use Rattle.tr_pack.specs.Packs.{PlaceOf, depth_of, start_of_row, start_in_row, place_in_row, row_places, all_places}
 use Rattle.tr_pack.specs.Pens.{moved_for, passed}
 
 -- ---- one more child in the last row
@@ -74,7 +74,7 @@ pub record Stands (p : Packing) (k : ℕ) (items : List Edges) (pen : Pen) : Typ
   pub cut : above ++ cut_from p.room p.gap row (drop k p.xs) ≡ cut_from p.room p.gap [] p.xs
   pub places : items ≡ all_places p.place [] (above ++ row ∷ [])
   pub along : pen.along ≡ start_in_row p.gap row
-  pub start : pen.start ≡ row_start p.gap p.side above
+  pub start : pen.start ≡ start_of_row p.gap p.side above
   pub deep : pen.deep ≡ depth_of row
 
 pub stands_first : (p : Packing) (items : List Edges) (pen : Pen) → items ≡ [] → pen ≡ record { along = 0; start = 0; deep = 0 } → Stands p 0 items pen
@@ -115,7 +115,7 @@ stands_moved p k items pen x lt is le s = by_test (nat_le (pen.along + x.long) p
         ap (λ (l : List (List Extent)). (s.above ++ s.row ∷ []) ++ l) first
         ∙ append_assoc s.above (s.row ∷ []) (cut_from p.room p.gap (x ∷ []) (drop (k + 1) p.xs)) ∙ old
 
-    begins : min (pen.start + pen.deep + p.gap) p.side ≡ row_start p.gap p.side (s.above ++ s.row ∷ [])
+    begins : min (pen.start + pen.deep + p.gap) p.side ≡ start_of_row p.gap p.side (s.above ++ s.row ∷ [])
     begins = omega (arith, s.start, s.deep, sum_by_push (λ (row : List Extent). depth_of row + p.gap) s.above s.row)
 
     by_test : (b : Bool) → nat_le (pen.along + x.long) p.room ≡ b → Stands p k items (cond b pen next) × ((cond b pen next).along + x.long ≤ p.room)
@@ -167,7 +167,7 @@ stands_last p k items pen le fits s =
 
 -- what is packed in a node
 abbrev pub packing : Bool → Edges → ℕ → ℕ × ℕ → List Shapes → Packing
-packing down e gap sides cs = record { place = place_of down e gap; room = sides.0; side = sides.1; gap = gap; xs = extents down sides.0 cs }
+packing down e gap sides cs = record { place = place_in_row down e gap; room = sides.0; side = sides.1; gap = gap; xs = extents down sides.0 cs }
 
 -- what the loop makes of the k-th child
 pub extent_read : (down : Bool) (room : ℕ) (cs : List Shapes) (k : ℕ) (child : Shapes) (x : Extent) → k < length cs → child ≡ get_or cs k child →
@@ -188,9 +188,9 @@ pub place_is : (down : Bool) (e : Edges) (gap : ℕ) (sides : ℕ × ℕ) (cs : 
     (whole r : Edges) → sides ≡ sides_of (turned down e) →
     (s : Stands (packing down e gap sides cs) k items pen) →
     whole ≡ turned down (placed (turned down e) (pos pen.along) (pos pen.start) (x.long, x.deep)) → r ≡ meet_of e whole →
-    r ≡ place_of down e gap s.above s.row x
+    r ≡ place_in_row down e gap s.above s.row x
 place_is down e gap sides cs k items pen x whole r is s placed' meets =
     let side : sides.1 ≡ (sides_of (turned down e)).1 = ap (λ (p : ℕ × ℕ). p.1) is in
     let whole' = rw (s.along, s.start, side) at placed' in
     rw (meets, whole') (sym (turned-meet_of down e
-    (placed (turned down e) (pos (start_in_row gap s.row)) (pos (row_start gap (sides_of (turned down e)).1 s.above)) (x.long, x.deep))))
+    (placed (turned down e) (pos (start_in_row gap s.row)) (pos (start_of_row gap (sides_of (turned down e)).1 s.above)) (x.long, x.deep))))

@@ -41,7 +41,7 @@ joined [] = []
 joined (row ∷ rows) = row ++ joined rows
 
 -- the rows are the right cut of the children
-pub record IsCut (room gap : ℕ) (children : List Extent) (rows : List (List Extent)) : Type 0 where
+pub record IsRowCut (room gap : ℕ) (children : List Extent) (rows : List (List Extent)) : Type 0 where
   pub whole : joined rows ≡ children
   pub right : AreRows room gap rows
 
@@ -52,7 +52,7 @@ cut_from room gap row (x ∷ xs) =
     if nat_le (row_length gap (row ++ x ∷ [])) room then cut_from room gap (row ++ x ∷ []) xs
     else row ∷ cut_from room gap (x ∷ []) xs
 
--- the right cut, as a function: it is the only one that `IsCut` allows
+-- the right cut, as a function: it is the only one that `IsRowCut` allows
 abbrev pub cut : ℕ → ℕ → List Extent → List (List Extent)
 cut room gap [] = []
 cut room gap (x ∷ xs) = cut_from room gap (x ∷ []) xs

@@ -34,8 +34,8 @@ abbrev pub depth_of : List Extent → ℕ
 depth_of row = greatest_by (λ x. x.deep) row
 
 -- a row begins behind the rows before it and a gap after each, or at the node's far side if that is nearer
-abbrev pub row_start : ℕ → ℕ → List (List Extent) → ℕ
-row_start gap side rows = min (sum_by (λ row. depth_of row + gap) rows) side
+abbrev pub start_of_row : ℕ → ℕ → List (List Extent) → ℕ
+start_of_row gap side rows = min (sum_by (λ row. depth_of row + gap) rows) side
 
 -- a child begins behind the children before it in its row, with a gap after each
 abbrev pub start_in_row : ℕ → List Extent → ℕ
@@ -46,14 +46,14 @@ abbrev pub PlaceOf : Type 0
 PlaceOf = List (List Extent) → List Extent → Extent → Edges
 
 -- a child has its length and its depth, and is cut by the node
-abbrev pub place_across : Edges → ℕ → PlaceOf
-place_across e gap rows row x =
-    let start = row_start gap (sides_of e).1 rows in
+abbrev pub place_in_row_across : Edges → ℕ → PlaceOf
+place_in_row_across e gap rows row x =
+    let start = start_of_row gap (sides_of e).1 rows in
     meet_of e (placed e (pos (start_in_row gap row)) (pos start) (x.long, x.deep))
 
 -- the same, where the rows go down: across and down are exchanged
-abbrev pub place_of : Bool → Edges → ℕ → PlaceOf
-place_of down e gap rows row x = turned down (place_across (turned down e) gap rows row x)
+abbrev pub place_in_row : Bool → Edges → ℕ → PlaceOf
+place_in_row down e gap rows row x = turned down (place_in_row_across (turned down e) gap rows row x)
 
 -- the places of the children of a row, by the rows before it and the children that are passed
 abbrev pub row_places : PlaceOf → List (List Extent) → List Extent → List Extent → List Edges
@@ -72,7 +72,7 @@ room_of down e = (sides_of (turned down e)).0
 
 -- the rectangles of children that are cut into these rows
 abbrev pub places_in : Bool → ℕ → Edges → List (List Extent) → List Edges
-places_in down gap e rows = all_places (place_of down e gap) [] rows
+places_in down gap e rows = all_places (place_in_row down e gap) [] rows
 
 -- the rectangles of the children of a packing node
 abbrev pub pack_places : Bool → ℕ → Edges → List Shapes → List Edges

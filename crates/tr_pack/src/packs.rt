@@ -1,7 +1,7 @@
 ghost use Rattle.std.specs.Prelude.{◌≡◌, ◌+◌, ◌≤◌, List, length, vec_len, map, All, AllPairs, IfOk, OnOk};
 ghost use Rattle.tr_base.specs.Rects.{empty_rect};
 ghost use Rattle.tr_base.specs.Layouts.{longest, along as along_of, IsDomain, IsPartOf, ShareNoPoint};
-ghost use Rattle.tr_pack.specs.Cuts.{Extent, extents, cut, IsCut};
+ghost use Rattle.tr_pack.specs.Cuts.{Extent, extents, cut, IsRowCut};
 ghost use Rattle.tr_pack.specs.Packs.{lengths_along, lengths_beside, pack_shape, room_of, places_in, pack_places};
 ghost use Rattle.tr_pack.specs.Pens.{moved_for, passed};
 
@@ -40,10 +40,10 @@ pub fn pack_place(
 
     // The rows are the right cut, and whatever cut is right gives these rectangles.
     ensures cut { let room = room_of down rect in let xs = extents down room children.now in
-        OnOk result (IsCut room gap xs (cut room gap xs)) }
+        OnOk result (IsRowCut room gap xs (cut room gap xs)) }
     ensures only { let room = room_of down rect in let xs = extents down room children.now in
         IfOk result (λ v. (rows : List (List Extent)) →
-        IsCut room gap xs rows → v.items ≡ places_in down gap rect rows) }
+        IsRowCut room gap xs rows → v.items ≡ places_in down gap rect rows) }
 
     ensures count { IfOk result (λ v. vec_len v ≡ length children.now) }
     ensures part { IfOk result (λ v. All (λ child. IsPartOf child rect) v.items) }

@@ -6,7 +6,7 @@ use Rattle.std.proofs.lemmas.Int.{ints, clamps}
 use Rattle.tr_base.specs.declared.Point.{Point}
 use Rattle.tr_base.specs.declared.Size.{Size}
 use Rattle.tr_base.specs.Rects.{Edges, InReach, AreInReach, rect_of, meet_of, shifted, whole_of, empty_rect}
-use Rattle.tr_paint.specs.Paints.{IsNear, IsNearPoint, IsNearRect}
+use Rattle.tr_paint.specs.Paints.{IsNearZero, IsNearPoint, IsNearRect}
 
 -- the rectangle of edges within reach is within reach
 pub rect_of-in_reach : (w e n s : ℤ) → InReach w → InReach e → InReach n → InReach s → AreInReach (rect_of w e n s)
@@ -20,7 +20,7 @@ rect_of-in_reach w e n s hw he hn hs = by_test (int_lt w e && int_lt n s)
     by_test false = record { west = none; east = none; north = none; south = none }
 
 -- an edge of a window, moved by a near coordinate
-pub near_moved : (n : ℕ) (d : ℤ) → n < 65536 → IsNear d → InReach (pos n +ℤ d)
+pub near_moved : (n : ℕ) (d : ℤ) → n < 65536 → IsNearZero d → InReach (pos n +ℤ d)
 near_moved n d small near = record { low = omega (arith, ints, near.low); high = omega (arith, ints, near.high) }
 
 -- a window, moved by near coordinates
@@ -62,13 +62,14 @@ near-meet a b near = by_tests (int_lt west east) (int_lt north south) refl refl
     south : ℤ
     south = int_min a.south b.south
 
-    none : IsNear (pos 0)
+    none : IsNearZero (pos 0)
     none = record { low = omega (arith, ints); high = omega (arith, ints) }
 
     empty : IsNearRect empty_rect
     empty = record { west = none; east = none; north = none; south = none }
 
-    between : (low high x y : ℤ) → IsNear low → IsNear high → int_lt (int_max low x) (int_min high y) ≡ true → IsNear (int_max low x) × IsNear (int_min high y)
+    between : (low high x y : ℤ) → IsNearZero low → IsNearZero high → int_lt (int_max low x) (int_min high y) ≡ true →
+        IsNearZero (int_max low x) × IsNearZero (int_min high y)
     between low high x y l h test =
         let first = low_max low x in
         let last = min_high high y in

@@ -12,7 +12,7 @@ use Rattle.tr_base.specs.Rects.{Edges, has_point, whole_of}
 use Rattle.tr_base.proofs.RectLemmas.{between-empty}
 use Rattle.tr_paint.specs.declared.paints.Paint.{Paint}
 use Rattle.tr_paint.specs.Paints.{area, has_area}
-use Rattle.tr_paint.specs.Traces.{Look, Deed, Keep, Lose, From, Value, Change, deed, deed_within, Base, done, trace, after}
+use Rattle.tr_paint.specs.Traces.{Look, Deed, Keep, Lose, From, Value, Change, deed, deed_within, Base, after_deed, trace, after}
 use Rattle.tr_paint.specs.Batches.{kept, batch_of, touches}
 use Rattle.tr_paint.specs.Patches.{IsPatch}
 use Rattle.tr_paint.specs.Paintings.{IsPainting}
@@ -28,7 +28,7 @@ Makes kind (Change op) old new = eff kind op old ≡ new
 
 -- what is known after a deed that makes one colour of another
 made : (kind : Kind) (d : Deed) (before : Point → Option ℕ) (q : Point) (old new : ℕ) → before q ≡ Some old → Makes kind d old new →
-    done kind d before q ≡ Some new
+    after_deed kind d before q ≡ Some new
 made kind Keep before q old new known makes = known ∙ ap (λ n. Some n) makes
 made kind Lose before q old new known makes = absurd makes
 made kind (From r) before q old new known makes = absurd makes
@@ -65,7 +65,7 @@ painting_first look part c picture gives inside = record {
   where
     shown : (base : Base) (q : Point) → base.visible q ≡ true → has_point part q ≡ true → (b : Bool) → has_area c ≡ b →
         after look base (cond b (c ∷ []) []) q ≡ Some (picture q)
-    shown base q seen here true some = rw seen (ap (λ d. done look.kind d (λ r. trace look base [] r) q) (gives q here))
+    shown base q seen here true some = rw seen (ap (λ d. after_deed look.kind d (λ r. trace look base [] r) q) (gives q here))
     shown base q seen here false flat =
         let left : Value (picture q) ≡ Keep = sym (gives q here) ∙ flat-keeps look c q flat in cc
 

@@ -10,7 +10,7 @@ use Rattle.tr_base.specs.Rects.{has_point, whole_of}
 use Rattle.tr_base.proofs.RectLemmas.{between-empty}
 use Rattle.tr_paint.specs.declared.paints.Paint.{Paint}
 use Rattle.tr_paint.specs.Paints.{area, has_area}
-use Rattle.tr_paint.specs.Traces.{Look, Deed, Keep, Lose, From, Value, Change, deed, deed_within, Base, done, trace, left_by}
+use Rattle.tr_paint.specs.Traces.{Look, Deed, Keep, Lose, From, Value, Change, deed, deed_within, Base, after_deed, trace, left_by}
 use Rattle.tr_paint.specs.Batches.{kept}
 use Rattle.tr_paint.specs.Patches.{LiesIn, Shows, IsPatch}
 use Rattle.tr_paint.proofs.TraceLemmas.{after-append}
@@ -32,7 +32,7 @@ shown base old q shows = by_sight (base.visible q) refl
     by_sight false unseen = tt
 
 done-gives : (look : Look) (size : Size) (base : Base) (d : Deed) (old : Point → ℕ) (q : Point) (new : ℕ) → LiesIn size base → Shows old base →
-    Gives look.kind size d old q new → IfSome (done look.kind d (λ r. trace look base [] r) q) (λ x. x ≡ new)
+    Gives look.kind size d old q new → IfSome (after_deed look.kind d (λ r. trace look base [] r) q) (λ x. x ≡ new)
 done-gives look size base Keep old q new within shows gives = along (trace look base [] q) (shown base old q shows)
   where
     along : (o : Option ℕ) → IfSome o (λ x. x ≡ old q) → IfSome o (λ x. x ≡ new)

@@ -7,10 +7,10 @@ use Rattle.tr_base.specs.declared.Point.{Point}
 use Rattle.tr_base.specs.declared.Kind.{Kind}
 use Rattle.tr_base.specs.Ops.{eff}
 use Rattle.tr_paint.specs.declared.paints.Paint.{Paint}
-use Rattle.tr_paint.specs.Traces.{Look, Deed, Keep, Lose, From, Value, Change, deed, Base, done, trace, after, left_by}
+use Rattle.tr_paint.specs.Traces.{Look, Deed, Keep, Lose, From, Value, Change, deed, Base, after_deed, trace, after, left_by}
 
 -- a deed depends on the colours before it alone
-done-same : (kind : Kind) (d : Deed) (f g : Point → Option ℕ) (q : Point) → ((r : Point) → f r ≡ g r) → done kind d f q ≡ done kind d g q
+done-same : (kind : Kind) (d : Deed) (f g : Point → Option ℕ) (q : Point) → ((r : Point) → f r ≡ g r) → after_deed kind d f q ≡ after_deed kind d g q
 done-same kind Keep f g q same = same q
 done-same kind Lose f g q same = refl
 done-same kind (From r) f g q same = same r
@@ -49,5 +49,5 @@ after-first look base c cs q = after-append look base (c ∷ []) cs q
 
 -- the backward reading: the last command over what those before it leave
 pub after-last : (look : Look) (base : Base) (cs : List Paint) (c : Paint) (q : Point) →
-    after look base (cs ++ c ∷ []) q ≡ cond (base.visible q) (done look.kind (deed look c q) (λ r. after look base cs r) q) None
+    after look base (cs ++ c ∷ []) q ≡ cond (base.visible q) (after_deed look.kind (deed look c q) (λ r. after look base cs r) q) None
 after-last look base cs c q = ap (λ (l : List Paint). trace look base l q) (reverse-append cs (c ∷ []))

@@ -13,21 +13,21 @@ use Rattle.tr_paint.specs.declared.paints.Paint.{Paint}
 use Rattle.tr_paint.specs.declared.paints.Paint.TheVariants.{Tint, Texture, Pixels, Text, Scroll, Spoil}
 
 -- a coordinate of a paint command is at most 16,384 away from 0
-pub record IsNear (x : ℤ) : Type 0 where
+pub record IsNearZero (x : ℤ) : Type 0 where
   pub low : neg_ℤ (pos 16384) ≤ℤ x
   pub high : x ≤ℤ pos 16384
 
 -- both coordinates of a point are near
 pub record IsNearPoint (p : Point) : Type 0 where
-  pub h : IsNear p.h
-  pub v : IsNear p.v
+  pub h : IsNearZero p.h
+  pub v : IsNearZero p.v
 
 -- all edges of a rectangle are near
 pub record IsNearRect (e : Edges) : Type 0 where
-  pub west : IsNear e.west
-  pub east : IsNear e.east
-  pub north : IsNear e.north
-  pub south : IsNear e.south
+  pub west : IsNearZero e.west
+  pub east : IsNearZero e.east
+  pub north : IsNearZero e.north
+  pub south : IsNearZero e.south
 
 -- all coordinates of a command are near
 abbrev pub IsNearPaint : Paint → Type 0

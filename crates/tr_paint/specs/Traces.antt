@@ -49,17 +49,17 @@ pub record Base : Type 0 where
   pub known : Point → Option ℕ
 
 -- the colour of a point after a deed, by the colours before it
-abbrev pub done : Kind → Deed → (Point → Option ℕ) → Point → Option ℕ
-done kind Keep before q = before q
-done kind Lose before q = None
-done kind (From r) before q = before r
-done kind (Value x) before q = Some x
-done kind (Change op) before q = option_map (eff kind op) (before q)
+abbrev pub after_deed : Kind → Deed → (Point → Option ℕ) → Point → Option ℕ
+after_deed kind Keep before q = before q
+after_deed kind Lose before q = None
+after_deed kind (From r) before q = before r
+after_deed kind (Value x) before q = Some x
+after_deed kind (Change op) before q = option_map (eff kind op) (before q)
 
 -- the colour of a point, if it is known, traced back through commands, the last one first; a point that isn't visible is never known
 abbrev pub trace : Look → Base → List Paint → Point → Option ℕ
 trace look base [] q = if base.visible q then base.known q else None
-trace look base (c ∷ before) q = if base.visible q then done look.kind (deed look c q) (trace look base before) q else None
+trace look base (c ∷ before) q = if base.visible q then after_deed look.kind (deed look c q) (trace look base before) q else None
 
 -- the colour of a point after the commands of a batch, in their order
 abbrev pub after : Look → Base → List Paint → Point → Option ℕ

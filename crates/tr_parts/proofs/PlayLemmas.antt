@@ -17,7 +17,7 @@ use Rattle.tr_journal.specs.Names.{Names}
 use Rattle.tr_journal.specs.Openings.{tree_of}
 use Rattle.tr_journal.specs.Steps.{is_player, may, stated}
 use Rattle.tr_machine.specs.States.{State, start}
-use Rattle.tr_machine.specs.Replays.{IsLegal, IsLegalFrom, line_of, next, replay}
+use Rattle.tr_machine.specs.Replays.{IsLegal, IsLegalFrom, line_of_step, next, replay}
 use Rattle.tr_interleaves.specs.Interleaves.{AreDumpsSettled, AreStretches, Part, steps_in, stretches}
 use Rattle.tr_interleaves.specs.Stretches.{AreReports, IsPart}
 use Rattle.tr_interleaves.proofs.StretchLemmas.{first_part, later_part, no_steps, part_is, reports-append, reports-none}
@@ -27,11 +27,11 @@ use Rattle.tr_run.specs.declared.modes.Mode.{Mode}
 use Rattle.tr_run.specs.declared.modes.Mode.TheVariants.{Serial}
 use Rattle.tr_run.specs.Runs.{Cue, reporting, run_lines}
 use Rattle.tr_run.specs.Texts.{sum_from, texts_from, told_text}
-use Rattle.tr_run.specs.Views.{Adds, Does, DoesSome, IsNamed, RunView}
+use Rattle.tr_run.specs.Views.{AddsLines, Does, DoesSome, IsNamed, RunView}
 use Rattle.tr_run.proofs.LineLemmas.{legal_later, named_later}
 use Rattle.tr_run.proofs.RunLemmas.{Adds-append, Adds-none, Does-append, DoesSome-after, DoesSome-more, state_adds}
 use Rattle.tr_parts.specs.Plays.{HasInterleaved, journal_texts}
-use Rattle.tr_parts.specs.Runs.{HasBegun, HasBegunPart, HasPlayedNext, HasPlayedPart, HasPlayedParts, HasPlayedSome, HasReported}
+use Rattle.tr_parts.specs.Runs.{IsNewRun, HasBegunPart, HasPlayedNext, HasPlayedPart, HasPlayedParts, HasPlayedSome, HasReported}
 use Rattle.tr_parts.specs.Turns.{HasRun}
 use Rattle.tr_parts.proofs.RunLemmas.{reported}
 
@@ -161,7 +161,7 @@ module _ {C M : Type 0} (client : Ghosts C M) (words : M → List ℕ) where
     pub ran : HasRun a.stage n.stage made
     pub legal : IsLegal client n.stage.opening n.stage.journal
 
-  resumed_adds : (a n : RunView C M) (made : List (Actor × Step M)) (is : HasResumed a n made) → Adds client words a n is.ran.lines
+  resumed_adds : (a n : RunView C M) (made : List (Actor × Step M)) (is : HasResumed a n made) → AddsLines client words a n is.ran.lines
   resumed_adds a n made is = record {
     opening = is.ran.opening;
     names = is.names;
@@ -213,7 +213,7 @@ module _ {C M : Type 0} (client : Ghosts C M) (words : M → List ℕ) where
       HasPlayedParts client words a now parts → HasPlayedNext client words now new is_later part → HasPlayedParts client words a new (parts ++ part ∷ [])
   parts_more a now new [] true part later so_far is = absurd (false-true (sym later))
   parts_more a now new [] false part later so_far is =
-      let first : Adds client words a is.begun [] = Adds-append client words a now is.begun [] [] so_far is.sync in
+      let first : AddsLines client words a is.begun [] = Adds-append client words a now is.begun [] [] so_far is.sync in
       record {
         lines = is.rest.lines;
         adds = Adds-append client words a is.begun new [] is.rest.lines first is.rest.adds;
@@ -235,7 +235,7 @@ module _ {C M : Type 0} (client : Ghosts C M) (words : M → List ℕ) where
       was = state client a.stage
 
       sync : JournalLine M
-      sync = line_of client (state client now.stage) Player (stated {M = M} steps.Sync) steps.Sync
+      sync = line_of_step client (state client now.stage) Player (stated {M = M} steps.Sync) steps.Sync
 
   -- ---- the whole
 
@@ -249,7 +249,7 @@ module _ {C M : Type 0} (client : Ghosts C M) (words : M → List ℕ) where
     pub text : b.text ≡ journal_texts client words a.names a.stage.opening b.stage.journal
     pub sum : b.sum ≡ a.sum
 
-  pub all_played : (a b : RunView C M) (parts : List (Part M)) → HasBegun a → 0 < length parts → HasPlayedParts client words a b parts →
+  pub all_played : (a b : RunView C M) (parts : List (Part M)) → IsNewRun a → 0 < length parts → HasPlayedParts client words a b parts →
       IsLegal client b.stage.opening b.stage.journal → HasEnded a b parts
   all_played a b parts begun some is legal = record {
     stage = record {

@@ -15,7 +15,7 @@ use Rattle.tr_journal.specs.Actors.{is_maker, steps_of}
 use Rattle.tr_journal.specs.Journals.{JournalLine}
 use Rattle.tr_journal.specs.Steps.{stated}
 use Rattle.tr_machine.specs.States.{State}
-use Rattle.tr_machine.specs.Replays.{line_of, lines_of, next, replay_from}
+use Rattle.tr_machine.specs.Replays.{line_of_step, lines_of_steps, next, replay_from}
 use Rattle.tr_machine.specs.Settling.{settling, settling_lines}
 use Rattle.tr_machine.proofs.JournalLemmas.{replay_from-lines_of}
 use Rattle.tr_machine.proofs.SettleLemmas.{settles, legal_settling}
@@ -46,17 +46,17 @@ module _ {C M : Type 0} (client : Ghosts C M) where
   pub record HasMade (now new : StageView C M) (made : Actor × Step M) : Type 0 where
     pub maker : is_maker made.0 ≡ true
     pub opening : new.opening ≡ now.opening
-    pub journal : new.journal ≡ now.journal ++ line_of client (state client now) made.0 (stated made.1) made.1 ∷ []
+    pub journal : new.journal ≡ now.journal ++ line_of_step client (state client now) made.0 (stated made.1) made.1 ∷ []
 
   -- ---- reports
 
   -- the painter's lines are no leaf's and not the desk's
-  painters_lines : (held : List Level) (m : State C M) (xs : List (Step M)) → HasNoMaker (lines_of client actors.Painter held m xs)
+  painters_lines : (held : List Level) (m : State C M) (xs : List (Step M)) → HasNoMaker (lines_of_steps client actors.Painter held m xs)
   painters_lines held m [] = tt
   painters_lines held m (x ∷ xs) = (refl, painters_lines held (next client m x) xs)
 
   -- nor the player's
-  painters_steps : (held : List Level) (m : State C M) (xs : List (Step M)) → steps_in actors.Player (lines_of client actors.Painter held m xs) ≡ []
+  painters_steps : (held : List Level) (m : State C M) (xs : List (Step M)) → steps_in actors.Player (lines_of_steps client actors.Painter held m xs) ≡ []
   painters_steps held m [] = refl
   painters_steps held m (x ∷ xs) = painters_steps held (next client m x) xs
 
@@ -90,7 +90,7 @@ module _ {C M : Type 0} (client : Ghosts C M) where
       after = replay_from client m (settling_lines client m)
 
       line : JournalLine M
-      line = line_of client after actors.Player (Mu ∷ []) (steps.Report queries.Dump)
+      line = line_of_step client after actors.Player (Mu ∷ []) (steps.Report queries.Dump)
 
       settled : IsSettled client after
       settled =

@@ -10,10 +10,10 @@ use Rattle.tr_interleaves.specs.Stretches.{AreReports, AreParts, IsPart}
 use Rattle.tr_stage.specs.Stages.{state}
 use Rattle.tr_run.specs.declared.modes.Mode.TheVariants.{Serial}
 use Rattle.tr_run.specs.Runs.{makes}
-use Rattle.tr_run.specs.Views.{Adds, Does, RunView}
+use Rattle.tr_run.specs.Views.{AddsLines, Does, RunView}
 
 -- a run before its first step
-pub record HasBegun {C M : Type 0} (a : RunView C M) : Type 0 where
+pub record IsNewRun {C M : Type 0} (a : RunView C M) : Type 0 where
   pub journal : a.stage.journal ≡ []
   pub mode : a.mode ≡ Serial
   pub text : a.text ≡ []
@@ -22,7 +22,7 @@ module _ {C M : Type 0} (client : Ghosts C M) (words : M → List ℕ) where
   -- reports were made
   pub record HasReported (old new : RunView C M) (queries : List Query) : Type 0 where
     pub lines : List (JournalLine M)
-    pub adds : Adds client words old new lines
+    pub adds : AddsLines client words old new lines
     pub are : AreReports client (state client old.stage) queries lines
 
   -- a part was begun, a later one with a sync, and its reports were made
@@ -34,7 +34,7 @@ module _ {C M : Type 0} (client : Ghosts C M) (words : M → List ℕ) where
   -- a part was played
   pub record HasPlayedPart (old new : RunView C M) (part : Part M) : Type 0 where
     pub lines : List (JournalLine M)
-    pub adds : Adds client words old new lines
+    pub adds : AddsLines client words old new lines
     pub is : IsPart client (state client old.stage) part lines
 
   -- the next part was played, and before a later one a sync was made
@@ -46,10 +46,10 @@ module _ {C M : Type 0} (client : Ghosts C M) (words : M → List ℕ) where
   -- parts were played, of which there are some
   pub record HasPlayedSome (old new : RunView C M) (parts : List (Part M)) : Type 0 where
     pub lines : List (JournalLine M)
-    pub adds : Adds client words old new lines
+    pub adds : AddsLines client words old new lines
     pub are : AreParts client (state client old.stage) parts lines
 
   -- parts were played, or nothing was done yet
   abbrev pub HasPlayedParts : RunView C M → RunView C M → List (Part M) → Type 0
-  HasPlayedParts old new [] = Adds client words old new []
+  HasPlayedParts old new [] = AddsLines client words old new []
   HasPlayedParts old new (part ∷ parts) = HasPlayedSome old new (part ∷ parts)

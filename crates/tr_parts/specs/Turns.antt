@@ -12,7 +12,7 @@ use Rattle.tr_interleaves.specs.Interleaves.{steps_in}
 use Rattle.tr_stage.specs.Stages.{StageView}
 
 -- a step of a part: it is the desk's or a leaf's own
-pub record IsMade {M : Type 0} (t : Nodes) (made : Actor × Step M) : Type 0 where
+pub record IsPartStep {M : Type 0} (t : Nodes) (made : Actor × Step M) : Type 0 where
   pub maker : is_maker made.0 ≡ true
   pub own : IsOwn t made.0 made.1
 

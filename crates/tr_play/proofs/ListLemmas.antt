@@ -15,7 +15,7 @@ use Rattle.tr_journal.specs.Actors.{is_by}
 use Rattle.tr_journal.specs.Lists.{ListsView, HasList, list_of, with_step}
 use Rattle.tr_journal.proofs.ActorLemmas.{steps_of-append}
 use Rattle.tr_play.specs.Lists.{AreListed}
-use Rattle.tr_play.specs.Places.{AreWithin, PlacesView, are_below, lists_at, no_places, places_of, step_at, steps_at, with_place}
+use Rattle.tr_play.specs.Places.{AreWithin, PlacesView, are_below, lists_at, no_places, step_places, step_at, steps_at, with_place}
 use Rattle.tr_play.specs.Workers.{AreNoCommands, is_command}
 
 -- one step more, or none
@@ -101,7 +101,7 @@ lists_at-with_place {M} made places Player place has =
 
 -- the places of an actor's steps are places in the part
 below_of : (steps : ℕ) (places : PlacesView) (actor : Actor) → HasList (length places.leaves) actor → AreWithin steps places →
-    are_below steps (places_of places actor)
+    are_below steps (step_places places actor)
 below_of steps places (Leaf leaf) has is = All-get_or (are_below steps) places.leaves leaf.0 [] has is.leaves
 below_of steps places Desk has is = is.desk
 below_of steps places Painter has is = absurd has

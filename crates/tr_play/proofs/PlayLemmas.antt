@@ -13,8 +13,8 @@ use Rattle.tr_grammar.specs.Scripts.{IsPlayable, IsPlayablePart}
 use Rattle.tr_interleaves.specs.Interleaves.{Part}
 use Rattle.tr_run.specs.declared.modes.Mode.TheVariants.{Serial}
 use Rattle.tr_run.specs.Views.{RunView}
-use Rattle.tr_parts.specs.Runs.{HasBegun, HasPlayedParts}
-use Rattle.tr_parts.specs.Turns.{IsMade}
+use Rattle.tr_parts.specs.Runs.{IsNewRun, HasPlayedParts}
+use Rattle.tr_parts.specs.Turns.{IsPartStep}
 use Rattle.tr_parts.proofs.PlayLemmas.{HasResumed, all_played, has_any, next_played, parts_more}
 use Rattle.tr_server.specs.declared.closing.CloseRefused.{CloseRefused}
 use Rattle.tr_server.specs.declared.closing.CloseRefused.TheVariants as refused
@@ -24,9 +24,9 @@ use Rattle.tr_play.specs.Plays.{DiffersInPart, begun_part, part_of, parts_of}
 use Rattle.tr_play.proofs.WorkerLemmas.{ran_nothing}
 
 -- the steps of a part that can be played can be made
-pub steps_made : (t : Nodes) (part : Seen) → IsPlayablePart t part → All (IsMade t) part.steps
+pub steps_made : (t : Nodes) (part : Seen) → IsPlayablePart t part → All (IsPartStep t) part.steps
 steps_made t part is =
-    All-weaker (IsPlayable t) (IsMade t) (λ made one. record { maker = one.maker; own = one.own }) part.steps is.steps
+    All-weaker (IsPlayable t) (IsPartStep t) (λ made one. record { maker = one.maker; own = one.own }) part.steps is.steps
 
 -- the parts so far, and one more
 pub parts_next : (parts : List Seen) (k : ℕ) (part : Seen) → (k < length parts) × (part ≡ get_or parts k part) →
@@ -80,7 +80,7 @@ module _ {C : Type 0} (client : Ghosts C WidgetCmd) where
       }
 
   -- in a run before its first step
-  pub script_differed : (a : RunView C WidgetCmd) (parts : List (Part WidgetCmd)) (e : CloseRefused C WidgetCmd) → HasBegun a →
+  pub script_differed : (a : RunView C WidgetCmd) (parts : List (Part WidgetCmd)) (e : CloseRefused C WidgetCmd) → IsNewRun a →
       IfDiffers e (λ d. DiffersAmong client widget_words a parts d) → IfDiffers e (λ d. DiffersInPart client a.stage.opening parts d)
   script_differed a parts refused.NoMemory begun among = tt
   script_differed a parts (refused.Differs d) begun among =

@@ -21,7 +21,7 @@ use Rattle.tr_interleaves.specs.Interleaves.{steps_in}
 use Rattle.tr_interleaves.proofs.LegalLemmas.{AreMade, legal_first, no_leaf-lines, no_leaf-steps, same_lines}
 use Rattle.tr_stage.specs.Stages.{StageView}
 use Rattle.tr_run.proofs.LineLemmas.{legal_later}
-use Rattle.tr_parts.specs.Turns.{HasRun, IsMade}
+use Rattle.tr_parts.specs.Turns.{HasRun, IsPartStep}
 use Rattle.tr_server.specs.declared.closing.CloseRefused.{CloseRefused}
 use Rattle.tr_server.specs.declared.closing.CloseRefused.TheVariants as refused
 use Rattle.tr_server.specs.Closing.{HasDiffered, IfDiffers, IsClosed, lists_of}
@@ -34,11 +34,11 @@ use Rattle.tr_play.specs.Workers.{HasTaken, HasWorked, IsWorker}
 use Rattle.tr_play.proofs.WorkerLemmas.{Listed, absent, is_listed, listed}
 
 -- steps that are a leaf's or the desk's can be made
-are_made : {M : Type 0} (t : Nodes) (steps : List (Actor × Step M)) → All (IsMade t) steps → AreMade t steps
+are_made : {M : Type 0} (t : Nodes) (steps : List (Actor × Step M)) → All (IsPartStep t) steps → AreMade t steps
 are_made t [] all = tt
 are_made t (x ∷ xs) all =
-    let here : IsMade t x = All-head (IsMade t) x xs all in
-    (here.own, are_made t xs (All-tail (IsMade t) x xs all))
+    let here : IsPartStep t x = All-head (IsPartStep t) x xs all in
+    (here.own, are_made t xs (All-tail (IsPartStep t) x xs all))
 
 -- what is known of a stage that comes back, where nothing differs: both are legal, and the lists are those of steps that can be made
 pub record HasMatched {C M : Type 0} (client : Ghosts C M) (s n : StageView C M) (steps : List (Actor × Step M)) (lists : ListsView M) : Type 0 where
@@ -47,7 +47,7 @@ pub record HasMatched {C M : Type 0} (client : Ghosts C M) (s n : StageView C M)
   pub matches : Matches (account_of s.opening s.journal) lists (account_of n.opening n.journal)
   pub are_listed : AreListed (leaf_count (tree_of s.opening).nodes) steps lists
   pub player : lists.player ≡ []
-  pub made : All (IsMade (tree_of s.opening).nodes) steps
+  pub made : All (IsPartStep (tree_of s.opening).nodes) steps
 
 module _ {C M : Type 0} (client : Ghosts C M) where
   -- then the steps were made, each actor's in their order

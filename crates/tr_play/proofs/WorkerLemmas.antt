@@ -17,7 +17,7 @@ use Rattle.tr_journal.specs.Lists.{HasList, ListsView, list_of}
 use Rattle.tr_journal.specs.Steps.{IsLeaf, IsStep, may}
 use Rattle.tr_journal.proofs.ActorLemmas.{same_actor}
 use Rattle.tr_interleaves.proofs.LegalLemmas.{leaf_acts}
-use Rattle.tr_parts.specs.Turns.{HasRun, IsMade}
+use Rattle.tr_parts.specs.Turns.{HasRun, IsPartStep}
 use Rattle.tr_stage.specs.Stages.{StageView}
 use Rattle.tr_server.specs.Passes.{PassView}
 use Rattle.tr_play.specs.Lists.{AreListed, HaveLists}
@@ -27,7 +27,7 @@ use Rattle.tr_play.specs.Workers.{AreReady, HasTaken, HasWorked, IsWorker}
 -- ---- steps
 
 -- whoever makes such a step has a list
-pub has_list : {M : Type 0} (t : Nodes) (made : Actor × Step M) → IsMade t made → HasList (leaf_count t) made.0
+pub has_list : {M : Type 0} (t : Nodes) (made : Actor × Step M) → IsPartStep t made → HasList (leaf_count t) made.0
 has_list {M} t made is = of_actor made.0 made.1 is.maker is.own.may is.own.values
   where
     of_actor : (actor : Actor) (step : Step M) → is_maker actor ≡ true → may actor step ≡ true → IsStep t step → HasList (leaf_count t) actor
@@ -37,22 +37,22 @@ has_list {M} t made is = of_actor made.0 made.1 is.maker is.own.may is.own.value
     of_actor Player step maker can values = tt
 
 -- so whoever makes the steps of a part has one
-pub have_lists : {M : Type 0} (t : Nodes) (steps : List (Actor × Step M)) → All (IsMade t) steps → HaveLists (leaf_count t) steps
-have_lists t steps all = All-weaker (IsMade t) (λ made. HasList (leaf_count t) made.0) (λ made is. has_list t made is) steps all
+pub have_lists : {M : Type 0} (t : Nodes) (steps : List (Actor × Step M)) → All (IsPartStep t) steps → HaveLists (leaf_count t) steps
+have_lists t steps all = All-weaker (IsPartStep t) (λ made. HasList (leaf_count t) made.0) (λ made is. has_list t made is) steps all
 
 -- the steps of an actor among those that can be made can be made by it
-steps_ready : {M : Type 0} (t : Nodes) (actor : Actor) (steps : List (Actor × Step M)) → All (IsMade t) steps →
-    All (λ step. IsMade t (actor, step)) (steps_of actor steps)
-steps_ready t actor [] all = All-nil (λ step. IsMade t (actor, step))
-steps_ready {M} t actor (x ∷ xs) all = by_test (steps_ready t actor xs (All-tail (IsMade t) x xs all)) (is_by actor x.0) refl
+steps_ready : {M : Type 0} (t : Nodes) (actor : Actor) (steps : List (Actor × Step M)) → All (IsPartStep t) steps →
+    All (λ step. IsPartStep t (actor, step)) (steps_of actor steps)
+steps_ready t actor [] all = All-nil (λ step. IsPartStep t (actor, step))
+steps_ready {M} t actor (x ∷ xs) all = by_test (steps_ready t actor xs (All-tail (IsPartStep t) x xs all)) (is_by actor x.0) refl
   where
     P : Step M → Type 0
-    P = λ step. IsMade t (actor, step)
+    P = λ step. IsPartStep t (actor, step)
 
     by_test : All P (steps_of actor xs) → (b : Bool) → is_by actor x.0 ≡ b → All P (cond b (x.1 ∷ steps_of actor xs) (steps_of actor xs))
     by_test rest true is =
         All-cons P x.1 (steps_of actor xs)
-        (subst (λ (a : Actor). IsMade t (a, x.1)) (sym (same_actor actor x.0 is)) (All-head (IsMade t) x xs all)) rest
+        (subst (λ (a : Actor). IsPartStep t (a, x.1)) (sym (same_actor actor x.0 is)) (All-head (IsPartStep t) x xs all)) rest
     by_test rest false is = rest
 
 -- the next step of a list is made behind those before it
@@ -118,11 +118,11 @@ is_listed t Player is = absurd (false-true is)
 
 -- so those of their lists can
 pub lists_ready : {M : Type 0} (t : Nodes) (steps : List (Actor × Step M)) (lists : ListsView M) → AreListed (leaf_count t) steps lists →
-    All (IsMade t) steps → AreReady t lists
+    All (IsPartStep t) steps → AreReady t lists
 lists_ready {M} t steps lists are all actor maker = by_list (is_listed t actor maker)
   where
     P : Step M → Type 0
-    P = λ step. IsMade t (actor, step)
+    P = λ step. IsPartStep t (actor, step)
 
     by_list : Listed t actor → All P (list_of lists actor)
     by_list (listed has) = subst (λ (xs : List (Step M)). All P xs) (sym (are.steps actor has)) (steps_ready t actor steps all)
@@ -139,11 +139,11 @@ lists_ready {M} t steps lists are all actor maker = by_list (is_listed t actor m
             by_test false past = let count : length lists.leaves ≡ leaf_count t = are.count in omega (arith, count, ltb-false leaf.0 (leaf_count t) past)
 
 -- none of them is the player's
-pub no_player : {M : Type 0} (t : Nodes) (steps : List (Actor × Step M)) → All (IsMade t) steps → steps_of Player steps ≡ []
+pub no_player : {M : Type 0} (t : Nodes) (steps : List (Actor × Step M)) → All (IsPartStep t) steps → steps_of Player steps ≡ []
 no_player t [] all = refl
 no_player {M} t (x ∷ xs) all =
-    ap (λ (b : Bool). cond b (x.1 ∷ steps_of Player xs) (steps_of Player xs)) (not_by x.0 (All-head (IsMade t) x xs all).maker)
-    ∙ no_player t xs (All-tail (IsMade t) x xs all)
+    ap (λ (b : Bool). cond b (x.1 ∷ steps_of Player xs) (steps_of Player xs)) (not_by x.0 (All-head (IsPartStep t) x xs all).maker)
+    ∙ no_player t xs (All-tail (IsPartStep t) x xs all)
   where
     not_by : (actor : Actor) → is_maker actor ≡ true → is_by Player actor ≡ false
     not_by (Leaf leaf) maker = refl

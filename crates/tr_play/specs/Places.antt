@@ -26,11 +26,11 @@ abbrev pub no_places : ℕ → PlacesView
 no_places leaves = record { leaves = replicate leaves []; desk = []; player = [] }
 
 -- the places of an actor's steps
-abbrev pub places_of : PlacesView → Actor → List ℕ
-places_of places (Leaf leaf) = get_or places.leaves leaf.0 []
-places_of places Desk = places.desk
-places_of places Painter = []
-places_of places Player = places.player
+abbrev pub step_places : PlacesView → Actor → List ℕ
+step_places places (Leaf leaf) = get_or places.leaves leaf.0 []
+step_places places Desk = places.desk
+step_places places Painter = []
+step_places places Player = places.player
 
 -- the places with one more, behind the others of its actor
 abbrev pub with_place : PlacesView → Actor → ℕ → PlacesView

@@ -9,7 +9,7 @@ use Rattle.tr_journal.specs.declared.steps.Step.{Step}
 use Rattle.tr_journal.specs.declared.steps.Step.TheVariants as steps
 use Rattle.tr_journal.specs.Actors.{is_maker}
 use Rattle.tr_journal.specs.Lists.{ListsView, list_of}
-use Rattle.tr_parts.specs.Turns.{IsMade}
+use Rattle.tr_parts.specs.Turns.{IsPartStep}
 use Rattle.tr_server.specs.Passes.{PassView}
 
 -- the actor has a thread of its own, in a part with so many leaves
@@ -47,4 +47,4 @@ pub record HasTaken {M : Type 0} (lists : ListsView M) (before after : PassView 
 
 -- the steps of each list can be made by its actor
 abbrev pub AreReady : {M : Type 0} → Nodes → ListsView M → Type 0
-AreReady t lists = (actor : Actor) → is_maker actor ≡ true → All (λ step. IsMade t (actor, step)) (list_of lists actor)
+AreReady t lists = (actor : Actor) → is_maker actor ≡ true → All (λ step. IsPartStep t (actor, step)) (list_of lists actor)

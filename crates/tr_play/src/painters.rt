@@ -2,7 +2,7 @@ ghost use Rattle.std.specs.Prelude.{◌≡◌, [], false, OnOk};
 ghost use Rattle.tr_base.specs.declared.LeafId.{LeafId};
 ghost use Rattle.tr_base.specs.declared.Point.{Point};
 ghost use Rattle.tr_journal.specs.declared.Actor.TheVariants.{Painter};
-ghost use Rattle.tr_machine.specs.States.{batch_of};
+ghost use Rattle.tr_machine.specs.States.{leaf_batch};
 ghost use Rattle.tr_machine.specs.Pictures.{render};
 ghost use Rattle.tr_stage.specs.Stages.{state};
 
@@ -59,7 +59,7 @@ impl<C: Client, L: Session, R: Threads + Wait + Sync, G: Gate> Context<'_, C, L,
         // Then nothing waits that was handed over, no point is bad, and the screen is as if it were painted
         // from nothing.
         ensures idle { let m = state C.Client mu.new in
-            OnOk result ((leaf : LeafId) → batch_of C.Client m leaf ≡ []) }
+            OnOk result ((leaf : LeafId) → leaf_batch C.Client m leaf ≡ []) }
         ensures good { let m = state C.Client mu.new in OnOk result ((p : Point) → m.bad p ≡ false) }
         ensures screen { OnOk result (mu.new.screen ≡ render C.Client (state C.Client mu.new)) }
     {

@@ -1,6 +1,6 @@
 ghost use Rattle.std.specs.Prelude.{◌≡◌, ◌<◌, ◌∷◌, [], ◌++◌, length, get_or, set, replicate, IfOk, OnOk, OnErr};
 ghost use Rattle.tr_journal.specs.Lists.{HasList};
-ghost use Rattle.tr_play.specs.Places.{no_places, places_of, with_place};
+ghost use Rattle.tr_play.specs.Places.{no_places, step_places, with_place};
 
 use std::alloc::Global;
 use std::marker::Model;
@@ -53,7 +53,7 @@ impl Places {
     /// The places of an actor's steps.
     pub(crate) fn of(&self, actor: Actor) -> &[u32]
         requires { HasList (length self.now.leaves) actor }
-        ensures { result.now ≡ places_of self.now actor }
+        ensures { result.now ≡ step_places self.now actor }
     {
         match actor {
             Actor::Leaf(leaf) => self.leaves[usize::from(leaf.0)].places(),

@@ -4,7 +4,7 @@ ghost use Rattle.tr_widget.specs.Widgets.{widget_words};
 ghost use Rattle.tr_grammar.specs.Scripts.{IsPlayablePart};
 ghost use Rattle.tr_run.specs.declared.Mode.TheVariants.{Serial};
 ghost use Rattle.tr_parts.specs.Plays.{HasInterleaved, journal_texts, played_threads};
-ghost use Rattle.tr_parts.specs.Runs.{HasBegun, HasPlayedNext, HasPlayedParts};
+ghost use Rattle.tr_parts.specs.Runs.{IsNewRun, HasPlayedNext, HasPlayedParts};
 ghost use Rattle.tr_server.specs.Closing.{IfDiffers};
 ghost use Rattle.tr_play.specs.Begun.{DiffersAmong, DiffersNext};
 ghost use Rattle.tr_play.specs.Plays.{DiffersInPart, part_of, parts_of};
@@ -30,7 +30,7 @@ pub fn play<'a, C: Client<Cmd = WidgetCmd>, N: NameOf, R: Threads + Wait + Sync,
     run: Run<'a, C, N>,
     parts: &[Part],
 ) -> Result<Finished<C>, CloseRefused<C>>
-    requires begun { HasBegun run }
+    requires begun { IsNewRun run }
     requires some { 0 < length parts.now }
     requires playable { All (IsPlayablePart (tree_of run.stage.opening).nodes) parts.now }
     ensures journal { IfOk result (λ end.

@@ -4,7 +4,7 @@ ghost use Rattle.tr_journal.specs.declared.Step.{Step};
 ghost use Rattle.tr_journal.specs.declared.Step.TheVariants.{Act};
 ghost use Rattle.tr_journal.specs.Openings.{tree_of};
 ghost use Rattle.tr_journal.specs.Steps.{IsStep};
-ghost use Rattle.tr_parts.specs.Turns.{IsMade};
+ghost use Rattle.tr_parts.specs.Turns.{IsPartStep};
 ghost use Rattle.tr_play.specs.Workers.{AddsStep, AreNoCommands, HasWorked};
 
 use crate::contexts::Context;
@@ -32,7 +32,7 @@ impl<C: Client, L: Session, R: Wait, G: Gate> Context<'_, C, L, R, G> {
     /// tree makes bad the next one may cover. Until then he is only told that the steps get on.
     pub(crate) fn work(&self, pass: &mut Pass<C, L>, list: &List<'_, C::Cmd>)
         requires { All (λ step.
-            IsMade (tree_of self.now.server.now.opening).nodes (pass.old.actor, step)) list.now }
+            IsPartStep (tree_of self.now.server.now.opening).nodes (pass.old.actor, step)) list.now }
         ensures { HasWorked pass.old pass.new list.now }
     {
         // Where memory for all of them is wanting, it is taken as they come.
@@ -60,7 +60,7 @@ impl<C: Client, L: Session, R: Wait, G: Gate> Context<'_, C, L, R, G> {
         has_commands: bool,
     ) -> Result<(), NoMemory>
         requires ready { All (λ step.
-            IsMade (tree_of self.now.server.now.opening).nodes (pass.old.actor, step)) list.now }
+            IsPartStep (tree_of self.now.server.now.opening).nodes (pass.old.actor, step)) list.now }
         requires commands { has_commands ≡ false → AreNoCommands list.now }
         ensures worked { HasWorked pass.old pass.new list.now }
         ensures ok { OnOk result (pass.new.mine ≡ pass.old.mine ++ list.now) }
@@ -75,7 +75,7 @@ impl<C: Client, L: Session, R: Wait, G: Gate> Context<'_, C, L, R, G> {
     /// Makes steps, one after another. Before each the gate is asked, with no lock held.
     fn make_each(&self, pass: &mut Pass<C, L>, list: &List<'_, C::Cmd>) -> Result<(), NoMemory>
         requires { All (λ step.
-            IsMade (tree_of self.now.server.now.opening).nodes (pass.old.actor, step)) list.now }
+            IsPartStep (tree_of self.now.server.now.opening).nodes (pass.old.actor, step)) list.now }
         ensures worked { HasWorked pass.old pass.new list.now }
         ensures ok { OnOk result (pass.new.mine ≡ pass.old.mine ++ list.now) }
     {
@@ -90,7 +90,7 @@ impl<C: Client, L: Session, R: Wait, G: Gate> Context<'_, C, L, R, G> {
     /// Makes steps, one after another, none of them a command, under the tree's lock, which is taken once.
     fn make_together(&self, pass: &mut Pass<C, L>, list: &List<'_, C::Cmd>) -> Result<(), NoMemory>
         requires ready { All (λ step.
-            IsMade (tree_of self.now.server.now.opening).nodes (pass.old.actor, step)) list.now }
+            IsPartStep (tree_of self.now.server.now.opening).nodes (pass.old.actor, step)) list.now }
         requires commands { AreNoCommands list.now }
         ensures worked { HasWorked pass.old pass.new list.now }
         ensures ok { OnOk result (pass.new.mine ≡ pass.old.mine ++ list.now) }
@@ -109,7 +109,7 @@ impl<C: Client, L: Session, R: Wait, G: Gate> Context<'_, C, L, R, G> {
         list: &List<'_, C::Cmd>,
     ) -> Result<(), NoMemory>
         requires ready { All (λ step.
-            IsMade (tree_of self.now.server.now.opening).nodes (pass.old.actor, step)) list.now }
+            IsPartStep (tree_of self.now.server.now.opening).nodes (pass.old.actor, step)) list.now }
         requires steps { (step : Step C.Cmd) → IsStep (tree_of self.now.server.now.opening).nodes step →
             IsStep (tree_of mu.old.opening).nodes step }
         ensures worked { HasWorked pass.old pass.new list.now }
@@ -129,7 +129,7 @@ impl<C: Client, L: Session, R: Wait, G: Gate> Context<'_, C, L, R, G> {
         pass: &mut Pass<C, L>,
         step: Step<C::Cmd>,
     ) -> Result<(), NoMemory>
-        requires ready { IsMade (tree_of self.now.server.now.opening).nodes (pass.old.actor, step) }
+        requires ready { IsPartStep (tree_of self.now.server.now.opening).nodes (pass.old.actor, step) }
         requires steps { (step : Step C.Cmd) → IsStep (tree_of self.now.server.now.opening).nodes step →
             IsStep (tree_of mu.old.opening).nodes step }
         ensures opening { mu.new.opening ≡ mu.old.opening }
@@ -144,7 +144,7 @@ impl<C: Client, L: Session, R: Wait, G: Gate> Context<'_, C, L, R, G> {
 
     /// Makes a step, under the tree's lock.
     fn make_under(&self, pass: &mut Pass<C, L>, step: Step<C::Cmd>) -> Result<(), NoMemory>
-        requires { IsMade (tree_of self.now.server.now.opening).nodes (pass.old.actor, step) }
+        requires { IsPartStep (tree_of self.now.server.now.opening).nodes (pass.old.actor, step) }
         ensures { AddsStep pass.old pass.new step result }
     {
         let mut mu = self.server.enter(self.rt, Ladder::ground());
@@ -155,7 +155,7 @@ impl<C: Client, L: Session, R: Wait, G: Gate> Context<'_, C, L, R, G> {
 
     /// Makes a step.
     fn make(&self, pass: &mut Pass<C, L>, step: &Step<C::Cmd>) -> Result<(), NoMemory>
-        requires { IsMade (tree_of self.now.server.now.opening).nodes (pass.old.actor, step.now) }
+        requires { IsPartStep (tree_of self.now.server.now.opening).nodes (pass.old.actor, step.now) }
         ensures { AddsStep pass.old pass.new step.now result }
     {
         let step = step.copy(self.alloc)?;
@@ -173,7 +173,7 @@ impl<C: Client, L: Session, R: Wait, G: Gate> Context<'_, C, L, R, G> {
         step: Step<C::Cmd>,
     ) -> Result<(), NoMemory>
         requires actor { pass.old.actor ≡ Leaf window.now }
-        requires step { IsMade (tree_of self.now.server.now.opening).nodes (pass.old.actor, step) }
+        requires step { IsPartStep (tree_of self.now.server.now.opening).nodes (pass.old.actor, step) }
         ensures { AddsStep pass.old pass.new step result }
     {
         match step {

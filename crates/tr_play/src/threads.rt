@@ -2,7 +2,7 @@ ghost use Rattle.std.specs.Prelude.{◌≡◌, [], All, IfErr, IfOk, IsTrue};
 ghost use Rattle.tr_journal.specs.Openings.{tree_of};
 ghost use Rattle.tr_machine.specs.Settling.{settling};
 ghost use Rattle.tr_stage.specs.Stages.{state};
-ghost use Rattle.tr_parts.specs.Turns.{HasRun, IsMade};
+ghost use Rattle.tr_parts.specs.Turns.{HasRun, IsPartStep};
 ghost use Rattle.tr_server.specs.Closing.{IfDiffers};
 ghost use Rattle.tr_play.specs.Plays.{HasLeft};
 
@@ -40,7 +40,7 @@ pub(crate) fn make_side_by_side<C: Client, R: Threads + Wait + Sync, G: Gate + S
     stage: Stage<C>,
     steps: &[(Actor, Step<C::Cmd>)],
 ) -> Result<Stage<C>, CloseRefused<C>>
-    requires { All (IsMade (tree_of stage.opening).nodes) steps.now }
+    requires { All (IsPartStep (tree_of stage.opening).nodes) steps.now }
     ensures ok { IfOk result (λ s. HasRun stage s steps.now) }
     ensures differs { IfErr result (λ e. IfDiffers e (λ d. HasLeft stage steps.now d)) }
 {

@@ -10,7 +10,7 @@ use Rattle.tr_io.specs.Streams.{Grew, GrewByPrefix}
 use Rattle.tr_grammar.specs.declared.Code.TheVariants.{B7}
 use Rattle.tr_grammar.specs.States.{nothing_yet}
 use Rattle.tr_grammar.specs.Texts.{lines_of}
-use Rattle.tr_grammar.specs.Scripts.{Refusal, Script, most_bytes, refusal_of, refused_at, first_fault as first_refusal, script_of}
+use Rattle.tr_grammar.specs.Scripts.{Refusal, Script, most_script_bytes, refusal_of, refused_at, first_bad_line as first_refusal, script_of}
 use Rattle.tr_mirror.specs.declared.MirrorFault.{MirrorFault}
 use Rattle.tr_mirror.specs.Readings.{fault_at_end, first_fault, longest_stream, reading_of}
 use Rattle.tr_show.specs.Shows.{shown_text}
@@ -30,7 +30,7 @@ use Rattle.tr_player.specs.declared.statuses.Status.{Status}
 use Rattle.tr_player.specs.declared.statuses.Status.TheVariants.{NoMemory, WriteFault}
 use Rattle.tr_player.specs.Statuses.{code}
 use Rattle.tr_player.specs.Checks.{check_refusal}
-use Rattle.tr_player.specs.Answers.{most_read, OfBytesRead, IsReadThrough, or_else, refusal_for, text_for, usage_text, read_fault_text, refused_text, faulty_text, IsReadBack, IsWritten, IsByThreads, Due, usage, read_fault, refused, faulty, played, threaded, shown, status_of, text_of, SourceChange, IsDueOfBytes, IsDueOfStream, IsDue, SinkChange, HasPlayed, IsStageOf, IsDifferenceOf, IsDelivered, IsAnswered, ReadsNone, Yields, OfReader, OfScriptRead, OfOneThread, OfThreads, OfStreamRead, OfNumber, IsAllowed, of_one_thread}
+use Rattle.tr_player.specs.Answers.{most_read, OfBytesRead, IsReadThrough, or_else, refusal_for, text_for, usage_text, read_fault_text, refused_text, faulty_text, IsReadBack, IsWritten, IsByThreads, Due, usage, read_fault, refused, faulty, played, threaded, shown, status_of, due_text, SourceChange, IsDueOfBytes, IsDueOfStream, IsDue, SinkChange, HasPlayed, IsStageOf, IsDifferenceOf, IsDelivered, IsAnswered, ReadsNone, Yields, OfReader, OfScriptRead, OfOneThread, OfThreads, OfStreamRead, OfNumber, IsAllowed, of_one_thread}
 
 -- ---- the bytes that were read
 
@@ -56,11 +56,11 @@ below_more : (most n : ℕ) → nat_lt most n ≡ false → n < most + 1
 below_more most n h = grind (arith, nat_tests)
 
 -- a text that isn't refused has fewer bytes than are read at most
-short_text : (bytes : List ℕ) → refusal_of bytes ≡ None → length bytes < most_bytes + 1
+short_text : (bytes : List ℕ) → refusal_of bytes ≡ None → length bytes < most_script_bytes + 1
 unfolding refusal_of
 short_text bytes h =
-    below_more most_bytes (length bytes)
-    (none_else (nat_lt most_bytes (length bytes)) (refused_at 0 B7) (first_refusal nothing_yet 1 (lines_of bytes)) h)
+    below_more most_script_bytes (length bytes)
+    (none_else (nat_lt most_script_bytes (length bytes)) (refused_at 0 B7) (first_refusal nothing_yet 1 (lines_of bytes)) h)
 
 not_too_long : (command : Command) (bytes : List ℕ) → refusal_of bytes ≡ None → length bytes < most_read command
 not_too_long commands.Show bytes h = omega (arith, short_text bytes h)
@@ -143,7 +143,7 @@ record IsGiven (asked : Option Command) (from : SourceChange) (out : Outcome) (t
   is : IsDue asked from due
   status : out.status ≡ code (status_of due)
   stage : IsStageOf due out.stage
-  written : Grew to.written to.written_new (text_of due)
+  written : Grew to.written to.written_new (due_text due)
   differs : IsDifferenceOf due out.differs
 
 module _ (asked : Option Command) (from : SourceChange) (out : Outcome) (to : SinkChange) (answered : IsAnswered asked from out to) where
@@ -208,7 +208,7 @@ module _ (asked : Option Command) (from : SourceChange) (out : Outcome) (to : Si
   pub usage_written : out.status ≡ 2 → Grew to.written to.written_new usage_text
   usage_written e = let g = given_at 2 e (omega arith) in by_due g.due g.status g.written
     where
-      by_due : (due : Due) → out.status ≡ code (status_of due) → Grew to.written to.written_new (text_of due) →
+      by_due : (due : Due) → out.status ≡ code (status_of due) → Grew to.written to.written_new (due_text due) →
           Grew to.written to.written_new usage_text
       by_due usage is grew = grew
       by_due read_fault is grew = absurd (omega arith)
@@ -245,7 +245,7 @@ module _ (asked : Option Command) (from : SourceChange) (out : Outcome) (to : Si
   pub read_fault_written : out.status ≡ 4 → Grew to.written to.written_new read_fault_text
   read_fault_written e = let g = given_at 4 e (omega arith) in by_due g.due g.status g.written
     where
-      by_due : (due : Due) → out.status ≡ code (status_of due) → Grew to.written to.written_new (text_of due) →
+      by_due : (due : Due) → out.status ≡ code (status_of due) → Grew to.written to.written_new (due_text due) →
           Grew to.written to.written_new read_fault_text
       by_due usage is grew = absurd (omega arith)
       by_due read_fault is grew = grew
@@ -285,7 +285,7 @@ module _ (asked : Option Command) (from : SourceChange) (out : Outcome) (to : Si
   refused_written e = let g = given_at 3 e (omega arith) in by_command asked g.due g.is g.status g.written
     where
       of_bytes : (command : Command) (due : Due) → IsDueOfBytes command from due → out.status ≡ code (status_of due) →
-          Grew to.written to.written_new (text_of due) →
+          Grew to.written to.written_new (due_text due) →
           OfBytesRead command from.left (λ bytes. IsSomeAnd (refusal_for command bytes) (λ r. Grew to.written to.written_new (refused_text r)))
       of_bytes command read_fault d is grew = absurd (omega arith)
       of_bytes command (refused r) d is grew =
@@ -296,7 +296,7 @@ module _ (asked : Option Command) (from : SourceChange) (out : Outcome) (to : Si
       of_bytes command due d is grew = absurd d
 
       by_command : (what : Option Command) (due : Due) → IsDue what from due → out.status ≡ code (status_of due) →
-          Grew to.written to.written_new (text_of due) →
+          Grew to.written to.written_new (due_text due) →
           OfScriptRead what from.left (λ command bytes. IsSomeAnd (refusal_for command bytes) (λ r. Grew to.written to.written_new (refused_text r)))
       by_command None due d is grew = tt
       by_command (Some (commands.Gen number)) due d is grew = tt
@@ -327,7 +327,7 @@ module _ (asked : Option Command) (from : SourceChange) (out : Outcome) (to : Si
       IsSomeAnd (first_fault bytes) (λ f. Grew to.written to.written_new (faulty_text f)))
   faulty_written e = let g = given_at 3 e (omega arith) in by_command asked g.due g.is g.status g.written
     where
-      of_stream : (due : Due) → IsDueOfStream from due → out.status ≡ code (status_of due) → Grew to.written to.written_new (text_of due) →
+      of_stream : (due : Due) → IsDueOfStream from due → out.status ≡ code (status_of due) → Grew to.written to.written_new (due_text due) →
           OfBytesRead commands.Show from.left (λ bytes. IsSomeAnd (first_fault bytes) (λ f. Grew to.written to.written_new (faulty_text f)))
       of_stream read_fault d is grew = absurd (omega arith)
       of_stream (faulty f) d is grew =
@@ -337,7 +337,7 @@ module _ (asked : Option Command) (from : SourceChange) (out : Outcome) (to : Si
       of_stream due d is grew = absurd d
 
       by_command : (what : Option Command) (due : Due) → IsDue what from due → out.status ≡ code (status_of due) →
-          Grew to.written to.written_new (text_of due) →
+          Grew to.written to.written_new (due_text due) →
           OfStreamRead what from.left (λ bytes. IsSomeAnd (first_fault bytes) (λ f. Grew to.written to.written_new (faulty_text f)))
       by_command (Some commands.Show) due d is grew = of_stream due d is grew
       by_command what due d is grew = tt
@@ -416,7 +416,7 @@ module _ (asked : Option Command) (from : SourceChange) (out : Outcome) (to : Si
   script_written e = let g = given_at 0 e (omega arith) in by_command asked g.due g.is g.status g.written
     where
       of_bytes : (command : Command) (due : Due) → command ≢ commands.Play → IsDueOfBytes command from due → out.status ≡ code (status_of due) →
-          Grew to.written to.written_new (text_of due) →
+          Grew to.written to.written_new (due_text due) →
           OfBytesRead command from.left (λ bytes. Grew to.written to.written_new (text_for command (script_of bytes)))
       of_bytes command read_fault other d is grew = absurd (omega arith)
       of_bytes command (refused r) other d is grew = absurd (omega arith)
@@ -429,7 +429,7 @@ module _ (asked : Option Command) (from : SourceChange) (out : Outcome) (to : Si
       of_bytes command due other d is grew = absurd d
 
       by_command : (what : Option Command) (due : Due) → IsDue what from due → out.status ≡ code (status_of due) →
-          Grew to.written to.written_new (text_of due) →
+          Grew to.written to.written_new (due_text due) →
           OfOneThread what from.left (λ command bytes. Grew to.written to.written_new (text_for command (script_of bytes)))
       by_command None due d is grew = tt
       by_command (Some (commands.Gen number)) due d is grew = tt
@@ -503,7 +503,7 @@ module _ (asked : Option Command) (from : SourceChange) (out : Outcome) (to : Si
       by_threads s (Some d) stage text is grew none = absurd (cc)
 
       of_bytes : (due : Due) → IsDueOfBytes commands.Play from due → out.status ≡ code (status_of due) → IsStageOf due out.stage →
-          Grew to.written to.written_new (text_of due) → IsDifferenceOf due out.differs →
+          Grew to.written to.written_new (due_text due) → IsDifferenceOf due out.differs →
           OfBytesRead commands.Play from.left (λ bytes. IsSomeAnd out.stage (λ stage. HasInterleavedHere (script_of bytes) stage))
       of_bytes read_fault d is stage grew differs = absurd (omega arith)
       of_bytes (refused r) d is stage grew differs = absurd (omega arith)
@@ -518,7 +518,7 @@ module _ (asked : Option Command) (from : SourceChange) (out : Outcome) (to : Si
       of_bytes due d is stage grew differs = absurd d
 
       by_command : (what : Option Command) (due : Due) → IsDue what from due → out.status ≡ code (status_of due) → IsStageOf due out.stage →
-          Grew to.written to.written_new (text_of due) → IsDifferenceOf due out.differs →
+          Grew to.written to.written_new (due_text due) → IsDifferenceOf due out.differs →
           OfThreads what from.left (λ bytes. IsSomeAnd out.stage (λ stage. HasInterleavedHere (script_of bytes) stage))
       by_command (Some commands.Play) due d is stage grew differs = of_bytes due d is stage grew differs
       by_command what due d is stage grew differs = tt
@@ -538,7 +538,7 @@ module _ (asked : Option Command) (from : SourceChange) (out : Outcome) (to : Si
       )
 
       of_bytes : (due : Due) → IsDueOfBytes commands.Play from due → out.status ≡ code (status_of due) → IsStageOf due out.stage →
-          Grew to.written to.written_new (text_of due) → IsDifferenceOf due out.differs →
+          Grew to.written to.written_new (due_text due) → IsDifferenceOf due out.differs →
           OfBytesRead commands.Play from.left (λ bytes. IfSome out.differs (λ d. HasPlayedAgain (script_of bytes) out.stage d))
       of_bytes read_fault d is stage grew differs = absurd (omega arith)
       of_bytes (refused r) d is stage grew differs = absurd (omega arith)
@@ -555,7 +555,7 @@ module _ (asked : Option Command) (from : SourceChange) (out : Outcome) (to : Si
       of_bytes due d is stage grew differs = absurd d
 
       by_command : (what : Option Command) (due : Due) → IsDue what from due → out.status ≡ code (status_of due) → IsStageOf due out.stage →
-          Grew to.written to.written_new (text_of due) → IsDifferenceOf due out.differs →
+          Grew to.written to.written_new (due_text due) → IsDifferenceOf due out.differs →
           OfThreads what from.left (λ bytes. IfSome out.differs (λ d. HasPlayedAgain (script_of bytes) out.stage d))
       by_command (Some commands.Play) due d is stage grew differs = of_bytes due d is stage grew differs
       by_command what due d is stage grew differs = tt
@@ -569,7 +569,7 @@ module _ (asked : Option Command) (from : SourceChange) (out : Outcome) (to : Si
       P s = (end : Threaded) × IsThreaded s end × Grew to.written to.written_new end.text.items
 
       of_bytes : (due : Due) → IsDueOfBytes commands.Play from due → out.status ≡ code (status_of due) →
-          Grew to.written to.written_new (text_of due) → OfBytesRead commands.Play from.left (λ bytes. P (script_of bytes))
+          Grew to.written to.written_new (due_text due) → OfBytesRead commands.Play from.left (λ bytes. P (script_of bytes))
       of_bytes read_fault d is grew = absurd (omega arith)
       of_bytes (refused r) d is grew = absurd (omega arith)
       of_bytes (played s text) d is grew = absurd d.2
@@ -579,7 +579,7 @@ module _ (asked : Option Command) (from : SourceChange) (out : Outcome) (to : Si
       of_bytes due d is grew = absurd d
 
       by_command : (what : Option Command) (due : Due) → IsDue what from due → out.status ≡ code (status_of due) →
-          Grew to.written to.written_new (text_of due) → OfThreads what from.left (λ bytes. P (script_of bytes))
+          Grew to.written to.written_new (due_text due) → OfThreads what from.left (λ bytes. P (script_of bytes))
       by_command (Some commands.Play) due d is grew = of_bytes due d is grew
       by_command what due d is grew = tt
 
@@ -613,7 +613,7 @@ module _ (asked : Option Command) (from : SourceChange) (out : Outcome) (to : Si
   pub stream_shown : out.status ≡ 0 → OfStreamRead asked from.left (λ bytes. Grew to.written to.written_new (shown_text bytes))
   stream_shown e = let g = given_at 0 e (omega arith) in by_command asked g.due g.is g.status g.written
     where
-      of_stream : (due : Due) → IsDueOfStream from due → out.status ≡ code (status_of due) → Grew to.written to.written_new (text_of due) →
+      of_stream : (due : Due) → IsDueOfStream from due → out.status ≡ code (status_of due) → Grew to.written to.written_new (due_text due) →
           OfBytesRead commands.Show from.left (λ bytes. Grew to.written to.written_new (shown_text bytes))
       of_stream read_fault d is grew = absurd (omega arith)
       of_stream (faulty f) d is grew = absurd (omega arith)
@@ -623,7 +623,7 @@ module _ (asked : Option Command) (from : SourceChange) (out : Outcome) (to : Si
       of_stream due d is grew = absurd d
 
       by_command : (what : Option Command) (due : Due) → IsDue what from due → out.status ≡ code (status_of due) →
-          Grew to.written to.written_new (text_of due) → OfStreamRead what from.left (λ bytes. Grew to.written to.written_new (shown_text bytes))
+          Grew to.written to.written_new (due_text due) → OfStreamRead what from.left (λ bytes. Grew to.written to.written_new (shown_text bytes))
       by_command (Some commands.Show) due d is grew = of_stream due d is grew
       by_command what due d is grew = tt
 
@@ -632,10 +632,10 @@ module _ (asked : Option Command) (from : SourceChange) (out : Outcome) (to : Si
       Grew to.written to.written_new (gen_text number) × IsSomeAnd out.stage (λ stage. HasPlayed (drawn number) stage))
   number_played e = let g = given_at 0 e (omega arith) in by_command asked g.due g.is g.written g.stage
     where
-      by_command : (what : Option Command) (due : Due) → IsDue what from due → Grew to.written to.written_new (text_of due) → IsStageOf due out.stage →
+      by_command : (what : Option Command) (due : Due) → IsDue what from due → Grew to.written to.written_new (due_text due) → IsStageOf due out.stage →
           OfNumber what (λ number. Grew to.written to.written_new (gen_text number) × IsSomeAnd out.stage (λ stage. HasPlayed (drawn number) stage))
       by_command (Some (commands.Gen number)) due d grew plays = (
-        subst (λ (x : Due). Grew to.written to.written_new (text_of x)) d.0 grew,
+        subst (λ (x : Due). Grew to.written to.written_new (due_text x)) d.0 grew,
         subst (λ (x : Due). IsStageOf x out.stage) d.0 plays,
       )
       by_command what due d grew plays = tt
@@ -690,10 +690,10 @@ module _ (asked : Option Command) (from : SourceChange) (out : Outcome) (to : Si
       by_cases (inr w) = delivered w.0 w.2
 
   -- beside a write fault a prefix of what is due is written
-  pub prefix_written : out.status ≡ 5 → (due : Due) × IsDue asked from due × GrewByPrefix to.written to.written_new (text_of due)
+  pub prefix_written : out.status ≡ 5 → (due : Due) × IsDue asked from due × GrewByPrefix to.written to.written_new (due_text due)
   prefix_written e = by_cases answered
     where
-      delivered : (due : Due) → IsDelivered due out to → GrewByPrefix to.written to.written_new (text_of due)
+      delivered : (due : Due) → IsDelivered due out to → GrewByPrefix to.written to.written_new (due_text due)
       delivered due (inr (inl v)) = v.3
       delivered due (inr (inr v)) = absurd (omega arith)
       delivered usage (inl v) = absurd (omega arith)
@@ -704,7 +704,7 @@ module _ (asked : Option Command) (from : SourceChange) (out : Outcome) (to : Si
       delivered (threaded s end) (inl v) = absurd (omega arith)
       delivered (shown text) (inl v) = absurd (omega arith)
 
-      by_cases : IsAnswered asked from out to → (due : Due) × IsDue asked from due × GrewByPrefix to.written to.written_new (text_of due)
+      by_cases : IsAnswered asked from out to → (due : Due) × IsDue asked from due × GrewByPrefix to.written to.written_new (due_text due)
       by_cases (inl w) = absurd (omega arith)
       by_cases (inr w) = (w.0, w.1, delivered w.0 w.2)
 

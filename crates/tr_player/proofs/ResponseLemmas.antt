@@ -9,11 +9,11 @@ use Rattle.tr_arguments.specs.declared.Command.{Command}
 use Rattle.tr_arguments.specs.declared.Command.TheVariants as commands
 use Rattle.tr_grammar.specs.States.{nothing_yet}
 use Rattle.tr_grammar.specs.Texts.{lines_of}
-use Rattle.tr_grammar.specs.Scripts.{Refusal, Script, after_all, refusal_of, script_of}
+use Rattle.tr_grammar.specs.Scripts.{Refusal, Script, after_all_lines, refusal_of, script_of}
 use Rattle.std.specs.List.{flat_map}
 use Rattle.tr_screen.specs.Pictures.{Picture}
 use Rattle.tr_mirror.specs.declared.MirrorFault.{MirrorFault}
-use Rattle.tr_mirror.specs.Readings.{IsStream, first_fault, shown}
+use Rattle.tr_mirror.specs.Readings.{IsStream, first_fault, screens_shown}
 use Rattle.tr_dump.specs.Reports.{dump_text}
 use Rattle.tr_serial.specs.Screens.{dumped_screens, mirror_bytes}
 use Rattle.tr_serial.specs.Outputs.{check_text, gen_text, drawn}
@@ -48,10 +48,10 @@ due_of_valid commands.Play bytes s other none is back = absurd (other refl)
 due_of_valid command bytes s other none is back = (none, is, (refl, back))
 
 -- what `mirror` writes, where it is a stream that shows the screens that the script dumps
-pub read_back : (s : Script) (text : List ℕ) → text ≡ mirror_bytes s → IsStream text → shown text ≡ dumped_screens s → IsReadBack commands.Mirror s
+pub read_back : (s : Script) (text : List ℕ) → text ≡ mirror_bytes s → IsStream text → screens_shown text ≡ dumped_screens s → IsReadBack commands.Mirror s
 read_back s text is stream shows = (
   subst (λ (t : List ℕ). IsStream t) is stream,
-  ap (λ (t : List ℕ). flat_map dump_text (shown t)) (sym is) ∙ ap (λ (screens : List Picture). flat_map dump_text screens) shows,
+  ap (λ (t : List ℕ). flat_map dump_text (screens_shown t)) (sym is) ∙ ap (λ (screens : List Picture). flat_map dump_text screens) shows,
 )
 
 -- so it is with what was made of the script
@@ -69,7 +69,7 @@ some_parts bytes s is =
     omega (
       arith,
       ap (λ (x : Script). length x.parts) is,
-      length_push (after_all nothing_yet (lines_of bytes)).ended (after_all nothing_yet (lines_of bytes)).part,
+      length_push (after_all_lines nothing_yet (lines_of bytes)).ended (after_all_lines nothing_yet (lines_of bytes)).part,
     )
 
 -- a text that is no script

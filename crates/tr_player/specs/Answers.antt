@@ -6,7 +6,7 @@ use Rattle.tr_io.specs.Faults.{HasFault}
 use Rattle.tr_io.specs.Streams.{Grew, GrewByPrefix, OfFirst, IsReadUpTo}
 use Rattle.tr_widget.specs.declared.Widget.{Widget}
 use Rattle.tr_widget.specs.declared.WidgetCmd.{WidgetCmd}
-use Rattle.tr_grammar.specs.Scripts.{Refusal, Script, most_bytes, refusal_of, script_of}
+use Rattle.tr_grammar.specs.Scripts.{Refusal, Script, most_script_bytes, refusal_of, script_of}
 use Rattle.tr_stage.specs.Stages.{StageView}
 use Rattle.tr_server.specs.Differing.{DiffersView}
 use Rattle.tr_mirror.specs.declared.MirrorFault.{MirrorFault}
@@ -47,7 +47,7 @@ ReadsNone (Some command) = ⊥
 -- the most bytes that are read: one more than a stream may have, or a script, which shows that it is too long
 abbrev pub most_read : Command → ℕ
 most_read commands.Show = longest_stream + 1
-most_read command = most_bytes + 1
+most_read command = most_script_bytes + 1
 
 -- a fact of the bytes that are read; where the source doesn't tell what it has left, of some bytes
 abbrev pub OfBytesRead : Command → Option (List ℕ) → (List ℕ → Type 0) → Type 0
@@ -128,14 +128,14 @@ status_of (threaded s end) = Done
 status_of (shown text) = Done
 
 -- what is written for each of them
-abbrev pub text_of : Due → List ℕ
-text_of usage = usage_text
-text_of read_fault = read_fault_text
-text_of (refused r) = refused_text r
-text_of (faulty f) = faulty_text f
-text_of (played s text) = text
-text_of (threaded s end) = end.text.items
-text_of (shown text) = text
+abbrev pub due_text : Due → List ℕ
+due_text usage = usage_text
+due_text read_fault = read_fault_text
+due_text (refused r) = refused_text r
+due_text (faulty f) = faulty_text f
+due_text (played s text) = text
+due_text (threaded s end) = end.text.items
+due_text (shown text) = text
 
 -- what became of a source in a call: the bytes that it had left and its count of faults, before and after
 pub record SourceChange : Type 0 where
@@ -230,10 +230,10 @@ IsDifferenceOf due differs = differs ≡ None
 -- memory nothing; stage and difference are handed out in the first case alone
 abbrev pub IsDelivered : Due → Outcome → SinkChange → Type 0
 IsDelivered due out to =
-    ((out.status ≡ code (status_of due)) × IsStageOf due out.stage × Grew to.written to.written_new (text_of due)
+    ((out.status ≡ code (status_of due)) × IsStageOf due out.stage × Grew to.written to.written_new (due_text due)
     × IsDifferenceOf due out.differs)
     ⊎ (((out.status ≡ code WriteFault) × (out.stage ≡ None) × HasFault to.faults to.faults_new
-    × GrewByPrefix to.written to.written_new (text_of due) × (out.differs ≡ None))
+    × GrewByPrefix to.written to.written_new (due_text due) × (out.differs ≡ None))
     ⊎ ((out.status ≡ code NoMemory) × (out.stage ≡ None) × (to.written_new ≡ to.written) × (out.differs ≡ None)))
 
 -- all that a call does: memory was wanted before an answer was found, or one is due and was delivered

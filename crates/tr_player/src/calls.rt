@@ -18,7 +18,7 @@ ghost use Rattle.tr_player.specs.Answers.{OfStreamRead, OfThreads};
 ghost use Rattle.tr_player.specs.Answers.{ReadsNone, Yields, asked_by, faulty_text, read_fault_text};
 ghost use Rattle.tr_player.specs.Answers.{refusal_for, refused_text};
 ghost use Rattle.tr_player.specs.Answers.{IsDifferenceOf, IsStageOf, sink_change, source_change, status_of, text_for};
-ghost use Rattle.tr_player.specs.Answers.{text_of, usage_text};
+ghost use Rattle.tr_player.specs.Answers.{due_text, usage_text};
 ghost use Rattle.tr_player.specs.Responses.{IsResponse};
 
 use crate::responses::{Response, response_by_threads, response_on_one_thread};
@@ -175,7 +175,7 @@ pub fn serial_call<S: Source, K: Sink>(
         HasFault (K.faults sink.old) (K.faults sink.new) }
     ensures prefix { result.status ≡ code Status.WriteFault → (due : Due)
         × IsDue (asked_by (texts_of words.now)) (source_change S.Source source.old source.new) due
-        × GrewByPrefix (K.written sink.old) (K.written sink.new) (text_of due) }
+        × GrewByPrefix (K.written sink.old) (K.written sink.new) (due_text due) }
 
     // Want of memory: nothing is written.
     ensures no_memory { result.status ≡ code Status.NoMemory →
@@ -313,7 +313,7 @@ pub fn trestle_call<R: Threads + Wait + Sync, S: Source, K: Sink, G: Gate + Sync
         HasFault (K.faults sink.old) (K.faults sink.new) }
     ensures prefix { result.status ≡ code Status.WriteFault → (due : Due)
         × IsDue (command_of (texts_of words.now)) (source_change S.Source source.old source.new) due
-        × GrewByPrefix (K.written sink.old) (K.written sink.new) (text_of due) }
+        × GrewByPrefix (K.written sink.old) (K.written sink.new) (due_text due) }
 
     // Want of memory: nothing is written.
     ensures no_memory { result.status ≡ code Status.NoMemory →

@@ -5,7 +5,7 @@ ghost use Rattle.tr_arguments.specs.Commands.{command_of as the_command_of, text
 ghost use Rattle.tr_serial.specs.Screens.{report_count};
 ghost use Rattle.tr_player.specs.Answers as spec;
 ghost use Rattle.tr_player.specs.Answers.{Due, IsDifferenceOf, IsDue, IsDueOfBytes, IsDueOfStream, IsReadBack, IsStageOf};
-ghost use Rattle.tr_player.specs.Answers.{ReadsNone, faulty, of_one_thread, refused, source_change, status_of, text_of};
+ghost use Rattle.tr_player.specs.Answers.{ReadsNone, faulty, of_one_thread, refused, source_change, status_of, due_text};
 ghost use Rattle.tr_player.specs.Responses.{IsDueOfShow, IsDueOfText, IsResponse, due_of_script};
 
 use crate::checks::is_checkable;
@@ -69,7 +69,7 @@ impl Response {
 
     /// The text that is due.
     pub fn text(&self) -> &[u8]
-        ensures { (due : Due) → IsResponse due self.now → result.now ≡ text_of due }
+        ensures { (due : Due) → IsResponse due self.now → result.now ≡ due_text due }
     {
         match self {
             Response::Usage => USAGE_TEXT,

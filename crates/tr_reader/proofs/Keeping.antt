@@ -8,7 +8,7 @@ use Rattle.tr_base.specs.declared.Kind.{Kind}
 use Rattle.tr_base.specs.declared.LeafId.{LeafId}
 use Rattle.tr_forest.specs.declared.NodeKind.TheVariants as kinds
 use Rattle.tr_forest.specs.declared.NodeFault.{NodeFault}
-use Rattle.tr_forest.specs.Nodes.{Nodes, leaf_count, fresh}
+use Rattle.tr_forest.specs.Nodes.{Nodes, leaf_count, new_entry}
 use Rattle.tr_tree.specs.Trees.{Seen}
 use Rattle.tr_journal.specs.declared.Item.{Item}
 use Rattle.tr_journal.specs.declared.Item.TheVariants as items
@@ -28,13 +28,13 @@ use Rattle.tr_journal.specs.Names.{Names}
 use Rattle.tr_grammar.specs.Names.{number_of}
 use Rattle.tr_grammar.specs.States.{SoFar, Part, empty_part, nothing_yet}
 use Rattle.tr_grammar.specs.Faults.{version_line, screen_line, opening_line, step_line, report_line, allows, is_refused, nodes_so_far, reports_so_far, has_ended}
-use Rattle.tr_grammar.specs.Scripts.{after, with_name, with_glyph, whole, IsPlayable, IsPlayablePart, IsPlayableScript}
+use Rattle.tr_grammar.specs.Scripts.{after_meaning, with_name, with_glyph, whole, IsPlayable, IsPlayablePart, IsPlayableScript}
 use Rattle.tr_reader.proofs.NameLemmas.{none_before, none_after}
 use Rattle.tr_reader.specs.Laws.{IsBare, HasNoPart, HasParts, HasRead, IsSoFar}
 use Rattle.tr_reader.specs.Adding.{is_at_steps, with_steps, sort_of_meaning, IsSoundItem, IsSoundValue}
 use Rattle.tr_reader.specs.declared.readers.Reader.TheInside.{Inside}
 use Rattle.tr_reader.specs.declared.readers.Declared.{Declared}
-use Rattle.tr_reader.specs.Insides.{items_in, names_in, so_far, IsKept}
+use Rattle.tr_reader.specs.Insides.{items_in, names_in, so_far, HoldsTogether}
 
 -- ---- what was read before a line of a sort
 
@@ -98,7 +98,7 @@ shared_leaf names w shared new q none =
 item_kept : (c : SoFar) (w : List ℕ) (item : Item Widget) → HasNoPart c →
     length (with_name w item c.names).nodes ≡ length (tree_after (tree_of c.items) item).nodes.entries →
     length (with_name w item c.names).leaves ≡ leaf_count (tree_after (tree_of c.items) item).nodes →
-    IsShared (with_name w item c.names) → IsSoFar (after c w (meanings.Item item))
+    IsShared (with_name w item c.names) → IsSoFar (after_meaning c w (meanings.Item item))
 item_kept c w item none nodes leaves shared = record {
   nodes = nodes ∙ ap (λ (t : Seen). length t.nodes.entries) (sym (tree_more c.items item));
   leaves = leaves ∙ ap (λ (t : Seen). leaf_count t.nodes) (sym (tree_more c.items item));
@@ -119,11 +119,11 @@ no_reports t = record { reports = All-nil (IsQuery t); steps = All-nil (IsPlayab
 
 -- behind the screen line
 with_screen : (n : ℕ) (p : Place) (w : List ℕ) (size : Size) (kind : Kind) →
-    IsSoFar (after (record nothing_yet { version = n; place = p }) w (meanings.Item (items.Screen size kind)))
+    IsSoFar (after_meaning (record nothing_yet { version = n; place = p }) w (meanings.Item (items.Screen size kind)))
 with_screen n p w size kind = record { nodes = refl; leaves = refl; shared = λ q none. none; read = record { ended = refl; part = refl } }
 
 pub keeps : (c : SoFar) (w : List ℕ) (m : Meaning) → IsSoFar c → allows c.place (sort_of_meaning m) ≡ true → IsSoundValue c w m →
-    is_refused c m ≡ false → IsSoFar (after c w m)
+    is_refused c m ≡ false → IsSoFar (after_meaning c w m)
 keeps c w (meanings.Version n) h a v r = record {
   nodes = h.nodes;
   leaves = h.leaves;
@@ -131,19 +131,19 @@ keeps c w (meanings.Version n) h a v r = record {
   read = ap (λ (d : SoFar). record d { version = n; place = places.Head }) (before_version c.place c a h.read);
 }
 keeps c w (meanings.Item (items.Screen size kind)) h a v r =
-    subst (λ (d : SoFar). IsSoFar (after d w (meanings.Item (items.Screen size kind)))) (sym (before_screen c.place c a h.read))
+    subst (λ (d : SoFar). IsSoFar (after_meaning d w (meanings.Item (items.Screen size kind)))) (sym (before_screen c.place c a h.read))
     (with_screen c.version c.place w size kind)
 keeps c w (meanings.Item (items.Glyph byte rows)) h a v r =
     item_kept c w (items.Glyph byte rows) (before_item c.place c a h.read) h.nodes h.leaves h.shared
 keeps c w (meanings.Item (items.Node kind tint)) h a v r =
     item_kept c w (items.Node kind tint) (before_item c.place c a h.read)
-    (one_more c.names.nodes (nodes_so_far c).entries w (fresh kind tint) h.nodes)
+    (one_more c.names.nodes (nodes_so_far c).entries w (new_entry kind tint) h.nodes)
     (h.leaves ∙ sym (node_leaves (tree_of c.items) kind tint v.3))
     (shared_node c.names w h.shared v.0)
 keeps c w (meanings.Item (items.Leaf shapes content)) h a v r =
     let leaf : LeafId = record { 0 = leaf_count (nodes_so_far c) } in
     item_kept c w (items.Leaf shapes content) (before_item c.place c a h.read)
-    (one_more c.names.nodes (nodes_so_far c).entries w (fresh (kinds.Leaf leaf shapes) 0) h.nodes)
+    (one_more c.names.nodes (nodes_so_far c).entries w (new_entry (kinds.Leaf leaf shapes) 0) h.nodes)
     (length-append c.names.leaves (w ∷ []) ∙ ap (λ n. n + 1) h.leaves ∙ sym (leaf_leaves (tree_of c.items) leaf shapes))
     (shared_leaf c.names w h.shared v)
 keeps c w (meanings.Item (items.Put child parent at)) h a v r =
@@ -220,7 +220,7 @@ ended_reports ended part =
     let both = sum_by-append (λ (p : Part). length p.reports) ended (part ∷ []) in
     omega arith
 
-more_reports : (c : SoFar) (w : List ℕ) (m : Meaning) → reports_so_far (after c w m) ≡ reports_so_far c + reports_in m
+more_reports : (c : SoFar) (w : List ℕ) (m : Meaning) → reports_so_far (after_meaning c w m) ≡ reports_so_far c + reports_in m
 more_reports c w (meanings.Version n) = omega arith
 more_reports c w (meanings.Item item) = omega arith
 more_reports c w meanings.Begin = omega arith
@@ -230,11 +230,11 @@ more_reports c w (meanings.Report query) = one_report (sum_by (λ p. length p.re
 more_reports c w meanings.End = omega arith
 
 -- the fields keep it behind a line, where c is what they say before it
-pub kept_after : (r new : Inside) (c : SoFar) (w : List ℕ) (m : Meaning) → so_far r ≡ c → IsKept r →
+pub kept_after : (r new : Inside) (c : SoFar) (w : List ℕ) (m : Meaning) → so_far r ≡ c → HoldsTogether r →
     allows c.place (sort_of_meaning m) ≡ true → IsSoundValue c w m → is_refused c m ≡ false →
-    so_far new ≡ after (so_far r) w m → new.report_count ≡ r.report_count + reports_in m → IsKept new
+    so_far new ≡ after_meaning (so_far r) w m → new.report_count ≡ r.report_count + reports_in m → HoldsTogether new
 kept_after r new c w m is kept a v taken made counted =
-    let same : so_far new ≡ after c w m = made ∙ ap (λ (s : SoFar). after s w m) is in
+    let same : so_far new ≡ after_meaning c w m = made ∙ ap (λ (s : SoFar). after_meaning s w m) is in
     let more : r.report_count + reports_in m ≡ reports_so_far c + reports_in m =
     ap (λ (n : ℕ). n + reports_in m) (kept.reports ∙ ap (λ (s : SoFar). reports_so_far s) is) in
     record {
@@ -276,9 +276,9 @@ keeps_steps c made h a playable =
     record { nodes = h.nodes; leaves = h.leaves; shared = h.shared; read = reads_steps c.place (with_steps c made) a parts }
 
 -- the fields keep it behind such steps, where c is what they say before them
-pub kept_behind_steps : (r new : Inside) (c : SoFar) (made : List (Actor × Step WidgetCmd)) → so_far r ≡ c → IsKept r →
+pub kept_behind_steps : (r new : Inside) (c : SoFar) (made : List (Actor × Step WidgetCmd)) → so_far r ≡ c → HoldsTogether r →
     is_at_steps c.place ≡ true → All (IsPlayable (nodes_so_far c)) made →
-    so_far new ≡ with_steps (so_far r) made → new.report_count ≡ r.report_count → IsKept new
+    so_far new ≡ with_steps (so_far r) made → new.report_count ≡ r.report_count → HoldsTogether new
 kept_behind_steps r new c made is kept a playable added counted =
     let same : so_far new ≡ with_steps c made = added ∙ ap (λ (s : SoFar). with_steps s made) is in
     record {
@@ -317,7 +317,7 @@ pub record IsMore (r : Inside) (d new : Declared) (w : List ℕ) (item : Item Wi
   pub reports : reports_in (meanings.Item item) ≡ 0
 
 made_item : (r : Inside) (d new : Declared) (w : List ℕ) (item : Item Widget) → IsMore r d new w item → r.place ≡ places.Opening →
-    so_far (record r { declared = Some new }) ≡ after (so_far r) w (meanings.Item item)
+    so_far (record r { declared = Some new }) ≡ after_meaning (so_far r) w (meanings.Item item)
 made_item r d new w item more here =
     let names : names_in (Some new) ≡ with_name w item (names_in r.declared) =
     more.names ∙ ap (λ (o : Option Declared). with_name w item (names_in o)) (sym more.before) in
@@ -329,9 +329,9 @@ made_item r d new w item more here =
     ∙ ap (λ (xs : List (Item Widget)). seen r places.Opening (with_name w item (names_in r.declared)) xs gs) items
     ∙ ap (λ (bs : List ℕ). seen r places.Opening (with_name w item (names_in r.declared)) (items_in r.declared ++ item ∷ []) bs) (sym more.glyphs)
 
-pub kept_item : (r : Inside) (c : SoFar) (d new : Declared) (w : List ℕ) (item : Item Widget) → so_far r ≡ c → IsKept r →
+pub kept_item : (r : Inside) (c : SoFar) (d new : Declared) (w : List ℕ) (item : Item Widget) → so_far r ≡ c → HoldsTogether r →
     IsMore r d new w item → allows c.place opening_line ≡ true → IsSoundItem c w item → is_refused c (meanings.Item item) ≡ false →
-    IsKept (record r { declared = Some new })
+    HoldsTogether (record r { declared = Some new })
 kept_item r c d new w item is kept more a v taken =
     let here = place_is r.place (subst (λ (s : SoFar). allows s.place opening_line ≡ true) (sym is) a) in
     kept_after r (record r { declared = Some new }) c w (meanings.Item item) is kept (rw more.sort a) v taken
@@ -351,7 +351,7 @@ whole_is r c d is at =
     ap (λ (o : Option Declared). whole (seen r r.place (names_in o) (items_in o) r.glyphs.items)) (sym at) ∙ ap (λ (s : SoFar). whole s) is
 
 -- a name that no node has is no leaf's
-pub leaf_is_new : (r : Inside) (c : SoFar) (d : Declared) (w : List ℕ) → so_far r ≡ c → IsKept r → r.declared ≡ Some d →
+pub leaf_is_new : (r : Inside) (c : SoFar) (d : Declared) (w : List ℕ) → so_far r ≡ c → HoldsTogether r → r.declared ≡ Some d →
     number_of c.names.nodes w ≡ None → number_of d.leaves w ≡ None
 leaf_is_new r c d w is kept at new =
     let none = (subst (λ (s : SoFar). IsSoFar s) is kept.law).shared w new in

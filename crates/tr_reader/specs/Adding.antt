@@ -22,7 +22,7 @@ use Rattle.tr_grammar.specs.declared.Meaning.TheVariants as meanings
 use Rattle.tr_grammar.specs.Names.{number_of}
 use Rattle.tr_grammar.specs.States.{SoFar}
 use Rattle.tr_grammar.specs.Faults.{Sort, version_line, screen_line, opening_line, step_line, report_line, allows, is_refused, nodes_so_far, has_ended}
-use Rattle.tr_grammar.specs.Scripts.{Script, after, whole, IsPlayable, IsPlayableScript}
+use Rattle.tr_grammar.specs.Scripts.{Script, after_meaning, whole, IsPlayable, IsPlayableScript}
 
 -- the last line that wasn't silent made a step
 abbrev pub is_at_steps : Place → Bool
@@ -69,7 +69,7 @@ pub record IsSoundMeaning (c : SoFar) (w : List ℕ) (m : Meaning) : Type 0 wher
 
 -- a line that says this comes behind the others, or the tree refuses it: the script before it, and behind it
 abbrev pub Adds : SoFar → List ℕ → Meaning → SoFar → Result Unit LineRefused → Type 0
-Adds c w m new (Ok done) = (is_refused c m ≡ false) × (new ≡ after c w m)
+Adds c w m new (Ok done) = (is_refused c m ≡ false) × (new ≡ after_meaning c w m)
 Adds c w m new (Err refused.NoMemory) = ⊤
 Adds c w m new (Err (refused.Fault code)) = (is_refused c m ≡ true) × (code ≡ B6)
 

@@ -34,6 +34,6 @@ so_far r = record {
 }
 
 -- it holds together, and the reports are counted
-pub record IsKept (r : Inside) : Type 0 where
+pub record HoldsTogether (r : Inside) : Type 0 where
   pub law : IsSoFar (so_far r)
   pub reports : r.report_count ≡ reports_so_far (so_far r)

@@ -2,7 +2,7 @@
 ghost use Rattle.std.specs.Prelude.{◌≡◌, [], true, false, All, OnOk, OnErr, is_some};
 ghost use Rattle.tr_journal.specs.Steps.{IsQuery};
 ghost use Rattle.tr_grammar.specs.Faults.{version_line, opening_line, step_line, report_line, allows, is_one_too_many, nodes_so_far};
-ghost use Rattle.tr_grammar.specs.Scripts.{after, IsPlayable};
+ghost use Rattle.tr_grammar.specs.Scripts.{after_meaning, IsPlayable};
 ghost use Rattle.tr_reader.specs.Adding.{Adds, IsSoundMeaning, is_at_steps, with_steps};
 
 use crate::parts::{Part, Steps, push};
@@ -21,7 +21,7 @@ impl<'a> Reader<'a> {
     /// The script is of this version.
     fn set_version(&mut self, version: u8)
         requires { allows self.old.place version_line ≡ true }
-        ensures { self.new ≡ after self.old [] (Meaning.Version version) }
+        ensures { self.new ≡ after_meaning self.old [] (Meaning.Version version) }
     {
         self.version = version;
         self.place = Place::Head;
@@ -54,7 +54,7 @@ impl<'a> Reader<'a> {
     fn add_step(&mut self, actor: Actor, step: Step<WidgetCmd>) -> Result<(), NoMemory>
         requires place { allows self.old.place step_line ≡ true }
         requires playable { IsPlayable (nodes_so_far self.old) (actor, step) }
-        ensures ok { OnOk result (self.new ≡ after self.old [] (Meaning.Step actor step)) }
+        ensures ok { OnOk result (self.new ≡ after_meaning self.old [] (Meaning.Step actor step)) }
         ensures err { OnErr result (self.new ≡ self.old) }
     {
         // For the prover: its borrow checker finds the types within a command, and so a rule for the
@@ -86,7 +86,7 @@ impl<'a> Reader<'a> {
     /// The part ends, and another begins.
     fn end_part(&mut self) -> Result<(), NoMemory>
         requires { allows self.old.place step_line ≡ true }
-        ensures ok { OnOk result (self.new ≡ after self.old [] Meaning.Sync) }
+        ensures ok { OnOk result (self.new ≡ after_meaning self.old [] Meaning.Sync) }
         ensures err { OnErr result (self.new ≡ self.old) }
     {
         self.ended.reserve(1)?;
@@ -105,7 +105,7 @@ impl<'a> Reader<'a> {
         requires place { allows self.old.place report_line ≡ true }
         requires query { IsQuery (nodes_so_far self.old) query }
         requires room { is_one_too_many self.old (Meaning.Report query) ≡ false }
-        ensures ok { OnOk result (self.new ≡ after self.old [] (Meaning.Report query)) }
+        ensures ok { OnOk result (self.new ≡ after_meaning self.old [] (Meaning.Report query)) }
         ensures err { OnErr result (self.new ≡ self.old) }
     {
         push(&mut self.reports, query)?;
@@ -117,7 +117,7 @@ impl<'a> Reader<'a> {
     /// The script ends.
     fn end(&mut self)
         requires { allows self.old.place report_line ≡ true }
-        ensures { self.new ≡ after self.old [] Meaning.End }
+        ensures { self.new ≡ after_meaning self.old [] Meaning.End }
     {
         self.place = Place::Ended;
     }

@@ -6,7 +6,7 @@ ghost use Rattle.tr_forest.specs.Edits.{IsCause, IsEdit, IsScreenSize, refusal};
 ghost use Rattle.tr_journal.specs.Openings.{root_refusal, tree_of};
 ghost use Rattle.tr_grammar.specs.Names.{number_of};
 ghost use Rattle.tr_grammar.specs.Faults.{screen_line, opening_line, allows, nodes_so_far, is_one_too_many};
-ghost use Rattle.tr_grammar.specs.Scripts.{after};
+ghost use Rattle.tr_grammar.specs.Scripts.{after_meaning};
 ghost use Rattle.tr_reader.specs.Adding.{Adds, IsRefusal, IsSoundMeaning};
 
 use crate::names::NameTable;
@@ -139,7 +139,8 @@ impl<'a> Reader<'a> {
     fn set_screen(&mut self, size: Size, kind: Kind) -> Result<(), NoMemory>
         requires place { allows self.old.place screen_line ≡ true }
         requires size { IsScreenSize size }
-        ensures ok { OnOk result (self.new ≡ after self.old [] (Meaning.Item (Item.Screen size kind))) }
+        ensures ok { OnOk result
+            (self.new ≡ after_meaning self.old [] (Meaning.Item (Item.Screen size kind))) }
         ensures err { OnErr result (self.new ≡ self.old) }
     {
         let opening = Opening::new(self.alloc, size, kind)?;
@@ -159,7 +160,8 @@ impl<'a> Reader<'a> {
         requires place { allows self.old.place opening_line ≡ true }
         requires first { 32 ≤ byte }
         requires last { byte ≤ 126 }
-        ensures ok { OnOk result (self.new ≡ after self.old [] (Meaning.Item (Item.Glyph byte rows))) }
+        ensures ok { OnOk result
+            (self.new ≡ after_meaning self.old [] (Meaning.Item (Item.Glyph byte rows))) }
         ensures err { OnErr result (self.new ≡ self.old) }
     {
         self.glyphs.reserve(1)?;
@@ -177,7 +179,8 @@ impl<'a> Reader<'a> {
     fn add_node(&mut self, name: &'a str, kind: NodeKind, tint: u8) -> Result<(), NoMemory>
         requires sound { IsSoundMeaning self.old name.now (Meaning.Item (Item.Node kind tint)) }
         requires room { is_one_too_many self.old (Meaning.Item (Item.Node kind tint)) ≡ false }
-        ensures ok { OnOk result (self.new ≡ after self.old name.now (Meaning.Item (Item.Node kind tint))) }
+        ensures ok { OnOk result
+            (self.new ≡ after_meaning self.old name.now (Meaning.Item (Item.Node kind tint))) }
         ensures err { OnErr result (self.new ≡ self.old) }
     {
         let Some(mut declared) = self.declared.take() else {
@@ -194,7 +197,7 @@ impl<'a> Reader<'a> {
         requires sound { IsSoundMeaning self.old name.now (Meaning.Item (Item.Leaf shapes content)) }
         requires room { is_one_too_many self.old (Meaning.Item (Item.Leaf shapes content)) ≡ false }
         ensures ok { OnOk result
-            (self.new ≡ after self.old name.now (Meaning.Item (Item.Leaf shapes content))) }
+            (self.new ≡ after_meaning self.old name.now (Meaning.Item (Item.Leaf shapes content))) }
         ensures err { OnErr result (self.new ≡ self.old) }
     {
         let Some(mut declared) = self.declared.take() else {

@@ -37,11 +37,11 @@ impl<'a> Model for Reader<'a> {
 
     ghost Value = { SoFar };
 
-    ghost use Rattle.tr_reader.specs.Insides.{so_far, IsKept};
+    ghost use Rattle.tr_reader.specs.Insides.{so_far, HoldsTogether};
 
     ghost view = { so_far };
 
-    ghost invariant = { IsKept };
+    ghost invariant = { HoldsTogether };
 }
 
 impl<'a> Reader<'a> {

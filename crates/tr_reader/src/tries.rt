@@ -7,7 +7,7 @@ ghost use Rattle.tr_grammar.specs.declared.Code.TheVariants.{B1, B3, B4, B5};
 ghost use Rattle.tr_grammar.specs.Words.{is_one_of};
 ghost use Rattle.tr_grammar.specs.Names.{number_of, numbered};
 ghost use Rattle.tr_grammar.specs.Forms.{is_second, pixel_words};
-ghost use Rattle.tr_grammar.specs.Meanings.{kind_of};
+ghost use Rattle.tr_grammar.specs.Meanings.{kind_by_name};
 ghost use Rattle.tr_grammar.specs.Faults.{version_line, screen_line, opening_line, step_line, report_line, allows, has_ended, suits, suits_leaf, is_foreign, is_one_too_many};
 ghost use Rattle.tr_words.specs.Answers.{Answers};
 ghost use Rattle.tr_reader.specs.Laws.{IsSoFar};
@@ -140,7 +140,7 @@ impl<'a> Reader<'a> {
     /// A kind of pixels that the version has.
     pub fn kind(&self, word: &str) -> Result<Kind, Code>
         ensures { Answers (not (is_one_of (pixel_words self.now.version) word.now)) B1
-            (λ k. k ≡ kind_of word.now) result }
+            (λ k. k ≡ kind_by_name word.now) result }
     {
         match word {
             "mono" => Ok(Kind::Mono),

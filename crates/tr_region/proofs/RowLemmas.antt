@@ -11,7 +11,7 @@ use Rattle.tr_base.specs.Rects.{Edges, between, has_point}
 use Rattle.tr_region.specs.Points.{holds}
 use Rattle.tr_region.specs.Bands.{Span, Band, span_of, spans_of, rect_in, rects_in, rects_of, bands_of, AreApart, AreBands, IsCanonical, in_spans}
 use Rattle.tr_region.specs.Rows.{HoldsRow}
-use Rattle.tr_region.specs.RowParts.{IsFull, ComesBefore, AreInOrder, IsRowPart}
+use Rattle.tr_region.specs.RowParts.{HoldsPoints, ComesBefore, AreInOrder, IsRowPart}
 use Rattle.tr_region.proofs.ListLemmas.{AllByRecursion-append, AllByRecursion-map, AllByRecursion-weaker}
 use Rattle.tr_region.proofs.BandLemmas.{AreBands-parts, AreApart-parts, rects_of-bands_of}
 
@@ -68,7 +68,7 @@ pub AreInOrder-canonical : (rects : List Edges) → IsCanonical rects → AreInO
 AreInOrder-canonical rects h = subst AreInOrder (rects_of-bands_of rects) (in_order-bands (bands_of rects) h.bands)
 
 -- one rectangle of a list in order holds points
-pub full_at : (rects : List Edges) (k : ℕ) (d : Edges) → AreInOrder rects → k < length rects → IsFull (get_or rects k d)
+pub full_at : (rects : List Edges) (k : ℕ) (d : Edges) → AreInOrder rects → k < length rects → HoldsPoints (get_or rects k d)
 full_at [] k d h lt = absurd (omega arith)
 full_at (r ∷ rects) zero d h lt = h.0
 full_at (r ∷ rects) (suc k) d h lt = full_at rects k d h.2 (omega arith)
@@ -86,7 +86,7 @@ order_at (r ∷ rects) zero (suc j) d h lt fits = at rects j h.1 (omega arith)
 order_at (r ∷ rects) (suc i) (suc j) d h lt fits = order_at rects i j d h.2 (omega arith) (omega arith)
 
 -- an edge that never falls from one rectangle to one that follows it never falls along the list
-module _ (edge : Edges → ℤ) (step : (a b : Edges) → IsFull a → IsFull b → ComesBefore a b → edge a ≤ℤ edge b) where
+module _ (edge : Edges → ℤ) (step : (a b : Edges) → HoldsPoints a → HoldsPoints b → ComesBefore a b → edge a ≤ℤ edge b) where
   pub rises : (rects : List Edges) (i j : ℕ) (d : Edges) → AreInOrder rects → i ≤ j → j < length rects → edge (get_or rects i d) ≤ℤ edge (get_or rects j d)
   rises rects i j d h le fits = by_order (cases_order i j)
     where
@@ -97,11 +97,11 @@ module _ (edge : Edges → ℤ) (step : (a b : Edges) → IsFull a → IsFull b 
           (order_at rects i j d h lt fits)
       by_order (inr (inr gt)) = absurd (omega arith)
 
-souths : (a b : Edges) → IsFull a → IsFull b → ComesBefore a b → a.south ≤ℤ b.south
+souths : (a b : Edges) → HoldsPoints a → HoldsPoints b → ComesBefore a b → a.south ≤ℤ b.south
 souths a b ha hb (inl h) = omega (arith, ints, hb.1)
 souths a b ha hb (inr h) = omega (arith, ints, h.1)
 
-norths : (a b : Edges) → IsFull a → IsFull b → ComesBefore a b → a.north ≤ℤ b.north
+norths : (a b : Edges) → HoldsPoints a → HoldsPoints b → ComesBefore a b → a.north ≤ℤ b.north
 norths a b ha hb (inl h) = omega (arith, ints, ha.1)
 norths a b ha hb (inr h) = omega (arith, ints, h.0)
 
@@ -343,7 +343,7 @@ row_some rects row k d h fits points none =
     p : Point
     p = record { h = (get_or rects k d).west; v = (get_or rects k d).north }
 
-    corner : (r : Edges) → IsFull r → (let q : Point = record { h = r.west; v = r.north } in has_point r q ≡ true)
+    corner : (r : Edges) → HoldsPoints r → (let q : Point = record { h = r.west; v = r.north } in has_point r q ≡ true)
     corner r full = let across = full.0 in let down = full.1 in grind (arith, ints)
 
     held : (es : List Edges) (j : ℕ) → j < length es → has_point (get_or es j d) p ≡ true → holds es p ≡ true

@@ -7,8 +7,8 @@ use Rattle.tr_region.specs.declared.rows.Band.{Band}
 use Rattle.tr_region.specs.Rows.{HoldsRow, IsNearest}
 
 -- the rectangle holds points
-abbrev pub IsFull : Edges → Type 0
-IsFull r = (r.west <ℤ r.east) × (r.north <ℤ r.south)
+abbrev pub HoldsPoints : Edges → Type 0
+HoldsPoints r = (r.west <ℤ r.east) × (r.north <ℤ r.south)
 
 -- a rectangle lies north of another, or west of it in the same rows
 abbrev pub ComesBefore : Edges → Edges → Type 0
@@ -17,7 +17,7 @@ ComesBefore a b = (a.south ≤ℤ b.north) ⊎ ((a.north ≡ b.north) × (a.sout
 -- each rectangle holds points, and comes before all that follow it
 abbrev pub AreInOrder : List Edges → Type 0
 AreInOrder [] = Unit {0}
-AreInOrder (r ∷ rects) = IsFull r × AllByRecursion (ComesBefore r) rects × AreInOrder rects
+AreInOrder (r ∷ rects) = HoldsPoints r × AllByRecursion (ComesBefore r) rects × AreInOrder rects
 
 -- the rectangles from start on and before end have row v, those before lie north of it and those after south
 pub record IsRowPart (v : ℤ) (rects : List Edges) (start end : ℕ) : Type 0 where

@@ -7,7 +7,7 @@ use Rattle.tr_base.specs.declared.points.Point.{Point}
 use Rattle.tr_base.specs.Rects.{Edges, InReach, AreInReach, empty_rect, shifted, has_point}
 use Rattle.tr_region.specs.Points.{holds}
 use Rattle.tr_region.proofs.OrderLemmas.{IsFull, AreInOrder}
-use Rattle.tr_repair.specs.Near.{IsAround, IsStep}
+use Rattle.tr_repair.specs.Near.{IsAround, IsDistance}
 
 -- an edge of a rectangle whose points are near 0
 record IsNearEdge (x : ℤ) : Type 0 where
@@ -21,7 +21,7 @@ zero_in_reach : InReach (pos 0)
 zero_in_reach = record { low = omega (arith, ints); high = omega (arith, ints) }
 
 -- a rectangle with points is near 0 where its corners are
-rect_in_reach : (r : Edges) (d : Point) → IsFull r → ((p : Point) → has_point r p ≡ true → IsAround p) → IsStep d → AreInReach (shifted r d)
+rect_in_reach : (r : Edges) (d : Point) → IsFull r → ((p : Point) → has_point r p ≡ true → IsAround p) → IsDistance d → AreInReach (shifted r d)
 rect_in_reach r d full around step = by_test (int_lt (r.west +ℤ d.h) (r.east +ℤ d.h) && int_lt (r.north +ℤ d.v) (r.south +ℤ d.v))
   where
     held : (h v : ℤ) → r.west ≤ℤ h → h <ℤ r.east → r.north ≤ℤ v → v <ℤ r.south → IsAround (record { h = h; v = v })
@@ -59,7 +59,7 @@ rect_in_reach r d full around step = by_test (int_lt (r.west +ℤ d.h) (r.east +
 
 -- each rectangle of a canonical list holds points
 pub all_in_reach : (rects : List Edges) (d : Point) →
-    AreInOrder rects → ((p : Point) → holds rects p ≡ true → IsAround p) → IsStep d →
+    AreInOrder rects → ((p : Point) → holds rects p ≡ true → IsAround p) → IsDistance d →
     AllByRecursion (λ r. AreInReach (shifted r d)) rects
 all_in_reach [] d order around step = tt
 all_in_reach (r ∷ rects) d order around step = (

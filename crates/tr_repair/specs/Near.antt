@@ -10,7 +10,7 @@ pub record IsAround (p : Point) : Type 0 where
   pub south : p.v <ℤ pos 524288
 
 -- a distance is at most 262,144 each way
-pub record IsStep (delta : Point) : Type 0 where
+pub record IsDistance (delta : Point) : Type 0 where
   pub west : neg_ℤ (pos 262144) ≤ℤ delta.h
   pub east : delta.h ≤ℤ pos 262144
   pub north : neg_ℤ (pos 262144) ≤ℤ delta.v

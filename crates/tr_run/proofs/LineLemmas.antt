@@ -39,8 +39,8 @@ use Rattle.tr_journal.specs.Steps.{AreAsMany, AreLevels, IsLevel, IsOwn, IsQuery
 use Rattle.tr_journal.proofs.LevelLemmas.{stated_levels}
 use Rattle.tr_machine.specs.States.{State, content_of, start}
 use Rattle.tr_machine.specs.Machines as machine
-use Rattle.tr_machine.specs.Machines.{Outcome, asked_of, edited, obeyed, taken, unless}
-use Rattle.tr_machine.specs.Replays.{IsLegal, IsLegalFrom, line_of, next, replay, replay_from}
+use Rattle.tr_machine.specs.Machines.{Outcome, asked_of, edit_step, obeyed, taken, unless}
+use Rattle.tr_machine.specs.Replays.{IsLegal, IsLegalFrom, line_of_step, next, replay, replay_from}
 use Rattle.tr_machine.proofs.JournalLemmas.{replay-append}
 use Rattle.tr_machine.proofs.KeptLemmas.{IsKept, kept_next, step_along}
 use Rattle.tr_journal.specs.Names.{HasLeaf, HasNode, Names}
@@ -165,19 +165,19 @@ module _ {C M : Type 0} (client : Ghosts C M) where
   going_taken count leaf (Some event) m is =
       record { mail = by_command (asked_of client (content_of client m leaf) event); sent = All-nil (IsBelow count) }
     where
-      by_command : (o : Option M) → IsKnowing count (obeyed client leaf o (record m { mail = mail.taken leaf m.mail })).mail
+      by_command : (o : Option M) → IsKnowing count (obeyed client leaf o (record m { mail = mail.front_taken leaf m.mail })).mail
       by_command None = taken-knows count leaf m.mail is
       by_command (Some cmd) = taken-knows count leaf m.mail is
 
   -- an edit that the tree refuses, or not
-  going_edited : (count : ℕ) (o : Option NodeFault) (edit : Edit) (m : State C M) → IsKnowing count m.mail → IsGoing count (edited client o edit m)
+  going_edited : (count : ℕ) (o : Option NodeFault) (edit : Edit) (m : State C M) → IsKnowing count m.mail → IsGoing count (edit_step client o edit m)
   going_edited count (Some fault) edit m is = record { mail = is; sent = All-nil (IsBelow count) }
   going_edited count None edit m is =
-      let sends : IsSending count (mail.edited m.tree (edited_tree m.tree edit) m.mail) = edited-knows count m.tree (edited_tree m.tree edit) m.mail is in
+      let sends : IsSending count (mail.tree_edited m.tree (edited_tree m.tree edit) m.mail) = edited-knows count m.tree (edited_tree m.tree edit) m.mail is in
       record { mail = sends.mail; sent = sends.sent }
 
   -- the spot of a leaf is below the count of leaves
-  spot_low : (count : ℕ) (t : Nodes) (s : Spot) → leaf_count t ≡ count → IsWithin t s → below.IsBelow count s
+  spot_low : (count : ℕ) (t : Nodes) (s : Spot) → leaf_count t ≡ count → IsWithin t s → below.IsLeafBelow count s
   spot_low count t (spots.Leaf leaf at size kind) same within = omega (arith, same, within)
   spot_low count t (spots.Frame n tint kind) same within = tt
   spot_low count t spots.Off same within = tt
@@ -208,7 +208,7 @@ module _ {C M : Type 0} (client : Ghosts C M) where
       (moused-knows (leaf_count t) m.tree time button down m.mail
       (spot_low (leaf_count t) m.tree.nodes (spot m.tree m.mail.desk.cursor) ready.leaves (spot_within m.tree ready.forest m.mail.desk.cursor)) ready.mail)
   going t m (steps.Motion time at) ready is =
-      going_unless (leaf_count t) (time_fault m.mail.desk time) m (mail.moved m.tree time at m.mail) ready.mail
+      going_unless (leaf_count t) (time_fault m.mail.desk time) m (mail.cursor_moved m.tree time at m.mail) ready.mail
       (moved-knows (leaf_count t) m.tree time at m.mail ready.mail)
   going t m (steps.Key time code) ready is =
       going_unless (leaf_count t) (time_fault m.mail.desk time) m (mail.keyed time code m.mail) ready.mail
@@ -228,7 +228,7 @@ module _ {C M : Type 0} (client : Ghosts C M) where
     pub like : IsOf s.opening (state client s)
     pub own : IsOwn (tree_of s.opening).nodes actor step
     pub opening : n.opening ≡ s.opening
-    pub journal : n.journal ≡ s.journal ++ line_of client (state client s) actor (stated step) step ∷ []
+    pub journal : n.journal ≡ s.journal ++ line_of_step client (state client s) actor (stated step) step ∷ []
 
   -- the next one's journal names what has names, too
   pub named_next : (names : Names) (s n : StageView C M) (actor : Actor) (step : Step M) → IsNamed client names s → IsStepped s n actor step →
@@ -236,7 +236,7 @@ module _ {C M : Type 0} (client : Ghosts C M) where
   named_next names s n actor step is made = record {
     tree = subst (λ (items : List (Item C)). AreNamed names (tree_of items).nodes) (sym made.opening) is.tree;
     lines = subst (λ (ls : List (JournalLine M)). All (IsNamedLine names) ls) (sym made.journal)
-        (All-push (IsNamedLine names) s.journal (line_of client (state client s) actor (stated step) step) is.lines line);
+        (All-push (IsNamedLine names) s.journal (line_of_step client (state client s) actor (stated step) step) is.lines line);
     mail = subst (λ (items : List (Item C)). IsKnowing (leaf_count (tree_of items).nodes) (state client n).mail) (sym made.opening)
         (subst (λ (m : State C M). IsKnowing (leaf_count t) m.mail) (sym (state_made client s n actor (stated step) step made.opening made.journal)) goes.mail);
   }
@@ -247,7 +247,7 @@ module _ {C M : Type 0} (client : Ghosts C M) where
       goes : IsGoing (leaf_count t) (machine.step client (state client s) step)
       goes = going t (state client s) step (record { forest = made.stands.forest; leaves = made.like.leaves; mail = is.mail }) made.own.values
 
-      line : IsNamedLine names (line_of client (state client s) actor (stated step) step)
+      line : IsNamedLine names (line_of_step client (state client s) actor (stated step) step)
       line = record {
         entry = record {
           actor = named_actor names t actor step is.tree made.own.may made.own.values;
@@ -268,7 +268,7 @@ module _ {C M : Type 0} (client : Ghosts C M) where
 
   -- a line that the machine made
   named_made : (names : Names) (t : Nodes) (m : State C M) (actor : Actor) (held : List Level) (step : Step M) → AreNamed names t →
-      IsLike t m → may actor step ≡ true → IsStep t step → AreLevels t held → IsNamedLine names (line_of client m actor held step)
+      IsLike t m → may actor step ≡ true → IsStep t step → AreLevels t held → IsNamedLine names (line_of_step client m actor held step)
   named_made names t m actor held step named like may values levels =
       let goes : IsGoing (leaf_count t) (machine.step client m step) =
       going t m step (record { forest = like.forest; leaves = like.many.leaves; mail = like.mail }) values in
@@ -304,7 +304,7 @@ module _ {C M : Type 0} (client : Ghosts C M) where
   named_lines names t m [] named like legal = record { named = All-nil (IsNamedLine names); mail = like.mail }
   named_lines names t m (line ∷ lines) named like legal =
       let new : State C M = next client m line.entry.step in
-      let first : IsNamedLine names (line_of client m line.entry.actor line.entry.level line.entry.step) =
+      let first : IsNamedLine names (line_of_step client m line.entry.actor line.entry.level line.entry.step) =
       named_made names t m line.entry.actor line.entry.level line.entry.step named like legal.0.allowed.own.may legal.0.allowed.own.values
       legal.0.allowed.levels in
       let later : AreNamedTo names t new lines =

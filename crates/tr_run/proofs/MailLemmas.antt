@@ -15,16 +15,16 @@ use Rattle.tr_base.specs.declared.Spot.{Spot}
 use Rattle.tr_base.specs.declared.Spot.TheVariants as spots
 use Rattle.tr_cage.specs.declared.Cage.{Cage}
 use Rattle.tr_cage.specs.declared.Cage.TheVariants.{Everywhere}
-use Rattle.tr_desk.specs.Desks.{IsKnown, after_mouse, click, focus_after, leaf_at, other_than, owned_by, owner, receiver, state_of, with_state}
+use Rattle.tr_desk.specs.Desks.{IsKnown, after_mouse, click, focus_after, leaf_at, other_than, owned_by, selection_owner, receiver, state_of, with_state}
 use Rattle.tr_tree.specs.Trees.{Seen}
 use Rattle.tr_spot.specs.Spots.{spot}
 use Rattle.tr_spot.specs.Spots as below
 use Rattle.tr_spot.specs.Leaves.{in_leaf, leaf_size}
 use Rattle.tr_inbox.specs.declared.Delivery.{Delivery}
-use Rattle.tr_inbox.specs.Inboxes.{Contents}
+use Rattle.tr_inbox.specs.Inboxes.{InboxView}
 use Rattle.tr_mail.specs.Mails.{Mails, Sending, dated, inbox_of, is_full, put_into, send, send_input, unsent, with_inbox}
-use Rattle.tr_mail.specs.Deliveries.{caged, disowned, edited, is_caged, is_gone, is_reshaped, keyed, later, moused, moved, owned}
-use Rattle.tr_mail.specs.Deliveries.{reshape, reshape_below, send_lost, taken, tell, tell_below, told, with_cage}
+use Rattle.tr_mail.specs.Deliveries.{caged, disowned, tree_edited, is_caged, is_gone, is_reshaped, keyed, later, moused, cursor_moved, owned}
+use Rattle.tr_mail.specs.Deliveries.{reshape, reshape_below, send_lost, front_taken, tell, tell_below, told, with_cage}
 use Rattle.tr_run.specs.Views.{IsKnowing}
 
 -- the event was sent to one of so many leaves
@@ -49,7 +49,7 @@ one_sending count true s t first second = first
 one_sending count false s t first second = second
 
 -- another inbox for a leaf
-with_inbox-knows : (count : ℕ) (leaf : LeafId) (inbox : Contents) (m : Mails) → IsKnowing count m → IsKnowing count (with_inbox leaf inbox m)
+with_inbox-knows : (count : ℕ) (leaf : LeafId) (inbox : InboxView) (m : Mails) → IsKnowing count m → IsKnowing count (with_inbox leaf inbox m)
 with_inbox-knows count leaf inbox m is = record {
   inboxes = length-set m.inboxes leaf.0 inbox ∙ is.inboxes;
   focus = is.focus;
@@ -59,7 +59,7 @@ with_inbox-knows count leaf inbox m is = record {
 }
 
 -- an event that is taken
-pub taken-knows : (count : ℕ) (leaf : LeafId) (m : Mails) → IsKnowing count m → IsKnowing count (taken leaf m)
+pub taken-knows : (count : ℕ) (leaf : LeafId) (m : Mails) → IsKnowing count m → IsKnowing count (front_taken leaf m)
 taken-knows count leaf m is = with_inbox-knows count leaf (record (inbox_of m leaf) { events = later (inbox_of m leaf).events }) m is
 
 -- another cage of a leaf
@@ -95,13 +95,13 @@ send_input-knows count (Some leaf) event time s known is =
     (record { mail = dated-knows count leaf time s.mail is.mail; sent = is.sent })
 
 -- the leaf of a spot
-leaf_at-known : (count : ℕ) (s : Spot) → below.IsBelow count s → IsKnown count (leaf_at s)
+leaf_at-known : (count : ℕ) (s : Spot) → below.IsLeafBelow count s → IsKnown count (leaf_at s)
 leaf_at-known count (spots.Leaf leaf at size kind) low = low
 leaf_at-known count (spots.Frame n tint kind) low = tt
 leaf_at-known count spots.Off low = tt
 
 -- who gets a mouse event
-receiver-known : (count : ℕ) (click : Click) (s : Spot) (focus : Option LeafId) → below.IsBelow count s → IsKnown count focus →
+receiver-known : (count : ℕ) (click : Click) (s : Spot) (focus : Option LeafId) → below.IsLeafBelow count s → IsKnown count focus →
     IsKnown count (receiver click s focus)
 receiver-known count FirstDown s focus low known = leaf_at-known count s low
 receiver-known count OtherDown s focus low known = known
@@ -109,7 +109,7 @@ receiver-known count OtherUp s focus low known = known
 receiver-known count LastUp s focus low known = known
 
 -- who has the mouse after it
-focus_after-known : (count : ℕ) (click : Click) (s : Spot) (focus : Option LeafId) → below.IsBelow count s → IsKnown count focus →
+focus_after-known : (count : ℕ) (click : Click) (s : Spot) (focus : Option LeafId) → below.IsLeafBelow count s → IsKnown count focus →
     IsKnown count (focus_after click s focus)
 focus_after-known count FirstDown s focus low known = leaf_at-known count s low
 focus_after-known count OtherDown s focus low known = known
@@ -117,7 +117,7 @@ focus_after-known count OtherUp s focus low known = known
 focus_after-known count LastUp s focus low known = tt
 
 -- a button
-pub moused-knows : (count : ℕ) (t : Seen) (time button : ℕ) (down : Bool) (m : Mails) → below.IsBelow count (spot t m.desk.cursor) →
+pub moused-knows : (count : ℕ) (t : Seen) (time button : ℕ) (down : Bool) (m : Mails) → below.IsLeafBelow count (spot t m.desk.cursor) →
     IsKnowing count m → IsSending count (moused t time button down m)
 moused-knows count t time button down m low is =
     let at : Point = m.desk.cursor in
@@ -160,7 +160,7 @@ told-knows : (count : ℕ) (t : Seen) (s : Sending) → IsSending count s → Is
 told-knows count t s is = tell_below-knows count (length s.mail.inboxes) t s (omega (arith, is.mail.inboxes)) is
 
 -- a move of the cursor
-pub moved-knows : (count : ℕ) (t : Seen) (time : ℕ) (at : Point) (m : Mails) → IsKnowing count m → IsSending count (moved t time at m)
+pub moved-knows : (count : ℕ) (t : Seen) (time : ℕ) (at : Point) (m : Mails) → IsKnowing count m → IsSending count (cursor_moved t time at m)
 moved-knows count t time at m is =
     let there : Mails = record m { desk = record m.desk { cursor = at; time = time } } in
     told-knows count t (unsent there) (unsent-knows count there
@@ -186,13 +186,13 @@ reshape_below-knows count (suc n) was is s low sends =
     reshape-knows count was is (record { 0 = n }) (reshape_below n was is s) (omega arith) (reshape_below-knows count n was is s (omega arith) sends)
 
 -- an edit of the tree
-pub edited-knows : (count : ℕ) (was is : Seen) (m : Mails) → IsKnowing count m → IsSending count (edited was is m)
+pub edited-knows : (count : ℕ) (was is : Seen) (m : Mails) → IsKnowing count m → IsSending count (tree_edited was is m)
 edited-knows count was is m knows =
     told-knows count is (reshape_below (length m.inboxes) was is (unsent m))
     (reshape_below-knows count (length m.inboxes) was is (unsent m) (omega (arith, knows.inboxes)) (unsent-knows count m knows))
 
 -- the owner of a selection
-owner-known : (count : ℕ) (selection : Selection) (m : Mails) → IsKnowing count m → IsKnown count (owner m.desk selection)
+owner-known : (count : ℕ) (selection : Selection) (m : Mails) → IsKnowing count m → IsKnown count (selection_owner m.desk selection)
 owner-known count Key m is = is.key
 owner-known count Source m is = is.source
 owner-known count Target m is = is.target
@@ -224,8 +224,8 @@ pub owned-knows : (count : ℕ) (leaf : LeafId) (selection : Selection) (m : Mai
     IsSending count (owned leaf selection m)
 owned-knows count leaf selection m low is =
     let taken : Mails = record m { desk = owned_by (Some leaf) selection m.desk } in
-    send_lost-knows count (other_than leaf (owner m.desk selection)) selection (unsent taken)
-    (other_than-known count leaf (owner m.desk selection) (owner-known count selection m is))
+    send_lost-knows count (other_than leaf (selection_owner m.desk selection)) selection (unsent taken)
+    (other_than-known count leaf (selection_owner m.desk selection) (owner-known count selection m is))
     (unsent-knows count taken (owned_by-knows count (Some leaf) selection m low is))
 
 -- a leaf gives a selection up

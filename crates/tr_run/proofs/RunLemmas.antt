@@ -16,7 +16,7 @@ use Rattle.tr_journal.specs.Journals.{JournalLine}
 use Rattle.tr_journal.specs.Reports.{is_report}
 use Rattle.tr_journal.specs.Steps.{stated}
 use Rattle.tr_machine.specs.States.{State}
-use Rattle.tr_machine.specs.Replays.{line_of, next, replay, replay_from, after_steps, lines_of}
+use Rattle.tr_machine.specs.Replays.{line_of_step, next, replay, replay_from, after_steps, lines_of_steps}
 use Rattle.tr_machine.specs.Settling.{settling_lines}
 use Rattle.tr_machine.proofs.JournalLemmas.{lines_of-append, lines_of-take, replay-append, replay-more, replay_from-append, replay_from-lines_of}
 use Rattle.tr_journal.specs.Names.{Names}
@@ -25,7 +25,7 @@ use Rattle.tr_run.specs.declared.modes.Mode.{Mode}
 use Rattle.tr_run.specs.declared.modes.Mode.TheVariants.{Serial, Check, Gen}
 use Rattle.tr_run.specs.Runs.{Cue, makes, settles, cue_lines, reporting, run_lines}
 use Rattle.tr_run.specs.Texts.{is_check, lag_line, told_text, sum_after, sum_from, texts_from, written}
-use Rattle.tr_run.specs.Views.{Adds, AddsSome, AddsUntold, Does, DoesSome, IsUnchanged, RunView, StopsAt, TellsUnmade}
+use Rattle.tr_run.specs.Views.{AddsLines, AddsSome, AddsUntold, Does, DoesSome, IsUnchanged, RunView, StopsAtLine, TellsUnmade}
 
 module _ {C M : Type 0} (client : Ghosts C M) where
   -- ---- lines in a row
@@ -68,7 +68,7 @@ module _ {C M : Type 0} (client : Ghosts C M) where
   -- ---- moments of a run
 
   -- the state at the later moment
-  pub state_adds : {words : M → List ℕ} (a b : RunView C M) (xs : List (JournalLine M)) → Adds client words a b xs →
+  pub state_adds : {words : M → List ℕ} (a b : RunView C M) (xs : List (JournalLine M)) → AddsLines client words a b xs →
       state client b.stage ≡ replay_from client (state client a.stage) xs
   state_adds a b xs adds =
       ap (λ (items : List (Item C)). replay client items b.stage.journal) adds.opening
@@ -76,7 +76,7 @@ module _ {C M : Type 0} (client : Ghosts C M) where
       ∙ replay-append client a.stage.opening a.stage.journal xs
 
   -- from a moment to itself no line is added
-  pub Adds-none : (words : M → List ℕ) (a : RunView C M) → Adds client words a a []
+  pub Adds-none : (words : M → List ℕ) (a : RunView C M) → AddsLines client words a a []
   Adds-none words a = record {
     opening = refl;
     names = refl;
@@ -87,8 +87,8 @@ module _ {C M : Type 0} (client : Ghosts C M) where
   }
 
   -- from one moment to a later one, and then to a still later one
-  pub Adds-append : (words : M → List ℕ) (a b c : RunView C M) (xs ys : List (JournalLine M)) → Adds client words a b xs →
-      Adds client words b c ys → Adds client words a c (xs ++ ys)
+  pub Adds-append : (words : M → List ℕ) (a b c : RunView C M) (xs ys : List (JournalLine M)) → AddsLines client words a b xs →
+      AddsLines client words b c ys → AddsLines client words a c (xs ++ ys)
   Adds-append words a b c xs ys first second = record {
     opening = second.opening ∙ first.opening;
     names = second.names ∙ first.names;
@@ -129,7 +129,7 @@ module _ {C M : Type 0} (client : Ghosts C M) where
   pub Does-append : (words : M → List ℕ) (a b c : RunView C M) (xs ys : List (Cue M)) → Does client words a b xs →
       Does client words b c ys → Does client words a c (xs ++ ys)
   Does-append words a b c xs ys first second =
-      subst (λ (ls : List (JournalLine M)). Adds client words a c ls)
+      subst (λ (ls : List (JournalLine M)). AddsLines client words a c ls)
       (ap (λ (m : State C M). run_lines client was xs ++ run_lines client m ys) (state_adds a b (run_lines client was xs) first)
       ∙ sym (run_lines-append was xs ys))
       (Adds-append words a b c (run_lines client was xs) (run_lines client (state client b.stage) ys) first second)
@@ -144,13 +144,13 @@ module _ {C M : Type 0} (client : Ghosts C M) where
     pub opening : b.stage.opening ≡ a.stage.opening
     pub names : b.names ≡ a.names
     pub mode : b.mode ≡ a.mode
-    pub journal : b.stage.journal ≡ a.stage.journal ++ line_of client (state client a.stage) actor (stated step) step ∷ []
+    pub journal : b.stage.journal ≡ a.stage.journal ++ line_of_step client (state client a.stage) actor (stated step) step ∷ []
     pub text : b.text ≡ a.text ++ written client words a.names a.mode a.stage.journal (state client a.stage) step
     pub sum : b.sum ≡ sum_after client a.mode (state client a.stage) a.sum step
 
   -- its line was added
   pub made_adds : {words : M → List ℕ} {a b : RunView C M} {actor : Actor} {step : Step M} → HasMade words a b actor step →
-      Adds client words a b (line_of client (state client a.stage) actor (stated step) step ∷ [])
+      AddsLines client words a b (line_of_step client (state client a.stage) actor (stated step) step ∷ [])
   made_adds {words} {a} {b} {actor} {step} made = record {
     opening = made.opening;
     names = made.names;
@@ -163,11 +163,11 @@ module _ {C M : Type 0} (client : Ghosts C M) where
 
   -- the state after it
   pub state_made : (a b : StageView C M) (actor : Actor) (held : List Level) (step : Step M) → b.opening ≡ a.opening →
-      b.journal ≡ a.journal ++ line_of client (state client a) actor held step ∷ [] → state client b ≡ next client (state client a) step
+      b.journal ≡ a.journal ++ line_of_step client (state client a) actor held step ∷ [] → state client b ≡ next client (state client a) step
   state_made a b actor held step opening journal =
       ap (λ (items : List (Item C)). replay client items b.journal) opening
       ∙ ap (λ (ls : List (JournalLine M)). replay client a.opening ls) journal
-      ∙ replay-more client a.opening a.journal (line_of client (state client a) actor held step)
+      ∙ replay-more client a.opening a.journal (line_of_step client (state client a) actor held step)
 
   -- ---- what is written with a step that isn't a report
 
@@ -206,7 +206,7 @@ module _ {C M : Type 0} (client : Ghosts C M) where
     pub opening : v.stage.opening ≡ a.stage.opening
     pub names : v.names ≡ a.names
     pub mode : v.mode ≡ a.mode
-    pub journal : v.stage.journal ≡ a.stage.journal ++ line_of client (state client a.stage) actor (stated step) step ∷ []
+    pub journal : v.stage.journal ≡ a.stage.journal ++ line_of_step client (state client a.stage) actor (stated step) step ∷ []
     pub text : v.text ≡ a.text
     pub sum : v.sum ≡ a.sum
 
@@ -214,7 +214,7 @@ module _ {C M : Type 0} (client : Ghosts C M) where
   pub lagged : {words : M → List ℕ} {a v : RunView C M} {actor : Actor} {step : Step M} (text : List ℕ) → HasAdded a v actor step →
       is_report step ≡ false → (is_check a.mode && not (is_note step)) ≡ true →
       text ≡ v.text ++ lag_line client (length v.stage.journal) (state client v.stage) →
-      Adds client words a (record v { text = text }) (line_of client (state client a.stage) actor (stated step) step ∷ [])
+      AddsLines client words a (record v { text = text }) (line_of_step client (state client a.stage) actor (stated step) step ∷ [])
   lagged {words} {a} {v} {actor} {step} text added other lags is = made_adds {words = words} {a = a} {b = new} {actor = actor} {step = step} (record {
     opening = added.opening;
     names = added.names;
@@ -234,7 +234,7 @@ module _ {C M : Type 0} (client : Ghosts C M) where
       new = record v { text = text }
 
       line : JournalLine M
-      line = line_of client (state client a.stage) actor (stated step) step
+      line = line_of_step client (state client a.stage) actor (stated step) step
 
   -- memory was wanting for a step other than a report
   abbrev pub IsUnmadeStep : RunView C M → RunView C M → JournalLine M → Type 0
@@ -243,7 +243,7 @@ module _ {C M : Type 0} (client : Ghosts C M) where
   -- then it wasn't written how far the screen lags behind
   pub untold : {a v : RunView C M} {actor : Actor} {step : Step M} (text : List ℕ) → HasAdded a v actor step →
       (is_check a.mode && not (is_note step)) ≡ true → text ≡ v.text →
-      IsUnmadeStep a (record v { text = text }) (line_of client (state client a.stage) actor (stated step) step)
+      IsUnmadeStep a (record v { text = text }) (line_of_step client (state client a.stage) actor (stated step) step)
   untold {a} {v} {actor} {step} text added lags same = inr (record {
     check = first_true (is_check a.mode) lags;
     step = second_false (is_check a.mode) (is_note step) lags;
@@ -268,7 +268,7 @@ module _ {C M : Type 0} (client : Ghosts C M) where
 
   -- it was wanting for the first line that was due
   pub some-first : {words : M → List ℕ} (a b : RunView C M) (line : JournalLine M) (later : List (JournalLine M)) →
-      StopsAt client words a b line → AddsSome client words a b (line ∷ later)
+      StopsAtLine client words a b line → AddsSome client words a b (line ∷ later)
   some-first {words} a b line later stops = record {
     before = [];
     line = line;
@@ -282,14 +282,14 @@ module _ {C M : Type 0} (client : Ghosts C M) where
   same : (a : RunView C M) → IsUnchanged a a
   same a = record { opening = refl; journal = refl; screen = refl; names = refl; mode = refl; text = refl; sum = refl }
 
-  stops_step : {words : M → List ℕ} {a b : RunView C M} {line : JournalLine M} → IsUnmadeStep a b line → StopsAt client words a b line
+  stops_step : {words : M → List ℕ} {a b : RunView C M} {line : JournalLine M} → IsUnmadeStep a b line → StopsAtLine client words a b line
   stops_step (inl unchanged) = inl unchanged
   stops_step (inr added) = inr (inl added)
 
   -- of a step other than a report
   pub makes_some : (words : M → List ℕ) (a b : RunView C M) (actor : Actor) (step : Step M) →
-      IsUnmadeStep a b (line_of client (state client a.stage) actor (stated step) step) → DoesSome client words a b (makes actor step ∷ [])
-  makes_some words a b actor step unmade = some-first a b (line_of client (state client a.stage) actor (stated step) step) [] (stops_step unmade)
+      IsUnmadeStep a b (line_of_step client (state client a.stage) actor (stated step) step) → DoesSome client words a b (makes actor step ∷ [])
+  makes_some words a b actor step unmade = some-first a b (line_of_step client (state client a.stage) actor (stated step) step) [] (stops_step unmade)
 
   -- nothing was done, whatever line stands behind those that were due
   pub some-none : {words : M → List ℕ} (a : RunView C M) (due : List (JournalLine M)) (line : JournalLine M) →
@@ -311,7 +311,7 @@ module _ {C M : Type 0} (client : Ghosts C M) where
   }
 
   -- some lines were added before
-  pub some-after : (words : M → List ℕ) (a b c : RunView C M) (xs ys : List (JournalLine M)) → Adds client words a b xs →
+  pub some-after : (words : M → List ℕ) (a b c : RunView C M) (xs ys : List (JournalLine M)) → AddsLines client words a b xs →
       AddsSome client words b c ys → AddsSome client words a c (xs ++ ys)
   some-after words a b c xs ys first second = record {
     before = xs ++ second.before;
@@ -346,53 +346,54 @@ module _ {C M : Type 0} (client : Ghosts C M) where
 
   -- the lines of the painter's steps so far, and that of one more
   with_step : (words : M → List ℕ) (a now : RunView C M) (steps : List (Step M)) (k : ℕ) (step : Step M) →
-      Adds client words a now (lines_of client Painter (Mu ∷ []) (state client a.stage) (take k steps)) → stated step ≡ Mu ∷ [] →
+      AddsLines client words a now (lines_of_steps client Painter (Mu ∷ []) (state client a.stage) (take k steps)) → stated step ≡ Mu ∷ [] →
       (k < length steps) × (step ≡ get_or steps k step) →
-      lines_of client Painter (Mu ∷ []) (state client a.stage) (take k steps) ++ line_of client (state client now.stage) Painter (stated step) step ∷ []
-      ≡ lines_of client Painter (Mu ∷ []) (state client a.stage) (take (k + 1) steps)
+      lines_of_steps client Painter (Mu ∷ []) (state client a.stage) (take k steps) ++ line_of_step client (state client now.stage) Painter (stated step) step
+      ∷ []
+      ≡ lines_of_steps client Painter (Mu ∷ []) (state client a.stage) (take (k + 1) steps)
   with_step words a now steps k step so_far level at =
-      ap (λ (s : State C M). first ++ line_of client s Painter (stated step) step ∷ [])
+      ap (λ (s : State C M). first ++ line_of_step client s Painter (stated step) step ∷ [])
       (state_adds a now first so_far ∙ replay_from-lines_of client Painter (Mu ∷ []) was (take k steps))
-      ∙ ap (λ (held : List Level). first ++ line_of client after Painter held step ∷ []) level
-      ∙ ap (λ (x : Step M). first ++ line_of client after Painter (Mu ∷ []) x ∷ []) at.1
+      ∙ ap (λ (held : List Level). first ++ line_of_step client after Painter held step ∷ []) level
+      ∙ ap (λ (x : Step M). first ++ line_of_step client after Painter (Mu ∷ []) x ∷ []) at.1
       ∙ sym (lines_of-take client Painter (Mu ∷ []) was steps k step at.0)
     where
       was : State C M
       was = state client a.stage
 
       first : List (JournalLine M)
-      first = lines_of client Painter (Mu ∷ []) was (take k steps)
+      first = lines_of_steps client Painter (Mu ∷ []) was (take k steps)
 
       after : State C M
       after = after_steps client was (take k steps)
 
   -- the painter's steps so far, and one more
   pub paints_more : (words : M → List ℕ) (a now new : RunView C M) (steps : List (Step M)) (k : ℕ) (step : Step M) →
-      Adds client words a now (lines_of client Painter (Mu ∷ []) (state client a.stage) (take k steps)) → stated step ≡ Mu ∷ [] →
+      AddsLines client words a now (lines_of_steps client Painter (Mu ∷ []) (state client a.stage) (take k steps)) → stated step ≡ Mu ∷ [] →
       (k < length steps) × (step ≡ get_or steps k step) →
-      Adds client words now new (line_of client (state client now.stage) Painter (stated step) step ∷ []) →
-      Adds client words a new (lines_of client Painter (Mu ∷ []) (state client a.stage) (take (k + 1) steps))
+      AddsLines client words now new (line_of_step client (state client now.stage) Painter (stated step) step ∷ []) →
+      AddsLines client words a new (lines_of_steps client Painter (Mu ∷ []) (state client a.stage) (take (k + 1) steps))
   paints_more words a now new steps k step so_far level at made =
-      subst (λ (ls : List (JournalLine M)). Adds client words a new ls) (with_step words a now steps k step so_far level at)
-      (Adds-append words a now new (lines_of client Painter (Mu ∷ []) (state client a.stage) (take k steps))
-      (line_of client (state client now.stage) Painter (stated step) step ∷ []) so_far made)
+      subst (λ (ls : List (JournalLine M)). AddsLines client words a new ls) (with_step words a now steps k step so_far level at)
+      (Adds-append words a now new (lines_of_steps client Painter (Mu ∷ []) (state client a.stage) (take k steps))
+      (line_of_step client (state client now.stage) Painter (stated step) step ∷ []) so_far made)
 
   -- the painter's steps so far, and memory was wanting for one more
   pub paints_some : (words : M → List ℕ) (a now new : RunView C M) (steps : List (Step M)) (k : ℕ) (step : Step M) →
-      Adds client words a now (lines_of client Painter (Mu ∷ []) (state client a.stage) (take k steps)) → stated step ≡ Mu ∷ [] →
+      AddsLines client words a now (lines_of_steps client Painter (Mu ∷ []) (state client a.stage) (take k steps)) → stated step ≡ Mu ∷ [] →
       (k < length steps) × (step ≡ get_or steps k step) →
-      IsUnmadeStep now new (line_of client (state client now.stage) Painter (stated step) step) →
-      AddsSome client words a new (lines_of client Painter (Mu ∷ []) (state client a.stage) steps)
+      IsUnmadeStep now new (line_of_step client (state client now.stage) Painter (stated step) step) →
+      AddsSome client words a new (lines_of_steps client Painter (Mu ∷ []) (state client a.stage) steps)
   paints_some words a now new steps k step so_far level at unmade =
       subst (λ (ls : List (JournalLine M)). AddsSome client words a new ls)
       (sym (lines_of-append client Painter (Mu ∷ []) was (take (k + 1) steps) (drop (k + 1) steps))
-      ∙ ap (λ (xs : List (Step M)). lines_of client Painter (Mu ∷ []) was xs) (take-append-drop (k + 1) steps))
-      (some-more a new (lines_of client Painter (Mu ∷ []) was (take (k + 1) steps))
-      (lines_of client Painter (Mu ∷ []) (after_steps client was (take (k + 1) steps)) (drop (k + 1) steps))
+      ∙ ap (λ (xs : List (Step M)). lines_of_steps client Painter (Mu ∷ []) was xs) (take-append-drop (k + 1) steps))
+      (some-more a new (lines_of_steps client Painter (Mu ∷ []) was (take (k + 1) steps))
+      (lines_of_steps client Painter (Mu ∷ []) (after_steps client was (take (k + 1) steps)) (drop (k + 1) steps))
       (subst (λ (ls : List (JournalLine M)). AddsSome client words a new ls) (with_step words a now steps k step so_far level at)
-      (some-after words a now new (lines_of client Painter (Mu ∷ []) was (take k steps))
-      (line_of client (state client now.stage) Painter (stated step) step ∷ []) so_far
-      (some-first now new (line_of client (state client now.stage) Painter (stated step) step) [] (stops_step unmade)))))
+      (some-after words a now new (lines_of_steps client Painter (Mu ∷ []) was (take k steps))
+      (line_of_step client (state client now.stage) Painter (stated step) step ∷ []) so_far
+      (some-first now new (line_of_step client (state client now.stage) Painter (stated step) step) [] (stops_step unmade)))))
     where
       was : State C M
       was = state client a.stage
@@ -406,25 +407,25 @@ module _ {C M : Type 0} (client : Ghosts C M) where
 
   -- it was made
   pub reports : (words : M → List ℕ) (a b : RunView C M) (query : Query) → (query ≡ queries.Dump → ⊥) →
-      Adds client words a b (line_of client (state client a.stage) Player (Mu ∷ []) (steps.Report query) ∷ []) →
+      AddsLines client words a b (line_of_step client (state client a.stage) Player (Mu ∷ []) (steps.Report query) ∷ []) →
       Does client words a b (reporting query)
   reports words a b query other made = subst (λ (cues : List (Cue M)). Does client words a b cues) (sym (reporting-other query other)) made
 
   -- the stage was settled, and then a dump was made
-  pub dumps : (words : M → List ℕ) (a b c : RunView C M) → Adds client words a b (settling_lines client (state client a.stage)) →
-      Adds client words b c (line_of client (state client b.stage) Player (Mu ∷ []) (steps.Report queries.Dump) ∷ []) →
+  pub dumps : (words : M → List ℕ) (a b c : RunView C M) → AddsLines client words a b (settling_lines client (state client a.stage)) →
+      AddsLines client words b c (line_of_step client (state client b.stage) Player (Mu ∷ []) (steps.Report queries.Dump) ∷ []) →
       Does client words a c (reporting queries.Dump)
   dumps words a b c settled made = Does-append words a b c (settles ∷ []) (makes Player (steps.Report queries.Dump) ∷ [])
-      (subst (λ (ls : List (JournalLine M)). Adds client words a b ls) (sym (append-nil (settling_lines client (state client a.stage)))) settled)
+      (subst (λ (ls : List (JournalLine M)). AddsLines client words a b ls) (sym (append-nil (settling_lines client (state client a.stage)))) settled)
       made
 
   -- memory was wanting for a report: it wasn't made
   abbrev pub IsUnmade : (words : M → List ℕ) → RunView C M → RunView C M → Query → Type 0
   IsUnmade words a b query =
-      IsUnchanged a b ⊎ TellsUnmade client words a b (line_of client (state client a.stage) Player (Mu ∷ []) (steps.Report query))
+      IsUnchanged a b ⊎ TellsUnmade client words a b (line_of_step client (state client a.stage) Player (Mu ∷ []) (steps.Report query))
 
   stops_at : (words : M → List ℕ) (a b : RunView C M) (query : Query) → IsUnmade words a b query →
-      StopsAt client words a b (line_of client (state client a.stage) Player (Mu ∷ []) (steps.Report query))
+      StopsAtLine client words a b (line_of_step client (state client a.stage) Player (Mu ∷ []) (steps.Report query))
   stops_at words a b query (inl unchanged) = inl unchanged
   stops_at words a b query (inr told) = inr (inr told)
 
@@ -432,14 +433,14 @@ module _ {C M : Type 0} (client : Ghosts C M) where
   pub reports_some : (words : M → List ℕ) (a b : RunView C M) (query : Query) → (query ≡ queries.Dump → ⊥) → IsUnmade words a b query →
       DoesSome client words a b (reporting query)
   reports_some words a b query other unmade = subst (λ (cues : List (Cue M)). DoesSome client words a b cues) (sym (reporting-other query other))
-      (some-first a b (line_of client (state client a.stage) Player (Mu ∷ []) (steps.Report query)) [] (stops_at words a b query unmade))
+      (some-first a b (line_of_step client (state client a.stage) Player (Mu ∷ []) (steps.Report query)) [] (stops_at words a b query unmade))
 
   -- the stage was settled, and then no dump was made
-  pub dumps_some : (words : M → List ℕ) (a b c : RunView C M) → Adds client words a b (settling_lines client (state client a.stage)) →
+  pub dumps_some : (words : M → List ℕ) (a b c : RunView C M) → AddsLines client words a b (settling_lines client (state client a.stage)) →
       IsUnmade words b c queries.Dump → DoesSome client words a c (reporting queries.Dump)
   dumps_some words a b c settled unmade = DoesSome-after words a b c (settles ∷ []) (makes Player (steps.Report queries.Dump) ∷ [])
-      (subst (λ (ls : List (JournalLine M)). Adds client words a b ls) (sym (append-nil (settling_lines client (state client a.stage)))) settled)
-      (some-first b c (line_of client (state client b.stage) Player (Mu ∷ []) (steps.Report queries.Dump)) [] (stops_at words b c queries.Dump unmade))
+      (subst (λ (ls : List (JournalLine M)). AddsLines client words a b ls) (sym (append-nil (settling_lines client (state client a.stage)))) settled)
+      (some-first b c (line_of_step client (state client b.stage) Player (Mu ∷ []) (steps.Report queries.Dump)) [] (stops_at words b c queries.Dump unmade))
 
   -- the stage wasn't settled
   pub settles_some : (words : M → List ℕ) (a b : RunView C M) →
@@ -447,4 +448,4 @@ module _ {C M : Type 0} (client : Ghosts C M) where
       DoesSome client words a b (reporting queries.Dump)
   settles_some words a b some =
       let was : State C M = state client a.stage in
-      some (line_of client (replay_from client was (settling_lines client was)) Player (Mu ∷ []) (steps.Report queries.Dump))
+      some (line_of_step client (replay_from client was (settling_lines client was)) Player (Mu ∷ []) (steps.Report queries.Dump))

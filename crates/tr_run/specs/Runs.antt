@@ -10,7 +10,7 @@ use Rattle.tr_journal.specs.declared.steps.Step.TheVariants as steps
 use Rattle.tr_journal.specs.Journals.{JournalLine}
 use Rattle.tr_journal.specs.Steps.{stated}
 use Rattle.tr_machine.specs.States.{State}
-use Rattle.tr_machine.specs.Replays.{line_of, replay_from}
+use Rattle.tr_machine.specs.Replays.{line_of_step, replay_from}
 use Rattle.tr_machine.specs.Settling.{settling_lines}
 
 -- one thing that is done in a run: an actor makes a step, holding exactly the step's levels, or the painter settles the stage
@@ -26,7 +26,7 @@ reporting query = makes Player (steps.Report query) ∷ []
 module _ {C M : Type 0} (client : Ghosts C M) where
   -- the lines that a cue makes
   abbrev pub cue_lines : State C M → Cue M → List (JournalLine M)
-  cue_lines m (makes actor step) = line_of client m actor (stated step) step ∷ []
+  cue_lines m (makes actor step) = line_of_step client m actor (stated step) step ∷ []
   cue_lines m settles = settling_lines client m
 
   -- the lines that cues in a row make

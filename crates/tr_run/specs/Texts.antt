@@ -13,7 +13,7 @@ use Rattle.tr_journal.specs.declared.steps.Query.TheVariants as queries
 use Rattle.tr_journal.specs.declared.steps.Step.{Step}
 use Rattle.tr_journal.specs.declared.steps.Step.TheVariants as steps
 use Rattle.tr_journal.specs.Journals.{JournalLine}
-use Rattle.tr_machine.specs.States.{State, batch_of}
+use Rattle.tr_machine.specs.States.{State, leaf_batch}
 use Rattle.tr_machine.specs.Pictures.{render, bad_count, waiting_count, stale_count, is_stale}
 use Rattle.tr_machine.specs.Replays.{next}
 use Rattle.tr_stage.specs.Stages.{is_note}
@@ -40,7 +40,7 @@ module _ {C M : Type 0} (client : Ghosts C M) where
 
   -- a paint command that waits for the leaf of a spot touches the spot
   abbrev pub is_awaited : State C M → Spot → Bool
-  is_awaited m (spots.Leaf leaf at size kind) = touches (batch_of client m leaf) at
+  is_awaited m (spots.Leaf leaf at size kind) = touches (leaf_batch client m leaf) at
   is_awaited m spot = false
 
   -- how many points are stale, and no command that waits for their leaf touches them

@@ -71,7 +71,7 @@ pub record IsNamed {C M : Type 0} (client : Ghosts C M) (names : Names) (s : Sta
 
 module _ {C M : Type 0} (client : Ghosts C M) (words : M → List ℕ) where
   -- from one moment of a run to a later one: the journal has these lines more, and what is written with them was added
-  pub record Adds (old new : RunView C M) (lines : List (JournalLine M)) : Type 0 where
+  pub record AddsLines (old new : RunView C M) (lines : List (JournalLine M)) : Type 0 where
     pub opening : new.stage.opening ≡ old.stage.opening
     pub names : new.names ≡ old.names
     pub mode : new.mode ≡ old.mode
@@ -81,7 +81,7 @@ module _ {C M : Type 0} (client : Ghosts C M) (words : M → List ℕ) where
 
   -- meanwhile these cues were done
   abbrev pub Does : RunView C M → RunView C M → List (Cue M) → Type 0
-  Does old new cues = Adds old new (run_lines client (state client old.stage) cues)
+  Does old new cues = AddsLines old new (run_lines client (state client old.stage) cues)
 
   -- what is written with the line of a report was added, and the line wasn't
   pub record TellsUnmade (old new : RunView C M) (line : JournalLine M) : Type 0 where
@@ -92,8 +92,8 @@ module _ {C M : Type 0} (client : Ghosts C M) (words : M → List ℕ) where
     }) new
 
   -- memory was wanting for a line: it wasn't added, or it was and nothing is written with it, or only what is written with it was added
-  abbrev pub StopsAt : RunView C M → RunView C M → JournalLine M → Type 0
-  StopsAt old new line = IsUnchanged old new ⊎ (AddsUntold old new line ⊎ TellsUnmade old new line)
+  abbrev pub StopsAtLine : RunView C M → RunView C M → JournalLine M → Type 0
+  StopsAtLine old new line = IsUnchanged old new ⊎ (AddsUntold old new line ⊎ TellsUnmade old new line)
 
   -- memory was wanting for one of the lines that were due: those before it were added, and none behind it
   pub record AddsSome (old new : RunView C M) (due : List (JournalLine M)) : Type 0 where
@@ -102,8 +102,8 @@ module _ {C M : Type 0} (client : Ghosts C M) (words : M → List ℕ) where
     pub behind : List (JournalLine M)
     pub are : due ≡ before ++ line ∷ behind
     pub now : RunView C M
-    pub adds : Adds old now before
-    pub stops : StopsAt now new line
+    pub adds : AddsLines old now before
+    pub stops : StopsAtLine now new line
 
   -- memory was wanting for one of the lines that these cues make
   abbrev pub DoesSome : RunView C M → RunView C M → List (Cue M) → Type 0

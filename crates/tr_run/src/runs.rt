@@ -9,7 +9,7 @@ ghost use Rattle.tr_journal.specs.Reports.{is_report};
 ghost use Rattle.tr_journal.specs.Steps.{IsOwn, IsQuery, stated};
 ghost use Rattle.tr_machine.specs.Pictures.{render};
 ghost use Rattle.tr_journal.specs.Names.{names_of};
-ghost use Rattle.tr_machine.specs.Replays.{line_of, lines_of};
+ghost use Rattle.tr_machine.specs.Replays.{line_of_step, lines_of_steps};
 ghost use Rattle.tr_machine.specs.Settling.{settling_lines};
 ghost use Rattle.tr_stage.specs.Making.{MakesWithoutReply};
 ghost use Rattle.tr_stage.specs.Stages.{IsPainters, is_note, state};
@@ -18,7 +18,7 @@ ghost use Rattle.tr_run.specs.Texts.{is_check, sum_after, written};
 ghost use Rattle.tr_run.specs.Views.{
   AreNamed,
   IsNamed,
-  Adds,
+  AddsLines,
   AddsSome,
   AddsUntold,
   Does,
@@ -118,7 +118,7 @@ impl<'a, C: Client, N: NameOf> Run<'a, C, N> {
         requires other { is_report step ≡ false }
         ensures ok { OnOk result (Does C.Client C.Cmd.words self.old self.new (makes actor step ∷ [])) }
         ensures err { OnErr result (IsUnchanged self.old self.new ⊎ AddsUntold self.old self.new
-            (line_of C.Client (state C.Client self.old.stage) actor (stated step) step)) }
+            (line_of_step C.Client (state C.Client self.old.stage) actor (stated step) step)) }
     {
         let lags = is_lagging(self.mode, &step);
         self.add(actor, step)?;
@@ -223,11 +223,11 @@ impl<'a, C: Client, N: NameOf> Run<'a, C, N> {
         requires values { IsQuery (tree_of self.old.stage.opening).nodes query }
         requires settled { query ≡ Dump →
             self.old.stage.screen ≡ render C.Client (state C.Client self.old.stage) }
-        ensures ok { OnOk result (Adds C.Client C.Cmd.words self.old self.new
-            (line_of C.Client (state C.Client self.old.stage) Player (Mu ∷ []) (Report query) ∷ [])) }
+        ensures ok { OnOk result (AddsLines C.Client C.Cmd.words self.old self.new
+            (line_of_step C.Client (state C.Client self.old.stage) Player (Mu ∷ []) (Report query) ∷ [])) }
         ensures err { OnErr result (IsUnchanged self.old self.new ⊎ TellsUnmade C.Client C.Cmd.words
             self.old self.new
-            (line_of C.Client (state C.Client self.old.stage) Player (Mu ∷ []) (Report query))) }
+            (line_of_step C.Client (state C.Client self.old.stage) Player (Mu ∷ []) (Report query))) }
     {
         self.tell(&query)?;
         self.add(Actor::Player, Step::Report { query })?;
@@ -237,7 +237,7 @@ impl<'a, C: Client, N: NameOf> Run<'a, C, N> {
     /// The painter brings the screen up to date. An `Err` comes before one of the lines that this makes, or
     /// before whatever line is due behind them.
     fn settle(&mut self) -> Result<(), NoMemory>
-        ensures lines { OnOk result (Adds C.Client C.Cmd.words self.old self.new
+        ensures lines { OnOk result (AddsLines C.Client C.Cmd.words self.old self.new
             (settling_lines C.Client (state C.Client self.old.stage))) }
         ensures screen { OnOk result (self.new.stage.screen
             ≡ render C.Client (state C.Client self.new.stage)) }
@@ -255,10 +255,10 @@ impl<'a, C: Client, N: NameOf> Run<'a, C, N> {
     /// The painter makes steps, one after another, under the tree's lock.
     fn paint_all(&mut self, steps: Vec<Step<C::Cmd>>) -> Result<(), NoMemory>
         requires { All (IsPainters (tree_of self.old.stage.opening).nodes) steps.items }
-        ensures ok { OnOk result (Adds C.Client C.Cmd.words self.old self.new
-            (lines_of C.Client Painter (Mu ∷ []) (state C.Client self.old.stage) steps.items)) }
+        ensures ok { OnOk result (AddsLines C.Client C.Cmd.words self.old self.new
+            (lines_of_steps C.Client Painter (Mu ∷ []) (state C.Client self.old.stage) steps.items)) }
         ensures err { OnErr result (AddsSome C.Client C.Cmd.words self.old self.new
-            (lines_of C.Client Painter (Mu ∷ []) (state C.Client self.old.stage) steps.items)) }
+            (lines_of_steps C.Client Painter (Mu ∷ []) (state C.Client self.old.stage) steps.items)) }
     {
         for step in steps {
             self.make(Actor::Painter, step)?;

@@ -18,7 +18,7 @@ use Rattle.tr_grammar.specs.Forms.{Form, form_of}
 use Rattle.tr_grammar.specs.Meanings.{meaning_of}
 use Rattle.tr_grammar.specs.States.{SoFar, nothing_yet}
 use Rattle.tr_grammar.specs.Faults.{first_of, word_faults, line_faults, fault_as, fault_of, has_ended}
-use Rattle.tr_grammar.specs.Scripts.{after, after_as, next, first_fault, after_all, refused_at}
+use Rattle.tr_grammar.specs.Scripts.{after_meaning, after_as, after_line, first_bad_line, after_all_lines, refused_at}
 use Rattle.tr_reader.specs.Adding.{IsFault}
 use Rattle.tr_script.specs.Reading.{word_fault, meaning_as, ReadsAs}
 
@@ -60,11 +60,11 @@ fault_behind c n (Some f) ws m none said =
 
 -- what the words say comes behind the lines so far
 pub after_said : (c : SoFar) (form : Option Form) (ws : List (List ℕ)) (m : Meaning) →
-    meaning_as c form ws ≡ Some m → after_as c form ws ≡ after c (word_at ws 1) m
+    meaning_as c form ws ≡ Some m → after_as c form ws ≡ after_meaning c (word_at ws 1) m
 after_said c None ws m said = absurd (none-some m said)
 after_said c (Some f) ws m said =
     let is : meaning_of c.names ws f ≡ m = cc in
-    ap (λ (x : Meaning). after c (word_at ws 1) x) is
+    ap (λ (x : Meaning). after_meaning c (word_at ws 1) x) is
 
 -- why the words are refused, the line is
 pub refused_before : (c : SoFar) (n : ℕ) (form : Option Form) (ws : List (List ℕ)) (e : LineRefused) →
@@ -86,26 +86,26 @@ fault_of_words c n bytes h = rw (h.plain, h.loud, h.early) refl
 
 -- what comes behind it is what its words say
 pub next_of_words : (c : SoFar) (bytes : List ℕ) → IsLoud c bytes →
-    next c bytes ≡ after_as c (form_of c.version (words_of bytes)) (words_of bytes)
-unfolding next
+    after_line c bytes ≡ after_as c (form_of c.version (words_of bytes)) (words_of bytes)
+unfolding after_line
 next_of_words c bytes h = rw h.loud refl
 
 -- ---- all lines
 
 -- i of all lines are read, and the script behind them is c
 pub record IsRead (all : List (List ℕ)) (i : ℕ) (c : SoFar) : Type 0 where
-  pub fault : first_fault nothing_yet 1 all ≡ first_fault c (i + 1) (drop i all)
-  pub script : after_all nothing_yet all ≡ after_all c (drop i all)
+  pub fault : first_bad_line nothing_yet 1 all ≡ first_bad_line c (i + 1) (drop i all)
+  pub script : after_all_lines nothing_yet all ≡ after_all_lines c (drop i all)
 
 pub one_read : (all : List (List ℕ)) (i : ℕ) (c : SoFar) (t : List ℕ) → IsRead all i c → drop i all ≡ t ∷ drop (i + 1) all →
-    fault_of c (i + 1) t ≡ None → IsRead all (i + 1) (next c t)
+    fault_of c (i + 1) t ≡ None → IsRead all (i + 1) (after_line c t)
 one_read all i c t so_far at none = record {
   fault = so_far.fault ∙ rw (at, none) refl;
   script = so_far.script ∙ rw at refl;
 }
 
 pub is_refused_at : (all : List (List ℕ)) (i : ℕ) (c : SoFar) (t : List ℕ) (e : Code) → IsRead all i c → drop i all ≡ t ∷ drop (i + 1) all →
-    fault_of c (i + 1) t ≡ Some e → first_fault nothing_yet 1 all ≡ Some (refused_at (i + 1) e)
+    fault_of c (i + 1) t ≡ Some e → first_bad_line nothing_yet 1 all ≡ Some (refused_at (i + 1) e)
 is_refused_at all i c t e so_far at fault = so_far.fault ∙ rw (at, fault) refl
 
 -- there is at most one line more than there are bytes

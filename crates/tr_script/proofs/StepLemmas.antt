@@ -17,11 +17,11 @@ use Rattle.tr_grammar.specs.declared.Meaning.{Meaning}
 use Rattle.tr_grammar.specs.declared.Meaning.TheVariants as meanings
 use Rattle.tr_grammar.specs.Texts.{is_plain, is_silent}
 use Rattle.tr_grammar.specs.Words.{words_of, word_at}
-use Rattle.tr_grammar.specs.Forms.{Field, word, one_of, pixels, at_leaf, new_name, a_node, a_leaf, number, signed, shape, glyph, rows, text, Form, forms, form_of, fields, filled}
+use Rattle.tr_grammar.specs.Forms.{Field, word, one_of, pixels, at_leaf, new_name, a_node, a_leaf, number, signed, shape, glyph, rows, text, Form, forms, form_of, fields, field_words}
 use Rattle.tr_grammar.specs.States.{SoFar}
 use Rattle.tr_grammar.specs.Meanings.{meaning_of}
 use Rattle.tr_grammar.specs.Faults.{first_of, word_faults, line_faults, fault_as, fault_of, has_ended, is_declared_again, is_undeclared, is_foreign, is_refused, is_one_too_many, nodes_so_far}
-use Rattle.tr_grammar.specs.Scripts.{after, next, IsPlayable}
+use Rattle.tr_grammar.specs.Scripts.{after_meaning, after_line, IsPlayable}
 use Rattle.tr_reader.specs.Adding.{is_at_steps, with_steps}
 use Rattle.tr_script.specs.Apart.{TakesStep, stays_at_steps}
 use Rattle.tr_script.specs.Reading.{word_fault, meaning_as, SaysStep, Reads}
@@ -56,8 +56,8 @@ module _ (c : SoFar) (made : List (Actor × Step WidgetCmd)) where
   word_fault_same None ws = refl
   word_fault_same (Some f) ws =
       rw (
-        alike (is_declared_again (with_steps c made)) (is_declared_again c) (λ x. (names_same x).0) (filled (fields f) ws),
-        alike (is_undeclared (with_steps c made)) (is_undeclared c) (λ x. (names_same x).1) (filled (fields f) ws),
+        alike (is_declared_again (with_steps c made)) (is_declared_again c) (λ x. (names_same x).0) (field_words (fields f) ws),
+        alike (is_undeclared (with_steps c made)) (is_undeclared c) (λ x. (names_same x).1) (field_words (fields f) ws),
       ) refl
 
   -- they say the same
@@ -92,7 +92,7 @@ beyond n more = le-leb 100001 n more
 -- a silent line adds nothing
 takes_silent : (c : SoFar) (n : ℕ) (line : List ℕ) (made : List (Actor × Step WidgetCmd)) → nat_le 100001 n ≡ false →
     is_plain line ≡ true → is_silent line ≡ true → TakesStep c n line made made
-unfolding fault_of next
+unfolding fault_of after_line
 takes_silent c n line made few plain silent = record {
   fault = λ before. rw (plain, silent, few) refl;
   script = λ before. rw silent refl;
@@ -150,7 +150,7 @@ not_taken : (c : SoFar) (n : ℕ) (line : List ℕ) (made : List (Actor × Step 
 not_taken c n line made other = record { answer = sym other; step = λ yes. absurd cc; left = λ none. refl }
 
 has_fault : (c : SoFar) (n : ℕ) (line : List ℕ) → is_none (fault_of c n line) ≡ false → stays_at_steps c n line ≡ false
-has_fault c n line some = and_left (is_none (fault_of c n line)) (is_at_steps (next c line).place) some
+has_fault c n line some = and_left (is_none (fault_of c n line)) (is_at_steps (after_line c line).place) some
 
 is_some_code : (fault : Option Code) (e : Code) → fault ≡ Some e → is_none fault ≡ false
 is_some_code fault e is = rw is refl
@@ -204,7 +204,7 @@ plain_taken c n line made other = not_taken c n line made (has_fault c n line (r
 -- a silent line is
 pub silent_taken : (c : SoFar) (n : ℕ) (line : List ℕ) (made : List (Actor × Step WidgetCmd)) → is_at_steps c.place ≡ true →
     nat_le 100001 n ≡ false → is_plain line ≡ true → is_silent line ≡ true → IsTaken c n line made made true
-unfolding fault_of next
+unfolding fault_of after_line
 silent_taken c n line made place few plain silent = record {
   answer = rw (plain, silent, few, place) refl;
   step = λ yes. takes_silent c n line made few plain silent;
@@ -244,7 +244,7 @@ own_taken c n line (meanings.Step actor step) old new taken h few read own said 
     let form = form_of c.version ws in
     let fault : fault_of c n line ≡ None =
     fault_of_words c n line (is_loud c c line refl h) ∙ fault_behind c n form ws m read.0 read.1 ∙ rw (own, few) refl in
-    let next_is : next c line ≡ after c (word_at ws 1) m = next_of_words c line (is_loud c c line refl h) ∙ after_said c form ws m read.1 in
+    let next_is : after_line c line ≡ after_meaning c (word_at ws 1) m = next_of_words c line (is_loud c c line refl h) ∙ after_said c form ws m read.1 in
     let is = said.0 in
     record {
       answer = is ∙ rw (fault, next_is) refl;
@@ -253,11 +253,11 @@ own_taken c n line (meanings.Step actor step) old new taken h few read own said 
     }
 own_taken c n line m old new taken h few read own said =
     let ws = words_of line in
-    let next_is : next c line ≡ after c (word_at ws 1) m =
+    let next_is : after_line c line ≡ after_meaning c (word_at ws 1) m =
     next_of_words c line (is_loud c c line refl h) ∙ after_said c (form_of c.version ws) ws m read.1 in
     let is = said.0 in
     record {
-      answer = is ∙ sym (and_right (is_none (fault_of c n line)) (is_at_steps (next c line).place) (rw next_is refl));
+      answer = is ∙ sym (and_right (is_none (fault_of c n line)) (is_at_steps (after_line c line).place) (rw next_is refl));
       step = λ yes. absurd cc;
       left = λ no. said.1;
     }

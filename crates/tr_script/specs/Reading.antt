@@ -63,9 +63,9 @@ any_or (b ∷ bs) last = b || any_or bs last
 
 -- a value with this property where the line may stand there and none of its first values is misspelled, and else the fault, whatever
 -- comes behind them
-abbrev pub Begins : {X : Type 0} → Bool → List Bool → (X → Type 0) → Result X Code → Type 0
-Begins misplaced misspelled P (Ok x) = (misplaced ≡ false) × AreFalse misspelled × P x
-Begins misplaced misspelled P (Err e) =
+abbrev pub ReadsFirstValues : {X : Type 0} → Bool → List Bool → (X → Type 0) → Result X Code → Type 0
+ReadsFirstValues misplaced misspelled P (Ok x) = (misplaced ≡ false) × AreFalse misspelled × P x
+ReadsFirstValues misplaced misspelled P (Err e) =
     (later : Bool) (others : Option Code) → (if misplaced then Some B5 else if any_or misspelled later then Some B2 else others) ≡ Some e
 
 -- the same of a line without values, whose one name wasn't declared where that is so
@@ -124,17 +124,17 @@ leaf_line h widget values =
     ∷ widget ∷ values
 
 -- the edges that the words spell
-abbrev pub edges_of : EdgeWords → Edges
-edges_of ws = rect_of (int_of ws.west.now) (int_of ws.east.now) (int_of ws.north.now) (int_of ws.south.now)
+abbrev pub spelled_edges : EdgeWords → Edges
+spelled_edges ws = rect_of (int_of ws.west.now) (int_of ws.east.now) (int_of ws.north.now) (int_of ws.south.now)
 
 -- the words of two shapes
-abbrev pub shape_words : ShapeWords → ShapeWords → List (List ℕ)
-shape_words across down =
+abbrev pub words_of_two_shapes : ShapeWords → ShapeWords → List (List ℕ)
+words_of_two_shapes across down =
     across.lo.now ∷ across.pref.now ∷ across.hi.now ∷ down.lo.now ∷ down.pref.now ∷ down.hi.now ∷ []
 
 -- the words of the edges, and those behind them
-abbrev pub edge_words : EdgeWords → List (List ℕ) → List (List ℕ)
-edge_words ws rest = ws.west.now ∷ ws.east.now ∷ ws.north.now ∷ ws.south.now ∷ rest
+abbrev pub edge_words_then : EdgeWords → List (List ℕ) → List (List ℕ)
+edge_words_then ws rest = ws.west.now ∷ ws.east.now ∷ ws.north.now ∷ ws.south.now ∷ rest
 
 -- the word is no edge of a rectangle that a client names
 abbrev pub is_no_edge : List ℕ → Bool

@@ -12,7 +12,7 @@ ghost use Rattle.tr_grammar.specs.Names.{number_of, numbered};
 ghost use Rattle.tr_grammar.specs.Faults.{allows, nodes_so_far, step_line};
 ghost use Rattle.tr_grammar.specs.Meanings.{selection_of, may_be_here, may_be_gone};
 ghost use Rattle.tr_words.specs.Answers.{Answers, Chooses, texts};
-ghost use Rattle.tr_script.specs.Reading.{BeginsPlain, Reads, ReadsAs, ReadsLeaf, act_line, any_edge, edges_of, edge_words};
+ghost use Rattle.tr_script.specs.Reading.{BeginsPlain, Reads, ReadsAs, ReadsLeaf, act_line, any_edge, spelled_edges, edge_words_then};
 
 use crate::names::leaf_of;
 use crate::refusals::NO_FORM;
@@ -77,7 +77,7 @@ pub struct EdgeWords<'a> {
 
 /// The rectangle of its edges.
 fn clip_of(words: &EdgeWords) -> Result<Rect, Code>
-    ensures value { Answers (any_edge words.now false) B2 (λ e. e ≡ edges_of words.now) result }
+    ensures value { Answers (any_edge words.now false) B2 (λ e. e ≡ spelled_edges words.now) result }
     ensures range { IfOk result IsClip }
 {
     let west = edge(words.west)?;
@@ -178,7 +178,7 @@ fn read_mark(reader: &Reader, leaf: &str, values: &[&str]) -> Result<Meaning, Li
 /// The values of a mark's line.
 fn mark(reader: &Reader, leaf: &str, edges: &EdgeWords) -> Result<Meaning, LineRefused>
     ensures { ReadsAs reader.now (Some Mark)
-        ((64 ∷ leaf.now) ∷ codes "mark" ∷ edge_words edges.now []) result }
+        ((64 ∷ leaf.now) ∷ codes "mark" ∷ edge_words_then edges.now []) result }
 {
     let (leaf, clip) = leaf_with(reader, leaf, clip_of(edges))?;
     Ok(by_leaf(leaf, Step::Mark { leaf, clip }))
@@ -244,7 +244,7 @@ fn enclose(
     holders: &str,
 ) -> Result<Meaning, LineRefused>
     ensures { ReadsAs reader.now (Some Enclose)
-        ((64 ∷ leaf.now) ∷ codes "cage" ∷ edge_words edges.now (holders.now ∷ [])) result }
+        ((64 ∷ leaf.now) ∷ codes "cage" ∷ edge_words_then edges.now (holders.now ∷ [])) result }
 {
     let (leaf, rect) = leaf_with(reader, leaf, clip_of(edges))?;
     let (here, gone) = holders_of(holders);

@@ -7,7 +7,7 @@ ghost use Rattle.tr_grammar.specs.Forms.{button_words, Mouse, Motion, Key, Attac
 ghost use Rattle.tr_grammar.specs.Forms.{Tint, Widen, Offset, Fix, Move, Lift, Show, Turn, Reshape, Resize};
 ghost use Rattle.tr_grammar.specs.Forms.{Rescreen};
 ghost use Rattle.tr_words.specs.Answers.{Answers, Chooses, texts};
-ghost use Rattle.tr_script.specs.Reading.{Reads, ReadsAs, ReadsNode, ReadsPlain, desk_forms, is_no_shape, lengths_in, shape_words};
+ghost use Rattle.tr_script.specs.Reading.{Reads, ReadsAs, ReadsNode, ReadsPlain, desk_forms, is_no_shape, lengths_in, words_of_two_shapes};
 
 use crate::names::node_of;
 use crate::opening_lines::{ORIGIN, hanging_of, offset_of, size_of};
@@ -314,7 +314,7 @@ fn reshape(
     down: &ShapeWords,
 ) -> Result<Meaning, LineRefused>
     ensures { ReadsAs reader.now (Some Reshape)
-        (codes "shapes" ∷ node.now ∷ shape_words across.now down.now) result }
+        (codes "shapes" ∷ node.now ∷ words_of_two_shapes across.now down.now) result }
 {
     let (node, shapes) = node_with(reader, node, shapes_of(across, down))?;
     Ok(altering(Edit::Shapes { node, shapes }))

@@ -8,7 +8,7 @@ ghost use Rattle.tr_grammar.specs.Forms.{leaf_forms};
 ghost use Rattle.tr_grammar.specs.Forms as form;
 ghost use Rattle.tr_grammar.specs.Faults.{allows, opening_line};
 ghost use Rattle.tr_words.specs.Answers.{Answers, texts};
-ghost use Rattle.tr_script.specs.Reading.{Begins, Reads, ReadsHead, head_faults, leaf_line, shapes_in};
+ghost use Rattle.tr_script.specs.Reading.{ReadsFirstValues, Reads, ReadsHead, head_faults, leaf_line, shapes_in};
 
 use crate::refusals::NO_FORM;
 use std::alloc::Global;
@@ -104,7 +104,7 @@ fn read_widget(
 
 /// The shapes of a leaf, of a line that may stand there.
 fn shapes_of(reader: &Reader, head: &LeafWords) -> Result<Shapes, Code>
-    ensures { Begins (not (allows reader.now.place opening_line)) (head_faults head.now)
+    ensures { ReadsFirstValues (not (allows reader.now.place opening_line)) (head_faults head.now)
         (λ s. s ≡ shapes_in head.now) result }
 {
     reader.in_opening()?;

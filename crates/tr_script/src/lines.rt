@@ -5,7 +5,7 @@ ghost use Rattle.tr_base.specs.Lines.{is_printable};
 ghost use Rattle.tr_grammar.specs.Words.{words_of, word_at};
 ghost use Rattle.tr_grammar.specs.Forms.{forms};
 ghost use Rattle.tr_grammar.specs.Faults.{first_of, line_faults, fault_of, is_foreign};
-ghost use Rattle.tr_grammar.specs.Scripts.{after, next};
+ghost use Rattle.tr_grammar.specs.Scripts.{after_meaning, after_line};
 ghost use Rattle.tr_words.specs.Answers.{texts};
 ghost use Rattle.tr_reader.specs.Adding.{IsFault, IsSoundMeaning, is_at_steps};
 ghost use Rattle.tr_script.specs.Apart.{TakesStep, stays_at_steps};
@@ -181,10 +181,10 @@ fn take_meaning<'a>(
 ) -> Result<(), LineRefused>
     requires { IsSoundMeaning reader.old name.now meaning }
     ensures none { OnOk result (first_of (line_faults reader.old number meaning) ≡ None) }
-    ensures next { OnOk result (reader.new ≡ after reader.old name.now meaning) }
+    ensures next { OnOk result (reader.new ≡ after_meaning reader.old name.now meaning) }
     ensures fault { IfErr result (λ e. IsFault (first_of (line_faults reader.old number meaning)) e) }
     ensures err { OnErr result ((reader.new ≡ reader.old)
-        ⊎ ((MOST_LINES < number) × (reader.new ≡ after reader.old name.now meaning))) }
+        ⊎ ((MOST_LINES < number) × (reader.new ≡ after_meaning reader.old name.now meaning))) }
 {
     if reader.is_foreign(&meaning) {
         drop(meaning);
@@ -203,7 +203,7 @@ fn take_meaning<'a>(
 
 /// Reads the line of this number. After an `Err` the reader is as before; but behind the 100,000th line it
 /// may know the line that was refused.
-#[tactic(auto, unfolding(tr_grammar::specs::Faults::fault_of, tr_grammar::specs::Scripts::next))]
+#[tactic(auto, unfolding(tr_grammar::specs::Faults::fault_of, tr_grammar::specs::Scripts::after_line))]
 pub fn take_line<'a>(
     alloc: Global,
     reader: &mut Reader<'a>,
@@ -211,10 +211,10 @@ pub fn take_line<'a>(
     bytes: &'a [u8],
 ) -> Result<(), LineRefused>
     ensures none { OnOk result (fault_of reader.old number bytes.now ≡ None) }
-    ensures next { OnOk result (reader.new ≡ next reader.old bytes.now) }
+    ensures next { OnOk result (reader.new ≡ after_line reader.old bytes.now) }
     ensures fault { IfErr result (λ e. IsFault (fault_of reader.old number bytes.now) e) }
     ensures err { OnErr result ((reader.new ≡ reader.old)
-        ⊎ ((MOST_LINES < number) × (reader.new ≡ next reader.old bytes.now))) }
+        ⊎ ((MOST_LINES < number) × (reader.new ≡ after_line reader.old bytes.now))) }
 {
     let Some(line) = plain_text(bytes) else {
         return Err(LineRefused::Fault(Code::B9));

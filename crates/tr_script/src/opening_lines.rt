@@ -9,7 +9,7 @@ ghost use Rattle.tr_grammar.specs.Forms.{Split, Page, Border, Rigid, Translate, 
 ghost use Rattle.tr_grammar.specs.Meanings.{split_of};
 ghost use Rattle.tr_grammar.specs.Faults.{allows, opening_line};
 ghost use Rattle.tr_words.specs.Answers.{Answers, Chooses, texts};
-ghost use Rattle.tr_script.specs.Reading.{Begins, Reads, ReadsHanging, ReadsTint};
+ghost use Rattle.tr_script.specs.Reading.{ReadsFirstValues, Reads, ReadsHanging, ReadsTint};
 
 use crate::names::node_of;
 use crate::refusals::NO_FORM;
@@ -103,7 +103,7 @@ pub fn read_node(reader: &Reader, words: &[&str]) -> Result<Meaning, LineRefused
 
 /// The tint of a node that isn't a leaf, of a line that may stand there.
 fn tint_of(reader: &Reader, new: &str, tint: &str) -> Result<u8, Code>
-    ensures { Begins (not (allows reader.now.place opening_line))
+    ensures { ReadsFirstValues (not (allows reader.now.place opening_line))
         (not (is_name new.now) ∷ not (is_number 0 255 tint.now) ∷ []) (λ n. n ≡ nat_of tint.now) result }
 {
     reader.in_opening()?;

@@ -1,7 +1,7 @@
 //! The reading of a whole script.
 ghost use Rattle.std.specs.Prelude.{◌≡◌, ◌<◌, ◌+◌, ◌^◌, length, None, IfOk, IfErr};
-ghost use Rattle.tr_grammar.specs.Scripts.{refusal_of, script_of, first_fault, after_all, whole};
-ghost use Rattle.tr_grammar.specs.Scripts.{IsCause, IsPlayableScript};
+ghost use Rattle.tr_grammar.specs.Scripts.{refusal_of, script_of, first_bad_line, after_all_lines, whole};
+ghost use Rattle.tr_grammar.specs.Scripts.{IsReadCause, IsPlayableScript};
 ghost use Rattle.tr_grammar.specs.Codes.{number_of_code};
 ghost use Rattle.tr_grammar.specs.States.{nothing_yet};
 ghost use Rattle.tr_words.specs.Answers.{texts};
@@ -26,10 +26,10 @@ pub fn refused_at(line: usize, code: Code) -> ReadRefused
 /// Reads the lines, of which the first is line 1.
 fn read_lines(alloc: Global, lines: &[&[u8]]) -> Result<Script, ReadRefused>
     requires { length lines.now + 1 < 2 ^ 32 }
-    ensures valid { IfOk result (λ s. first_fault nothing_yet 1 (texts lines.now) ≡ None) }
-    ensures script { IfOk result (λ s. s ≡ whole (after_all nothing_yet (texts lines.now))) }
+    ensures valid { IfOk result (λ s. first_bad_line nothing_yet 1 (texts lines.now) ≡ None) }
+    ensures script { IfOk result (λ s. s ≡ whole (after_all_lines nothing_yet (texts lines.now))) }
     ensures playable { IfOk result (λ s. IsPlayableScript s) }
-    ensures cause { IfErr result (λ e. IsCause (first_fault nothing_yet 1 (texts lines.now)) e) }
+    ensures cause { IfErr result (λ e. IsReadCause (first_bad_line nothing_yet 1 (texts lines.now)) e) }
 {
     let mut reader = Reader::new(alloc);
     for (index, line) in lines.iter().enumerate() {
@@ -58,7 +58,7 @@ pub fn read_script(alloc: Global, bytes: &[u8]) -> Result<Script, ReadRefused>
     ensures valid { IfOk result (λ s. refusal_of bytes.now ≡ None) }
     ensures script { IfOk result (λ s. s ≡ script_of bytes.now) }
     ensures playable { IfOk result (λ s. IsPlayableScript s) }
-    ensures cause { IfErr result (λ e. IsCause (refusal_of bytes.now) e) }
+    ensures cause { IfErr result (λ e. IsReadCause (refusal_of bytes.now) e) }
 {
     if bytes.len() > LONGEST_SCRIPT {
         return Err(refused_at(0, Code::B7));

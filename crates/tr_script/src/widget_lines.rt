@@ -8,7 +8,7 @@ ghost use Rattle.tr_grammar.specs.Words.{words_of, int_of, is_number, is_signed,
 ghost use Rattle.tr_grammar.specs.Forms.{SetTint, SetTile, SetShift, SetText, AddLine, Clear};
 ghost use Rattle.tr_grammar.specs.Forms.{AddRect, AddSwap, AddExchange, Undo, SetBar};
 ghost use Rattle.tr_words.specs.Answers.{Answers, texts};
-ghost use Rattle.tr_script.specs.Reading.{Reads, ReadsAs, ReadsEdges, act_line, any_edge, command_forms, edges_of, edge_words};
+ghost use Rattle.tr_script.specs.Reading.{Reads, ReadsAs, ReadsEdges, act_line, any_edge, command_forms, spelled_edges, edge_words_then};
 
 use crate::act_lines::{ActLine, EdgeWords, by_leaf, leaf_in_steps, leaf_with};
 use crate::editor_lines::read_editing;
@@ -37,7 +37,7 @@ pub fn acting(leaf: LeafId, cmd: WidgetCmd) -> Meaning
 
 /// The rectangle of a figure's edges.
 fn area_of(words: &EdgeWords) -> Result<Area, Code>
-    ensures { ReadsEdges words.now (λ e. e ≡ edges_of words.now) result }
+    ensures { ReadsEdges words.now (λ e. e ≡ spelled_edges words.now) result }
 {
     let west = edge(words.west)?;
     let east = edge(words.east)?;
@@ -160,7 +160,7 @@ fn read_clear(reader: &Reader, leaf: &str, values: &[&str]) -> Result<Meaning, L
 /// The rectangle of a figure's edges and its colour, by their words.
 fn rect_of(edges: &EdgeWords, tint: &str) -> Result<(Area, u8), Code>
     ensures { Answers (any_edge edges.now (not (is_number 0 255 tint.now) || false)) B2
-        (λ r. r ≡ (edges_of edges.now, nat_of tint.now)) result }
+        (λ r. r ≡ (spelled_edges edges.now, nat_of tint.now)) result }
 {
     let area = area_of(edges)?;
     let tint = byte(tint)?;
@@ -170,7 +170,7 @@ fn rect_of(edges: &EdgeWords, tint: &str) -> Result<(Area, u8), Code>
 /// The values of a rectangle's line.
 fn rect(reader: &Reader, leaf: &str, edges: &EdgeWords, tint: &str) -> Result<Meaning, LineRefused>
     ensures { ReadsAs reader.now (Some AddRect)
-        ((64 ∷ leaf.now) ∷ codes "rect" ∷ edge_words edges.now (tint.now ∷ [])) result }
+        ((64 ∷ leaf.now) ∷ codes "rect" ∷ edge_words_then edges.now (tint.now ∷ [])) result }
 {
     let (leaf, (area, tint)) = leaf_with(reader, leaf, rect_of(edges, tint))?;
     Ok(acting(leaf, WidgetCmd::Canvas(CanvasCmd::Rect { area, tint })))
@@ -211,7 +211,7 @@ fn read_swap(reader: &Reader, leaf: &str, values: &[&str]) -> Result<Meaning, Li
 /// The values of a swap's line.
 fn swap(reader: &Reader, leaf: &str, edges: &EdgeWords) -> Result<Meaning, LineRefused>
     ensures { ReadsAs reader.now (Some AddSwap)
-        ((64 ∷ leaf.now) ∷ codes "swap" ∷ edge_words edges.now []) result }
+        ((64 ∷ leaf.now) ∷ codes "swap" ∷ edge_words_then edges.now []) result }
 {
     reader.in_steps()?;
     let area = area_of(edges)?;
@@ -245,7 +245,7 @@ fn read_exchange(reader: &Reader, leaf: &str, values: &[&str]) -> Result<Meaning
 fn colours_of(edges: &EdgeWords, a: &str, b: &str) -> Result<(Area, u8, u8), Code>
     ensures { Answers
         (any_edge edges.now (not (is_number 0 255 a.now) || (not (is_number 0 255 b.now) || false))) B2
-        (λ r. r ≡ (edges_of edges.now, nat_of a.now, nat_of b.now)) result }
+        (λ r. r ≡ (spelled_edges edges.now, nat_of a.now, nat_of b.now)) result }
 {
     let area = area_of(edges)?;
     let a = byte(a)?;
@@ -262,7 +262,7 @@ fn exchange(
     b: &str,
 ) -> Result<Meaning, LineRefused>
     ensures { ReadsAs reader.now (Some AddExchange)
-        ((64 ∷ leaf.now) ∷ codes "exchange" ∷ edge_words edges.now (a.now ∷ b.now ∷ [])) result }
+        ((64 ∷ leaf.now) ∷ codes "exchange" ∷ edge_words_then edges.now (a.now ∷ b.now ∷ [])) result }
 {
     let (leaf, (area, a, b)) = leaf_with(reader, leaf, colours_of(edges, a, b))?;
     Ok(acting(leaf, WidgetCmd::Canvas(CanvasCmd::Exchange { area, a, b })))

@@ -12,7 +12,7 @@ use Rattle.tr_grammar.specs.Forms.{Form, form_of}
 use Rattle.tr_grammar.specs.Meanings.{meaning_of}
 use Rattle.tr_grammar.specs.States.{Part, SoFar, nothing_yet}
 use Rattle.tr_grammar.specs.Faults.{fault_as, fault_of, first_of, has_ended, is_foreign, is_one_too_many, is_refused, line_faults, reports_so_far, word_faults}
-use Rattle.tr_grammar.specs.Scripts.{Refusal, after, after_all, after_as, first_fault, most_bytes, next, or_later, refusal_of, refused_at, script_of}
+use Rattle.tr_grammar.specs.Scripts.{Refusal, after_meaning, after_all_lines, after_as, first_bad_line, most_script_bytes, after_line, or_later, refusal_of, refused_at, script_of}
 use Rattle.tr_serial.specs.Screens.{report_count}
 
 -- where nothing is found, no test passed
@@ -29,7 +29,7 @@ none_here false code later h = (refl, h)
 
 module _ (c : SoFar) (few : reports_so_far c ≤ 64) where
   -- what a line says adds a report only where there is room for it
-  more_of : (w : List ℕ) (n : ℕ) (l : Meaning) → is_one_too_many c l ≡ false → reports_so_far (after c w l) ≤ 64
+  more_of : (w : List ℕ) (n : ℕ) (l : Meaning) → is_one_too_many c l ≡ false → reports_so_far (after_meaning c w l) ≤ 64
   more_of w n (meanings.Report query) room =
       let below : reports_so_far c < 64 = leb-false 64 (reports_so_far c) room in
       omega (arith, below, length-append c.part.reports (query ∷ []))
@@ -47,8 +47,8 @@ module _ (c : SoFar) (few : reports_so_far c ≤ 64) where
       let d = none_here (is_one_too_many c l || nat_le 100001 n) _ _ b.1 in
       more_of (word_at ws 1) n l (or_parts (is_one_too_many c l) (nat_le 100001 n) d.0).0
 
-  more_line : (n : ℕ) (bytes : List ℕ) → fault_of c n bytes ≡ None → reports_so_far (next c bytes) ≤ 64
-  unfolding fault_of next
+  more_line : (n : ℕ) (bytes : List ℕ) → fault_of c n bytes ≡ None → reports_so_far (after_line c bytes) ≤ 64
+  unfolding fault_of after_line
   more_line n bytes h = by_tests (is_plain bytes) (is_silent bytes) (has_ended c.place) h
     where
       by_tests : (plain silent ended : Bool) →
@@ -66,11 +66,11 @@ no_later : (o : Option Code) (n : ℕ) (later : Option Refusal) → or_later o n
 no_later None n later h = (refl, h)
 no_later (Some code) n later h = absurd (cc)
 
-more_all : (c : SoFar) (n : ℕ) (ts : List (List ℕ)) → reports_so_far c ≤ 64 → first_fault c n ts ≡ None → reports_so_far (after_all c ts) ≤ 64
+more_all : (c : SoFar) (n : ℕ) (ts : List (List ℕ)) → reports_so_far c ≤ 64 → first_bad_line c n ts ≡ None → reports_so_far (after_all_lines c ts) ≤ 64
 more_all c n [] few h = few
 more_all c n (t ∷ ts) few h =
-    let p = no_later (fault_of c n t) n (first_fault (next c t) (n + 1) ts) h in
-    more_all (next c t) (n + 1) ts (more_line c few n t p.0) p.1
+    let p = no_later (fault_of c n t) n (first_bad_line (after_line c t) (n + 1) ts) h in
+    more_all (after_line c t) (n + 1) ts (more_line c few n t p.0) p.1
 
 none_else : (b : Bool) (r : Refusal) (later : Option Refusal) → cond b (Some r) later ≡ None → later ≡ None
 none_else true r later h = absurd (cc)
@@ -80,8 +80,8 @@ none_else false r later h = h
 pub few_reports : (bytes : List ℕ) → refusal_of bytes ≡ None → report_count (script_of bytes).parts ≤ 64
 unfolding refusal_of script_of
 few_reports bytes h =
-    let c : SoFar = after_all nothing_yet (lines_of bytes) in
+    let c : SoFar = after_all_lines nothing_yet (lines_of bytes) in
     let few : reports_so_far c ≤ 64 =
     more_all nothing_yet 1 (lines_of bytes) (omega arith)
-    (none_else (nat_lt most_bytes (length bytes)) (refused_at 0 B7) (first_fault nothing_yet 1 (lines_of bytes)) h) in
+    (none_else (nat_lt most_script_bytes (length bytes)) (refused_at 0 B7) (first_bad_line nothing_yet 1 (lines_of bytes)) h) in
     omega (arith, few, sum_by-append (λ (p : Part). length p.reports) c.ended (c.part ∷ []))

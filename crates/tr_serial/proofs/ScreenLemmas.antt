@@ -19,7 +19,7 @@ use Rattle.tr_journal.specs.Journals.{JournalLine}
 use Rattle.tr_journal.specs.Reports.{is_report}
 use Rattle.tr_machine.specs.States.{State}
 use Rattle.tr_machine.specs.Pictures.{render}
-use Rattle.tr_machine.specs.Replays.{lines_of, next, replay_from}
+use Rattle.tr_machine.specs.Replays.{lines_of_steps, next, replay_from}
 use Rattle.tr_machine.specs.Settling.{frame_steps, is_frame_bad, is_unsettled, repaint_steps, repaints_below, settling, settling_lines}
 use Rattle.tr_run.specs.Runs.{makes, reporting, run_lines}
 use Rattle.tr_serial.specs.Screens.{dumped, screens_from}
@@ -64,11 +64,11 @@ module _ {C M : Type 0} (client : Ghosts C M) where
   AreOther-append (x ∷ xs) ys a b = (a.0, AreOther-append xs ys a.1 b)
 
   others_none : (actor : Actor) (level : List Level) (m : State C M) (ss : List (Step M)) → AreOther ss →
-      screens_from client m (lines_of client actor level m ss) ≡ []
+      screens_from client m (lines_of_steps client actor level m ss) ≡ []
   others_none actor level m [] other = refl
   others_none actor level m (s ∷ ss) other =
       let after : State C M = next client m s in
-      ap (λ (l : List Picture). l ++ screens_from client after (lines_of client actor level after ss)) (dumped-none m s other.0)
+      ap (λ (l : List Picture). l ++ screens_from client after (lines_of_steps client actor level after ss)) (dumped-none m s other.0)
       ∙ others_none actor level after ss other.1
 
   repaint_other : (m : State C M) (leaf : LeafId) → AreOther (repaint_steps client m leaf)

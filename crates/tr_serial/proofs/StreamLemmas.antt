@@ -11,7 +11,7 @@ use Rattle.tr_screen.specs.Resizing.{kept_pixel, same_kind}
 use Rattle.tr_screen.specs.Runs.{IsOn}
 use Rattle.tr_machine.proofs.RenderLemmas.{picture_is}
 use Rattle.tr_client.specs.declared.Client.{Ghosts}
-use Rattle.tr_mirror.specs.Readings.{IsStream, shown, last_of}
+use Rattle.tr_mirror.specs.Readings.{IsStream, screens_shown, last_of}
 use Rattle.tr_mirror.specs.Streams.{Record, group_of, groups_of, spelled, stream_of}
 use Rattle.tr_mirror.specs.Updates.{Awaits, ShowsMore}
 use Rattle.tr_mirror.proofs.ShownLemmas.{last_of-push}
@@ -110,7 +110,7 @@ appends_one s t now a = λ screens is.
           ∙ ap (λ (k : ℕ). stream_of screens ++ spelled (group_of (last_of screens) now (k + 1))) is.groups
           ∙ sym (stream_more screens now);
       is_stream = subst (λ (b : List ℕ). IsStream b) (sym a.group) more.is_stream;
-      shows = ap (λ (b : List ℕ). shown b) a.group ∙ more.shows ∙ ap (λ (l : List Picture). l ++ now ∷ []) is.shows;
+      shows = ap (λ (b : List ℕ). screens_shown b) a.group ∙ more.shows ∙ ap (λ (l : List Picture). l ++ now ∷ []) is.shows;
     }
 
 -- ---- screens in a row
@@ -129,7 +129,7 @@ stream_of_none s last groups bytes = record {
   groups = groups;
   bytes = bytes;
   is_stream = subst (λ (b : List ℕ). IsStream b) (sym bytes) refl;
-  shows = ap (λ (b : List ℕ). shown b) bytes;
+  shows = ap (λ (b : List ℕ). screens_shown b) bytes;
 }
 
 -- ---- what becomes of a run and of the stream

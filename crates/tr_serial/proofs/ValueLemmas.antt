@@ -23,7 +23,7 @@ use Rattle.tr_client.specs.declared.Client.{Ghosts}
 use Rattle.tr_client.specs.Laws.{IsWindowSize}
 use Rattle.tr_forest.specs.declared.NodeKind.{NodeKind}
 use Rattle.tr_forest.specs.declared.NodeKind.TheVariants as kinds
-use Rattle.tr_forest.specs.Nodes.{IsNode, fresh, node}
+use Rattle.tr_forest.specs.Nodes.{IsNode, new_entry, node}
 use Rattle.tr_forest.specs.Forests.{IsForest}
 use Rattle.tr_tree.specs.Trees.{Seen}
 use Rattle.tr_spot.specs.Spots.{is_in_leaf, owner, spot, spot_below, spot_on}
@@ -31,7 +31,7 @@ use Rattle.tr_spot.specs.Leaves.{in_leaf, leaf_size}
 use Rattle.tr_spot.proofs.LeafLemmas.{part_of}
 use Rattle.tr_machine.specs.Windows.{Window, content}
 use Rattle.tr_machine.specs.States.{State, content_of, look, window_of}
-use Rattle.tr_machine.specs.Pictures.{colour_by, colour_in, render, want}
+use Rattle.tr_machine.specs.Pictures.{colour_by, content_colour, render, want}
 use Rattle.tr_mirror.specs.Standings.{has_pixel}
 use Rattle.tr_mirror.specs.Streams.{HasItsPixels}
 use Rattle.tr_serial.specs.Values.{IsPaintable}
@@ -84,11 +84,11 @@ module _ {C M : Type 0} (client : Ghosts C M) where
     tint_of : (n : NodeId) → (node m.tree.nodes n).tint < 2 ^ 8
     tint_of n = elim (cases_lt n.0 (length m.tree.nodes.entries)) [
       | inl below ↦ is.tints n (record { within = below })
-      | inr beyond ↦ rw (get_or_past m.tree.nodes.entries n.0 (fresh kinds.H 0) beyond) (omega arith)
+      | inr beyond ↦ rw (get_or_past m.tree.nodes.entries n.0 (new_entry kinds.H 0) beyond) (omega arith)
     ]
 
     content_value : (leaf : LeafId) (q : Point) (o : Option C) → content_of client m leaf ≡ o →
-        IsPixel m.tree.kind (colour_in client m (leaf_size m.tree leaf) q o)
+        IsPixel m.tree.kind (content_colour client m (leaf_size m.tree leaf) q o)
     content_value leaf q None e = pixel-bit m.tree.kind 0 (omega arith)
     content_value leaf q (Some x) e =
         let leaves = is.leaves leaf (subst (λ (n : ℕ). leaf.0 < n) is.windows (there leaf x e)) in

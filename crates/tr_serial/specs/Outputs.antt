@@ -66,7 +66,7 @@ check_text s = played_text Check s
 
 -- the script that is drawn from a number
 abbrev pub drawn : ℕ → Script
-drawn number = script_of (gen.script_of number)
+drawn number = script_of (gen.script_of_number number)
 
 -- the lines of a summary
 abbrev pub summary_text : ℕ → ℕ → ℕ → ℕ → List ℕ
@@ -80,4 +80,4 @@ summary_text number lines entries sum =
 abbrev pub gen_text : ℕ → List ℕ
 gen_text number =
     let s = drawn number in
-    summary_text number (length (lines_of (gen.script_of number))) (length (serial_journal s)) (played_sum Gen s)
+    summary_text number (length (lines_of (gen.script_of_number number))) (length (serial_journal s)) (played_sum Gen s)

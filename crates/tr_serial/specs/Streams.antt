@@ -3,7 +3,7 @@
 use Rattle.std.specs.Prelude.{◌≡◌, ◌↔◌, ℕ, ◌+◌, List, ◌++◌, length, Option, Some, IsNone}
 use Rattle.tr_screen.specs.Pictures.{Picture}
 use Rattle.tr_client.specs.declared.Client.{Ghosts}
-use Rattle.tr_mirror.specs.Readings.{IsStream, shown, last_of}
+use Rattle.tr_mirror.specs.Readings.{IsStream, screens_shown, last_of}
 use Rattle.tr_mirror.specs.Streams.{group_of, spelled, stream_of}
 use Rattle.tr_mirror.specs.Updates.{Awaits, ShowsMore}
 use Rattle.tr_run.specs.Runs.{Cue, run_lines}
@@ -18,8 +18,8 @@ pub record StreamView : Type 0 where
   pub bytes : List ℕ
 
 -- there is a last screen exactly where there is a group
-abbrev pub IsCounted : Option Picture → ℕ → Type 0
-IsCounted last groups = IsNone last ↔ (groups ≡ 0)
+abbrev pub HasLastScreen : Option Picture → ℕ → Type 0
+HasLastScreen last groups = IsNone last ↔ (groups ≡ 0)
 
 -- the group of this screen was appended, and it is the last one now
 pub record IsAppended (s t : StreamView) (now : Picture) : Type 0 where
@@ -34,7 +34,7 @@ pub record IsStreamOf (s : StreamView) (screens : List Picture) : Type 0 where
   pub groups : s.groups ≡ length screens
   pub bytes : s.bytes ≡ stream_of screens
   pub is_stream : IsStream s.bytes
-  pub shows : shown s.bytes ≡ screens
+  pub shows : screens_shown s.bytes ≡ screens
 
 -- these screens were appended
 abbrev pub Appends : StreamView → StreamView → List Picture → Type 0

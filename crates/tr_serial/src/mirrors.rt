@@ -6,7 +6,7 @@ ghost use Rattle.tr_journal.specs.declared.Step.TheVariants.{Sync};
 ghost use Rattle.tr_journal.specs.Openings.{tree_of};
 ghost use Rattle.tr_journal.specs.Steps.{IsQuery};
 ghost use Rattle.tr_widget.specs.Widgets.{widget_words};
-ghost use Rattle.tr_mirror.specs.Readings.{IsStream, shown};
+ghost use Rattle.tr_mirror.specs.Readings.{IsStream, screens_shown};
 ghost use Rattle.tr_grammar.specs.Scripts.{IsPlayablePart, IsPlayableScript};
 ghost use Rattle.tr_run.specs.Runs.{makes, reporting};
 ghost use Rattle.tr_serial.specs.Outputs as spec;
@@ -33,7 +33,7 @@ pub fn mirror(alloc: Global, script: Script) -> Result<Played, NoMemory>
 
     // Whoever reads the stream has these screens at its cuts.
     ensures stream { IfOk result (λ played. IsStream played.text.items) }
-    ensures shows { IfOk result (λ played. shown played.text.items ≡ dumped_screens script) }
+    ensures shows { IfOk result (λ played. screens_shown played.text.items ≡ dumped_screens script) }
     ensures journal { IfOk result (λ played. played.stage.journal ≡ spec.serial_journal script) }
     ensures opening { IfOk result (λ played. played.stage.opening ≡ script.opening) }
 {

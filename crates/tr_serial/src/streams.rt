@@ -19,13 +19,13 @@ pub struct ScreenStream {
 }
 
 impl Model for ScreenStream {
-    ghost use Rattle.tr_serial.specs.Streams.{StreamView, IsCounted};
+    ghost use Rattle.tr_serial.specs.Streams.{StreamView, HasLastScreen};
 
     ghost Value = { StreamView };
 
     ghost view = { λ s. record { last = s.last; groups = s.groups; bytes = s.bytes.items } };
 
-    ghost invariant = { λ s. IsCounted s.last s.groups };
+    ghost invariant = { λ s. HasLastScreen s.last s.groups };
 }
 
 impl ScreenStream {

@@ -8,7 +8,7 @@ use Rattle.tr_journal.specs.declared.steps.Actor.{Actor}
 use Rattle.tr_journal.specs.declared.steps.Actor.TheVariants.{Leaf}
 use Rattle.tr_journal.specs.declared.steps.Step.{Step}
 use Rattle.tr_journal.specs.Journals.{JournalLine}
-use Rattle.tr_machine.specs.Handing.{acts}
+use Rattle.tr_machine.specs.Handing.{act_steps}
 use Rattle.tr_machine.specs.Replays.{lines_by, next}
 use Rattle.tr_machine.specs.States.{State}
 use Rattle.tr_stage.specs.Stages.{StageView, state}
@@ -22,7 +22,7 @@ lines_count client actor m (x ∷ xs) = ap suc (lines_count client actor (next c
 
 -- each command a step
 acts_count : {M : Type 0} (leaf : LeafId) (commands : List M) (levels : List (List Level)) → length levels ≡ length commands →
-    length (acts leaf commands levels) ≡ length commands
+    length (act_steps leaf commands levels) ≡ length commands
 acts_count leaf [] levels same = refl
 acts_count leaf (c ∷ commands) [] same = absurd (omega arith)
 acts_count leaf (c ∷ commands) (l ∷ levels) same = ap suc (acts_count leaf commands levels (omega arith))
@@ -32,7 +32,7 @@ pub grown : {C M : Type 0} (client : Ghosts C M) (s : StageView C M) (leaf : Lea
     (new : List (JournalLine M)) → new ≡ (with_acts client s leaf commands levels).journal → length levels ≡ length commands →
     length new ≡ length s.journal + length commands
 grown client s leaf commands levels new is same =
-    let made = acts leaf commands levels in
+    let made = act_steps leaf commands levels in
     ap length is
     ∙ length-append s.journal (lines_by client (Leaf leaf) (state client s) made)
     ∙ ap (λ (n : ℕ). length s.journal + n) (lines_count client (Leaf leaf) (state client s) made ∙ acts_count leaf commands levels same)

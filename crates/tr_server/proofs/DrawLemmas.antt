@@ -10,8 +10,8 @@ use Rattle.tr_sketch.specs.Sketches.{SketchView}
 use Rattle.tr_levels.specs.declared.Level.{Level}
 use Rattle.tr_book.specs.Books.{PreparedView}
 use Rattle.tr_journal.specs.declared.steps.Actor.TheVariants.{Leaf}
-use Rattle.tr_machine.specs.Handing.{acts}
-use Rattle.tr_machine.specs.Windows.{Window, Command, content, content_after}
+use Rattle.tr_machine.specs.Handing.{act_steps}
+use Rattle.tr_machine.specs.Windows.{Window, Command, content, changed_content}
 use Rattle.tr_machine.specs.States.{State, content_of, window_of}
 use Rattle.tr_machine.specs.Replays.{lines_by, replay}
 use Rattle.tr_machine.proofs.HandingLemmas.{handed, replay_handed, with_commands}
@@ -24,12 +24,12 @@ use Rattle.tr_server.specs.Handing.{with_acts}
 
 module _ {C M : Type 0} (client : Ghosts C M) where
   -- what commands leave, as changes of a window
-  changes_leave : (x : C) (cmds : List M) → fold (content_after client) x (map Command cmds) ≡ runs.content_after client x cmds
+  changes_leave : (x : C) (cmds : List M) → fold (changed_content client) x (map Command cmds) ≡ runs.content_after client x cmds
   changes_leave x [] = refl
   changes_leave x (c ∷ cmds) = changes_leave (client.next x c) cmds
 
   content_with : (cmds : List M) (w : Window C M) → content client (with_commands client cmds w) ≡ runs.content_after client (content client w) cmds
-  content_with cmds w = fold-append (content_after client) w.shown w.made (map Command cmds) ∙ changes_leave (content client w) cmds
+  content_with cmds w = fold-append (changed_content client) w.shown w.made (map Command cmds) ∙ changes_leave (content client w) cmds
 
   -- the content of a leaf whose commands were handed over
   content_handed : (m : State C M) (leaf : LeafId) (cmds : List M) →
@@ -71,5 +71,5 @@ module _ {C M : Type 0} (client : Ghosts C M) where
       after : state client new ≡ handed client leaf p.commands n
       after =
           ap₂ (λ o j. replay client o j) opening journal
-          ∙ replay-append client s.opening s.journal (lines_by client (Leaf leaf) n (acts leaf p.commands levels))
+          ∙ replay-append client s.opening s.journal (lines_by client (Leaf leaf) n (act_steps leaf p.commands levels))
           ∙ replay_handed client n leaf p.commands levels counts

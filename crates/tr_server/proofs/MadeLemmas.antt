@@ -11,7 +11,7 @@ use Rattle.tr_journal.specs.declared.steps.Step.{Step}
 use Rattle.tr_journal.specs.declared.steps.Step.TheVariants.{Repaint}
 use Rattle.tr_journal.specs.Journals.{JournalLine}
 use Rattle.tr_machine.specs.States.{State}
-use Rattle.tr_machine.specs.Replays.{after_steps, line_of, lines_by, replay, replay_from, under}
+use Rattle.tr_machine.specs.Replays.{after_steps, line_of_step, lines_by, replay, replay_from, under}
 use Rattle.tr_machine.specs.Sharing.{at_shares, repainted_each}
 use Rattle.tr_machine.proofs.JournalLemmas.{lines_by-append, replay-append, replay_from-lines_of}
 use Rattle.tr_machine.proofs.SharingLemmas.{share_replay}
@@ -57,7 +57,7 @@ module _ {C M : Type 0} (client : Ghosts C M) where
 
   -- one step was
   pub made_one : (old new : StageView C M) (before after : PassView M) (level : List Level) (step : Step M) → new.opening ≡ old.opening →
-      new.journal ≡ old.journal ++ line_of client (state client old) Painter level step ∷ [] →
+      new.journal ≡ old.journal ++ line_of_step client (state client old) Painter level step ∷ [] →
       after ≡ record before { mine = before.mine ++ step ∷ []; made = before.made + 1 } → HasMade client old new before after ((level, step) ∷ [])
   made_one old new before after level step opening journal pass = record { opening = opening; journal = journal; pass = pass }
 

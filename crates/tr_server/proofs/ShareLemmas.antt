@@ -9,7 +9,7 @@ use Rattle.tr_levels.specs.declared.Level.TheVariants.{Mu, Share}
 use Rattle.tr_journal.specs.declared.steps.Actor.TheVariants.{Painter}
 use Rattle.tr_journal.specs.declared.steps.Step.{Step}
 use Rattle.tr_journal.specs.declared.steps.Step.TheVariants.{Repaint}
-use Rattle.tr_machine.specs.States.{State, batch_of}
+use Rattle.tr_machine.specs.States.{State, leaf_batch}
 use Rattle.tr_machine.specs.Replays.{after_steps, lines_by, under}
 use Rattle.tr_machine.specs.Settling.{frame_steps}
 use Rattle.tr_machine.specs.Sharing.{all_bad_leaves, at_shares, bad_leaves, flushing, has_bad, repainted_each, sharing}
@@ -62,11 +62,11 @@ module _ {C M : Type 0} (client : Ghosts C M) where
       ∙ ap (map (share_of s)) (append-nil (ready_leaves client n m)))
 
   -- where nothing waits they are the bad leaves
-  pub ready_bad : (n : ℕ) (m : State C M) → ((leaf : LeafId) → batch_of client m leaf ≡ []) → ready_leaves client n m ≡ bad_leaves n m
+  pub ready_bad : (n : ℕ) (m : State C M) → ((leaf : LeafId) → leaf_batch client m leaf ≡ []) → ready_leaves client n m ≡ bad_leaves n m
   ready_bad zero m none = refl
   ready_bad (suc n) m none =
       let leaf : LeafId = record { 0 = n } in
-      ap (λ (b : Bool). ready_leaves client n m ++ cond b (leaf ∷ []) []) (idle_test (batch_of client m leaf) (has_bad m leaf) (none leaf))
+      ap (λ (b : Bool). ready_leaves client n m ++ cond b (leaf ∷ []) []) (idle_test (leaf_batch client m leaf) (has_bad m leaf) (none leaf))
       ∙ ap (λ (ls : List LeafId). ls ++ cond (has_bad m leaf) (leaf ∷ []) []) (ready_bad n m none)
 
   -- what was painted of each share is what was painted of each leaf
@@ -122,9 +122,9 @@ module _ {C M : Type 0} (client : Ghosts C M) where
 
   -- nothing waits once all are flushed
   pub flushed_none : (s0 s1 : StageView C M) (p0 p1 : PassView M) →
-      HasMade client s0 s1 p0 p1 (under (Mu ∷ []) (flushing client (state client s0))) → (leaf : LeafId) → batch_of client (state client s1) leaf ≡ []
+      HasMade client s0 s1 p0 p1 (under (Mu ∷ []) (flushing client (state client s0))) → (leaf : LeafId) → leaf_batch client (state client s1) leaf ≡ []
   flushed_none s0 s1 p0 p1 has leaf =
-      ap (λ (s : State C M). batch_of client s leaf) (state_steps client s0 s1 p0 p1 (Mu ∷ []) (flushing client (state client s0)) has)
+      ap (λ (s : State C M). leaf_batch client s leaf) (state_steps client s0 s1 p0 p1 (Mu ∷ []) (flushing client (state client s0)) has)
       ∙ flushed_all client (state client s0) leaf
 
   -- the steps behind the flushes, from the state after them

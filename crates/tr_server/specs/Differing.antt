@@ -2,7 +2,7 @@
 use Rattle.std.specs.Prelude.{List}
 use Rattle.tr_journal.specs.declared.items.Item.{Item}
 use Rattle.tr_journal.specs.declared.differences.Difference.{Difference}
-use Rattle.tr_journal.specs.Differences.{IsFirst, account_of}
+use Rattle.tr_journal.specs.Differences.{IsFirstDiffering, account_of}
 use Rattle.tr_journal.specs.Journals.{JournalLine}
 use Rattle.tr_journal.specs.Lists.{ListsView}
 use Rattle.tr_stage.specs.Stages.{StageView}
@@ -18,4 +18,4 @@ pub record DiffersView (C M : Type 0) : Type 0 where
 
 -- it is the first difference between the stage and the rest
 abbrev pub IsDifference : {C M : Type 0} → DiffersView C M → Type 0
-IsDifference d = IsFirst (account_of d.opening d.kept) d.lists (account_of d.stage.opening d.stage.journal) d.difference
+IsDifference d = IsFirstDiffering (account_of d.opening d.kept) d.lists (account_of d.stage.opening d.stage.journal) d.difference

@@ -7,7 +7,7 @@ use Rattle.tr_levels.specs.Levels.{HaveLevels}
 use Rattle.tr_journal.specs.declared.answers.Reply.{Reply}
 use Rattle.tr_journal.specs.declared.steps.Actor.TheVariants.{Leaf}
 use Rattle.tr_journal.specs.declared.steps.Step.{Step}
-use Rattle.tr_machine.specs.Handing.{acts}
+use Rattle.tr_machine.specs.Handing.{act_steps}
 use Rattle.tr_machine.specs.Replays.{lines_by}
 use Rattle.tr_stage.specs.Stages.{StageView, line, state}
 use Rattle.tr_server.specs.Passes.{both_locks}
@@ -17,7 +17,7 @@ module _ {C M : Type 0} (client : Ghosts C M) where
   -- command was posted and the window's
   abbrev pub with_acts : StageView C M → LeafId → List M → List (List Level) → StageView C M
   with_acts s leaf commands levels =
-      record s { journal = s.journal ++ lines_by client (Leaf leaf) (state client s) (acts leaf commands levels) }
+      record s { journal = s.journal ++ lines_by client (Leaf leaf) (state client s) (act_steps leaf commands levels) }
 
   -- commands that waited for a leaf were handed over, and nothing else was made
   pub record HandedOver (leaf : LeafId) (old new : StageView C M) : Type 0 where

@@ -10,6 +10,6 @@ pub record ServerView (C M : Type 0) : Type 0 where
   pub kept : List (JournalLine M)
 
 -- the windows of so many leaves, by their numbers
-pub record AreWindows (leaves : ℕ) (windows : List LeafId) : Type 0 where
+pub record AreLeavesInOrder (leaves : ℕ) (windows : List LeafId) : Type 0 where
   pub count : length windows ≡ leaves
   pub numbers : (i : ℕ) (d : LeafId) → i < leaves → slice_index_or windows i d ≡ record { 0 = i }

@@ -6,7 +6,7 @@ ghost use Rattle.tr_levels.specs.declared.Level.TheVariants.{Mu};
 ghost use Rattle.tr_levels.specs.declared.Level.TheVariants.{Share as ShareLevel};
 ghost use Rattle.tr_journal.specs.declared.Actor.TheVariants.{Painter};
 ghost use Rattle.tr_journal.specs.Openings.{tree_of};
-ghost use Rattle.tr_machine.specs.States.{batch_of};
+ghost use Rattle.tr_machine.specs.States.{leaf_batch};
 ghost use Rattle.tr_machine.specs.Pictures.{render};
 ghost use Rattle.tr_machine.specs.Replays.{under};
 ghost use Rattle.tr_machine.specs.Settling.{frame_steps};
@@ -51,7 +51,7 @@ impl<C: Client, L: Session> Locked<C, L> {
     ) -> Result<(), NoMemory>
         requires painter { pass.old.actor ≡ Painter }
         requires leaf { painted.leaf.0 < leaf_count (tree_of self.old.opening).nodes }
-        requires idle { batch_of C.Client (state C.Client self.old) painted.leaf ≡ [] }
+        requires idle { leaf_batch C.Client (state C.Client self.old) painted.leaf ≡ [] }
         requires painted { let m = state C.Client self.old in
             IsPaintedOf C.Client m painted.leaf painted.part painted.pixels.items }
         ensures made { MakesWithoutReply C.Client self.old self.new Painter (ShareLevel painted.leaf ∷ [])
@@ -110,7 +110,7 @@ impl<C: Client, L: Session> Locked<C, L> {
     fn put_all(&mut self, pass: &mut Pass<C, L>, all: Vec<Painted>) -> Result<(), NoMemory>
         requires painter { pass.old.actor ≡ Painter }
         requires idle { let m = state C.Client self.old in
-            (leaf : LeafId) → batch_of C.Client m leaf ≡ [] }
+            (leaf : LeafId) → leaf_batch C.Client m leaf ≡ [] }
         requires all { let m = state C.Client self.old in
             ArePainted C.Client m (all_bad_leaves m) all.items }
         ensures ok { OnOk result (HasMade C.Client self.old self.new pass.old pass.new
@@ -146,7 +146,7 @@ impl<C: Client, L: Session> Locked<C, L> {
     ) -> Result<(), NoMemory>
         requires painter { pass.old.actor ≡ Painter }
         requires idle { let m = state C.Client self.old in
-            (leaf : LeafId) → batch_of C.Client m leaf ≡ [] }
+            (leaf : LeafId) → leaf_batch C.Client m leaf ≡ [] }
         ensures ok { OnOk result (HasMade C.Client self.old self.new pass.old pass.new
             (at_shares (all_bad_leaves (state C.Client self.old)))) }
         ensures err { OnErr result (HasBegun C.Client self.old self.new pass.old pass.new
@@ -160,7 +160,7 @@ impl<C: Client, L: Session> Locked<C, L> {
     /// so few that a thread would take longer to start.
     fn paint_bad_leaves<R: Threads + Sync>(&self, rt: &R) -> Result<Vec<Painted>, NoMemory>
         requires { let m = state C.Client self.now in
-            (leaf : LeafId) → batch_of C.Client m leaf ≡ [] }
+            (leaf : LeafId) → leaf_batch C.Client m leaf ≡ [] }
         ensures { let m = state C.Client self.now in
             IfOk result (λ all. ArePainted C.Client m (all_bad_leaves m) all.items) }
     {
@@ -200,7 +200,7 @@ impl<C: Client, L: Session> Locked<C, L> {
 
         // Then nothing waits, no point is bad, and the screen is as if it were painted from nothing.
         ensures idle { let m = state C.Client self.new in
-            OnOk result ((leaf : LeafId) → batch_of C.Client m leaf ≡ []) }
+            OnOk result ((leaf : LeafId) → leaf_batch C.Client m leaf ≡ []) }
         ensures good { let m = state C.Client self.new in OnOk result ((p : Point) → m.bad p ≡ false) }
         ensures screen { OnOk result (self.new.screen ≡ render C.Client (state C.Client self.new)) }
     {

@@ -5,7 +5,7 @@ ghost use Rattle.tr_journal.specs.declared.Step.{Step};
 ghost use Rattle.tr_journal.specs.Openings.{tree_of};
 ghost use Rattle.tr_journal.specs.Steps.{AreAsMany, IsStep};
 ghost use Rattle.tr_server.specs.Passes.{AreFresh, fresh_pass};
-ghost use Rattle.tr_server.specs.Servers.{AreWindows};
+ghost use Rattle.tr_server.specs.Servers.{AreLeavesInOrder};
 ghost use Rattle.tr_server.specs.Sessions.{HasIds};
 
 use crate::baskets::Basket;
@@ -45,7 +45,7 @@ pub struct Server<C: Client, L: Session> {
 
 impl<C: Client, L: Session> Model for Server<C, L> {
     ghost use Rattle.std.specs.Prelude.{◌≡◌, length};
-    ghost use Rattle.tr_server.specs.Servers.{AreWindows, ServerView};
+    ghost use Rattle.tr_server.specs.Servers.{AreLeavesInOrder, ServerView};
     ghost use Rattle.tr_server.specs.Sessions.{HasIds};
 
     ghost Value = { ServerView C C.Cmd };
@@ -53,7 +53,7 @@ impl<C: Client, L: Session> Model for Server<C, L> {
     ghost view = { λ s. record { opening = s.opening; kept = s.kept.lines } };
 
     ghost invariant = { λ s. HasIds L.nodes L.leaves s.opening × (length s.kept.lines ≡ L.entries)
-        × AreWindows L.leaves s.windows.items };
+        × AreLeavesInOrder L.leaves s.windows.items };
 }
 
 impl<C: Client, L: Session> Server<C, L> {
@@ -182,7 +182,7 @@ fn windows_and_passes<C: Client, L: Session>(
     requires ids { HasIds L.nodes L.leaves stage.now.opening }
     requires parts { all.parts ≡ 2 * L.leaves + 3 }
     requires none { all.amount ≡ 0 }
-    ensures windows { IfOk result (λ r. AreWindows L.leaves r.0.items) }
+    ensures windows { IfOk result (λ r. AreLeavesInOrder L.leaves r.0.items) }
     ensures workers { IfOk result (λ r. AreFresh L.leaves r.1.workers.items) }
     ensures player { IfOk result (λ r. r.1.player ≡ fresh_pass Player) }
 {
@@ -207,7 +207,7 @@ fn windows_of<C: Client, L: Session>(
     requires named { leaves ≡ L.leaves }
     requires parts { leaves < all.old.parts }
     requires none { all.old.amount ≡ 0 }
-    ensures windows { IfOk result (λ v. AreWindows leaves v.items) }
+    ensures windows { IfOk result (λ v. AreLeavesInOrder leaves v.items) }
     ensures parts { OnOk result (all.new.parts + leaves ≡ all.old.parts) }
     ensures none { all.new.amount ≡ 0 }
 {

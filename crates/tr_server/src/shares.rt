@@ -5,7 +5,7 @@ ghost use Rattle.tr_forest.specs.Nodes.{leaf_count};
 ghost use Rattle.tr_levels.specs.declared.Level.TheVariants.{Share as ShareLevel};
 ghost use Rattle.tr_journal.specs.declared.Actor.TheVariants.{Painter};
 ghost use Rattle.tr_journal.specs.Openings.{tree_of};
-ghost use Rattle.tr_machine.specs.States.{batch_of};
+ghost use Rattle.tr_machine.specs.States.{leaf_batch};
 ghost use Rattle.tr_machine.specs.Pictures.{render};
 ghost use Rattle.tr_machine.specs.Sharing.{IsPaintedOf, sharing};
 ghost use Rattle.tr_stage.specs.Making.{MakesWithoutReply};
@@ -79,7 +79,7 @@ impl<C: Client, L: Session> Mu<'_, C, L> {
     pub fn put_painted(&mut self, pass: &mut Pass<C, L>, painted: Painted) -> Result<(), NoMemory>
         requires painter { pass.old.actor ≡ Painter }
         requires leaf { painted.leaf.0 < leaf_count (tree_of self.old.opening).nodes }
-        requires idle { batch_of C.Client (state C.Client self.old) painted.leaf ≡ [] }
+        requires idle { leaf_batch C.Client (state C.Client self.old) painted.leaf ≡ [] }
         requires painted { let m = state C.Client self.old in
             IsPaintedOf C.Client m painted.leaf painted.part painted.pixels.items }
         ensures made { MakesWithoutReply C.Client self.old self.new Painter (ShareLevel painted.leaf ∷ [])
@@ -110,7 +110,7 @@ impl<C: Client, L: Session> Mu<'_, C, L> {
 
         // Then nothing waits, no point is bad, and the screen is as if it were painted from nothing.
         ensures idle { let m = state C.Client self.new in
-            OnOk result ((leaf : LeafId) → batch_of C.Client m leaf ≡ []) }
+            OnOk result ((leaf : LeafId) → leaf_batch C.Client m leaf ≡ []) }
         ensures good { let m = state C.Client self.new in OnOk result ((p : Point) → m.bad p ≡ false) }
         ensures screen { OnOk result (self.new.screen ≡ render C.Client (state C.Client self.new)) }
     {

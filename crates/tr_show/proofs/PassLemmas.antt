@@ -8,12 +8,12 @@ use Rattle.tr_screen.specs.Pictures.{Picture}
 use Rattle.tr_dump.specs.Reports.{dump_text}
 use Rattle.tr_mirror.specs.declared.faults.MirrorFault.{MirrorFault}
 use Rattle.tr_mirror.specs.Standings.{Standing}
-use Rattle.tr_mirror.specs.Readings.{Reading, cut_between, fault_at_end, first_fault, at_first, is_between, listed, longest_stream, read, reading_of, shown, shown_from}
+use Rattle.tr_mirror.specs.Readings.{Reading, cut_between, fault_at_end, first_fault, at_first, is_between, list_of_option, longest_stream, after_bytes, reading_of, screens_shown, shown_from}
 use Rattle.tr_mirror.proofs.ReadingLemmas.{read-append}
 use Rattle.tr_mirror.proofs.ShownLemmas.{no_cut, shown_from-append}
 use Rattle.tr_show.specs.declared.errors.ShowRefused.{ShowRefused}
 use Rattle.tr_show.specs.declared.errors.ShowRefused.TheVariants as refused
-use Rattle.tr_show.specs.Shows.{IsCause}
+use Rattle.tr_show.specs.Shows.{IsShowCause}
 use Rattle.tr_show.specs.Passes.{IsLate, IsPass}
 
 -- a front of a stream was read without a fault, and shown
@@ -23,7 +23,7 @@ pub record HasShown (stream rest text : List ℕ) (m : Reading) : Type 0 where
   pub came : m ≡ reading_of front
   pub fine : m.fault ≡ None
   pub fed : m.fed + length m.begun + length rest ≤ length stream
-  pub written : text ≡ flat_map dump_text (shown front)
+  pub written : text ≡ flat_map dump_text (screens_shown front)
 
 pub shown_none : (stream : List ℕ) → HasShown stream stream [] at_first
 shown_none stream = record { front = []; parts = refl; came = refl; fine = refl; fed = omega arith; written = refl }
@@ -33,12 +33,12 @@ pub shown_more : (stream rest after text more : List ℕ) (m n : Reading) → Ha
 shown_more stream rest after text more m n h p = record {
   front = h.front ++ p.front;
   parts = append_assoc h.front p.front after ∙ ap (λ l. h.front ++ l) p.parts ∙ h.parts;
-  came = p.came ∙ ap (λ r. read r p.front) h.came ∙ sym (read-append at_first h.front p.front);
+  came = p.came ∙ ap (λ r. after_bytes r p.front) h.came ∙ sym (read-append at_first h.front p.front);
   fine = p.fine;
   fed = omega (arith, p.fed, h.fed);
   written = p.written ∙ ap (λ t. t ++ flat_map dump_text (shown_from m p.front)) h.written
-      ∙ ap (λ r. flat_map dump_text (shown h.front) ++ flat_map dump_text (shown_from r p.front)) h.came
-      ∙ sym (flat_map-append dump_text (shown h.front) (shown_from (reading_of h.front) p.front))
+      ∙ ap (λ r. flat_map dump_text (screens_shown h.front) ++ flat_map dump_text (shown_from r p.front)) h.came
+      ∙ sym (flat_map-append dump_text (screens_shown h.front) (shown_from (reading_of h.front) p.front))
       ∙ ap (λ l. flat_map dump_text l) (sym (shown_from-append at_first h.front p.front));
 }
 
@@ -56,14 +56,14 @@ pub written_one : (s t : Standing) (a b : ℕ) (p : Picture) (before text : List
 written_one s t a b p before text is was other screen wrote =
     wrote ∙ ap (λ l. before ++ l) (sym (append-nil (dump_text p)))
     ∙ ap (λ l. before ++ flat_map dump_text l)
-    (ap (λ o. listed o) (sym screen) ∙ sym (ap (λ b. if b then [] else listed t.screen) (ne_eqb s.cuts t.cuts apart)))
+    (ap (λ o. list_of_option o) (sym screen) ∙ sym (ap (λ b. if b then [] else list_of_option t.screen) (ne_eqb s.cuts t.cuts apart)))
   where
     apart : s.cuts ≢ t.cuts
     apart = λ e. other (is ∙ sym e ∙ sym was)
 
 -- a front of the bytes was read, which ends one cut at most
 pub cut_pass : (old new : Reading) (bytes before text : List ℕ) (n : ℕ) → 0 < length bytes → n ≤ length bytes → (0 < length bytes → 0 < n) →
-    new ≡ read old (take n bytes) → new.fault ≡ None → new.fed + length new.begun ≤ old.fed + length old.begun + n →
+    new ≡ after_bytes old (take n bytes) → new.fault ≡ None → new.fed + length new.begun ≤ old.fed + length old.begun + n →
     shown_from old (take n bytes) ≡ cut_between old.standing new.standing →
     text ≡ before ++ flat_map dump_text (cut_between old.standing new.standing) →
     IsPass old new bytes (take (length bytes - n) (drop n bytes)) before text
@@ -89,8 +89,8 @@ module _ (stream rest text : List ℕ) (m : Reading) (h : HasShown stream rest t
   whole : length rest ≡ 0 → h.front ≡ stream
   whole none = sym (append-nil h.front) ∙ ap (λ l. h.front ++ l) (sym (none_left rest none)) ∙ h.parts
 
-  pub text_is : length rest ≡ 0 → text ≡ flat_map dump_text (shown stream)
-  text_is none = h.written ∙ ap (λ l. flat_map dump_text (shown l)) (whole none)
+  pub text_is : length rest ≡ 0 → text ≡ flat_map dump_text (screens_shown stream)
+  text_is none = h.written ∙ ap (λ l. flat_map dump_text (screens_shown l)) (whole none)
 
   reading_is : length rest ≡ 0 → m ≡ reading_of stream
   reading_is none = h.came ∙ ap (λ l. reading_of l) (whole none)
@@ -100,14 +100,14 @@ module _ (stream rest text : List ℕ) (m : Reading) (h : HasShown stream rest t
       rw (le-ltb longest_stream (length stream) short) (ap (λ r. fault_at_end r r.fault) (sym (reading_is none)) ∙ ap (λ o. fault_at_end m o) h.fine)
 
   -- a fault within the rest is the first one
-  pub fault_within : (fault : MirrorFault) → length stream ≤ longest_stream → (read m rest).fault ≡ Some fault → first_fault stream ≡ Some fault
+  pub fault_within : (fault : MirrorFault) → length stream ≤ longest_stream → (after_bytes m rest).fault ≡ Some fault → first_fault stream ≡ Some fault
   fault_within fault short is =
-      let at : reading_of stream ≡ read m rest =
-      ap (λ l. reading_of l) (sym h.parts) ∙ read-append at_first h.front rest ∙ ap (λ r. read r rest) (sym h.came) in
-      rw (le-ltb longest_stream (length stream) short) (ap (λ r. fault_at_end r r.fault) at ∙ ap (λ o. fault_at_end (read m rest) o) is)
+      let at : reading_of stream ≡ after_bytes m rest =
+      ap (λ l. reading_of l) (sym h.parts) ∙ read-append at_first h.front rest ∙ ap (λ r. after_bytes r rest) (sym h.came) in
+      rw (le-ltb longest_stream (length stream) short) (ap (λ r. fault_at_end r r.fault) at ∙ ap (λ o. fault_at_end (after_bytes m rest) o) is)
 
   -- so is one that comes while they are shown
-  pub cause_is : (e : ShowRefused) → length stream ≤ longest_stream → IsLate (read m rest) e → IsCause (first_fault stream) e
+  pub cause_is : (e : ShowRefused) → length stream ≤ longest_stream → IsLate (after_bytes m rest) e → IsShowCause (first_fault stream) e
   cause_is refused.NoMemory short late = tt
   cause_is (refused.Fault fault) short late = fault_within fault short late
 

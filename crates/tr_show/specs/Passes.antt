@@ -3,7 +3,7 @@
 use Rattle.std.specs.Prelude.{◌≡◌, ⊤, ℕ, ◌+◌, ◌≤◌, ◌<◌, List, ◌++◌, length, Some, None}
 use Rattle.std.specs.List.{flat_map}
 use Rattle.tr_dump.specs.Reports.{dump_text}
-use Rattle.tr_mirror.specs.Readings.{Reading, read, shown_from}
+use Rattle.tr_mirror.specs.Readings.{Reading, after_bytes, shown_from}
 use Rattle.tr_show.specs.declared.errors.ShowRefused.{ShowRefused}
 use Rattle.tr_show.specs.declared.errors.ShowRefused.TheVariants as refused
 
@@ -12,7 +12,7 @@ pub record IsPass (old new : Reading) (bytes rest before text : List ℕ) : Type
   pub front : List ℕ
   pub parts : front ++ rest ≡ bytes
   pub some : 0 < length front
-  pub came : new ≡ read old front
+  pub came : new ≡ after_bytes old front
   pub fine : new.fault ≡ None
   pub fed : new.fed + length new.begun + length rest ≤ old.fed + length old.begun + length bytes
   pub written : text ≡ before ++ flat_map dump_text (shown_from old front)

@@ -3,15 +3,15 @@ use Rattle.std.specs.Prelude.{◌≡◌, ⊤, ℕ, List, Option, Some}
 use Rattle.std.specs.List.{flat_map}
 use Rattle.tr_dump.specs.Reports.{dump_text}
 use Rattle.tr_mirror.specs.declared.faults.MirrorFault.{MirrorFault}
-use Rattle.tr_mirror.specs.Readings.{shown}
+use Rattle.tr_mirror.specs.Readings.{screens_shown}
 use Rattle.tr_show.specs.declared.errors.ShowRefused.{ShowRefused}
 use Rattle.tr_show.specs.declared.errors.ShowRefused.TheVariants as refused
 
 -- what is written of a stream: the screen at each of its cuts is dumped
 abbrev pub shown_text : List ℕ → List ℕ
-shown_text stream = flat_map dump_text (shown stream)
+shown_text stream = flat_map dump_text (screens_shown stream)
 
 -- why some bytes are refused, where memory isn't wanting: their first fault
-abbrev pub IsCause : Option MirrorFault → ShowRefused → Type 0
-IsCause first refused.NoMemory = ⊤
-IsCause first (refused.Fault fault) = first ≡ Some fault
+abbrev pub IsShowCause : Option MirrorFault → ShowRefused → Type 0
+IsShowCause first refused.NoMemory = ⊤
+IsShowCause first (refused.Fault fault) = first ≡ Some fault

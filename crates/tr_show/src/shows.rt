@@ -1,6 +1,6 @@
 ghost use Rattle.std.specs.Prelude.{◌≡◌, ◌+◌, ◌≤◌, ◌<◌, None, length, IfOk, IfErr, OnOk};
-ghost use Rattle.tr_mirror.specs.Readings.{first_fault, longest_stream, read};
-ghost use Rattle.tr_show.specs.Shows.{IsCause, shown_text};
+ghost use Rattle.tr_mirror.specs.Readings.{first_fault, longest_stream, after_bytes};
+ghost use Rattle.tr_show.specs.Shows.{IsShowCause, shown_text};
 ghost use Rattle.tr_show.specs.Passes.{IsLate, IsPass};
 
 use crate::errors::ShowRefused;
@@ -12,7 +12,7 @@ use tr_mirror::{LONGEST_STREAM, Mirror, MirrorFault};
 pub fn show(alloc: Global, stream: &[u8]) -> Result<Vec<u8>, ShowRefused>
     ensures valid { OnOk result (first_fault stream.now ≡ None) }
     ensures text { IfOk result (λ text. text.items ≡ shown_text stream.now) }
-    ensures cause { IfErr result (λ e. IsCause (first_fault stream.now) e) }
+    ensures cause { IfErr result (λ e. IsShowCause (first_fault stream.now) e) }
 {
     if stream.len() as u64 > LONGEST_STREAM {
         return Err(ShowRefused::Fault(MirrorFault { place: 0, code: 5 }));
@@ -41,7 +41,7 @@ fn show_to_cut<'a>(
     requires short { mirror.old.fed + length mirror.old.begun + length bytes.now ≤ longest_stream }
     ensures pass { IfOk result (λ rest.
         IsPass mirror.old mirror.new bytes.now rest.now text.old.items text.new.items) }
-    ensures cause { IfErr result (λ e. IsLate (read mirror.old bytes.now) e) }
+    ensures cause { IfErr result (λ e. IsLate (after_bytes mirror.old bytes.now) e) }
 {
     let cuts = mirror.cuts();
     let count = mirror.feed_to_cut(bytes)?;

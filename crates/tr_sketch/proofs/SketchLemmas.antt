@@ -15,7 +15,7 @@ use Rattle.tr_region.proofs.OrderLemmas.{IsFull}
 use Rattle.tr_region.proofs.PlaceLemmas.{abs_is}
 use Rattle.tr_screen.specs.Pictures.{IsScreenSize}
 use Rattle.tr_paint.specs.Paints.{IsNearRect}
-use Rattle.tr_exec.specs.Executions.{IsOrigin, placed}
+use Rattle.tr_exec.specs.Executions.{IsOrigin, screen_point}
 use Rattle.tr_exec.proofs.PlacedLemmas.{before-placed}
 use Rattle.tr_spot.specs.Spots.{from_corner, size_of}
 use Rattle.tr_surface.proofs.PutLemmas.{area-moved, moved_rect, place-moved}
@@ -99,8 +99,8 @@ module _ (part : Edges) (all : List Edges) (origin : Point) (a : IsAside part al
   moved : all ≡ shifted part way ∷ []
   moved = a.all_is ∙ ap (λ (e : Edges). e ∷ []) (corner_rect part full)
 
-  back : (q : Point) → before_shift (placed origin q) way ≡ q
-  back q = ap (λ (o : Point). before_shift (placed o q) way) a.origin_is ∙ before-placed way q
+  back : (q : Point) → before_shift (screen_point origin q) way ≡ q
+  back q = ap (λ (o : Point). before_shift (screen_point o q) way) a.origin_is ∙ before-placed way q
 
   -- it has as many points
   pub aside_area : total_area all ≡ area_of part
@@ -109,18 +109,18 @@ module _ (part : Edges) (all : List Edges) (origin : Point) (a : IsAside part al
       ap total_area moved ∙ omega (arith, one) ∙ area-moved way part full
 
   -- each point of the part stands where it stood
-  pub aside_place : (q : Point) → place_in all (placed origin q) ≡ place_within part q
+  pub aside_place : (q : Point) → place_in all (screen_point origin q) ≡ place_within part q
   aside_place q =
-      ap (λ (rs : List Edges). place_in rs (placed origin q)) moved
-      ∙ place-moved way part (placed origin q) full
+      ap (λ (rs : List Edges). place_in rs (screen_point origin q)) moved
+      ∙ place-moved way part (screen_point origin q) full
       ∙ ap (place_within part) (back q)
 
   -- and lies on that screen
-  pub aside_held : (q : Point) → has_point part q ≡ true → holds all (placed origin q) ≡ true
+  pub aside_held : (q : Point) → has_point part q ≡ true → holds all (screen_point origin q) ≡ true
   aside_held q has =
-      ap (λ (rs : List Edges). holds rs (placed origin q)) moved
-      ∙ or_false (has_point (shifted part way) (placed origin q))
-      ∙ has_point-shifted part way (placed origin q)
+      ap (λ (rs : List Edges). holds rs (screen_point origin q)) moved
+      ∙ or_false (has_point (shifted part way) (screen_point origin q))
+      ∙ has_point-shifted part way (screen_point origin q)
       ∙ ap (has_point part) (back q)
       ∙ has
 

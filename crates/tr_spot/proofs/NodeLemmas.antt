@@ -7,7 +7,7 @@ use Rattle.std.proofs.lemmas.List.{get_or_past}
 use Rattle.tr_base.specs.declared.NodeId.{NodeId}
 use Rattle.tr_base.proofs.RectLemmas.{false-true}
 use Rattle.tr_forest.specs.declared.NodeKind.TheVariants as kinds
-use Rattle.tr_forest.specs.Nodes.{Entry, Nodes, IsNode, node, fresh}
+use Rattle.tr_forest.specs.Nodes.{Entry, Nodes, IsNode, node, new_entry}
 use Rattle.tr_forest.specs.Families.{levels, is_among, depth, depth_within, deeper}
 use Rattle.tr_forest.specs.Forests.{IsForest}
 
@@ -21,7 +21,7 @@ hangs_is_node t n parent up = elim (cases_lt n.0 (length t.entries)) [ inl lt �
   where
     no_parent : length t.entries ≤ n.0 → ⊥
     no_parent le =
-        let is : node t n ≡ fresh kinds.H 0 = get_or_past t.entries n.0 (fresh kinds.H 0) le in
+        let is : node t n ≡ new_entry kinds.H 0 = get_or_past t.entries n.0 (new_entry kinds.H 0) le in
         let none : None ≡ Some parent = sym (ap (λ (e : Entry). e.parent) is) ∙ up in
         cc none
 
@@ -31,7 +31,7 @@ has_child_is_node t forest parent n up = elim (cases_lt parent.0 (length t.entri
   where
     no_child : length t.entries ≤ parent.0 → ⊥
     no_child le =
-        let is : node t parent ≡ fresh kinds.H 0 = get_or_past t.entries parent.0 (fresh kinds.H 0) le in
+        let is : node t parent ≡ new_entry kinds.H 0 = get_or_past t.entries parent.0 (new_entry kinds.H 0) le in
         false-true (sym (ap (λ (e : Entry). is_among n e.children) is) ∙ forest.parents n parent up)
 
 deeper_same : (o : Option NodeId) (u v : NodeId → ℕ) (m : ℕ) → deeper o v ≤ suc m → ((p : NodeId) → v p ≤ m → u p ≡ v p) → deeper o u ≡ deeper o v

@@ -57,9 +57,9 @@ abbrev pub spot : Seen → Point → Spot
 spot t p = if has_point (whole_of t.size) p then spot_below t p t.nodes.root else spots.Off
 
 -- a leaf that the spot is part of is one of the first so many
-abbrev pub IsBelow : ℕ → Spot → Type 0
-IsBelow count (spots.Leaf leaf at size kind) = leaf.0 < count
-IsBelow count spot = ⊤
+abbrev pub IsLeafBelow : ℕ → Spot → Type 0
+IsLeafBelow count (spots.Leaf leaf at size kind) = leaf.0 < count
+IsLeafBelow count spot = ⊤
 
 -- the spot is part of this leaf
 abbrev pub is_in_leaf : LeafId → Spot → Bool

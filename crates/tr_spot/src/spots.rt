@@ -4,7 +4,7 @@ ghost use Rattle.tr_base.specs.Layouts.{IsDomain};
 ghost use Rattle.tr_forest.specs.Nodes.{node, leaf_count, IsNode};
 ghost use Rattle.tr_forest.specs.Forests.{IsForest};
 ghost use Rattle.tr_forest.specs.Edits.{IsScreenSize};
-ghost use Rattle.tr_spot.specs.Spots.{HasRoot, IsBelow, from_corner, size_of, spot_on, spot};
+ghost use Rattle.tr_spot.specs.Spots.{HasRoot, IsLeafBelow, from_corner, size_of, spot_on, spot};
 
 use crate::owners::owner_of;
 use tr_base::{NodeId, Point, Rect, Size, Spot, sides, whole};
@@ -15,7 +15,7 @@ use tr_tree::{NodeKind, Tree};
 pub fn spot_at(tree: &Tree, p: Point) -> Spot
     requires { HasRoot tree.now }
     ensures spot { result ≡ spot tree.now p }
-    ensures leaf { IsBelow (leaf_count tree.now.nodes) result }
+    ensures leaf { IsLeafBelow (leaf_count tree.now.nodes) result }
 {
     // Called for what it tells the prover: that the nodes are a forest, and the screen has a size.
     let _ = tree.count();
@@ -33,7 +33,7 @@ fn spot_on(tree: &Tree, p: Point, n: NodeId) -> Spot
     requires forest { IsForest tree.now.nodes }
     requires node { IsNode tree.now.nodes n }
     ensures spot { result ≡ spot_on tree.now p n (node tree.now.nodes n).kind }
-    ensures leaf { IsBelow (leaf_count tree.now.nodes) result }
+    ensures leaf { IsLeafBelow (leaf_count tree.now.nodes) result }
 {
     let kind = tree.kind();
     match tree.kind_of(n) {

@@ -11,7 +11,7 @@ use Rattle.tr_base.specs.declared.shapes.Shapes.{Shapes}
 use Rattle.tr_base.specs.Rects.{Edges, IsRect, empty_rect, sides_of}
 use Rattle.tr_base.specs.Layouts.{preferred_place, IsPartOf, ShareNoPoint}
 use Rattle.tr_base.proofs.LayoutLemmas.{empty_is_rect, part_of_empty, part-placed, part_itself, apart_down, apart_empty_left, apart_empty_right}
-use Rattle.tr_stack.specs.Stacks.{z_places, t_place, strip, page_place}
+use Rattle.tr_stack.specs.Stacks.{z_places, t_place, page_strip, page_place}
 
 pub length-z_places : (e : Edges) (ats : List Point) (cs : List Shapes) → length ats ≡ length cs → length (z_places e ats cs) ≡ length cs
 length-z_places e [] [] h = refl
@@ -62,19 +62,19 @@ strip_within high per k lt = omega (arith, mul-le-mul_right (high / per) (suc_le
     suc_le : (k per : ℕ) → k < per → k + 1 ≤ per
     suc_le k per lt = omega arith
 
-pub strip_part : (e : Edges) (per k : ℕ) → IsRect e → k < per → IsPartOf (strip e per k) e
+pub strip_part : (e : Edges) (per k : ℕ) → IsRect e → k < per → IsPartOf (page_strip e per k) e
 strip_part e per k is lt =
     let height = (sides_of e).1 / per in
     part-placed e 0 (k * height) ((sides_of e).0, height) is (omega arith) (strip_within (sides_of e).1 per k lt)
 
 -- the strips of an empty node are empty
-pub strip_empty : (per k : ℕ) → k < per → strip empty_rect per k ≡ empty_rect
+pub strip_empty : (per k : ℕ) → k < per → page_strip empty_rect per k ≡ empty_rect
 strip_empty per k lt =
     part_of_empty (pos 0 +ℤ pos 0) (pos 0 +ℤ pos 0 +ℤ pos 0) (pos 0 +ℤ pos (k * (0 / per))) (pos 0 +ℤ pos (k * (0 / per)) +ℤ pos (0 / per))
     (strip_part empty_rect per k empty_is_rect lt)
 
 -- a later strip begins where the earlier one ends, or beyond
-pub strips_apart : (e : Edges) (per a b : ℕ) → a < b → ShareNoPoint (strip e per a) (strip e per b)
+pub strips_apart : (e : Edges) (per a b : ℕ) → a < b → ShareNoPoint (page_strip e per a) (page_strip e per b)
 strips_apart e per a b lt =
     let h : ℕ = (sides_of e).1 / per in
     let wide : ℕ = (sides_of e).0 in
@@ -89,10 +89,10 @@ strips_apart e per a b lt =
     below n x h y le = omega (arith, ints)
 
 -- what holds of each strip and of the empty rectangle holds of each child of a Page
-pub by_page_place : (P : Edges → Type 0) (e : Edges) (per page k : ℕ) → P (strip e per (k % per)) → P empty_rect → P (page_place e per page k)
+pub by_page_place : (P : Edges → Type 0) (e : Edges) (per page k : ℕ) → P (page_strip e per (k % per)) → P empty_rect → P (page_place e per page k)
 by_page_place P e per page k on off = by_test (eqb (k / per) page)
   where
-    by_test : (b : Bool) → P (cond b (strip e per (k % per)) empty_rect)
+    by_test : (b : Bool) → P (cond b (page_strip e per (k % per)) empty_rect)
     by_test true = on
     by_test false = off
 
@@ -110,10 +110,10 @@ page_apart e per page i j some lt = by_tests (eqb (i / per) page) (eqb (j / per)
         omega arith
 
     by_tests : (a b : Bool) → eqb (i / per) page ≡ a → eqb (j / per) page ≡ b →
-        ShareNoPoint (cond a (strip e per (i % per)) empty_rect) (cond b (strip e per (j % per)) empty_rect)
+        ShareNoPoint (cond a (page_strip e per (i % per)) empty_rect) (cond b (page_strip e per (j % per)) empty_rect)
     by_tests true true h k = strips_apart e per (i % per) (j % per) (later (grind (arith, nat_tests)) (grind (arith, nat_tests)))
-    by_tests true false h k = apart_empty_right (strip e per (i % per))
-    by_tests false b h k = apart_empty_left (cond b (strip e per (j % per)) empty_rect)
+    by_tests true false h k = apart_empty_right (page_strip e per (i % per))
+    by_tests false b h k = apart_empty_left (cond b (page_strip e per (j % per)) empty_rect)
 
 pub page_empty : (e : Edges) (per page k : ℕ) → 1 ≤ per → e ≡ empty_rect → page_place e per page k ≡ empty_rect
 page_empty e per page k some h =

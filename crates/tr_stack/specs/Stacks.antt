@@ -37,12 +37,12 @@ abbrev pub strip_size : Edges → ℕ → ℕ × ℕ
 strip_size e per = ((sides_of e).0, (sides_of e).1 / per)
 
 -- the k-th strip from the north, counted from 0
-abbrev pub strip : Edges → ℕ → ℕ → Edges
-strip e per k = placed e (pos 0) (pos (k * (strip_size e per).1)) (strip_size e per)
+abbrev pub page_strip : Edges → ℕ → ℕ → Edges
+page_strip e per k = placed e (pos 0) (pos (k * (strip_size e per).1)) (strip_size e per)
 
 -- so many children after one another are on one page, each in its strip; all others are empty
 abbrev pub page_place : Edges → ℕ → ℕ → ℕ → Edges
-page_place e per page k = if k / per == page then strip e per (k % per) else empty_rect
+page_place e per page k = if k / per == page then page_strip e per (k % per) else empty_rect
 
 -- the rectangles of so many children of a Page
 abbrev pub page_places : Edges → ℕ → ℕ → ℕ → List Edges

@@ -1,7 +1,7 @@
 ghost use Rattle.std.specs.Prelude.{◌≡◌, ◌≤◌, ◌+◌, ◌*◌, length, vec_len, All, AllPairs, IfOk};
 ghost use Rattle.tr_base.specs.Rects.{IsRect, empty_rect};
 ghost use Rattle.tr_base.specs.Layouts.{farthest, stopped, IsDomain, IsOffset, IsPartOf, IsNear, ShareNoPoint};
-ghost use Rattle.tr_stack.specs.Stacks.{max_shape, repeated, page_shape, z_places, t_place as t_child, t_places, strip_size, strip, page_place as page_child, page_places};
+ghost use Rattle.tr_stack.specs.Stacks.{max_shape, repeated, page_shape, z_places, t_place as t_child, t_places, strip_size, page_strip, page_place as page_child, page_places};
 
 use std::alloc::Global;
 use tr_base::{
@@ -125,7 +125,7 @@ fn strip(rect: &Rect, size: (u32, u32), per: u8, k: usize) -> Rect
     requires domain { IsDomain rect.now }
     requires size { size ≡ strip_size rect.now per }
     requires per { k + 1 ≤ per }
-    ensures { result ≡ strip rect.now per k }
+    ensures { result ≡ page_strip rect.now per k }
 {
     let by = Point {
         h: 0,

@@ -15,7 +15,7 @@ use Rattle.tr_client.specs.declared.clients.Client.{Ghosts}
 use Rattle.tr_forest.specs.Forests.{IsForest}
 use Rattle.tr_tree.specs.Trees.{Seen}
 use Rattle.tr_spot.specs.Leaves.{leaf_size}
-use Rattle.tr_desk.specs.Desks.{Devices, owner}
+use Rattle.tr_desk.specs.Desks.{Devices, selection_owner}
 use Rattle.tr_mail.specs.Mails.{Mails}
 use Rattle.tr_mail.specs.Deliveries as mail
 use Rattle.tr_levels.specs.declared.Level.{Level}
@@ -32,12 +32,12 @@ use Rattle.tr_machine.specs.States.{State, changed_at, content_of, look}
 use Rattle.tr_machine.specs.Paintings.{acted, marked}
 use Rattle.tr_machine.specs.Machines.{asked_of, obeyed, taken}
 use Rattle.tr_machine.specs.Machines as machine
-use Rattle.tr_machine.specs.Replays.{line_of, next, replay}
+use Rattle.tr_machine.specs.Replays.{line_of_step, next, replay}
 use Rattle.tr_machine.proofs.SoundLemmas.{IsObeyed, sound_acted, sound_mail, sound_marked}
 use Rattle.tr_machine.proofs.StillLemmas.{act_shows, mail_shows, mark_shows}
 use Rattle.tr_windows.specs.Presents.{Present, act_on, content_at, mark_on, presents}
 use Rattle.tr_windows.proofs.PresentLemmas.{presents-acted, presents-marked, presents-patch}
-use Rattle.tr_stage.specs.Stages.{IsAt, IsStage, Parts, is_note}
+use Rattle.tr_stage.specs.Stages.{RepresentsState, IsStage, Parts, is_note}
 use Rattle.tr_stage.proofs.StageLemmas.{IsMade, holding, one_line}
 use Rattle.tr_stage.proofs.PartLemmas.{content_at_leaf, forest_at}
 
@@ -86,7 +86,7 @@ module _ {C M : Type 0} (client : Ghosts C M) where
 
   -- the state's own look
   look_is : {opening : List (Item C)} {leaf : LeafId} {kind : Kind} {font : List (List ℕ)} {size : Size} (m : State C M) (parts : Parts C) →
-      IsAt client m parts → m.font ≡ font_of opening → IsEnv opening parts.surface.tree leaf kind font size → look_of kind font ≡ look m
+      RepresentsState client m parts → m.font ≡ font_of opening → IsEnv opening parts.surface.tree leaf kind font size → look_of kind font ≡ look m
   look_is {kind = kind} {font = font} m parts is same env =
       let kinds : kind ≡ m.tree.kind = env.kind_is ∙ ap (λ (t : Seen). t.kind) is.tree in
       let fonts : font ≡ m.font = env.font_is ∙ sym same in
@@ -94,11 +94,11 @@ module _ {C M : Type 0} (client : Ghosts C M) where
 
   -- the size of the leaf's window
   size_is : {opening : List (Item C)} {leaf : LeafId} {kind : Kind} {font : List (List ℕ)} {size : Size} (m : State C M) (parts : Parts C) →
-      IsAt client m parts → IsEnv opening parts.surface.tree leaf kind font size → size ≡ leaf_size m.tree leaf
+      RepresentsState client m parts → IsEnv opening parts.surface.tree leaf kind font size → size ≡ leaf_size m.tree leaf
   size_is {leaf = leaf} m parts is env = env.size_is ∙ ap (λ (t : Seen). leaf_size t leaf) is.tree
 
   -- a state and its parts, of which a leaf's window is painted by its own look and size
-  module _ (m : State C M) (parts : Parts C) (is : IsAt client m parts) (leaf : LeafId) where
+  module _ (m : State C M) (parts : Parts C) (is : RepresentsState client m parts) (leaf : LeafId) where
     -- what becomes of the windows in a command
     windows_acted : (cmd : M) (new : List (Present C)) → new ≡ changed_at leaf.0 (act_on client (look m) (leaf_size m.tree leaf) cmd) parts.windows →
         new ≡ presents client (acted leaf cmd m)
@@ -143,49 +143,49 @@ module _ {C M : Type 0} (client : Ghosts C M) where
     -- an event is taken, and the command that it asks for is obeyed, if it asks for one
     made_take : (asked : Option M) (new : List (Present C)) → IsForest parts.surface.tree.nodes →
         IsHeeded leaf (look m) (leaf_size m.tree leaf) asked parts.windows new →
-        IsMade client m (obeyed client leaf asked (record m { mail = mail.taken leaf m.mail }))
-        (record parts { windows = new; mail = mail.taken leaf parts.mail })
+        IsMade client m (obeyed client leaf asked (record m { mail = mail.front_taken leaf m.mail }))
+        (record parts { windows = new; mail = mail.front_taken leaf parts.mail })
     made_take None new forest h = record {
       forest = forest_at client is forest;
-      sound = sound_mail client m (mail.taken leaf m.mail) is.sound;
+      sound = sound_mail client m (mail.front_taken leaf m.mail) is.sound;
       inboxes = length-set m.mail.inboxes leaf.0 _;
       holds = record {
-        shows = mail_shows client m parts.surface (mail.taken leaf m.mail) (holding client m parts is).shows;
+        shows = mail_shows client m parts.surface (mail.front_taken leaf m.mail) (holding client m parts is).shows;
         windows = h.none refl ∙ is.windows;
-        mail = ap (λ (b : Mails). mail.taken leaf b) is.mail;
+        mail = ap (λ (b : Mails). mail.front_taken leaf b) is.mail;
       };
     }
     made_take (Some cmd) new forest h =
-        let without : State C M = record m { mail = mail.taken leaf m.mail } in
+        let without : State C M = record m { mail = mail.front_taken leaf m.mail } in
         record {
           forest = forest_at client is forest;
-          sound = sound_acted client without leaf cmd (sound_mail client m (mail.taken leaf m.mail) is.sound) (obeys cmd h.law);
+          sound = sound_acted client without leaf cmd (sound_mail client m (mail.front_taken leaf m.mail) is.sound) (obeys cmd h.law);
           inboxes = length-set m.mail.inboxes leaf.0 _;
           holds = record {
             shows =
                 act_shows client without parts.surface leaf cmd
-                (mail_shows client m parts.surface (mail.taken leaf m.mail) (holding client m parts is).shows);
+                (mail_shows client m parts.surface (mail.front_taken leaf m.mail) (holding client m parts is).shows);
             windows = windows_acted cmd new h.some;
-            mail = ap (λ (b : Mails). mail.taken leaf b) is.mail;
+            mail = ap (λ (b : Mails). mail.front_taken leaf b) is.mail;
           };
         }
 
   -- a step leaves the state as it is
-  made_nothing : {m : State C M} {parts : Parts C} → IsAt client m parts → IsForest parts.surface.tree.nodes → IsMade client m m parts
+  made_nothing : {m : State C M} {parts : Parts C} → RepresentsState client m parts → IsForest parts.surface.tree.nodes → IsMade client m m parts
   made_nothing {m = m} {parts = parts} is forest =
       record { forest = forest_at client is forest; sound = is.sound; inboxes = refl; holds = holding client m parts is }
 
   -- what is read of the owner of a selection
-  pub value_read : {m : State C M} {parts : Parts C} {devices : Devices} {leaf : LeafId} {x : C} (selection : Selection) → IsAt client m parts →
-      devices ≡ parts.mail.desk → Some leaf ≡ owner devices selection → content_at parts.windows leaf ≡ Some x →
-      answers.Value (client.value x) ≡ machine.read client (owner m.mail.desk selection) m
+  pub value_read : {m : State C M} {parts : Parts C} {devices : Devices} {leaf : LeafId} {x : C} (selection : Selection) → RepresentsState client m parts →
+      devices ≡ parts.mail.desk → Some leaf ≡ selection_owner devices selection → content_at parts.windows leaf ≡ Some x →
+      answers.Value (client.value x) ≡ machine.read client (selection_owner m.mail.desk selection) m
   value_read {m = m} {parts = parts} {devices = devices} {leaf = leaf} {x = x} selection is same owns content =
       sym (ap (λ (o : Option LeafId). machine.read client o m) owned ∙ ap (λ (o : Option C). machine.value_in client o) present)
     where
-      owned : owner m.mail.desk selection ≡ Some leaf
+      owned : selection_owner m.mail.desk selection ≡ Some leaf
       owned =
-          ap (λ (b : Mails). owner b.desk selection) (sym is.mail)
-          ∙ ap (λ (d : Devices). owner d selection) (sym same) ∙ sym owns
+          ap (λ (b : Mails). selection_owner b.desk selection) (sym is.mail)
+          ∙ ap (λ (d : Devices). selection_owner d selection) (sym same) ∙ sym owns
 
       present : content_of client m leaf ≡ Some x
       present = sym (content_at_leaf client leaf is) ∙ content
@@ -210,17 +210,17 @@ module _ {C M : Type 0} (client : Ghosts C M) where
 
     -- the line of a leaf for which no event waits
     empty_line : (actor : Actor) (held : List Level) (leaf : LeafId) → mail.front_of old.mail leaf ≡ None →
-        line_of client m actor held (steps.Take leaf) ≡ quiet actor held (steps.Take leaf) answers.Empty
+        line_of_step client m actor held (steps.Take leaf) ≡ quiet actor held (steps.Take leaf) answers.Empty
     empty_line actor held leaf front = ap (λ (o : Option Event). take_by m actor held leaf o) (front_is leaf None front)
 
     -- the line of a leaf for which an event waits
     taken_line : (actor : Actor) (held : List Level) (leaf : LeafId) (event : Event) → mail.front_of old.mail leaf ≡ Some event →
-        line_of client m actor held (steps.Take leaf) ≡ quiet actor held (steps.Take leaf) (answers.Taken event)
+        line_of_step client m actor held (steps.Take leaf) ≡ quiet actor held (steps.Take leaf) (answers.Taken event)
     taken_line actor held leaf event front = ap (λ (o : Option Event). take_by m actor held leaf o) (front_is leaf (Some event) front)
 
     -- nothing becomes of the stage but one line more
     stays : {actor : Actor} {held : List Level} {step : Step M} → IsFor (tree_of opening).nodes actor held step → IsForest old.surface.tree.nodes →
-        next client m step ≡ m → IsStage client opening (lines ++ line_of client m actor held step ∷ []) old
+        next client m step ≡ m → IsStage client opening (lines ++ line_of_step client m actor held step ∷ []) old
     stays for forest same =
         one_line client is for (subst (λ (n : State C M). IsMade client m n old) (sym same) (made_nothing is.kept forest))
 
@@ -272,7 +272,7 @@ module _ {C M : Type 0} (client : Ghosts C M) where
       mail.front_of old.mail leaf ≡ Some event → asked ≡ asked_of client (content_at old.windows leaf) event →
       IsEnv opening old.surface.tree leaf kind font size → IsHeeded leaf (look_of kind font) size asked old.windows new →
       IsStage client opening (lines ++ quiet actor held (steps.Take leaf) (answers.Taken event) ∷ [])
-      (record old { windows = new; mail = mail.taken leaf old.mail })
+      (record old { windows = new; mail = mail.front_taken leaf old.mail })
   takes {opening = opening} {lines = lines} {old = old} {actor = actor} {held = held} {leaf = leaf} {event = event} {asked = asked}
       {kind = kind} {font = font} {size = size} {new = new} is for forest front reacts env h =
       subst (λ (l : JournalLine M). IsStage client opening (lines ++ l ∷ []) after) (taken_line opening lines old is actor held leaf event front)
@@ -282,10 +282,10 @@ module _ {C M : Type 0} (client : Ghosts C M) where
       n = replay client opening lines
 
       after : Parts C
-      after = record old { windows = new; mail = mail.taken leaf old.mail }
+      after = record old { windows = new; mail = mail.front_taken leaf old.mail }
 
       without : State C M
-      without = record n { mail = mail.taken leaf n.mail }
+      without = record n { mail = mail.front_taken leaf n.mail }
 
       own : IsHeeded leaf (look n) (leaf_size n.tree leaf) asked old.windows new
       own =
@@ -304,7 +304,7 @@ module _ {C M : Type 0} (client : Ghosts C M) where
   pub reads : {opening : List (Item C)} {lines : List (JournalLine M)} {old : Parts C} {actor : Actor} {held : List Level} {leaf : LeafId}
       {selection : Selection} {answer : Answer} →
       IsStage client opening lines old → IsFor {M = M} (tree_of opening).nodes actor held (steps.Read leaf selection) → IsForest old.surface.tree.nodes →
-      (let n = replay client opening lines in answer ≡ machine.read client (owner n.mail.desk selection) n) →
+      (let n = replay client opening lines in answer ≡ machine.read client (selection_owner n.mail.desk selection) n) →
       IsStage client opening (lines ++ quiet actor held (steps.Read leaf selection) answer ∷ []) old
   reads {opening = opening} {lines = lines} {old = old} {actor = actor} {held = held} {leaf = leaf} {selection = selection} is for forest answers =
       subst (λ (a : Answer). IsStage client opening (lines ++ quiet actor held (steps.Read leaf selection) a ∷ []) old) (sym answers)
@@ -320,7 +320,7 @@ module _ {C M : Type 0} (client : Ghosts C M) where
       n : State C M
       n = replay client opening lines
 
-      line : (s : Step M) → is_note s ≡ true → line_of client n actor held s ≡ quiet actor held s answers.Done
+      line : (s : Step M) → is_note s ≡ true → line_of_step client n actor held s ≡ quiet actor held s answers.Done
       line steps.Sync h = refl
       line (steps.Report query) h = refl
       line s h = absurd (false-true h)

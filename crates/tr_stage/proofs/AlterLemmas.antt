@@ -17,7 +17,7 @@ use Rattle.tr_forest.proofs.Editing.{follows_edited}
 use Rattle.tr_tree.specs.Trees.{Seen, edited_tree}
 use Rattle.tr_spot.specs.Leaves.{leaf_size}
 use Rattle.tr_surface.specs.Surfaces.{IsShown, is_bad}
-use Rattle.tr_surface.specs.TreeSteps.{bad_after, good_after, source}
+use Rattle.tr_surface.specs.TreeSteps.{bad_after_edit, good_after, source}
 use Rattle.tr_inbox.specs.declared.Delivery.{Delivery}
 use Rattle.tr_mail.specs.Mails.{Mails, Sending}
 use Rattle.tr_mail.specs.Deliveries as mail
@@ -32,14 +32,14 @@ use Rattle.tr_journal.specs.Openings.{tree_of}
 use Rattle.tr_journal.specs.Steps.{IsFor}
 use Rattle.tr_machine.specs.States.{State, look}
 use Rattle.tr_machine.specs.Edits.{altered}
-use Rattle.tr_machine.specs.Machines.{edited}
-use Rattle.tr_machine.specs.Replays.{line_of, next, replay}
+use Rattle.tr_machine.specs.Machines.{edit_step}
+use Rattle.tr_machine.specs.Replays.{line_of_step, next, replay}
 use Rattle.tr_machine.proofs.SoundLemmas.{fits}
 use Rattle.tr_machine.proofs.AlterLemmas.{IsAlter, KeepsColours, alter_shows}
 use Rattle.tr_windows.specs.Presents.{Present, cleared_from, kept_by, presents}
 use Rattle.tr_windows.specs.Promises.{Keeps}
 use Rattle.tr_windows.proofs.PresentLemmas.{presents-altered, presents-keeping, presents-survive}
-use Rattle.tr_stage.specs.Stages.{IsAt, IsStage, Parts}
+use Rattle.tr_stage.specs.Stages.{RepresentsState, IsStage, Parts}
 use Rattle.tr_stage.proofs.MailLemmas.{edited-count}
 use Rattle.tr_stage.proofs.PartLemmas.{forest_at, leaves_count}
 use Rattle.tr_stage.proofs.StageLemmas.{IsHolding, IsNext, holding, one_step, values_now}
@@ -77,7 +77,7 @@ module _ {C M : Type 0} (client : Ghosts C M) where
     pub allowed : refusal old.surface.tree.nodes edit ≡ None
     pub tree : new.surface.tree ≡ edited_tree old.surface.tree edit
     pub bad : (p : Point) →
-        is_bad new.surface p ≡ bad_after (kept_by client old.windows) old.surface.tree new.surface.tree edit (is_bad old.surface) p
+        is_bad new.surface p ≡ bad_after_edit (kept_by client old.windows) old.surface.tree new.surface.tree edit (is_bad old.surface) p
     pub pixels : (p : Point) →
         good_after (kept_by client old.windows) old.surface.tree new.surface.tree edit (is_bad old.surface) p ≡ true →
         pixel_of new.surface.screen p ≡ pixel_of old.surface.screen (source old.surface.tree new.surface.tree edit p)
@@ -89,7 +89,7 @@ module _ {C M : Type 0} (client : Ghosts C M) where
     pub new_sizes : (leaf : LeafId) → IsWindowSize (leaf_size after leaf)
     pub windows : new.windows ≡ cleared_from 0 before after old.windows
     pub sent : List Delivery
-    pub sending : record { mail = new.mail; sent = sent } ≡ mail.edited before after old.mail
+    pub sending : record { mail = new.mail; sent = sent } ≡ mail.tree_edited before after old.mail
 
   module _ {opening : List (Item C)} {lines : List (JournalLine M)} {edit : Edit} {old new : Parts C}
       (stage : IsStage client opening lines old) (e : IsEdited (replay client opening lines) edit old new) where
@@ -98,7 +98,7 @@ module _ {C M : Type 0} (client : Ghosts C M) where
     m = replay client opening lines
 
     -- what is known of it
-    at : IsAt client m old
+    at : RepresentsState client m old
     at = stage.kept
 
     -- its nodes are a forest
@@ -111,7 +111,7 @@ module _ {C M : Type 0} (client : Ghosts C M) where
 
     -- so the next state is the altered one
     altered_next : next client m (steps.Alter edit) ≡ altered client edit m
-    altered_next = ap (λ (o : Option NodeFault). (edited client o edit m).state) allowed
+    altered_next = ap (λ (o : Option NodeFault). (edit_step client o edit m).state) allowed
 
     -- the new tree is the altered state's
     new_tree : new.surface.tree ≡ edited_tree m.tree edit
@@ -158,12 +158,12 @@ module _ {C M : Type 0} (client : Ghosts C M) where
         ∙ sym (presents-altered client m edit)
 
     -- and so is what was sent, with the mail
-    new_sending : record { mail = new.mail; sent = e.sent } ≡ mail.edited m.tree (edited_tree m.tree edit) m.mail
+    new_sending : record { mail = new.mail; sent = e.sent } ≡ mail.tree_edited m.tree (edited_tree m.tree edit) m.mail
     new_sending =
         e.sending
-        ∙ ap (λ (t : Seen). mail.edited t e.after old.mail) old_tree
-        ∙ ap (λ (t : Seen). mail.edited m.tree t old.mail) (e.after_is ∙ new_tree)
-        ∙ ap (λ (x : Mails). mail.edited m.tree (edited_tree m.tree edit) x) at.mail
+        ∙ ap (λ (t : Seen). mail.tree_edited t e.after old.mail) old_tree
+        ∙ ap (λ (t : Seen). mail.tree_edited m.tree t old.mail) (e.after_is ∙ new_tree)
+        ∙ ap (λ (x : Mails). mail.tree_edited m.tree (edited_tree m.tree edit) x) at.mail
 
     -- after an edit that isn't refused the parts are those of the next state
     pub edited_next : IsNext client opening lines (steps.Alter edit) new
@@ -181,7 +181,7 @@ module _ {C M : Type 0} (client : Ghosts C M) where
 
     -- its line says that it is done, and has what was sent
     pub edited_line : (actor : Actor) (held : List Level) →
-        line_of client m actor held (steps.Alter edit) ≡ alter_line actor held edit answers.Done e.sent
+        line_of_step client m actor held (steps.Alter edit) ≡ alter_line actor held edit answers.Done e.sent
     edited_line actor held = rw (allowed, ← ap (λ (x : Sending). x.sent) new_sending) refl
 
   module _ {opening : List (Item C)} {lines : List (JournalLine M)} {old : Parts C} {fault : NodeFault} (edit : Edit)
@@ -200,17 +200,17 @@ module _ {C M : Type 0} (client : Ghosts C M) where
     }
       where
         same : next client (replay client opening lines) (steps.Alter edit) ≡ replay client opening lines
-        same = ap (λ (o : Option NodeFault). (edited client o edit (replay client opening lines)).state) refused_there
+        same = ap (λ (o : Option NodeFault). (edit_step client o edit (replay client opening lines)).state) refused_there
 
     -- its line has the fault
     pub refused_line : (actor : Actor) (held : List Level) →
-        line_of client (replay client opening lines) actor held (steps.Alter edit) ≡ alter_line actor held edit (answers.Tree fault) []
+        line_of_step client (replay client opening lines) actor held (steps.Alter edit) ≡ alter_line actor held edit (answers.Tree fault) []
     refused_line actor held = rw refused_there refl
 
   -- a stage with the line of an edit, made or refused, more
   pub altered_stage : {opening : List (Item C)} {lines : List (JournalLine M)} {edit : Edit} {old new : Parts C} {actor : Actor} {held : List Level} →
       {line : JournalLine M} → IsStage client opening lines old → IsFor {M = M} (tree_of opening).nodes actor held (steps.Alter edit) →
-      IsNext client opening lines (steps.Alter edit) new → line_of client (replay client opening lines) actor held (steps.Alter edit) ≡ line →
+      IsNext client opening lines (steps.Alter edit) new → line_of_step client (replay client opening lines) actor held (steps.Alter edit) ≡ line →
       IsStage client opening (lines ++ line ∷ []) new
   altered_stage {opening} {lines} {edit} {old} {new} {actor} {held} stage is_for n line_is =
       subst (λ (l : JournalLine M). IsStage client opening (lines ++ l ∷ []) new) line_is

@@ -21,7 +21,7 @@ use Rattle.tr_region.proofs.PlaceLemmas.{abs_is}
 use Rattle.tr_region.proofs.ShiftLemmas.{holds-shifted}
 use Rattle.tr_screen.specs.Pictures.{IsScreenSize}
 use Rattle.tr_paint.specs.Paints.{IsNearPoint}
-use Rattle.tr_exec.specs.Executions.{IsOrigin, LiesOn, greatest_screen, placed}
+use Rattle.tr_exec.specs.Executions.{IsOrigin, RegionLiesOn, greatest_screen, screen_point}
 use Rattle.tr_exec.proofs.PlacedLemmas.{points}
 use Rattle.tr_exec.proofs.SiteLemmas.{on_greatest}
 use Rattle.tr_client.specs.declared.clients.Client.{Ghosts}
@@ -163,7 +163,7 @@ pub record IsMoved (area : Edges) (part here : List Edges) (by : Point) : Type 0
   pub points : (q : Point) → holds here q ≡ holds part (before_shift q by)
 
 -- all of it lies on that screen
-pub moved_on : {area : Edges} {part here : List Edges} {by : Point} (size : Size) → size ≡ size_of area → IsMoved area part here by → LiesOn size here
+pub moved_on : {area : Edges} {part here : List Edges} {by : Point} (size : Size) → size ≡ size_of area → IsMoved area part here by → RegionLiesOn size here
 moved_on {area} {part} {here} {by} size same is q held =
     ap (λ (z : Size). has_point (whole_of z) q) same ∙ placed_on area q is.full (ap (λ (d : Point). has_point area (before_shift q d)) (sym is.way) ∙ there)
   where
@@ -172,7 +172,7 @@ moved_on {area} {part} {here} {by} size same is q held =
 
 -- a point of the window is the same point of the screen, whichever way it is found
 pub placed_back : (area : Edges) (corner p : Point) →
-    before_shift (placed (from_corner area corner) (before_shift p corner)) (from_corner area zero_point) ≡ p
+    before_shift (screen_point (from_corner area corner) (before_shift p corner)) (from_corner area zero_point) ≡ p
 placed_back area corner p = points _ _ _ _ (omega (arith, ints)) (omega (arith, ints))
 
 -- ---- visible points of a leaf of a stage
@@ -186,7 +186,7 @@ module _ {C M : Type 0} (client : Ghosts C M) where
     pub visible : (p : Point) → holds part p ≡ true → is_visible (state client s) leaf p ≡ true
 
   -- they lie on the greatest screen
-  pub seen_on : {s : StageView C M} {t : Seen} {leaf : LeafId} {part : List Edges} → AreSeen s t leaf part → LiesOn greatest_screen part
+  pub seen_on : {s : StageView C M} {t : Seen} {leaf : LeafId} {part : List Edges} → AreSeen s t leaf part → RegionLiesOn greatest_screen part
   seen_on {s} {t} {leaf} {part} are =
       on_greatest s.screen.size part are.stands.picture.size (part_on client (state client s) leaf part s.screen.size are.stands.agrees.size are.visible)
 

@@ -28,7 +28,7 @@ use Rattle.tr_journal.specs.Steps.{IsFor}
 use Rattle.tr_machine.specs.States.{State}
 use Rattle.tr_machine.specs.Machines as machine
 use Rattle.tr_machine.specs.Machines.{Outcome, answered, delivered, unless}
-use Rattle.tr_machine.specs.Replays.{line_of, replay}
+use Rattle.tr_machine.specs.Replays.{line_of_step, replay}
 use Rattle.tr_machine.proofs.SoundLemmas.{IsObedient}
 use Rattle.tr_machine.proofs.StillLemmas.{mail_shows}
 use Rattle.tr_stage.specs.Making.{Makes, line_told, line_with}
@@ -74,7 +74,7 @@ module _ {C M : Type 0} (client : Ghosts C M) where
 
   -- the line that the machine makes of a step, by what becomes of it
   line_is : (m : State C M) (actor : Actor) (held : List Level) (step : Step M) (out : Outcome C M) → machine.step client m step ≡ out →
-      line_of client m actor held step ≡ line_with actor held step out.answer out.sent
+      line_of_step client m actor held step ≡ line_with actor held step out.answer out.sent
   line_is m actor held step out is = ap (λ (o : Outcome C M). line_with actor held step o.answer o.sent) is
 
   -- what becomes of a step: the new parts hold the next state
@@ -214,7 +214,7 @@ module _ {C M : Type 0} (client : Ghosts C M) where
   -- the machine's line of it
   pub device_line : (b : Before C M) (step : Step M) (d : Device) (tree : Seen) (after : Sending) (told : Result Unit DeskFault) →
       IsMaking client b step → IsDevice step d → IsTold b.parts d tree after told →
-      line_of client (state_before client b) b.actor b.held step ≡ line_told b.actor b.held step told after.sent
+      line_of_step client (state_before client b) b.actor b.held step ≡ line_told b.actor b.held step told after.sent
   device_line b step d tree after (Ok done) making is x =
       ap (λ (o : Outcome C M). line_with b.actor b.held step o.answer o.sent)
       (sent_out b step d making is (record { tree = tree; mail = after.mail; sent = after.sent; same = x.same; allowed = x.allowed; makes = x.ok }))
@@ -244,7 +244,7 @@ mouse time button down = record {
 
 -- a move of the cursor
 abbrev pub motion : ℕ → Point → Device
-motion time at = record { fault = λ m. time_fault m.desk time; makes = λ t m. mail.moved t time at m }
+motion time at = record { fault = λ m. time_fault m.desk time; makes = λ t m. mail.cursor_moved t time at m }
 
 -- a key
 abbrev pub key : ℕ → ℕ → Device

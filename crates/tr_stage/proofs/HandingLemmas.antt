@@ -28,7 +28,7 @@ use Rattle.tr_machine.specs.Windows.{Window, Command, content, with_change, batc
 use Rattle.tr_machine.specs.States.{State, changed_at, content_of, look, window_of}
 use Rattle.tr_machine.specs.Paintings.{acted}
 use Rattle.tr_machine.specs.Replays.{lines_by, replay}
-use Rattle.tr_machine.specs.Handing.{act_entries, act_entry, acts}
+use Rattle.tr_machine.specs.Handing.{act_entries, act_entry, act_steps}
 use Rattle.tr_machine.specs.Promises.{IsSound, Leads}
 use Rattle.tr_machine.proofs.JournalLemmas.{legal-append, replay-append}
 use Rattle.tr_machine.proofs.HandingLemmas.{commands_more, handed, handed_more, handed_none, legal_handed, no_commands, replay_handed, with_commands}
@@ -37,7 +37,7 @@ use Rattle.tr_machine.proofs.SoundLemmas.{sound_changed}
 use Rattle.tr_machine.proofs.StillLemmas.{window_shows}
 use Rattle.tr_windows.specs.Presents.{Present, act_on, present, presents, taken_over}
 use Rattle.tr_windows.proofs.PresentLemmas.{present-changed, presents-acted, presents-content}
-use Rattle.tr_stage.specs.Stages.{IsAt, IsOf, IsStage, Parts}
+use Rattle.tr_stage.specs.Stages.{RepresentsState, IsOf, IsStage, Parts}
 use Rattle.tr_stage.proofs.StageLemmas.{holding}
 
 -- ---- entries
@@ -199,23 +199,25 @@ module _ {C M : Type 0} (client : Ghosts C M) where
       {from to : C} {paints : List Paint} {new : List (Present C)} →
       IsStage client opening lines old → IsLeaf (tree_of opening).nodes leaf → IsReady (replay client opening lines) leaf cmds from to paints →
       HaveLevels cmds levels → new ≡ changed_at leaf.0 (taken_over to paints) old.windows →
-      IsStage client opening (lines ++ lines_by client (Leaf leaf) (replay client opening lines) (acts leaf cmds levels)) (record old { windows = new })
+      IsStage client opening (lines ++ lines_by client (Leaf leaf) (replay client opening lines) (act_steps leaf cmds levels)) (record old { windows = new })
   takes_over {opening = opening} {lines = lines} {old = old} {leaf = leaf} cmds levels {from = from} {to = to} {paints = paints} {new = new}
       is leafy r have made = record {
-        kept = subst (λ (m : State C M). IsAt client m (record old { windows = new })) (sym after) at;
+        kept = subst (λ (m : State C M). RepresentsState client m (record old { windows = new })) (sym after) at;
         like = subst (λ (m : State C M). IsOf opening m) (sym after)
             (record { font = is.like.font; nodes = is.like.nodes; leaves = is.like.leaves; inboxes = is.like.inboxes });
-        legal = legal-append client opening lines (lines_by client (Leaf leaf) n (acts leaf cmds levels)) is.legal
+        legal = legal-append client opening lines (lines_by client (Leaf leaf) n (act_steps leaf cmds levels)) is.legal
             (legal_handed client (tree_of opening).nodes n leaf cmds levels leafy have);
       }
     where
       n : State C M
       n = replay client opening lines
 
-      after : replay client opening (lines ++ lines_by client (Leaf leaf) (replay client opening lines) (acts leaf cmds levels)) ≡ handed client leaf cmds n
-      after = replay-append client opening lines (lines_by client (Leaf leaf) n (acts leaf cmds levels)) ∙ replay_handed client n leaf cmds levels have.counts
+      after : replay client opening (lines ++ lines_by client (Leaf leaf) (replay client opening lines) (act_steps leaf cmds levels))
+          ≡ handed client leaf cmds n
+      after = replay-append client opening lines (lines_by client (Leaf leaf) n (act_steps leaf cmds levels))
+          ∙ replay_handed client n leaf cmds levels have.counts
 
-      at : IsAt client (handed client leaf cmds n) (record old { windows = new })
+      at : RepresentsState client (handed client leaf cmds n) (record old { windows = new })
       at = record {
         tree = is.kept.tree;
         bad = is.kept.bad;

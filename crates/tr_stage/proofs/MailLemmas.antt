@@ -8,17 +8,17 @@ use Rattle.tr_base.specs.declared.Event.{Event}
 use Rattle.tr_base.specs.declared.Event.TheVariants as events
 use Rattle.tr_cage.specs.declared.Cage.{Cage}
 use Rattle.tr_cage.specs.declared.Cage.TheVariants.{Everywhere}
-use Rattle.tr_desk.specs.Desks.{click, receiver, after_mouse, owner, owned_by, other_than}
+use Rattle.tr_desk.specs.Desks.{click, receiver, after_mouse, selection_owner, owned_by, other_than}
 use Rattle.tr_tree.specs.Trees.{Seen}
 use Rattle.tr_spot.specs.Spots.{spot}
 use Rattle.tr_spot.specs.Leaves.{in_leaf, leaf_size}
-use Rattle.tr_inbox.specs.Inboxes.{Contents}
+use Rattle.tr_inbox.specs.Inboxes.{InboxView}
 use Rattle.tr_mail.specs.Mails.{Mails, Sending, dated, inbox_of, is_full, put_into, send, send_input, unsent, with_inbox}
-use Rattle.tr_mail.specs.Deliveries.{caged, disowned, edited, is_caged, is_gone, is_reshaped, keyed, moused, moved, owned}
+use Rattle.tr_mail.specs.Deliveries.{caged, disowned, tree_edited, is_caged, is_gone, is_reshaped, keyed, moused, cursor_moved, owned}
 use Rattle.tr_mail.specs.Deliveries.{reshape, reshape_below, send_lost, tell, tell_below, told, with_cage}
 
 -- another inbox for a leaf
-with_inbox-count : (leaf : LeafId) (inbox : Contents) (m : Mails) → length (with_inbox leaf inbox m).inboxes ≡ length m.inboxes
+with_inbox-count : (leaf : LeafId) (inbox : InboxView) (m : Mails) → length (with_inbox leaf inbox m).inboxes ≡ length m.inboxes
 with_inbox-count leaf inbox m = length-set m.inboxes leaf.0 inbox
 
 -- an event that is sent
@@ -74,7 +74,7 @@ told-count : (t : Seen) (s : Sending) → length (told t s).mail.inboxes ≡ len
 told-count t s = tell_below-count (length s.mail.inboxes) t s
 
 -- a move of the cursor
-pub moved-count : (t : Seen) (time : ℕ) (at : Point) (m : Mails) → length (moved t time at m).mail.inboxes ≡ length m.inboxes
+pub moved-count : (t : Seen) (time : ℕ) (at : Point) (m : Mails) → length (cursor_moved t time at m).mail.inboxes ≡ length m.inboxes
 moved-count t time at m = told-count t (unsent (record m { desk = record m.desk { cursor = at; time = time } }))
 
 -- another cage
@@ -97,7 +97,7 @@ reshape_below-count (suc n) was is s =
     reshape-count was is (record { 0 = n }) (reshape_below n was is s) ∙ reshape_below-count n was is s
 
 -- an edit of the tree
-pub edited-count : (was is : Seen) (m : Mails) → length (edited was is m).mail.inboxes ≡ length m.inboxes
+pub edited-count : (was is : Seen) (m : Mails) → length (tree_edited was is m).mail.inboxes ≡ length m.inboxes
 edited-count was is m =
     told-count is (reshape_below (length m.inboxes) was is (unsent m)) ∙ reshape_below-count (length m.inboxes) was is (unsent m)
 
@@ -110,7 +110,7 @@ send_lost-count (Some leaf) selection s = send-count leaf (events.Lost selection
 -- another owner of a selection
 pub owned-count : (leaf : LeafId) (selection : Selection) (m : Mails) → length (owned leaf selection m).mail.inboxes ≡ length m.inboxes
 owned-count leaf selection m =
-    send_lost-count (other_than leaf (owner m.desk selection)) selection
+    send_lost-count (other_than leaf (selection_owner m.desk selection)) selection
     (unsent (record m { desk = owned_by (Some leaf) selection m.desk }))
 
 -- no owner any more

@@ -24,7 +24,7 @@ use Rattle.tr_journal.specs.declared.steps.Step.TheVariants as steps
 use Rattle.tr_journal.specs.Openings.{font_of, tree_of}
 use Rattle.tr_journal.specs.Steps.{IsLeaf}
 use Rattle.tr_machine.specs.Windows.{Window}
-use Rattle.tr_machine.specs.States.{State, batch_in, batch_of, changed_at, look, window_of}
+use Rattle.tr_machine.specs.States.{State, batch_in, leaf_batch, changed_at, look, window_of}
 use Rattle.tr_machine.specs.Paintings.{flushed, framed, is_visible, repainted}
 use Rattle.tr_machine.specs.Machines.{done}
 use Rattle.tr_machine.proofs.ListLemmas.{slice_get-some}
@@ -35,8 +35,8 @@ use Rattle.tr_machine.proofs.RepaintLemmas.{repaint_shows}
 use Rattle.tr_machine.proofs.FrameLemmas.{frame_shows}
 use Rattle.tr_windows.specs.declared.exposures.Exposure.{Exposure}
 use Rattle.tr_windows.specs.Presents as held
-use Rattle.tr_windows.specs.Presents.{Present, batch_at, cleared, present, presents}
-use Rattle.tr_windows.specs.Promises.{FlushesByPainting, IsByPainting, LosesNothingOf, Repaints}
+use Rattle.tr_windows.specs.Presents.{Present, batch_at, without_batch, present, presents}
+use Rattle.tr_windows.specs.Promises.{FlushesByPainting, IsByPainting, LosesNothingOf, RepaintsWindow}
 use Rattle.tr_windows.proofs.PresentLemmas.{present_is, presents-batch, presents-flushed, presents-length, presents-repainted}
 use Rattle.tr_stage.specs.Exposures.{IsExposure, IsFlushing}
 use Rattle.tr_stage.specs.Stages.{IsStage, Parts, StageView}
@@ -69,7 +69,7 @@ module _ {C M : Type 0} (client : Ghosts C M) where
     pub font_is : font ≡ font_of b.opening
     pub batch : List Paint
     pub executed : IsExecuted b.parts.surface new.surface font leaf batch
-    pub windows : new.windows ≡ changed_at leaf.0 cleared b.parts.windows
+    pub windows : new.windows ≡ changed_at leaf.0 without_batch b.parts.windows
     pub mail : new.mail ≡ b.parts.mail
 
   -- a leaf of a stage, the surface of which is one
@@ -98,7 +98,7 @@ module _ {C M : Type 0} (client : Ghosts C M) where
     own_at = ap (λ (ws : List (Present C)). slice_get ws leaf.0) ready.is.kept.windows ∙ present_is client m leaf window.0 window.1
 
     -- what waits for it
-    waits : own.batch ≡ batch_of client m leaf
+    waits : own.batch ≡ leaf_batch client m leaf
     waits = sym (ap (λ (o : Option (Window C M)). batch_in client m leaf o) window.1)
 
     font_is : x.font ≡ m.font
@@ -108,11 +108,11 @@ module _ {C M : Type 0} (client : Ghosts C M) where
     look_is = ap (λ (t : Seen). look_of t.kind x.font) ready.is.kept.tree ∙ ap (λ (f : List (List ℕ)). look_of m.tree.kind f) font_is
 
     -- the windows after it
-    cleared_windows : new.windows ≡ changed_at leaf.0 cleared (presents client m)
-    cleared_windows = x.windows ∙ ap (λ (ws : List (Present C)). changed_at leaf.0 cleared ws) ready.is.kept.windows
+    cleared_windows : new.windows ≡ changed_at leaf.0 without_batch (presents client m)
+    cleared_windows = x.windows ∙ ap (λ (ws : List (Present C)). changed_at leaf.0 without_batch ws) ready.is.kept.windows
 
     -- what waits is executed
-    by_waiting : x.batch ≡ batch_of client m leaf → IsShowing client (flushed client leaf m) new.surface
+    by_waiting : x.batch ≡ leaf_batch client m leaf → IsShowing client (flushed client leaf m) new.surface
     by_waiting batch_is =
         flush_shows client m b.parts.surface new.surface leaf (record {
           was = ready.shown;
@@ -247,7 +247,7 @@ module _ {C M : Type 0} (client : Ghosts C M) where
     pub stands : IsExposure old.surface leaf exposure
     pub painting : Option (List Paint)
     pub repaints : (w : Present C) → slice_get old.windows leaf.0 ≡ Some w →
-        Repaints client (look_of old.surface.tree.kind font) exposure w (unwrap_or painting w.batch)
+        RepaintsWindow client (look_of old.surface.tree.kind font) exposure w (unwrap_or painting w.batch)
     pub some : IfSome painting (λ cs. batch ≡ cs)
     pub none : painting ≡ None → batch ≡ batch_at old.windows leaf
 
@@ -261,8 +261,8 @@ module _ {C M : Type 0} (client : Ghosts C M) where
         inboxes = refl;
         holds = record {
           shows =
-              shows (subst (λ (l : Look). Repaints client l y.exposure (own b leaf ready new x) x.batch) (look_is b leaf ready new x)
-              (subst (λ (batch : List Paint). Repaints client (look_of b.parts.surface.tree.kind x.font) y.exposure (own b leaf ready new x) batch)
+              shows (subst (λ (l : Look). RepaintsWindow client l y.exposure (own b leaf ready new x) x.batch) (look_is b leaf ready new x)
+              (subst (λ (batch : List Paint). RepaintsWindow client (look_of b.parts.surface.tree.kind x.font) y.exposure (own b leaf ready new x) batch)
               (chosen y.painting y.some y.none) (y.repaints (own b leaf ready new x) (own_at b leaf ready new x))));
           windows = cleared_windows b leaf ready new x ∙ sym (presents-repainted client m leaf);
           mail = x.mail ∙ making.is.kept.mail;
@@ -283,10 +283,10 @@ module _ {C M : Type 0} (client : Ghosts C M) where
       -- what is executed
       chosen : (o : Option (List Paint)) → IfSome o (λ cs. x.batch ≡ cs) → (o ≡ None → x.batch ≡ batch_at b.parts.windows leaf) →
           unwrap_or o (own b leaf ready new x).batch ≡ x.batch
-      chosen None some none = sym (none refl ∙ ap (λ (w : Option (Present C)). held.batch_in w) (own_at b leaf ready new x))
+      chosen None some none = sym (none refl ∙ ap (λ (w : Option (Present C)). held.waiting_batch w) (own_at b leaf ready new x))
       chosen (Some cs) some none = sym some
 
-      shows : Repaints client (look m) y.exposure (own b leaf ready new x) x.batch → IsShowing client (repainted client leaf m) new.surface
+      shows : RepaintsWindow client (look m) y.exposure (own b leaf ready new x) x.batch → IsShowing client (repainted client leaf m) new.surface
       shows (inl painting) = by_painting b leaf ready new x y.exposure y.stands painting
       shows (inr w) =
           let keeps = subst (λ (cs : List Paint). LosesNothingOf y.exposure (look m) cs) w.waits w.keeps in

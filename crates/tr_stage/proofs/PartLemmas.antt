@@ -15,14 +15,14 @@ use Rattle.tr_journal.specs.declared.steps.Step.{Step}
 use Rattle.tr_journal.specs.Journals.{JournalLine}
 use Rattle.tr_journal.specs.Openings.{tree_of}
 use Rattle.tr_journal.specs.Steps.{IsFor}
-use Rattle.tr_machine.specs.States.{State, batch_of, content_of}
+use Rattle.tr_machine.specs.States.{State, leaf_batch, content_of}
 use Rattle.tr_machine.specs.Promises.{Fits, Lags}
 use Rattle.tr_machine.specs.Replays.{replay}
 use Rattle.tr_machine.proofs.LagLemmas.{lags}
 use Rattle.tr_machine.proofs.SoundLemmas.{fits}
 use Rattle.tr_windows.specs.Presents.{Present, batch_at, content_at}
 use Rattle.tr_windows.proofs.PresentLemmas.{presents-batch, presents-content, presents-length}
-use Rattle.tr_stage.specs.Stages.{IsAt, IsStage, KeepsOthers, Parts, StageView, state}
+use Rattle.tr_stage.specs.Stages.{RepresentsState, IsStage, KeepsOthers, Parts, StageView, state}
 
 -- a step that is for its actor to make, by what the stage shows of its opening
 pub seen_for : {C M : Type 0} {v w : StageView C M} {actor : Actor} {held : List Level} {step : Step M} → v ≡ w →
@@ -34,23 +34,25 @@ module _ {C M : Type 0} (client : Ghosts C M) where
   -- ---- one state
 
   -- the nodes of a state are a forest, if those of the surface are
-  pub forest_at : {m : State C M} {parts : Parts C} → IsAt client m parts → IsForest parts.surface.tree.nodes → IsForest m.tree.nodes
+  pub forest_at : {m : State C M} {parts : Parts C} → RepresentsState client m parts → IsForest parts.surface.tree.nodes → IsForest m.tree.nodes
   forest_at is forest = subst (λ (t : Seen). IsForest t.nodes) is.tree forest
 
   -- the content of a leaf
-  pub content_at_leaf : {m : State C M} {parts : Parts C} (leaf : LeafId) → IsAt client m parts → content_at parts.windows leaf ≡ content_of client m leaf
+  pub content_at_leaf : {m : State C M} {parts : Parts C} (leaf : LeafId) → RepresentsState client m parts →
+      content_at parts.windows leaf ≡ content_of client m leaf
   content_at_leaf {m = m} leaf is = ap (λ (ws : List (Present C)). content_at ws leaf) is.windows ∙ presents-content client m leaf
 
   -- what waits for a leaf
-  pub batch_at_leaf : {m : State C M} {parts : Parts C} (leaf : LeafId) → IsAt client m parts → batch_at parts.windows leaf ≡ batch_of client m leaf
+  pub batch_at_leaf : {m : State C M} {parts : Parts C} (leaf : LeafId) → RepresentsState client m parts →
+      batch_at parts.windows leaf ≡ leaf_batch client m leaf
   batch_at_leaf {m = m} leaf is = ap (λ (ws : List (Present C)). batch_at ws leaf) is.windows ∙ presents-batch client m leaf
 
   -- the state fits
-  pub fits_at : {m : State C M} {parts : Parts C} → IsAt client m parts → IsForest parts.surface.tree.nodes → Fits client m
+  pub fits_at : {m : State C M} {parts : Parts C} → RepresentsState client m parts → IsForest parts.surface.tree.nodes → Fits client m
   fits_at {m = m} is forest = fits client m (forest_at is forest) is.sound
 
   -- the screen lags behind only in the bad region, and where a waiting command paints
-  pub lags_at : {m : State C M} {parts : Parts C} → IsAt client m parts → IsForest parts.surface.tree.nodes → Lags client m parts.surface.screen
+  pub lags_at : {m : State C M} {parts : Parts C} → RepresentsState client m parts → IsForest parts.surface.tree.nodes → Lags client m parts.surface.screen
   lags_at {m = m} {parts = parts} is forest = lags client m parts.surface.screen (forest_at is forest) (fits_at is forest) is.agrees
 
   -- ---- a stage

@@ -29,10 +29,10 @@ use Rattle.tr_journal.specs.declared.steps.Step.TheVariants.{Repaint, PaintFrame
 use Rattle.tr_journal.specs.Journals.{JournalLine}
 use Rattle.tr_journal.specs.Openings.{tree_of}
 use Rattle.tr_journal.specs.Steps.{IsFor}
-use Rattle.tr_machine.specs.States.{State, batch_of}
+use Rattle.tr_machine.specs.States.{State, leaf_batch}
 use Rattle.tr_machine.specs.Paintings.{is_visible}
 use Rattle.tr_machine.specs.Pictures.{render}
-use Rattle.tr_machine.specs.Replays.{line_of, next, replay, after_steps, lines_of}
+use Rattle.tr_machine.specs.Replays.{line_of_step, next, replay, after_steps, lines_of_steps}
 use Rattle.tr_machine.specs.Settling.{is_frame_bad, is_unsettled, repaints_below, settling, settling_lines}
 use Rattle.tr_machine.proofs.JournalLemmas.{all_at, lines_of-take, replay-append, replay_from-lines_of}
 use Rattle.tr_machine.proofs.PointLemmas.{none_on, some_on}
@@ -42,7 +42,7 @@ use Rattle.tr_machine.proofs.SoundLemmas.{fits}
 use Rattle.tr_windows.specs.Presents.{batch_at}
 use Rattle.tr_windows.proofs.PresentLemmas.{presents-batch, presents-length}
 use Rattle.tr_stage.specs.Standings.{Stands}
-use Rattle.tr_stage.specs.Stages.{IsAt, IsPainters, IsStage, Parts, StageView, line, state}
+use Rattle.tr_stage.specs.Stages.{RepresentsState, IsPainters, IsStage, Parts, StageView, line, state}
 
 -- ---- points of the screen
 
@@ -104,7 +104,7 @@ module _ {C M : Type 0} (client : Ghosts C M) where
   numbered n = record { 0 = n }
 
   -- what a surface tells of the bad points among some is told of the machine's
-  bad_is : (m : State C M) (parts : Parts C) (seen : Seen → Point → Bool) (b : Bool) → IsAt client m parts →
+  bad_is : (m : State C M) (parts : Parts C) (seen : Seen → Point → Bool) (b : Bool) → RepresentsState client m parts →
       (IsTrue b → (p : Point) × ((seen parts.surface.tree p ≡ true) × (is_bad parts.surface p ≡ true))) →
       (IsTrue (not b) → (p : Point) → seen parts.surface.tree p ≡ true → is_bad parts.surface p ≡ false) →
       b ≡ any_on m.tree.size (λ p. m.bad p && seen m.tree p)
@@ -115,14 +115,14 @@ module _ {C M : Type 0} (client : Ghosts C M) where
       ∙ ap (λ (t : Seen). any_on m.tree.size (λ p. m.bad p && seen t p)) at.tree
 
   -- whether a visible point of the leaf is bad
-  pub bad_visible : (m : State C M) (parts : Parts C) (leaf : LeafId) (b : Bool) → IsAt client m parts →
+  pub bad_visible : (m : State C M) (parts : Parts C) (leaf : LeafId) (b : Bool) → RepresentsState client m parts →
       (IsTrue b → (p : Point) × ((is_in_leaf leaf (spot parts.surface.tree p) ≡ true) × (is_bad parts.surface p ≡ true))) →
       (IsTrue (not b) → (p : Point) → is_in_leaf leaf (spot parts.surface.tree p) ≡ true → is_bad parts.surface p ≡ false) →
       b ≡ any_on m.tree.size (λ p. m.bad p && is_visible m leaf p)
   bad_visible m parts leaf b at some none = bad_is m parts (λ t p. is_in_leaf leaf (spot t p)) b at some none
 
   -- whether a point of a frame is bad
-  pub frame_bad : (m : State C M) (parts : Parts C) (b : Bool) → IsAt client m parts →
+  pub frame_bad : (m : State C M) (parts : Parts C) (b : Bool) → RepresentsState client m parts →
       (IsTrue b → (p : Point) × ((is_frame (spot parts.surface.tree p) ≡ true) × (is_bad parts.surface p ≡ true))) →
       (IsTrue (not b) → (p : Point) → is_frame (spot parts.surface.tree p) ≡ true → is_bad parts.surface p ≡ false) →
       b ≡ is_frame_bad m
@@ -134,11 +134,11 @@ module _ {C M : Type 0} (client : Ghosts C M) where
     pub is : (let v : StageView C M = record { opening = opening; journal = lines; screen = parts.surface.screen; spare = spare } in v ≡ s)
 
   -- the windows' batch of a leaf is the machine's
-  pub batch_is : (m : State C M) (parts : Parts C) (leaf : LeafId) → IsAt client m parts → batch_at parts.windows leaf ≡ batch_of client m leaf
+  pub batch_is : (m : State C M) (parts : Parts C) (leaf : LeafId) → RepresentsState client m parts → batch_at parts.windows leaf ≡ leaf_batch client m leaf
   batch_is m parts leaf at = ap (λ ws. batch_at ws leaf) at.windows ∙ presents-batch client m leaf
 
   -- there are as many windows as the machine has
-  pub windows_many : (m : State C M) (parts : Parts C) → IsAt client m parts → length parts.windows ≡ length m.windows
+  pub windows_many : (m : State C M) (parts : Parts C) → RepresentsState client m parts → length parts.windows ≡ length m.windows
   windows_many m parts at = ap (λ ws. length ws) at.windows ∙ presents-length client m
 
   -- as many as the opening's tree has leaves
@@ -154,9 +154,9 @@ module _ {C M : Type 0} (client : Ghosts C M) where
       windows_all opening lines parts is ∙ ap (λ (v : StageView C M). leaf_count (tree_of v.opening).nodes) view.is
 
   -- a leaf for which something waits must be repainted
-  pub unsettled_waits : (m : State C M) (parts : Parts C) (leaf : LeafId) → IsAt client m parts → (batch_at parts.windows leaf ≡ [] → ⊥) →
+  pub unsettled_waits : (m : State C M) (parts : Parts C) (leaf : LeafId) → RepresentsState client m parts → (batch_at parts.windows leaf ≡ [] → ⊥) →
       true ≡ is_unsettled client m leaf
-  unsettled_waits m parts leaf at some = by_batch (batch_of client m leaf) (batch_is m parts leaf at)
+  unsettled_waits m parts leaf at some = by_batch (leaf_batch client m leaf) (batch_is m parts leaf at)
     where
       rest : Bool
       rest = any_on m.tree.size (λ p. m.bad p && is_visible m leaf p)
@@ -166,7 +166,7 @@ module _ {C M : Type 0} (client : Ghosts C M) where
       by_batch (p ∷ ps) e = sym (ap (λ b. not b || rest) (other_test (length (p ∷ ps)) 0 (λ h. absurd (omega arith))))
 
   -- another one must be if a visible point of it is bad
-  pub unsettled_quiet : (m : State C M) (parts : Parts C) (leaf : LeafId) (b : Bool) → IsAt client m parts → batch_at parts.windows leaf ≡ [] →
+  pub unsettled_quiet : (m : State C M) (parts : Parts C) (leaf : LeafId) (b : Bool) → RepresentsState client m parts → batch_at parts.windows leaf ≡ [] →
       b ≡ any_on m.tree.size (λ p. m.bad p && is_visible m leaf p) → b ≡ is_unsettled client m leaf
   unsettled_quiet m parts leaf b at none is =
       is ∙ ap (λ (ps : List Paint). not (length ps == 0) || any_on m.tree.size (λ p. m.bad p && is_visible m leaf p))
@@ -234,23 +234,24 @@ module _ {C M : Type 0} (client : Ghosts C M) where
 
   -- the state after the lines of some steps
   pub state_after : (opening : List (Item C)) (lines : List (JournalLine M)) (actor : Actor) (held : List Level) (steps : List (Step M)) →
-      replay client opening (lines ++ lines_of client actor held (replay client opening lines) steps) ≡ after_steps client (replay client opening lines) steps
+      replay client opening (lines ++ lines_of_steps client actor held (replay client opening lines) steps)
+      ≡ after_steps client (replay client opening lines) steps
   state_after opening lines actor held steps =
-      replay-append client opening lines (lines_of client actor held (replay client opening lines) steps)
+      replay-append client opening lines (lines_of_steps client actor held (replay client opening lines) steps)
       ∙ replay_from-lines_of client actor held (replay client opening lines) steps
 
   -- the lines of one step more
   pub line_more : (opening : List (Item C)) (lines now : List (JournalLine M)) (actor : Actor) (held : List Level) (steps : List (Step M))
       (k : ℕ) (d : Step M) →
-      k < length steps → now ≡ lines ++ lines_of client actor held (replay client opening lines) (take k steps) →
-      now ++ line_of client (replay client opening now) actor held (get_or steps k d) ∷ []
-      ≡ lines ++ lines_of client actor held (replay client opening lines) (take (k + 1) steps)
+      k < length steps → now ≡ lines ++ lines_of_steps client actor held (replay client opening lines) (take k steps) →
+      now ++ line_of_step client (replay client opening now) actor held (get_or steps k d) ∷ []
+      ≡ lines ++ lines_of_steps client actor held (replay client opening lines) (take (k + 1) steps)
   line_more opening lines now actor held steps k d lt is =
-      ap (λ (ls : List (JournalLine M)). ls ++ line_of client (replay client opening ls) actor held (get_or steps k d) ∷ []) is
-      ∙ ap (λ (s : State C M). (lines ++ lines_of client actor held m (take k steps)) ++ line_of client s actor held (get_or steps k d) ∷ [])
+      ap (λ (ls : List (JournalLine M)). ls ++ line_of_step client (replay client opening ls) actor held (get_or steps k d) ∷ []) is
+      ∙ ap (λ (s : State C M). (lines ++ lines_of_steps client actor held m (take k steps)) ++ line_of_step client s actor held (get_or steps k d) ∷ [])
       (state_after opening lines actor held (take k steps))
-      ∙ append_assoc lines (lines_of client actor held m (take k steps))
-      (line_of client (after_steps client m (take k steps)) actor held (get_or steps k d) ∷ [])
+      ∙ append_assoc lines (lines_of_steps client actor held m (take k steps))
+      (line_of_step client (after_steps client m (take k steps)) actor held (get_or steps k d) ∷ [])
       ∙ ap (λ (ls : List (JournalLine M)). lines ++ ls) (sym (lines_of-take client actor held m steps k d lt))
     where
       m : State C M
@@ -258,25 +259,25 @@ module _ {C M : Type 0} (client : Ghosts C M) where
 
   -- the first of the lines are those of the first steps
   pub lines_first : (actor : Actor) (held : List Level) (m : State C M) (steps : List (Step M)) (k : ℕ) →
-      lines_of client actor held m (take k steps) ≡ take k (lines_of client actor held m steps)
+      lines_of_steps client actor held m (take k steps) ≡ take k (lines_of_steps client actor held m steps)
   lines_first actor held m steps zero = refl
   lines_first actor held m [] (suc k) = refl
   lines_first actor held m (step ∷ steps) (suc k) =
-      ap (λ (ls : List (JournalLine M)). line_of client m actor held step ∷ ls) (lines_first actor held (next client m step) steps k)
+      ap (λ (ls : List (JournalLine M)). line_of_step client m actor held step ∷ ls) (lines_first actor held (next client m step) steps k)
 
   -- a stage whose journal has the lines of the first k steps of the painter
   pub record HasPainted (old now : StageView C M) (steps : List (Step M)) (k : ℕ) : Type 0 where
     pub opening : now.opening ≡ old.opening
-    pub journal : now.journal ≡ old.journal ++ lines_of client Painter (Mu ∷ []) (state client old) (take k steps)
+    pub journal : now.journal ≡ old.journal ++ lines_of_steps client Painter (Mu ∷ []) (state client old) (take k steps)
 
   -- the journal after one step more
   pub painted_more : (old now : StageView C M) (held : List Level) (steps : List (Step M)) (k : ℕ) (step : Step M) →
       HasPainted old now steps k → held ≡ Mu ∷ [] → (k < length steps) × (step ≡ get_or steps k step) →
-      now.journal ++ line client now Painter held step ∷ [] ≡ old.journal ++ lines_of client Painter (Mu ∷ []) (state client old) (take (k + 1) steps)
+      now.journal ++ line client now Painter held step ∷ [] ≡ old.journal ++ lines_of_steps client Painter (Mu ∷ []) (state client old) (take (k + 1) steps)
   painted_more old now held steps k step has held_is at =
       ap (λ (h : List Level). now.journal ++ line client now Painter h step ∷ []) held_is
-      ∙ ap (λ (items : List (Item C)). now.journal ++ line_of client (replay client items now.journal) Painter (Mu ∷ []) step ∷ []) has.opening
-      ∙ ap (λ (x : Step M). now.journal ++ line_of client (replay client old.opening now.journal) Painter (Mu ∷ []) x ∷ []) at.1
+      ∙ ap (λ (items : List (Item C)). now.journal ++ line_of_step client (replay client items now.journal) Painter (Mu ∷ []) step ∷ []) has.opening
+      ∙ ap (λ (x : Step M). now.journal ++ line_of_step client (replay client old.opening now.journal) Painter (Mu ∷ []) x ∷ []) at.1
       ∙ line_more old.opening old.journal now.journal Painter (Mu ∷ []) steps k step at.0 has.journal
 
   -- ---- the settled stage

@@ -16,10 +16,10 @@ use Rattle.tr_journal.specs.declared.steps.Step.{Step}
 use Rattle.tr_journal.specs.Journals.{JournalLine}
 use Rattle.tr_journal.specs.Openings.{tree_of}
 use Rattle.tr_journal.specs.Steps.{IsFor}
-use Rattle.tr_machine.specs.States.{State, batch_of}
+use Rattle.tr_machine.specs.States.{State, leaf_batch}
 use Rattle.tr_machine.specs.Paintings.{is_visible}
 use Rattle.tr_machine.specs.Pictures.{render}
-use Rattle.tr_machine.specs.Replays.{after_steps, lines_of, replay}
+use Rattle.tr_machine.specs.Replays.{after_steps, lines_of_steps, replay}
 use Rattle.tr_machine.specs.Settling.{frame_steps}
 use Rattle.tr_machine.specs.Sharing.{IsPaintedOf, all_bad_leaves, bad_leaves, flushes_below, flushing, has_bad, repainted_each, share_lines}
 use Rattle.tr_machine.proofs.JournalLemmas.{all_at}
@@ -126,9 +126,9 @@ module _ {C M : Type 0} (client : Ghosts C M) where
       (painted_each client (state client old) (take k leaves) x.leaf x.part x.pixels.items here.others here.painted)
 
   pub put_idle : (old now : StageView C M) (leaves : List LeafId) (k : ℕ) (leaf : LeafId) → HasPut old now leaves k →
-      ((l : LeafId) → batch_of client (state client old) l ≡ []) → batch_of client (state client now) leaf ≡ []
+      ((l : LeafId) → leaf_batch client (state client old) l ≡ []) → leaf_batch client (state client now) leaf ≡ []
   put_idle old now leaves k leaf has none =
-      ap (λ (s : State C M). batch_of client s leaf) (put_state old now leaves k has) ∙ each_batch client (state client old) (take k leaves) none leaf
+      ap (λ (s : State C M). leaf_batch client s leaf) (put_state old now leaves k has) ∙ each_batch client (state client old) (take k leaves) none leaf
 
   -- the bad leaves are leaves
   get_below : (n k : ℕ) (d : LeafId) (leaves : List LeafId) → AreBelow n leaves → k < length leaves → (get_or leaves k d).0 < n
@@ -150,13 +150,13 @@ module _ {C M : Type 0} (client : Ghosts C M) where
     pub opening1 : s1.opening ≡ s0.opening
     pub opening2 : s2.opening ≡ s1.opening
     pub opening3 : s3.opening ≡ s2.opening
-    pub journal1 : s1.journal ≡ s0.journal ++ lines_of client Painter (Mu ∷ []) (state client s0) (flushing client (state client s0))
+    pub journal1 : s1.journal ≡ s0.journal ++ lines_of_steps client Painter (Mu ∷ []) (state client s0) (flushing client (state client s0))
     pub journal2 : s2.journal ≡ s1.journal ++ share_lines client (state client s1) (all_bad_leaves (state client s1))
-    pub journal3 : s3.journal ≡ s2.journal ++ lines_of client Painter (Mu ∷ []) (state client s2) (frame_steps (state client s2))
+    pub journal3 : s3.journal ≡ s2.journal ++ lines_of_steps client Painter (Mu ∷ []) (state client s2) (frame_steps (state client s2))
 
   -- the state of a stage after the lines of some steps
   after_lines : (s n : StageView C M) (steps : List (Step M)) → n.opening ≡ s.opening →
-      n.journal ≡ s.journal ++ lines_of client Painter (Mu ∷ []) (state client s) steps → state client n ≡ after_steps client (state client s) steps
+      n.journal ≡ s.journal ++ lines_of_steps client Painter (Mu ∷ []) (state client s) steps → state client n ≡ after_steps client (state client s) steps
   after_lines s n steps opening journal =
       ap (λ (items : List (Item C)). replay client items n.journal) opening
       ∙ ap (λ (lines : List (JournalLine M)). replay client s.opening lines) journal
@@ -171,10 +171,10 @@ module _ {C M : Type 0} (client : Ghosts C M) where
 
   -- nothing waits after the flushes
   pub flushed_idle : (s0 s1 : StageView C M) → s1.opening ≡ s0.opening →
-      s1.journal ≡ s0.journal ++ lines_of client Painter (Mu ∷ []) (state client s0) (flushing client (state client s0)) → (leaf : LeafId) →
-      batch_of client (state client s1) leaf ≡ []
+      s1.journal ≡ s0.journal ++ lines_of_steps client Painter (Mu ∷ []) (state client s0) (flushing client (state client s0)) → (leaf : LeafId) →
+      leaf_batch client (state client s1) leaf ≡ []
   flushed_idle s0 s1 opening journal leaf =
-      ap (λ (s : State C M). batch_of client s leaf) (after_lines s0 s1 (flushing client (state client s0)) opening journal)
+      ap (λ (s : State C M). leaf_batch client s leaf) (after_lines s0 s1 (flushing client (state client s0)) opening journal)
       ∙ flushed_all client (state client s0) leaf
 
   module _ (s0 s1 s2 s3 : StageView C M) (a : AreShared s0 s1 s2 s3) where
@@ -188,10 +188,10 @@ module _ {C M : Type 0} (client : Ghosts C M) where
     three = after_lines s2 s3 (frame_steps (state client s2)) a.opening3 a.journal3
 
     -- nothing waits
-    pub shared_idle : (leaf : LeafId) → batch_of client (state client s3) leaf ≡ []
+    pub shared_idle : (leaf : LeafId) → leaf_batch client (state client s3) leaf ≡ []
     shared_idle leaf =
-        ap (λ (s : State C M). batch_of client s leaf) three ∙ framing_batch client (state client s2) leaf
-        ∙ ap (λ (s : State C M). batch_of client s leaf) two
+        ap (λ (s : State C M). leaf_batch client s leaf) three ∙ framing_batch client (state client s2) leaf
+        ∙ ap (λ (s : State C M). leaf_batch client s leaf) two
         ∙ each_batch client (state client s1) (all_bad_leaves (state client s1)) (flushed_idle s0 s1 a.opening1 a.journal1) leaf
 
     -- no point is bad

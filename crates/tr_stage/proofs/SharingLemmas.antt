@@ -13,7 +13,7 @@ use Rattle.tr_screen.specs.Runs.{Repaints}
 use Rattle.tr_paint.specs.declared.Paint.{Paint}
 use Rattle.tr_paint.specs.Batches.{touches}
 use Rattle.tr_paint.specs.Traces.{Look, after}
-use Rattle.tr_exec.specs.Executions.{base_of, colour_after, placed}
+use Rattle.tr_exec.specs.Executions.{base_of, colour_after, screen_point}
 use Rattle.tr_exec.proofs.PlacedLemmas.{before-placed}
 use Rattle.tr_client.specs.declared.clients.Client.{Ghosts}
 use Rattle.tr_forest.specs.Forests.{IsForest}
@@ -25,9 +25,9 @@ use Rattle.tr_region.specs.Places.{place_in}
 use Rattle.tr_journal.specs.declared.answers.Answer.TheVariants as answers
 use Rattle.tr_journal.specs.declared.steps.Step.TheVariants as steps
 use Rattle.tr_machine.specs.Windows.{Window, updated}
-use Rattle.tr_machine.specs.States.{State, base, batch_of, changed_at, content_of, look}
+use Rattle.tr_machine.specs.States.{State, base, leaf_batch, changed_at, content_of, look}
 use Rattle.tr_machine.specs.Paintings.{is_visible, repainted}
-use Rattle.tr_machine.specs.Pictures.{colour_in, shown, shown_of, want}
+use Rattle.tr_machine.specs.Pictures.{content_colour, shown, shown_of, want}
 use Rattle.tr_machine.specs.Promises.{Fits}
 use Rattle.tr_machine.specs.Machines.{done}
 use Rattle.tr_machine.proofs.BaseLemmas.{leaf_on}
@@ -35,7 +35,7 @@ use Rattle.tr_machine.proofs.FlushLemmas.{apart, brought, forest_of, now_shown}
 use Rattle.tr_machine.proofs.ListLemmas.{window_there}
 use Rattle.tr_machine.proofs.ShownLemmas.{IsShowing, colour_in_leaf, colour_same, untouched_colour}
 use Rattle.tr_machine.proofs.SoundLemmas.{fits}
-use Rattle.tr_windows.specs.Presents.{Present, cleared}
+use Rattle.tr_windows.specs.Presents.{Present, without_batch}
 use Rattle.tr_windows.proofs.PresentLemmas.{presents-repainted}
 use Rattle.tr_stage.specs.Stages.{Parts}
 use Rattle.tr_machine.specs.Sharing.{IsPaintedOf}
@@ -67,10 +67,10 @@ module _ {C M : Type 0} (client : Ghosts C M) where
   pub painted_window : {m : State C M} {leaf : LeafId} {how : Look} {extent : Size} {content : C} {batch : List Paint} (origin : Point)
       (part bad : List Edges) (old new : Picture) → IsForest m.tree.nodes → IsPlan client m leaf how extent content batch →
       ((q : Point) (x : ℕ) → holds part q ≡ true → colour_after how (base_of origin part bad old) batch origin q ≡ Some x → pixel_of new q ≡ x) →
-      (p : Point) → is_visible m leaf p ≡ true → holds part (placed origin (in_leaf m.tree leaf p)) ≡ true →
-      pixel_of new (placed origin (in_leaf m.tree leaf p)) ≡ want client m p
+      (p : Point) → is_visible m leaf p ≡ true → holds part (screen_point origin (in_leaf m.tree leaf p)) ≡ true →
+      pixel_of new (screen_point origin (in_leaf m.tree leaf p)) ≡ want client m p
   painted_window {m} {leaf} {how} {extent} {content} {batch} origin part bad old new forest plan known p seen held =
-      known (placed origin q) (want client m p) held
+      known (screen_point origin q) (want client m p) held
       (ap (λ (r : Point). after how (base_of origin part bad old) batch r) (before-placed origin q)
       ∙ plan_paints client (base_of origin part bad old) p forest plan seen held)
     where
@@ -93,7 +93,7 @@ module _ {C M : Type 0} (client : Ghosts C M) where
     pub seen : (p : Point) → put p ≡ true → is_visible m leaf p ≡ true
     pub wanted : (p : Point) → put p ≡ true → colour p ≡ want client m p
     pub good : (p : Point) → is_visible m leaf p ≡ true → put p ≡ false → m.bad p ≡ false
-    pub still : (p : Point) → is_visible m leaf p ≡ true → put p ≡ false → touches (batch_of client m leaf) (in_leaf m.tree leaf p) ≡ false
+    pub still : (p : Point) → is_visible m leaf p ≡ true → put p ≡ false → touches (leaf_batch client m leaf) (in_leaf m.tree leaf p) ≡ false
     pub left : (p : Point) → is_bad n p ≡ bad p
     pub outside : (p : Point) → is_visible m leaf p ≡ false → bad p ≡ m.bad p
 
@@ -124,7 +124,7 @@ module _ {C M : Type 0} (client : Ghosts C M) where
     want_is p seen =
         colour_in_leaf client (content_of client m) m leaf p forest seen
         ∙ sym (colour_in_leaf client (shown_of next_state) next_state leaf p forest seen
-        ∙ ap (λ (o : Option C). colour_in client m (leaf_size m.tree leaf) (in_leaf m.tree leaf p) o) (now_shown client m leaf bad))
+        ∙ ap (λ (o : Option C). content_colour client m (leaf_size m.tree leaf) (in_leaf m.tree leaf p) o) (now_shown client m leaf bad))
 
     -- a visible point of the leaf has its colour
     seen_good : (p : Point) → is_on m.tree p ≡ true → is_visible m leaf p ≡ true → pixel_of n.screen p ≡ shown client next_state p
@@ -182,12 +182,12 @@ module _ {C M : Type 0} (client : Ghosts C M) where
 
   pub bad_seen : (m : State C M) (leaf : LeafId) (p : Point) → is_visible m leaf p ≡ true → (repainted client leaf m).bad p ≡ false
   bad_seen m leaf p seen =
-      let found : Bool = is_none (after (look m) (base client m leaf) (batch_of client m leaf) (in_leaf m.tree leaf p)) in
+      let found : Bool = is_none (after (look m) (base client m leaf) (leaf_batch client m leaf) (in_leaf m.tree leaf p)) in
       ap (λ b. cond b found (m.bad p) && not b) seen ∙ and_false found
 
   bad_hidden : (m : State C M) (leaf : LeafId) (p : Point) → is_visible m leaf p ≡ false → (repainted client leaf m).bad p ≡ m.bad p
   bad_hidden m leaf p hidden =
-      let found : Bool = is_none (after (look m) (base client m leaf) (batch_of client m leaf) (in_leaf m.tree leaf p)) in
+      let found : Bool = is_none (after (look m) (base client m leaf) (leaf_batch client m leaf) (in_leaf m.tree leaf p)) in
       ap (λ b. cond b found (m.bad p) && not b) hidden ∙ and_true (m.bad p)
 
   -- they are what is left of the bad points, once those of the leaf are put
@@ -204,13 +204,13 @@ module _ {C M : Type 0} (client : Ghosts C M) where
   pub record IsPutOn (b : Before C M) (leaf : LeafId) (new : Parts C) : Type 0 where
     pub shown : IsShown new.surface
     pub tree : new.surface.tree ≡ b.parts.surface.tree
-    pub idle : batch_of client (state_before client b) leaf ≡ []
+    pub idle : leaf_batch client (state_before client b) leaf ≡ []
     pub part : List Edges
     pub pixels : List ℕ
     pub painted : IsPaintedOf client (state_before client b) leaf part pixels
     pub puts : Repaints (holds part) (λ p. slice_index pixels (place_in part p)) b.parts.surface.screen new.surface.screen
     pub left : (p : Point) → is_bad new.surface p ≡ (is_bad b.parts.surface p && not (holds part p))
-    pub windows : new.windows ≡ changed_at leaf.0 cleared b.parts.windows
+    pub windows : new.windows ≡ changed_at leaf.0 without_batch b.parts.windows
     pub mail : new.mail ≡ b.parts.mail
 
   -- it is a repaint
@@ -242,7 +242,7 @@ module _ {C M : Type 0} (client : Ghosts C M) where
             outside = bad_hidden m leaf;
           });
           windows =
-              x.windows ∙ ap (λ (ws : List (Present C)). changed_at leaf.0 cleared ws) making.is.kept.windows
+              x.windows ∙ ap (λ (ws : List (Present C)). changed_at leaf.0 without_batch ws) making.is.kept.windows
               ∙ sym (presents-repainted client m leaf);
           mail = x.mail ∙ making.is.kept.mail;
         };

@@ -25,9 +25,9 @@ use Rattle.tr_journal.specs.declared.steps.Step.TheVariants as steps
 use Rattle.tr_journal.specs.Journals.{JournalLine}
 use Rattle.tr_journal.specs.Openings.{tree_of}
 use Rattle.tr_machine.specs.Windows.{Window}
-use Rattle.tr_machine.specs.States.{State, base, batch_of, changed_at, content_of, look, window_of}
+use Rattle.tr_machine.specs.States.{State, base, leaf_batch, changed_at, content_of, look, window_of}
 use Rattle.tr_machine.specs.Paintings.{flushed, is_visible}
-use Rattle.tr_machine.specs.Pictures.{colour_in, want}
+use Rattle.tr_machine.specs.Pictures.{content_colour, want}
 use Rattle.tr_machine.specs.Machines.{done}
 use Rattle.tr_machine.specs.Replays.{replay}
 use Rattle.tr_machine.proofs.BaseLemmas.{leaf_within}
@@ -36,7 +36,7 @@ use Rattle.tr_machine.proofs.ListLemmas.{slice_get-some}
 use Rattle.tr_machine.proofs.ShownLemmas.{IsShowing, bad_tree, colour_in_leaf, on_tree}
 use Rattle.tr_machine.proofs.SoundLemmas.{fits}
 use Rattle.tr_windows.specs.declared.exposures.Exposure.{Exposure}
-use Rattle.tr_windows.specs.Presents.{Present, batch_at, cleared}
+use Rattle.tr_windows.specs.Presents.{Present, batch_at, without_batch}
 use Rattle.tr_windows.specs.Promises.{IsCovered}
 use Rattle.tr_windows.proofs.PresentLemmas.{presents-flushed}
 use Rattle.tr_stage.specs.Exposures.{IsExposure}
@@ -82,7 +82,7 @@ module _ {C M : Type 0} (client : Ghosts C M) where
     window = slice_get-some m.windows leaf.0 (subst (λ (n : ℕ). leaf.0 < n) (sym (x.is.kept.sound.windows ∙ x.is.like.leaves)) x.within)
 
     -- what waits for it
-    covered : IsCovered (look m) x.exposure clip (batch_of client m leaf)
+    covered : IsCovered (look m) x.exposure clip (leaf_batch client m leaf)
     covered = subst (λ (cs : List Paint). IsCovered (look m) x.exposure clip cs) (batch_at_leaf client leaf x.is.kept) (x.covers (look m))
 
     -- no visible point is bad
@@ -136,7 +136,7 @@ module _ {C M : Type 0} (client : Ghosts C M) where
     pub puts : Repaints (is_sketched b.parts.surface.tree leaf sketch.clip) (sketched b.parts.surface.tree leaf sketch)
         b.parts.surface.screen new.surface.screen
     pub bad : (p : Point) → is_bad new.surface p ≡ is_bad b.parts.surface p
-    pub windows : new.windows ≡ changed_at leaf.0 cleared b.parts.windows
+    pub windows : new.windows ≡ changed_at leaf.0 without_batch b.parts.windows
     pub mail : new.mail ≡ b.parts.mail
 
   -- it is a flush
@@ -167,7 +167,7 @@ module _ {C M : Type 0} (client : Ghosts C M) where
             left = λ p. x.bad p ∙ making.is.kept.bad p ∙ stays p (is_visible m leaf p) refl;
             outside = hidden;
           });
-          windows = x.windows ∙ ap (λ (ws : List (Present C)). changed_at leaf.0 cleared ws) making.is.kept.windows
+          windows = x.windows ∙ ap (λ (ws : List (Present C)). changed_at leaf.0 without_batch ws) making.is.kept.windows
               ∙ sym (presents-flushed client m leaf);
           mail = x.mail ∙ making.is.kept.mail;
         };
@@ -194,14 +194,14 @@ module _ {C M : Type 0} (client : Ghosts C M) where
           ∙ ap (λ (l : Look). client.pic l x.sketch.size x.sketch.content q) look_is
           ∙ ap (λ (s : Size). client.pic (look m) s x.sketch.content q) x.shows.size
           ∙ sym (colour_in_leaf client (content_of client m) m leaf p forest (parts_of p put).0
-          ∙ ap (λ (o : Option C). colour_in client m (leaf_size m.tree leaf) q o) x.shows.content)
+          ∙ ap (λ (o : Option C). content_colour client m (leaf_size m.tree leaf) q o) x.shows.content)
 
       -- no waiting command touches another visible point
       still : (p : Point) → is_visible m leaf p ≡ true → is_sketched m.tree leaf x.sketch.clip p ≡ false →
-          touches (batch_of client m leaf) (in_leaf m.tree leaf p) ≡ false
-      still p seen out = by_test (touches (batch_of client m leaf) (in_leaf m.tree leaf p)) refl
+          touches (leaf_batch client m leaf) (in_leaf m.tree leaf p) ≡ false
+      still p seen out = by_test (touches (leaf_batch client m leaf) (in_leaf m.tree leaf p)) refl
         where
-          by_test : (c : Bool) → touches (batch_of client m leaf) (in_leaf m.tree leaf p) ≡ c → c ≡ false
+          by_test : (c : Bool) → touches (leaf_batch client m leaf) (in_leaf m.tree leaf p) ≡ c → c ≡ false
           by_test true h =
               sym (x.may.touched p seen h) ∙ ap (λ c. c && has_point x.sketch.clip (in_leaf m.tree leaf p)) (sym seen) ∙ out
           by_test false h = refl
@@ -209,7 +209,7 @@ module _ {C M : Type 0} (client : Ghosts C M) where
       -- the bad points are those that were bad: a visible one is good before and after the flush
       hidden : (p : Point) → is_visible m leaf p ≡ false → (flushed client leaf m).bad p ≡ m.bad p
       hidden p out =
-          let found : Bool = is_none (after (look m) (base client m leaf) (batch_of client m leaf) (in_leaf m.tree leaf p)) in
+          let found : Bool = is_none (after (look m) (base client m leaf) (leaf_batch client m leaf) (in_leaf m.tree leaf p)) in
           ap (λ c. cond c found (m.bad p)) out
 
       stays : (p : Point) (c : Bool) → is_visible m leaf p ≡ c → m.bad p ≡ (flushed client leaf m).bad p

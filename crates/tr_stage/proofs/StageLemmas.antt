@@ -12,13 +12,13 @@ use Rattle.tr_journal.specs.Openings.{tree_of}
 use Rattle.tr_journal.specs.Steps.{IsStep, IsFor}
 use Rattle.tr_machine.specs.States.{State}
 use Rattle.tr_machine.specs.Promises.{IsSound}
-use Rattle.tr_machine.specs.Replays.{line_of, next, replay}
+use Rattle.tr_machine.specs.Replays.{line_of_step, next, replay}
 use Rattle.tr_machine.proofs.JournalLemmas.{legal_line, one_more, replay-more}
 use Rattle.tr_machine.proofs.KeptLemmas.{IsKept, kept_next, step_along}
 use Rattle.tr_machine.proofs.SoundLemmas.{IsObedient, sound_next}
 use Rattle.tr_machine.proofs.ShownLemmas.{IsShowing}
 use Rattle.tr_windows.specs.Presents.{presents}
-use Rattle.tr_stage.specs.Stages.{IsAt, IsOf, IsStage, Parts}
+use Rattle.tr_stage.specs.Stages.{RepresentsState, IsOf, IsStage, Parts}
 
 module _ {C M : Type 0} (client : Ghosts C M) where
   -- the parts are those of a state: the surface shows it, and the windows and the mail are its own
@@ -28,7 +28,7 @@ module _ {C M : Type 0} (client : Ghosts C M) where
     pub mail : parts.mail ≡ m.mail
 
   -- the parts of a stage are those of its state
-  pub holding : (m : State C M) (parts : Parts C) → IsAt client m parts → IsHolding m parts
+  pub holding : (m : State C M) (parts : Parts C) → RepresentsState client m parts → IsHolding m parts
   holding m parts is = record {
     shows = record { tree = is.tree; bad = is.bad; agrees = is.agrees };
     windows = is.windows;
@@ -52,25 +52,25 @@ module _ {C M : Type 0} (client : Ghosts C M) where
   pub one_line : {opening : List (Item C)} {lines : List (JournalLine M)} {old new : Parts C} {actor : Actor} {held : List Level} {step : Step M} →
       IsStage client opening lines old → IsFor (tree_of opening).nodes actor held step →
       IsMade (replay client opening lines) (next client (replay client opening lines) step) new →
-      IsStage client opening (lines ++ line_of client (replay client opening lines) actor held step ∷ []) new
+      IsStage client opening (lines ++ line_of_step client (replay client opening lines) actor held step ∷ []) new
   one_line {opening = opening} {lines = lines} {old = old} {new = new} {actor = actor} {held = held} {step = step} is for n = record {
-    kept = subst (λ (m : State C M). IsAt client m new) (sym after) at;
+    kept = subst (λ (m : State C M). RepresentsState client m new) (sym after) at;
     like = subst (λ (m : State C M). IsOf opening m) (sym after) like;
     legal =
-        one_more client opening lines (line_of client before actor held step) is.legal
+        one_more client opening lines (line_of_step client before actor held step) is.legal
         (legal_line client (tree_of opening).nodes before actor held step for);
   }
     where
       before : State C M
       before = replay client opening lines
 
-      after : replay client opening (lines ++ line_of client before actor held step ∷ []) ≡ next client before step
-      after = replay-more client opening lines (line_of client before actor held step)
+      after : replay client opening (lines ++ line_of_step client before actor held step ∷ []) ≡ next client before step
+      after = replay-more client opening lines (line_of_step client before actor held step)
 
       kept : IsKept client before (next client before step)
       kept = kept_next client before step n.forest (values_now opening lines old step is for.own.values)
 
-      at : IsAt client (next client before step) new
+      at : RepresentsState client (next client before step) new
       at = record {
         tree = n.holds.shows.tree;
         bad = n.holds.shows.bad;
@@ -98,7 +98,7 @@ module _ {C M : Type 0} (client : Ghosts C M) where
   -- one step more: a stage whose parts are those of the next state has the step's line more
   pub one_step : (opening : List (Item C)) (lines : List (JournalLine M)) (old new : Parts C) (actor : Actor) (held : List Level) (step : Step M) →
       IsStage client opening lines old → IsFor (tree_of opening).nodes actor held step → IsNext opening lines step new →
-      IsStage client opening (lines ++ line_of client (replay client opening lines) actor held step ∷ []) new
+      IsStage client opening (lines ++ line_of_step client (replay client opening lines) actor held step ∷ []) new
   one_step opening lines old new actor held step is for n = one_line is for (record {
     forest = n.forest;
     sound = sound_next client m step n.forest (values_now opening lines old step is for.own.values) is.kept.sound n.obeys;

@@ -28,9 +28,9 @@ use Rattle.tr_surface.specs.Surfaces.{is_bad}
 use Rattle.tr_journal.specs.declared.items.Item.{Item}
 use Rattle.tr_journal.specs.Journals.{JournalLine}
 use Rattle.tr_machine.specs.Windows.{Window}
-use Rattle.tr_machine.specs.States.{State, batch_in, batch_of, content_of, look, window_of}
+use Rattle.tr_machine.specs.States.{State, batch_in, leaf_batch, content_of, look, window_of}
 use Rattle.tr_machine.specs.Paintings.{is_visible}
-use Rattle.tr_machine.specs.Pictures.{bad_count, colour_in, is_stale, shown, stale_count, waiting_count, want}
+use Rattle.tr_machine.specs.Pictures.{bad_count, content_colour, is_stale, shown, stale_count, waiting_count, want}
 use Rattle.tr_machine.specs.Promises.{Agrees, Fits, IsAwaited}
 use Rattle.tr_machine.specs.Replays.{replay}
 use Rattle.tr_machine.proofs.BaseLemmas.{leaf_on, leaf_within}
@@ -43,7 +43,7 @@ use Rattle.tr_windows.specs.Presents as presents
 use Rattle.tr_windows.specs.Promises.{waiting_in}
 use Rattle.tr_windows.proofs.PresentLemmas.{presents-waiting}
 use Rattle.tr_stage.specs.Standings.{Stands}
-use Rattle.tr_stage.specs.Stages.{IsAt, IsStage, Parts, StageView, is_different, is_good_in, state}
+use Rattle.tr_stage.specs.Stages.{RepresentsState, IsStage, Parts, StageView, is_different, is_good_in, state}
 use Rattle.tr_stage.proofs.CountLemmas.{count_on-apart, count_on-few, count_on-none, count_on-same}
 use Rattle.tr_stage.proofs.SettleLemmas.{IsView, batch_is, windows_many}
 
@@ -83,7 +83,7 @@ none_first [] k e = refl
 none_first (p ∷ ps) k e = absurd (omega arith)
 
 -- nothing waits in any of some windows, if no command does
-none_waits : {C : Type 0} (ws : List (Present C)) → sum_by (λ w. length w.batch) ws ≡ 0 → (n : ℕ) → presents.batch_in (slice_get ws n) ≡ []
+none_waits : {C : Type 0} (ws : List (Present C)) → sum_by (λ w. length w.batch) ws ≡ 0 → (n : ℕ) → presents.waiting_batch (slice_get ws n) ≡ []
 none_waits [] none n = refl
 none_waits (w ∷ ws) none zero = none_first w.batch (sum_by (λ v. length v.batch) ws) (sym (sum_by-cons (λ v. length v.batch) w ws) ∙ none)
 none_waits (w ∷ ws) none (suc n) =
@@ -120,11 +120,11 @@ module _ {C M : Type 0} (client : Ghosts C M) where
       (λ p. before_more n (spot m.tree p) (is_stale client m p)))
 
   -- nothing is touched where nothing waits
-  no_touch : (m : State C M) (p : Point) (a : IsAwaited client m p) → batch_of client m a.leaf ≡ [] → ⊥
+  no_touch : (m : State C M) (p : Point) (a : IsAwaited client m p) → leaf_batch client m a.leaf ≡ [] → ⊥
   no_touch m p a none = false-true (sym (ap (λ ps. touches ps (in_leaf m.tree a.leaf p)) none) ∙ a.touched)
 
   -- no point is stale of a leaf for which nothing waits
-  pub stale_quiet : (m : State C M) (leaf : LeafId) → IsForest m.tree.nodes → Fits client m → batch_of client m leaf ≡ [] →
+  pub stale_quiet : (m : State C M) (leaf : LeafId) → IsForest m.tree.nodes → Fits client m → leaf_batch client m leaf ≡ [] →
       count_on m.tree.size (λ p. is_visible m leaf p && is_stale client m p) ≡ 0
   stale_quiet m leaf forest fits none =
       count_on-none m.tree.size (λ p. is_visible m leaf p && is_stale client m p) (λ p. by_test p (is_visible m leaf p && is_stale client m p) refl)
@@ -134,10 +134,10 @@ module _ {C M : Type 0} (client : Ghosts C M) where
       by_test p true h =
           let a = stale_waits client m forest fits p (and_right (is_visible m leaf p) (is_stale client m p) h) in
           let same : leaf ≡ a.leaf = one_leaf leaf a.leaf (spot m.tree p) (and_left (is_visible m leaf p) (is_stale client m p) h) a.visible in
-          absurd (no_touch m p a (ap (λ (l : LeafId). batch_of client m l) (sym same) ∙ none))
+          absurd (no_touch m p a (ap (λ (l : LeafId). leaf_batch client m l) (sym same) ∙ none))
 
   -- so no point is, where nothing waits for any leaf
-  pub stale_idle : (m : State C M) → IsForest m.tree.nodes → Fits client m → ((leaf : LeafId) → batch_of client m leaf ≡ []) → 0 ≡ stale_count client m
+  pub stale_idle : (m : State C M) → IsForest m.tree.nodes → Fits client m → ((leaf : LeafId) → leaf_batch client m leaf ≡ []) → 0 ≡ stale_count client m
   stale_idle m forest fits none = sym (count_on-none m.tree.size (is_stale client m) (λ p. by_test p (is_stale client m p) refl))
     where
       by_test : (p : Point) (b : Bool) → is_stale client m p ≡ b → b ≡ false
@@ -209,7 +209,7 @@ module _ {C M : Type 0} (client : Ghosts C M) where
       plan.paints.shows base q known within
       ∙ ap (λ (l : Look). Some (client.pic l extent content q)) plan.look
       ∙ ap (λ (s : Size). Some (client.pic (look m) s content q)) plan.size
-      ∙ ap (λ (o : Option C). Some (colour_in client m (leaf_size m.tree leaf) q o)) (sym plan.is)
+      ∙ ap (λ (o : Option C). Some (content_colour client m (leaf_size m.tree leaf) q o)) (sym plan.is)
       ∙ ap Some (sym (colour_in_leaf client (content_of client m) m leaf p forest seen))
     where
       q : Point
@@ -222,7 +222,7 @@ module _ {C M : Type 0} (client : Ghosts C M) where
       within = has_point-meet_of (whole_of extent) (whole_of extent) q ∙ ap (λ b. b && has_point (whole_of extent) q) inside ∙ inside
 
   -- the points of a leaf that are good
-  pub good_is : (m : State C M) (parts : Parts C) (leaf : LeafId) (good : List Edges) → IsAt client m parts →
+  pub good_is : (m : State C M) (parts : Parts C) (leaf : LeafId) (good : List Edges) → RepresentsState client m parts →
       ((p : Point) → holds good p ≡ (is_in_leaf leaf (spot parts.surface.tree p) && not (is_bad parts.surface p))) →
       (p : Point) → holds good p ≡ is_good_in m leaf p
   good_is m parts leaf good at is p =
@@ -263,9 +263,9 @@ module _ {C M : Type 0} (client : Ghosts C M) where
 
   -- what waits for a leaf's window waits for the machine's
   pub batch_seen : {opening : List (Item C)} {lines : List (JournalLine M)} {parts : Parts C} (s : StageView C M) (leaf : LeafId) →
-      IsStage client opening lines parts → IsView client opening lines parts s → batch_at parts.windows leaf ≡ batch_of client (state client s) leaf
+      IsStage client opening lines parts → IsView client opening lines parts s → batch_at parts.windows leaf ≡ leaf_batch client (state client s) leaf
   batch_seen {opening} {lines} {parts} s leaf is view =
-      subst (λ (v : StageView C M). batch_at parts.windows leaf ≡ batch_of client (state client v) leaf) view.is
+      subst (λ (v : StageView C M). batch_at parts.windows leaf ≡ leaf_batch client (state client v) leaf) view.is
       (batch_is client (replay client opening lines) parts leaf is.kept)
 
   -- there are as many windows as the machine has
@@ -276,13 +276,13 @@ module _ {C M : Type 0} (client : Ghosts C M) where
       (windows_many client (replay client opening lines) parts is.kept)
 
   -- no point is stale of a leaf for which nothing waits
-  pub quiet_leaf : (s : StageView C M) (leaf : LeafId) → Stands client s → batch_of client (state client s) leaf ≡ [] →
+  pub quiet_leaf : (s : StageView C M) (leaf : LeafId) → Stands client s → leaf_batch client (state client s) leaf ≡ [] →
       0 ≡ count_on (state client s).tree.size (λ p. is_visible (state client s) leaf p && is_stale client (state client s) p)
   quiet_leaf s leaf stands none =
       sym (stale_quiet (state client s) leaf stands.forest (fits client (state client s) stands.forest stands.sound) none)
 
   -- none at all is, where nothing waits
-  pub quiet_stage : (s : StageView C M) → Stands client s → ((leaf : LeafId) → batch_of client (state client s) leaf ≡ []) →
+  pub quiet_stage : (s : StageView C M) → Stands client s → ((leaf : LeafId) → leaf_batch client (state client s) leaf ≡ []) →
       0 ≡ stale_count client (state client s)
   quiet_stage s stands none = stale_idle (state client s) stands.forest (fits client (state client s) stands.forest stands.sound) none
 

@@ -14,7 +14,7 @@ use Rattle.tr_machine.specs.States.{start}
 use Rattle.tr_machine.proofs.ShownLemmas.{IsShowing}
 use Rattle.tr_machine.proofs.SoundLemmas.{sound_start}
 use Rattle.tr_machine.proofs.StillLemmas.{start_shows}
-use Rattle.tr_windows.specs.Presents.{idle}
+use Rattle.tr_windows.specs.Presents.{with_empty_batch}
 use Rattle.tr_windows.proofs.PresentLemmas.{presents-start}
 use Rattle.tr_stage.specs.Stages.{IsStage, Parts}
 
@@ -27,7 +27,7 @@ pub record IsBlank {C : Type 0} (items : List (Item C)) (s : Shown) : Type 0 whe
 module _ {C M : Type 0} (client : Ghosts C M) where
   -- the parts of a stage before any step
   pub starts : {items : List (Item C)} {parts : Parts C} → IsOpened client items → IsBlank items parts.surface →
-      parts.windows ≡ map idle (contents_of items) → parts.mail ≡ no_mail (leaf_count (tree_of items).nodes) → IsStage client items [] parts
+      parts.windows ≡ map with_empty_batch (contents_of items) → parts.mail ≡ no_mail (leaf_count (tree_of items).nodes) → IsStage client items [] parts
   starts {items = items} {parts = parts} opened blank windows mail = record {
     kept = record {
       tree = shows.tree;

@@ -13,13 +13,13 @@ use Rattle.tr_base.proofs.RectLemmas.{false-true, has_point-rect_of}
 use Rattle.tr_base.proofs.LayoutLemmas.{ordered}
 use Rattle.tr_region.specs.Points.{holds}
 use Rattle.tr_paint.specs.Traces.{after}
-use Rattle.tr_exec.specs.Executions.{placed}
+use Rattle.tr_exec.specs.Executions.{screen_point}
 use Rattle.tr_client.specs.declared.clients.Client.{Ghosts}
 use Rattle.tr_spot.specs.Spots.{size_of}
 use Rattle.tr_spot.specs.Leaves.{leaf_corner, leaf_size, in_leaf}
 use Rattle.tr_surface.specs.Surfaces.{IsShown, Shown, is_bad}
 use Rattle.tr_machine.specs.Windows.{Window}
-use Rattle.tr_machine.specs.States.{State, base, batch_of, look, window_of}
+use Rattle.tr_machine.specs.States.{State, base, leaf_batch, look, window_of}
 use Rattle.tr_machine.specs.Paintings.{flushed, is_visible, repainted}
 use Rattle.tr_machine.proofs.BaseLemmas.{base-lies}
 use Rattle.tr_machine.proofs.ShownLemmas.{IsShowing, base_good, base_sees}
@@ -36,7 +36,7 @@ between-placed low high x order h = grind (arith, ints)
 
 -- a point of a window is one of the window's rectangle, from its corner on
 pub in_domain : (e : Edges) (q : Point) → IsRect e → has_point (whole_of (size_of e)) q ≡ true →
-    has_point e (placed (record { h = e.west; v = e.north }) q) ≡ true
+    has_point e (screen_point (record { h = e.west; v = e.north }) q) ≡ true
 in_domain e q is h =
     let order = ordered e is in
     let both = and_parts (between (pos 0) (pos (size_of e).wide) q.h) (between (pos 0) (pos (size_of e).high) q.v)
@@ -75,13 +75,13 @@ module _ {C M : Type 0} (client : Ghosts C M) where
     pub size : e.size ≡ leaf_size m.tree leaf
     pub whole : e.is_whole ≡ true → IsWhole m leaf
     pub good : (p : Point) → is_visible m leaf p ≡ true → is_bad s p ≡ false
-    pub keeps : LosesNothingOf e (look m) (batch_of client m leaf)
+    pub keeps : LosesNothingOf e (look m) (leaf_batch client m leaf)
 
   module _ (m : State C M) (s : Shown) (leaf : LeafId) (e : Exposure) (k : IsAllKept m s leaf e) where
     -- a visible point is known
     known_before : (q : Point) → (base client m leaf).visible q ≡ true → is_none ((base client m leaf).known q) ≡ false
     known_before q seen =
-        let p : Point = placed (leaf_corner m.tree leaf) q in
+        let p : Point = screen_point (leaf_corner m.tree leaf) q in
         let good : m.bad p ≡ false = sym (k.showing.bad p) ∙ k.good p seen in
         ap is_none
         (base_good client m leaf q good
@@ -96,7 +96,7 @@ module _ {C M : Type 0} (client : Ghosts C M) where
 
     -- a visible point is known after the waiting commands
     known_after : (p : Point) → is_visible m leaf p ≡ true →
-        is_none (after (look m) (base client m leaf) (batch_of client m leaf) (in_leaf m.tree leaf p)) ≡ false
+        is_none (after (look m) (base client m leaf) (leaf_batch client m leaf) (in_leaf m.tree leaf p)) ≡ false
     known_after p seen =
         let q : Point = in_leaf m.tree leaf p in
         let there : (base client m leaf).visible q ≡ true = base_sees client m leaf p seen in
@@ -105,7 +105,7 @@ module _ {C M : Type 0} (client : Ghosts C M) where
     -- so none is bad after a flush, which comes to the same as a repaint
     pub flushed_is_repainted : flushed client leaf m ≡ repainted client leaf m
     flushed_is_repainted =
-        let found : Point → Bool = λ p. is_none (after (look m) (base client m leaf) (batch_of client m leaf) (in_leaf m.tree leaf p)) in
+        let found : Point → Bool = λ p. is_none (after (look m) (base client m leaf) (leaf_batch client m leaf) (in_leaf m.tree leaf p)) in
         ap (λ (bad : Point → Bool). brought client leaf bad m)
         (fun_ext λ p. none_left ((flushed client leaf m).bad p) (is_visible m leaf p)
         (λ seen. ap (λ b. cond b (found p) (m.bad p)) seen ∙ known_after p seen))

@@ -6,7 +6,7 @@ use Rattle.tr_base.specs.declared.LeafId.{LeafId}
 use Rattle.tr_base.specs.Rects.{has_point, whole_of}
 use Rattle.tr_paint.specs.declared.Paint.{Paint}
 use Rattle.tr_paint.specs.Traces.{look_of}
-use Rattle.tr_exec.specs.Executions.{placed}
+use Rattle.tr_exec.specs.Executions.{screen_point}
 use Rattle.tr_client.specs.declared.clients.Client.{Ghosts}
 use Rattle.tr_spot.specs.Spots.{spot, is_in_leaf}
 use Rattle.tr_spot.specs.Leaves.{leaf_corner, leaf_size}
@@ -21,7 +21,7 @@ pub record IsExposure (s : Shown) (leaf : LeafId) (e : Exposure) : Type 0 where
   pub size : e.size ≡ leaf_size s.tree leaf
   pub has_bad : HasBadPoints s leaf e.bad
   pub whole : e.is_whole ≡ true → (q : Point) → has_point (whole_of (leaf_size s.tree leaf)) q ≡ true →
-      is_in_leaf leaf (spot s.tree (placed (leaf_corner s.tree leaf) q)) ≡ true
+      is_in_leaf leaf (spot s.tree (screen_point (leaf_corner s.tree leaf) q)) ≡ true
 
 -- a batch flushes a leaf's window by a painting, for the way in which the window lies on the screen
 pub record IsFlushing {C M : Type 0} (client : Ghosts C M) (s : Shown) (font : List (List ℕ))

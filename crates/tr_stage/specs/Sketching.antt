@@ -8,7 +8,7 @@ use Rattle.tr_paint.specs.Batches.{touches}
 use Rattle.tr_client.specs.declared.clients.Client.{Ghosts}
 use Rattle.tr_spot.specs.Leaves.{in_leaf, leaf_size}
 use Rattle.tr_sketch.specs.Sketches.{SketchView}
-use Rattle.tr_machine.specs.States.{State, batch_of, content_of}
+use Rattle.tr_machine.specs.States.{State, leaf_batch, content_of}
 use Rattle.tr_machine.specs.Paintings.{flushed, is_visible}
 
 module _ {C M : Type 0} (client : Ghosts C M) where
@@ -24,5 +24,5 @@ module _ {C M : Type 0} (client : Ghosts C M) where
   pub record MayBePut (m : State C M) (leaf : LeafId) (clip : Edges) : Type 0 where
     pub good : (p : Point) → is_visible m leaf p ≡ true → m.bad p ≡ false
     pub known : (p : Point) → is_visible m leaf p ≡ true → (flushed client leaf m).bad p ≡ false
-    pub touched : (p : Point) → is_visible m leaf p ≡ true → touches (batch_of client m leaf) (in_leaf m.tree leaf p) ≡ true →
+    pub touched : (p : Point) → is_visible m leaf p ≡ true → touches (leaf_batch client m leaf) (in_leaf m.tree leaf p) ≡ true →
         has_point clip (in_leaf m.tree leaf p) ≡ true

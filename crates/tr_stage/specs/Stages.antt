@@ -25,7 +25,7 @@ use Rattle.tr_journal.specs.Openings.{tree_of, font_of}
 use Rattle.tr_journal.specs.Steps.{IsFor}
 use Rattle.tr_machine.specs.States.{State}
 use Rattle.tr_machine.specs.Paintings.{is_visible}
-use Rattle.tr_machine.specs.Replays.{IsLegal, line_of, replay}
+use Rattle.tr_machine.specs.Replays.{IsLegal, line_of_step, replay}
 use Rattle.tr_machine.specs.Promises.{Agrees, IsSound}
 use Rattle.tr_windows.specs.Presents.{Present, presents}
 
@@ -99,7 +99,7 @@ is_different a b p = not (pixel_of a p == pixel_of b p)
 
 module _ {C M : Type 0} (client : Ghosts C M) where
   -- the parts are those of a state of the machine, and the screen agrees with it
-  pub record IsAt (m : State C M) (parts : Parts C) : Type 0 where
+  pub record RepresentsState (m : State C M) (parts : Parts C) : Type 0 where
     pub tree : parts.surface.tree ≡ m.tree
     pub bad : (p : Point) → is_bad parts.surface p ≡ m.bad p
     pub windows : parts.windows ≡ presents client m
@@ -109,7 +109,7 @@ module _ {C M : Type 0} (client : Ghosts C M) where
 
   -- the parts are those of the state that the journal leads to from the opening, by lines that the machine makes
   pub record IsStage (opening : List (Item C)) (lines : List (JournalLine M)) (parts : Parts C) : Type 0 where
-    pub kept : IsAt (replay client opening lines) parts
+    pub kept : RepresentsState (replay client opening lines) parts
     pub like : IsOf opening (replay client opening lines)
     pub legal : IsLegal client opening lines
 
@@ -119,4 +119,4 @@ module _ {C M : Type 0} (client : Ghosts C M) where
 
   -- the line that a step adds to a stage's journal
   abbrev pub line : StageView C M → Actor → List Level → Step M → JournalLine M
-  line s actor level step = line_of client (state s) actor level step
+  line s actor level step = line_of_step client (state s) actor level step

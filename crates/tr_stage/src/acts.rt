@@ -4,7 +4,7 @@ ghost use Rattle.tr_journal.specs.Steps.{IsFor};
 ghost use Rattle.tr_paint.specs.Traces.{Look, look_of};
 ghost use Rattle.tr_paint.specs.Patches.{IsPatch};
 ghost use Rattle.tr_client.specs.Laws.{IsWindowSize};
-ghost use Rattle.tr_desk.specs.Desks.{owner};
+ghost use Rattle.tr_desk.specs.Desks.{selection_owner};
 ghost use Rattle.tr_machine.specs.States.{changed_at};
 ghost use Rattle.tr_machine.specs.Machines as machine;
 ghost use Rattle.tr_windows.specs.Presents.{Present, act_on};
@@ -116,7 +116,7 @@ impl<C: Client> Stage<C> {
     /// What is answered to one who reads the value of a selection's owner.
     fn value_of(&self, selection: Selection) -> Result<Answer, NoMemory>
         ensures { let m = state C.Client self.now in
-            IfOk result (λ answer. answer ≡ machine.read C.Client (owner m.mail.desk selection) m) }
+            IfOk result (λ answer. answer ≡ machine.read C.Client (selection_owner m.mail.desk selection) m) }
     {
         // Called for what it tells the prover: that who owns a selection is a leaf.
         let _ = self.mail.leaves();

@@ -1,6 +1,6 @@
 ghost use Rattle.std.specs.Prelude.{◌≡◌, ◌↔◌, IsNone, IfOk, IfSome, length};
 ghost use Rattle.tr_forest.specs.Nodes.{leaf_count};
-ghost use Rattle.tr_journal.specs.Differences.{IsFirst, Matches, account_of};
+ghost use Rattle.tr_journal.specs.Differences.{IsFirstDiffering, Matches, account_of};
 ghost use Rattle.tr_journal.specs.Openings.{tree_of};
 
 use crate::stages::Stage;
@@ -26,7 +26,7 @@ impl<C: Client> Stage<C> {
             IfOk result (λ d. IsNone d ↔ Matches made lists.now found) }
         ensures first { let made = account_of opening.now kept.now.lines in
             let found = account_of self.now.opening self.now.journal in
-            IfOk result (λ d. IfSome d (IsFirst made lists.now found)) }
+            IfOk result (λ d. IfSome d (IsFirstDiffering made lists.now found)) }
     {
         if let Some(place) = opening.first_difference(&self.opening) {
             let what = Apart::Opening;

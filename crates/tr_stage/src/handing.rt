@@ -5,9 +5,9 @@ ghost use Rattle.tr_levels.specs.declared.Level.TheVariants.{Win};
 ghost use Rattle.tr_levels.specs.Levels.{HaveLevels, HoldsNoLeaf};
 ghost use Rattle.tr_journal.specs.declared.Actor.TheVariants.{Leaf};
 ghost use Rattle.tr_journal.specs.Openings.{tree_of};
-ghost use Rattle.tr_machine.specs.States.{batch_of, content_of};
+ghost use Rattle.tr_machine.specs.States.{leaf_batch, content_of};
 ghost use Rattle.tr_machine.specs.Replays.{lines_by};
-ghost use Rattle.tr_machine.specs.Handing.{act_entries, act_entry, acts};
+ghost use Rattle.tr_machine.specs.Handing.{act_entries, act_entry, act_steps};
 ghost use Rattle.tr_stage.specs.Stages.{state};
 
 use crate::stages::Stage;
@@ -35,7 +35,7 @@ impl<C: Client> Stage<C> {
         requires levels { HaveLevels prepared.now.commands.items levels.now }
         ensures opening { self.new.opening ≡ self.old.opening }
         ensures ok { let m = state C.Client self.old in OnOk result (self.new.journal ≡ self.old.journal
-            ++ lines_by C.Client (Leaf leaf) m (acts leaf prepared.now.commands.items levels.now)) }
+            ++ lines_by C.Client (Leaf leaf) m (act_steps leaf prepared.now.commands.items levels.now)) }
         ensures err_journal { OnErr result (self.new.journal ≡ self.old.journal) }
         ensures screen { self.new.screen ≡ self.old.screen }
     {
@@ -76,7 +76,7 @@ impl<C: Client> Stage<C> {
         requires levels { HaveLevels prepared.commands.items levels.now }
         ensures opening { self.new.opening ≡ self.old.opening }
         ensures ok { let m = state C.Client self.old in OnOk result (self.new.journal ≡ self.old.journal
-            ++ lines_by C.Client (Leaf leaf) m (acts leaf prepared.commands.items levels.now)) }
+            ++ lines_by C.Client (Leaf leaf) m (act_steps leaf prepared.commands.items levels.now)) }
         ensures err_journal { OnErr result (self.new.journal ≡ self.old.journal) }
         ensures err_prepared { IfErr result (λ p. p ≡ prepared) }
         ensures screen { self.new.screen ≡ self.old.screen }
@@ -101,7 +101,7 @@ impl<C: Client> Stage<C> {
         levels: &[Held],
     ) -> Result<(), Prepared<C>>
         requires leaf { leaf.0 < leaf_count (tree_of self.old.opening).nodes }
-        requires idle { batch_of C.Client (state C.Client self.old) leaf ≡ [] }
+        requires idle { leaf_batch C.Client (state C.Client self.old) leaf ≡ [] }
         requires from { content_of C.Client (state C.Client self.old) leaf ≡ Some prepared.from }
         requires font { prepared.font ≡ (state C.Client self.old).font }
         requires size { prepared.size ≡ leaf_size (state C.Client self.old).tree leaf }
@@ -109,7 +109,7 @@ impl<C: Client> Stage<C> {
         requires levels { HaveLevels prepared.commands.items levels.now }
         ensures opening { self.new.opening ≡ self.old.opening }
         ensures ok { let m = state C.Client self.old in OnOk result (self.new.journal ≡ self.old.journal
-            ++ lines_by C.Client (Leaf leaf) m (acts leaf prepared.commands.items levels.now)) }
+            ++ lines_by C.Client (Leaf leaf) m (act_steps leaf prepared.commands.items levels.now)) }
         ensures err_journal { OnErr result (self.new.journal ≡ self.old.journal) }
         ensures err_prepared { IfErr result (λ p. p ≡ prepared) }
         ensures screen { self.new.screen ≡ self.old.screen }

@@ -2,7 +2,7 @@ ghost use Rattle.std.specs.Prelude.{◌≡◌, ◌<◌, true, [], length, slice_
 ghost use Rattle.tr_base.specs.declared.Point.{Point};
 ghost use Rattle.tr_base.specs.Rects.{has_point, whole_of};
 ghost use Rattle.tr_region.specs.Points.{holds};
-ghost use Rattle.tr_exec.specs.Executions.{placed};
+ghost use Rattle.tr_exec.specs.Executions.{screen_point};
 ghost use Rattle.tr_client.specs.Laws.{IsWindowSize};
 ghost use Rattle.tr_forest.specs.Nodes.{leaf_count};
 ghost use Rattle.tr_spot.specs.Leaves.{leaf_corner, leaf_size};
@@ -156,7 +156,7 @@ pub(crate) fn exposure_of(surface: &Surface, leaf: LeafId) -> Result<Exposure, N
 fn is_whole(tree: &Tree, leaf: LeafId, visible: &Region) -> bool
     requires { leaf.0 < leaf_count tree.now.nodes }
     ensures { IsTrue result → (q : Point) → has_point (whole_of (leaf_size tree.now leaf)) q ≡ true →
-        holds visible.now (placed (leaf_corner tree.now leaf) q) ≡ true }
+        holds visible.now (screen_point (leaf_corner tree.now leaf) q) ≡ true }
 {
     let domain = tree.domain(tree.node_of(leaf));
     // Called for what it tells the prover: that the edges are those of a rectangle.

@@ -8,7 +8,7 @@ ghost use Rattle.tr_spot.specs.Spots.{HasRoot};
 ghost use Rattle.tr_spot.specs.Leaves.{leaf_size};
 ghost use Rattle.tr_mail.specs.Mails.{inbox_of};
 ghost use Rattle.tr_journal.specs.Openings.{tree_of};
-ghost use Rattle.tr_machine.specs.States.{batch_of, content_of};
+ghost use Rattle.tr_machine.specs.States.{leaf_batch, content_of};
 ghost use Rattle.tr_machine.specs.Promises.{Agrees, Fits, IsSound, Lags};
 ghost use Rattle.tr_machine.specs.Replays.{IsLegal};
 ghost use Rattle.tr_stage.specs.Stages.{IsOf, state};
@@ -75,7 +75,7 @@ impl<C: Client> Stage<C> {
     /// The paint commands that wait for a leaf.
     pub fn batch(&self, leaf: LeafId) -> &Batch
         requires { leaf.0 < leaf_count (tree_of self.now.opening).nodes }
-        ensures { result.now ≡ batch_of C.Client (state C.Client self.now) leaf }
+        ensures { result.now ≡ leaf_batch C.Client (state C.Client self.now) leaf }
     {
         self.windows.batch(leaf)
     }

@@ -5,9 +5,9 @@ ghost use Rattle.tr_forest.specs.Nodes.{leaf_count};
 ghost use Rattle.tr_levels.specs.declared.Level.TheVariants.{Mu};
 ghost use Rattle.tr_journal.specs.declared.Actor.TheVariants.{Painter};
 ghost use Rattle.tr_journal.specs.Openings.{tree_of};
-ghost use Rattle.tr_machine.specs.States.{batch_of};
+ghost use Rattle.tr_machine.specs.States.{leaf_batch};
 ghost use Rattle.tr_machine.specs.Pictures.{render};
-ghost use Rattle.tr_machine.specs.Replays.{lines_of};
+ghost use Rattle.tr_machine.specs.Replays.{lines_of_steps};
 ghost use Rattle.tr_machine.specs.Settling.{is_unsettled, settling, settling_lines};
 ghost use Rattle.tr_stage.specs.Stages.{IsPainters, state};
 ghost use Rattle.tr_stage.specs.Standings.{Stands};
@@ -29,7 +29,7 @@ impl<C: Client> Stage<C> {
 
         // Then nothing waits, no point is bad, and the screen is as if it were painted from nothing.
         ensures idle { let m = state C.Client self.new in
-            OnOk result ((leaf : LeafId) → batch_of C.Client m leaf ≡ []) }
+            OnOk result ((leaf : LeafId) → leaf_batch C.Client m leaf ≡ []) }
         ensures good { let m = state C.Client self.new in OnOk result ((p : Point) → m.bad p ≡ false) }
         ensures screen { OnOk result (self.new.screen ≡ render C.Client (state C.Client self.new)) }
 
@@ -91,9 +91,9 @@ impl<C: Client> Stage<C> {
         requires { All (IsPainters (tree_of self.old.opening).nodes) steps.items }
         ensures opening { self.new.opening ≡ self.old.opening }
         ensures ok { let m = state C.Client self.old in OnOk result (self.new.journal ≡
-            self.old.journal ++ lines_of C.Client Painter (Mu ∷ []) m steps.items) }
+            self.old.journal ++ lines_of_steps C.Client Painter (Mu ∷ []) m steps.items) }
         ensures err { let m = state C.Client self.old in OnErr result ((n : ℕ) × (self.new.journal ≡
-            self.old.journal ++ take n (lines_of C.Client Painter (Mu ∷ []) m steps.items))) }
+            self.old.journal ++ take n (lines_of_steps C.Client Painter (Mu ∷ []) m steps.items))) }
     {
         let level = Held::none().with(Level::Mu);
         for step in steps {

@@ -6,14 +6,14 @@ ghost use Rattle.tr_region.specs.Areas.{total_area};
 ghost use Rattle.tr_region.specs.Places.{place_in};
 ghost use Rattle.tr_region.specs.Points.{holds};
 ghost use Rattle.tr_screen.specs.Pictures.{pixel_of};
-ghost use Rattle.tr_exec.specs.Executions.{IsOrigin, LiesOn, placed};
+ghost use Rattle.tr_exec.specs.Executions.{IsOrigin, RegionLiesOn, screen_point};
 ghost use Rattle.tr_forest.specs.Nodes.{leaf_count};
 ghost use Rattle.tr_spot.specs.Leaves.{in_leaf, leaf_corner, leaf_domain};
 ghost use Rattle.tr_levels.specs.declared.Level.TheVariants.{Share};
 ghost use Rattle.tr_journal.specs.declared.Actor.TheVariants.{Painter};
 ghost use Rattle.tr_journal.specs.Openings.{tree_of};
 ghost use Rattle.tr_journal.specs.Steps.{IsFor};
-ghost use Rattle.tr_machine.specs.States.{batch_of};
+ghost use Rattle.tr_machine.specs.States.{leaf_batch};
 ghost use Rattle.tr_machine.specs.Paintings.{is_visible};
 ghost use Rattle.tr_machine.specs.Pictures.{want};
 ghost use Rattle.tr_machine.specs.Sharing.{IsPaintedOf};
@@ -132,12 +132,12 @@ impl<C: Client> Stage<C> {
     ) -> Result<(), NoMemory>
         requires leaf { leaf.0 < leaf_count (tree_of self.now.opening).nodes }
         requires origin { IsOrigin origin }
-        requires part { LiesOn wanted.old.size part.now }
+        requires part { RegionLiesOn wanted.old.size part.now }
         requires kind { wanted.old.kind ≡ self.now.screen.kind }
         ensures painted { let m = state C.Client self.now in
             OnOk result ((p : Point) → is_visible m leaf p ≡ true →
-            holds part.now (placed origin (in_leaf m.tree leaf p)) ≡ true →
-            pixel_of wanted.new (placed origin (in_leaf m.tree leaf p)) ≡ want C.Client m p) }
+            holds part.now (screen_point origin (in_leaf m.tree leaf p)) ≡ true →
+            pixel_of wanted.new (screen_point origin (in_leaf m.tree leaf p)) ≡ want C.Client m p) }
         ensures size { wanted.new.size ≡ wanted.old.size }
         ensures kind { wanted.new.kind ≡ wanted.old.kind }
     {
@@ -170,7 +170,7 @@ impl<C: Client> Stage<C> {
     /// painter's step `Repaint`, at the leaf's share alone. For want of memory no step is made.
     pub fn put_painted(&mut self, painted: Painted) -> Result<(), NoMemory>
         requires leaf { painted.leaf.0 < leaf_count (tree_of self.old.opening).nodes }
-        requires idle { batch_of C.Client (state C.Client self.old) painted.leaf ≡ [] }
+        requires idle { leaf_batch C.Client (state C.Client self.old) painted.leaf ≡ [] }
         requires painted { let m = state C.Client self.old in
             IsPaintedOf C.Client m painted.leaf painted.part painted.pixels.items }
         ensures made { MakesWithoutReply C.Client self.old self.new Painter (Share painted.leaf ∷ [])
@@ -197,7 +197,7 @@ impl<C: Client> Stage<C> {
     ) -> Result<Reply, NoMemory>
         requires allowed { let t = (tree_of self.old.opening).nodes in
             IsFor {M = C.Cmd} t by.now.actor by.now.level (Step.Repaint leaf) }
-        requires idle { batch_of C.Client (state C.Client self.old) leaf ≡ [] }
+        requires idle { leaf_batch C.Client (state C.Client self.old) leaf ≡ [] }
         requires painted { IsPaintedOf C.Client (state C.Client self.old) leaf part.now pixels.now }
         ensures made { Makes C.Client self.old self.new by.now.actor by.now.level
             (Step.Repaint leaf) result }

@@ -11,7 +11,7 @@ use Rattle.tr_region.specs.Points.{holds, count_below, count_in_square, IsInSqua
 use Rattle.tr_region.specs.Bands.{IsCanonical}
 use Rattle.tr_region.proofs.CountLemmas.{count_below-le, sum_below-le}
 use Rattle.tr_region.proofs.OrderLemmas.{IsFull, AreInOrder, AreInOrder-canonical}
-use Rattle.tr_exec.specs.Executions.{LiesOn, greatest_screen}
+use Rattle.tr_exec.specs.Executions.{RegionLiesOn, greatest_screen}
 use Rattle.tr_exec.proofs.SiteLemmas.{IsThere}
 use Rattle.tr_forest.specs.Forests.{IsForest}
 use Rattle.tr_spot.specs.Spots.{spot, is_on_frame}
@@ -65,7 +65,7 @@ rect_in_square r full on =
     let last = on (record { h = r.east -ℤ pos 1; v = r.south -ℤ pos 1 }) (opposite_held r full) in
     record { west = first.west; east = omega (arith, ints, last.east); north = first.north; south = omega (arith, ints, last.south) }
 
-pub in_square : (rects : List Edges) → IsCanonical rects → LiesOn greatest_screen rects → AllByRecursion IsInSquare rects
+pub in_square : (rects : List Edges) → IsCanonical rects → RegionLiesOn greatest_screen rects → AllByRecursion IsInSquare rects
 in_square rects canonical on = each rects (AreInOrder-canonical rects canonical) (λ p held. there p (on p held))
   where
     each : (rs : List Edges) → AreInOrder rs → ((p : Point) → holds rs p ≡ true → IsThere p) → AllByRecursion IsInSquare rs

@@ -10,7 +10,7 @@ use Rattle.tr_base.specs.declared.Size.{Size}
 use Rattle.tr_base.specs.Rects.{AreInReach, Edges, InReach, between, empty_rect, has_point, shifted, whole_of}
 use Rattle.tr_base.specs.Layouts.{IsDomain}
 use Rattle.tr_base.proofs.RectLemmas.{has_point-rect_of}
-use Rattle.tr_repair.specs.Near.{IsAround, IsStep}
+use Rattle.tr_repair.specs.Near.{IsAround, IsDistance}
 use Rattle.tr_spot.specs.Spots.{from_corner}
 use Rattle.tr_surface.specs.Survivors.{corner_of}
 
@@ -57,7 +57,7 @@ abs_most (negsuc a) n h = omega (arith, ints)
 corner_most : (low high : ℤ) → high ≤ℤ pos 65536 → unsigned_abs (high -ℤ low) ≤ 4096 → low ≤ℤ pos 69632
 corner_most low high end side = let most = abs_most (high -ℤ low) 4096 side in omega (arith, ints, most)
 
-pub domain_step : (a b : Edges) → IsDomain a → IsDomain b → IsStep (from_corner a (corner_of b))
+pub domain_step : (a b : Edges) → IsDomain a → IsDomain b → IsDistance (from_corner a (corner_of b))
 domain_step a b was is =
     let aw : a.west ≤ℤ pos 69632 = corner_most a.west a.east was.east was.wide in
     let an : a.north ≤ℤ pos 69632 = corner_most a.north a.south was.south was.high in
@@ -66,7 +66,7 @@ domain_step a b was is =
     record { west = omega (arith, ints); east = omega (arith, ints); north = omega (arith, ints); south = omega (arith, ints) }
 
 -- from a window's corner
-pub corner_step : (e : Edges) → IsDomain e → IsStep (corner_of e)
+pub corner_step : (e : Edges) → IsDomain e → IsDistance (corner_of e)
 corner_step e d =
     let w : e.west ≤ℤ pos 69632 = corner_most e.west e.east d.east d.wide in
     let n : e.north ≤ℤ pos 69632 = corner_most e.north e.south d.south d.high in
@@ -76,7 +76,7 @@ corner_step e d =
 reach_within : (x : ℤ) → neg_ℤ (pos 1048576) ≤ℤ x → x ≤ℤ pos 1048576 → InReach x
 reach_within x low high = record { low = low; high = high }
 
-pub shifted_reach : (e : Edges) (d : Point) → IsDomain e → IsStep d → AreInReach (shifted e d)
+pub shifted_reach : (e : Edges) (d : Point) → IsDomain e → IsDistance d → AreInReach (shifted e d)
 shifted_reach e d is step = by_test (int_lt (e.west +ℤ d.h) (e.east +ℤ d.h) && int_lt (e.north +ℤ d.v) (e.south +ℤ d.v))
   where
     west_most : e.west ≤ℤ pos 69632

@@ -13,7 +13,7 @@ use Rattle.tr_screen.specs.Pictures.{Picture, pixel_of}
 use Rattle.tr_paint.specs.declared.Paint.{Paint}
 use Rattle.tr_paint.specs.Traces.{Look, look_of}
 use Rattle.tr_paint.specs.Batches.{touches}
-use Rattle.tr_exec.specs.Executions.{LiesOn, colour_after, known_base, placed}
+use Rattle.tr_exec.specs.Executions.{RegionLiesOn, colour_after, known_base, screen_point}
 use Rattle.tr_exec.proofs.BaseLemmas.{trace_alike}
 use Rattle.tr_forest.specs.Nodes.{IsNode, leaf_of, node}
 use Rattle.tr_tree.specs.Trees.{Seen}
@@ -37,7 +37,7 @@ abbrev pub IsVisible : Seen → LeafId → List Edges → Type 0
 IsVisible t leaf region = (p : Point) → holds region p ≡ is_in_leaf leaf (spot t p)
 
 -- the visible points of a leaf are on the screen
-pub visible_on : (t : Seen) (leaf : LeafId) (size : Size) (region : List Edges) → size ≡ t.size → IsVisible t leaf region → LiesOn size region
+pub visible_on : (t : Seen) (leaf : LeafId) (size : Size) (region : List Edges) → size ≡ t.size → IsVisible t leaf region → RegionLiesOn size region
 visible_on t leaf size region same are p h =
     ap (λ (s : Size). has_point (whole_of s) p) same ∙ in_leaf_on t leaf p (sym (are p) ∙ h)
 
@@ -91,9 +91,9 @@ pub colour_is : (s : Shown) → IsShown s → (leaf : LeafId) (n : NodeId) (visi
     ≡ colour_after look (leaf_base s leaf) batch (leaf_corner s.tree leaf) p
 colour_is s is leaf n visible seen look batch origin p at =
     ap (λ (o : Point). colour_after look (known_base o visible (region_of s.good n) s.screen) batch o p) at
-    ∙ trace_alike look (known_base corner visible (region_of s.good n) s.screen) (leaf_base s leaf) (λ q. seen.are (placed corner q))
-    (λ q in_it. by_tests (is_in_leaf leaf (spot s.tree (placed corner q))) (is_bad s (placed corner q)) (pixel_of s.screen (placed corner q))
-    (holds (region_of s.good n) (placed corner q)) (good_leaf s is leaf n seen.is_node seen.leaf_is (placed corner q)) in_it)
+    ∙ trace_alike look (known_base corner visible (region_of s.good n) s.screen) (leaf_base s leaf) (λ q. seen.are (screen_point corner q))
+    (λ q in_it. by_tests (is_in_leaf leaf (spot s.tree (screen_point corner q))) (is_bad s (screen_point corner q)) (pixel_of s.screen (screen_point corner q))
+    (holds (region_of s.good n) (screen_point corner q)) (good_leaf s is leaf n seen.is_node seen.leaf_is (screen_point corner q)) in_it)
     (reverse batch) (before_shift p corner)
   where
     corner : Point

@@ -27,7 +27,7 @@ use Rattle.tr_spot.proofs.SpotLemmas.{spot_is, leaf_spot, frame_spot}
 use Rattle.tr_surface.specs.declared.survivors.Survivors.TheVariants as variants
 use Rattle.tr_surface.specs.Surfaces.{is_on}
 use Rattle.tr_surface.specs.TreeSteps.{Keeping, is_kept, same_point, survives}
-use Rattle.tr_surface.specs.Survivors.{corner, side, leaf_survivors, survivors_by, has_survivor}
+use Rattle.tr_surface.specs.Survivors.{corner, domain_size, leaf_survivors, survivors_by, has_survivor}
 
 -- ---- tests
 
@@ -80,8 +80,8 @@ owns_point t forest n p h = record {
     by_root (Some root) e = ap (λ (m : NodeId). spot_on t p m (node t.nodes m).kind) (same_Some _ n e)
 
 pub leaf_on : (t : Seen) (p : Point) (n : NodeId) (kind : NodeKind) (leaf : LeafId) → leaf_of kind ≡ Some leaf →
-    spot_on t p n kind ≡ spots.Leaf leaf (from_corner (domain t n) p) (side t n) t.kind
-leaf_on t p n (kinds.Leaf own shapes) leaf e = ap (λ (l : LeafId). spots.Leaf l (from_corner (domain t n) p) (side t n) t.kind) (same_Some own leaf e)
+    spot_on t p n kind ≡ spots.Leaf leaf (from_corner (domain t n) p) (domain_size t n) t.kind
+leaf_on t p n (kinds.Leaf own shapes) leaf e = ap (λ (l : LeafId). spots.Leaf l (from_corner (domain t n) p) (domain_size t n) t.kind) (same_Some own leaf e)
 leaf_on t p n kind leaf e = absurd (none-some leaf e)
 
 pub frame_on : (t : Seen) (p : Point) (n : NodeId) (kind : NodeKind) → leaf_of kind ≡ None → spot_on t p n kind ≡ spots.Frame n (node t.nodes n).tint t.kind
@@ -166,10 +166,10 @@ there k was is forests kind n o is_o was_o by p before after =
         survives k (spot_on was (before_shift p by) n (node was.nodes n).kind) (spot_on is p n (node is.nodes n).kind)
         ≡ has_survivor k (survivors_by was is by n o) (from_corner (domain is n) p)
     by_leaf (Some leaf) e f =
-        let old : Spot = spots.Leaf leaf (from_corner (domain was n) (before_shift p by)) (side was n) was.kind in
+        let old : Spot = spots.Leaf leaf (from_corner (domain was n) (before_shift p by)) (domain_size was n) was.kind in
         rw (leaf_on was (before_shift p by) n (node was.nodes n).kind leaf f, leaf_on is p n (node is.nodes n).kind leaf e)
-        (ap (λ (z : Kind). survives k old (spots.Leaf leaf (from_corner (domain is n) p) (side is n) z)) kind
-        ∙ leaves_survive k leaf p by (corner was n) (corner is n) (side was n) (side is n) was.kind)
+        (ap (λ (z : Kind). survives k old (spots.Leaf leaf (from_corner (domain is n) p) (domain_size is n) z)) kind
+        ∙ leaves_survive k leaf p by (corner was n) (corner is n) (domain_size was n) (domain_size is n) was.kind)
     by_leaf None e f =
         rw (frame_on was (before_shift p by) n (node was.nodes n).kind f, frame_on is p n (node is.nodes n).kind e)
         (ap (λ (z : Kind). survives k (spots.Frame n (node was.nodes n).tint was.kind) (spots.Frame n (node is.nodes n).tint z)) kind

@@ -12,7 +12,7 @@ use Rattle.tr_base.specs.Rects.{Edges, before_shift, has_point, whole_of}
 use Rattle.tr_region.specs.Points.{holds}
 use Rattle.tr_screen.specs.Pictures.{Picture, pixel_of}
 use Rattle.tr_paint.specs.Traces.{Base}
-use Rattle.tr_exec.specs.Executions.{placed}
+use Rattle.tr_exec.specs.Executions.{screen_point}
 use Rattle.tr_forest.specs.Nodes.{IsNode}
 use Rattle.tr_forest.specs.Forests.{IsForest}
 use Rattle.tr_tree.specs.Trees.{Seen}
@@ -55,10 +55,10 @@ frame_colour spot = 0
 -- the points of a leaf's window that are visible, in its own coordinates, and the pixels of those that aren't bad
 abbrev pub leaf_base : Shown → LeafId → Base
 leaf_base s leaf = record {
-  visible = λ q. is_in_leaf leaf (spot s.tree (placed (leaf_corner s.tree leaf) q));
+  visible = λ q. is_in_leaf leaf (spot s.tree (screen_point (leaf_corner s.tree leaf) q));
   known = λ q.
-      if is_bad s (placed (leaf_corner s.tree leaf) q) then None
-      else Some (pixel_of s.screen (placed (leaf_corner s.tree leaf) q));
+      if is_bad s (screen_point (leaf_corner s.tree leaf) q) then None
+      else Some (pixel_of s.screen (screen_point (leaf_corner s.tree leaf) q));
 }
 
 -- the rectangle, in the coordinates of a leaf's window, has each bad visible point of the leaf

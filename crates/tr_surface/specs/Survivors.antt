@@ -31,25 +31,25 @@ abbrev pub corner : Seen → NodeId → Point
 corner t n = corner_of (domain t n)
 
 -- the size of a node's domain
-abbrev pub side : Seen → NodeId → Size
-side t n = size_of (domain t n)
+abbrev pub domain_size : Seen → NodeId → Size
+domain_size t n = size_of (domain t n)
 
 -- no move
 abbrev pub unmoved : Point
 unmoved = record { h = pos 0; v = pos 0 }
 
 -- a change of the tree: the tree before and after it, the child that it moves, if it moves one, and the points that were bad
-pub record Change : Type 0 where
+pub record TreeEdit : Type 0 where
   pub was : Seen
   pub is : Seen
   pub moved : Option NodeId
   pub bad : Point → Bool
 
-abbrev pub change : Seen → Seen → Option NodeId → (Point → Bool) → Change
+abbrev pub change : Seen → Seen → Option NodeId → (Point → Bool) → TreeEdit
 change was is moved bad = record { was = was; is = is; moved = moved; bad = bad }
 
 -- the change of what is shown to another tree
-abbrev pub change_to : Shown → Seen → Option NodeId → Change
+abbrev pub change_to : Shown → Seen → Option NodeId → TreeEdit
 change_to s is moved = change s.tree is moved (is_bad s)
 
 -- how far the points of a node move, if this child is moved
@@ -58,7 +58,7 @@ way_from was is None n = unmoved
 way_from was is (Some child) n = if is_under is.nodes child n then way_of was is child else unmoved
 
 -- how far a change moves a node
-abbrev pub way_by : Change → NodeId → Point
+abbrev pub way_by : TreeEdit → NodeId → Point
 way_by c n = way_from c.was c.is c.moved n
 
 -- a leaf keeps nothing unless its corner moves as its points do
@@ -69,7 +69,7 @@ leaf_survivors true leaf from to = if same_size from to then variants.All else v
 -- which points survive of a node whose points move so far, for a leaf or for a frame
 abbrev pub survivors_by : Seen → Seen → Point → NodeId → Option LeafId → Survivors
 survivors_by was is by n (Some leaf) =
-    leaf_survivors (same_point (before_shift (corner is n) by) (corner was n)) leaf (side was n) (side is n)
+    leaf_survivors (same_point (before_shift (corner is n) by) (corner was n)) leaf (domain_size was n) (domain_size is n)
 survivors_by was is by n None =
     if (node was.nodes n).tint == (node is.nodes n).tint then variants.All else variants.Nothing
 
@@ -93,7 +93,7 @@ abbrev pub good_at : Keeping → Seen → Seen → Option NodeId → List (List 
 good_at k was is moved good n p = goes_on k was is moved good n p && is_spot_of is n (spot is p)
 
 -- a point is good after a change
-abbrev pub good_by : Keeping → Change → Point → Bool
+abbrev pub good_by : Keeping → TreeEdit → Point → Bool
 good_by k c p =
     let s = source_by c.was c.is c.moved p in
     is_on c.is p && is_on c.was s && not (c.bad s) && survives k (spot c.was s) (spot c.is p)
@@ -121,7 +121,7 @@ is_below_moved t None p = false
 is_below_moved t (Some child) p = is_below t.nodes child (spot t p)
 
 -- the point lies below the child that is moved
-abbrev pub is_carried : Change → Point → Bool
+abbrev pub is_carried : TreeEdit → Point → Bool
 is_carried c p = is_below_moved c.is c.moved p
 
 -- how far the moved child moves
@@ -135,11 +135,11 @@ IsFitting leaves (variants.Kept leaf from to) = (leaf.0 < leaves) × IsWindowSiz
 IsFitting leaves survivors = ⊤
 
 -- a point is bad after a change
-abbrev pub bad_by : Keeping → Change → Point → Bool
+abbrev pub bad_by : Keeping → TreeEdit → Point → Bool
 bad_by k c p = is_on c.is p && not (good_by k c p)
 
 -- a point is good after a change, and follows the child that is moved
-abbrev pub follows_by : Keeping → Change → Point → Bool
+abbrev pub follows_by : Keeping → TreeEdit → Point → Bool
 follows_by k c p = is_carried c p && good_by k c p
 
 -- an edit changes neither the number of nodes nor which of them are leaves
@@ -163,7 +163,7 @@ pub record IsFitted (t : Seen) (old new : Picture) : Type 0 where
       has_point (whole_of old.size) p ≡ true → is_on t p ≡ true → pixel_of new p ≡ pixel_of old p
 
 -- the good points of all nodes after a change: each node has some of its own
-pub record AreGoodAfter (k : Keeping) (c : Change) (good : List (List Edges)) : Type 0 where
+pub record AreGoodAfter (k : Keeping) (c : TreeEdit) (good : List (List Edges)) : Type 0 where
   pub own : AreOwn c.is good
   pub any : (p : Point) → any_holds good p ≡ good_by k c p
 

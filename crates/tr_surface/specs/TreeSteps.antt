@@ -105,5 +105,5 @@ good_after k was is edit bad p =
     is_on is p && is_on was s && not (bad s) && survives k (spot was s) (spot is p)
 
 -- the bad points after an edit: all points of the new screen that aren't good
-abbrev pub bad_after : Keeping → Seen → Seen → Edit → (Point → Bool) → Point → Bool
-bad_after k was is edit bad p = is_on is p && not (good_after k was is edit bad p)
+abbrev pub bad_after_edit : Keeping → Seen → Seen → Edit → (Point → Bool) → Point → Bool
+bad_after_edit k was is edit bad p = is_on is p && not (good_after k was is edit bad p)

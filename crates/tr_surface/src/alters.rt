@@ -7,7 +7,7 @@ ghost use Rattle.tr_forest.specs.Edits.{IsCause, IsEdit, refusal};
 ghost use Rattle.tr_tree.specs.Trees.{edited_tree};
 ghost use Rattle.tr_spot.specs.Leaves.{same_kind};
 ghost use Rattle.tr_surface.specs.Surfaces.{is_bad};
-ghost use Rattle.tr_surface.specs.TreeSteps.{bad_after, child_of as spec_child, first_node, good_after, moved_child as spec_moved, source};
+ghost use Rattle.tr_surface.specs.TreeSteps.{bad_after_edit, child_of as spec_child, first_node, good_after, moved_child as spec_moved, source};
 ghost use Rattle.tr_surface.specs.TreeChanges.{IsCover};
 ghost use Rattle.tr_surface.specs.Survivors as spec;
 
@@ -34,7 +34,7 @@ impl Surface {
         ensures was { IfOk result (λ tree. tree ≡ self.old.tree) }
         ensures tree { OnOk result (self.new.tree ≡ edited_tree self.old.tree edit.now) }
         ensures bad { OnOk result ((p : Point) → is_bad self.new p ≡
-            bad_after (K.keeping keeper.now) self.old.tree self.new.tree edit.now (is_bad self.old) p) }
+            bad_after_edit (K.keeping keeper.now) self.old.tree self.new.tree edit.now (is_bad self.old) p) }
         ensures pixels { OnOk result ((p : Point) →
             good_after (K.keeping keeper.now) self.old.tree self.new.tree edit.now (is_bad self.old) p
             ≡ true →

@@ -5,7 +5,7 @@ ghost use Rattle.tr_base.specs.Layouts.{IsPartOf};
 ghost use Rattle.tr_region.specs.Points.{holds};
 ghost use Rattle.tr_forest.specs.Nodes.{leaf_count};
 ghost use Rattle.tr_spot.specs.Spots.{spot, is_in_leaf};
-ghost use Rattle.tr_repair.specs.Near.{IsStep};
+ghost use Rattle.tr_repair.specs.Near.{IsDistance};
 ghost use Rattle.tr_exec.specs.Executions.{IsOrigin};
 ghost use Rattle.tr_surface.specs.Counts.{count_on};
 ghost use Rattle.tr_surface.specs.Surfaces.{HasBadPoints, is_bad, is_frame, back_from};
@@ -118,7 +118,7 @@ fn holds_some(region: Region) -> bool
 fn opposite(origin: Point) -> Point
     requires { IsOrigin origin }
     ensures value { result ≡ back_from origin }
-    ensures near { IsStep result }
+    ensures near { IsDistance result }
 {
     Point {
         h: -origin.h,

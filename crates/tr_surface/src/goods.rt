@@ -4,7 +4,7 @@ ghost use Rattle.tr_base.specs.declared.NodeId.{NodeId};
 ghost use Rattle.tr_base.specs.Rects.{InReach, before_shift, has_point};
 ghost use Rattle.tr_base.specs.Layouts.{IsDomain};
 ghost use Rattle.tr_region.specs.Points.{holds};
-ghost use Rattle.tr_repair.specs.Near.{IsAround, IsStep};
+ghost use Rattle.tr_repair.specs.Near.{IsAround, IsDistance};
 ghost use Rattle.tr_paint.specs.Batches.{touches};
 ghost use Rattle.tr_forest.specs.Nodes.{IsNode, leaf_count, leaf_of, node};
 ghost use Rattle.tr_tree.specs.Places.{domain};
@@ -113,7 +113,7 @@ impl TreeChange<'_> {
     pub fn way(&self, n: NodeId) -> Point
         requires { IsNode self.now.is.now.nodes n }
         ensures value { let s = self.now in result ≡ way_from s.was.now s.is.now s.moved n }
-        ensures near { IsStep result }
+        ensures near { IsDistance result }
     {
         match self.moved {
             Some(child) if self.is.is_under(child, n) => way_of(self.was, self.is, child),
@@ -124,7 +124,7 @@ impl TreeChange<'_> {
     /// Which points of a node that moves so far show what they showed.
     fn survivors(&self, n: NodeId, by: Point) -> Survivors
         requires node { IsNode self.now.is.now.nodes n }
-        requires by { IsStep by }
+        requires by { IsDistance by }
         ensures value { result ≡ survivors_from self.now.was.now self.now.is.now by n }
         ensures fits { IsFitting (leaf_count self.now.was.now.nodes) result }
     {
@@ -144,7 +144,7 @@ impl TreeChange<'_> {
         survivors: Survivors,
     ) -> Result<Region, NoMemory>
         requires node { IsNode self.now.is.now.nodes n }
-        requires by { IsStep by }
+        requires by { IsDistance by }
         requires fits { IsFitting (K.leaves keeper.now) survivors }
         ensures { let s = self.now in IfOk result (λ r. (p : Point) →
             holds r p ≡ holds (region_of s.good.now n) (before_shift p by)
@@ -169,7 +169,7 @@ impl TreeChange<'_> {
     /// Where the good points of a node come to.
     fn moved_along(&self, n: NodeId, by: Point) -> Result<Region, NoMemory>
         requires node { IsNode self.now.is.now.nodes n }
-        requires by { IsStep by }
+        requires by { IsDistance by }
         ensures { IfOk result (λ r. (p : Point) →
             holds r p ≡ holds (region_of self.now.good.now n) (before_shift p by)) }
     {
@@ -268,7 +268,7 @@ pub(crate) fn way_of(was: &Tree, is: &Tree, child: NodeId) -> Point
     requires was { IsNode was.now.nodes child }
     requires is { IsNode is.now.nodes child }
     ensures value { result ≡ way_of was.now is.now child }
-    ensures near { IsStep result }
+    ensures near { IsDistance result }
 {
     let from = was.domain(child);
     let to = is.domain(child);
@@ -286,7 +286,7 @@ fn is_nowhere(by: Point) -> bool
 fn leaf_survivors(leaf: LeafId, was: &Rect, is: &Rect, by: Point) -> Survivors
     requires was { IsDomain was.now }
     requires is { IsDomain is.now }
-    requires by { IsStep by }
+    requires by { IsDistance by }
     ensures value { let stays = same_point (before_shift (corner_of is.now) by) (corner_of was.now) in
         result ≡ leaf_survivors stays leaf (spec_size was.now) (spec_size is.now) }
     ensures fits { (leaves : ℕ) → leaf.0 < leaves → IsFitting leaves result }
@@ -306,7 +306,7 @@ fn leaf_survivors(leaf: LeafId, was: &Rect, is: &Rect, by: Point) -> Survivors
 fn comes_to(old: Point, new: Point, by: Point) -> bool
     requires across { InReach new.h }
     requires down { InReach new.v }
-    requires by { IsStep by }
+    requires by { IsDistance by }
     ensures { result ≡ same_point (before_shift new by) old }
 {
     new.h - by.h == old.h && new.v - by.v == old.v

@@ -15,14 +15,14 @@ use Rattle.tr_base.specs.Layouts.{longest, farthest, turned, placed, places_by, 
 use Rattle.tr_base.proofs.LayoutLemmas.{by_rect_of, empty_is_rect, near_part, turned-rect_of, all_places, part_itself}
 use Rattle.tr_base.proofs.RectFacts.{rect_of-full}
 use Rattle.tr_hv.specs.Places as hv
-use Rattle.tr_hv.specs.Places.{place_of, start_of, length_of}
+use Rattle.tr_hv.specs.Places.{place_of, child_start, length_of}
 use Rattle.tr_hv.proofs.HvLemmas.{place_part, place_empty}
 use Rattle.tr_stack.specs.Stacks.{t_place, t_places, page_place, page_places, z_places}
 use Rattle.tr_stack.proofs.StackLemmas.{by_t_place, t_empty, z_empty, by_page_place, page_part, page_empty}
 use Rattle.tr_filter.specs.Filters.{border_place}
 use Rattle.tr_filter.proofs.FilterLemmas.{border_part, border_empty}
 use Rattle.tr_pack.specs.Packs as packs
-use Rattle.tr_pack.specs.Packs.{pack_places, room_of, start_in_row, row_start}
+use Rattle.tr_pack.specs.Packs.{pack_places, room_of, start_in_row, start_of_row}
 use Rattle.tr_pack.specs.Cuts.{cut, extents}
 use Rattle.tr_pack.proofs.ApartLemmas.{all_of_places, pack_part, pack_empty}
 use Rattle.tr_forest.specs.declared.NodeKind.{NodeKind}
@@ -30,26 +30,26 @@ use Rattle.tr_forest.specs.declared.NodeKind.TheVariants as kinds
 use Rattle.tr_forest.specs.Nodes.{IsNodeKind}
 use Rattle.tr_forest.specs.Edits.{IsScreenSize}
 use Rattle.tr_tree.specs.Places.{places_of, shown_index}
-use Rattle.tr_tree.specs.Laying.{IsOwn, Fits, IsAt}
+use Rattle.tr_tree.specs.Laying.{IsRectangle, StandsInNode, IsAt}
 
 -- ---- rectangles of their own edges
 
-pub own_empty : IsOwn empty_rect
+pub own_empty : IsRectangle empty_rect
 own_empty = record { edges = refl }
 
-pub own_rect_of : (w e n s : ℤ) → IsOwn (rect_of w e n s)
+pub own_rect_of : (w e n s : ℤ) → IsRectangle (rect_of w e n s)
 own_rect_of w e n s = by_test (int_lt w e && int_lt n s) refl
   where
-    by_test : (b : Bool) → int_lt w e && int_lt n s ≡ b → IsOwn (cond b (record { west = w; east = e; north = n; south = s }) empty_rect)
+    by_test : (b : Bool) → int_lt w e && int_lt n s ≡ b → IsRectangle (cond b (record { west = w; east = e; north = n; south = s }) empty_rect)
     by_test true h = record { edges = ap (λ t. cond t (let r : Edges = record { west = w; east = e; north = n; south = s } in r) empty_rect) h }
     by_test false h = own_empty
 
-own_turned : (down : Bool) (w e n s : ℤ) → IsOwn (turned down (rect_of w e n s))
-own_turned true w e n s = subst IsOwn (sym (turned-rect_of w e n s)) (own_rect_of n s w e)
+own_turned : (down : Bool) (w e n s : ℤ) → IsRectangle (turned down (rect_of w e n s))
+own_turned true w e n s = subst IsRectangle (sym (turned-rect_of w e n s)) (own_rect_of n s w e)
 own_turned false w e n s = own_rect_of w e n s
 
 -- a rectangle of its own edges is one, where it is a domain, or a part of one
-pub own_is_rect : (e : Edges) → IsOwn e → IsDomain e → IsRect e
+pub own_is_rect : (e : Edges) → IsRectangle e → IsDomain e → IsRect e
 own_is_rect e own d = record {
   edges = own.edges;
   reach = record {
@@ -66,7 +66,7 @@ own_is_rect e own d = record {
     high_reach : (low high : ℤ) → neg_ℤ (pos 65536) ≤ℤ low → high ≤ℤ pos 65536 → unsigned_abs (high -ℤ low) ≤ longest → InReach high
     high_reach low high h k m = record { low = grind (arith, ints); high = grind (arith, ints) }
 
-part_is_rect : (c e : Edges) → IsOwn c → IsDomain e → IsPartOf c e → IsRect c
+part_is_rect : (c e : Edges) → IsRectangle c → IsDomain e → IsPartOf c e → IsRect c
 part_is_rect c e own d (inl h) = subst IsRect (sym h) empty_is_rect
 part_is_rect c e own d (inr h) = by_test (int_lt c.west c.east && int_lt c.north c.south) refl own.edges
   where
@@ -88,24 +88,24 @@ part_is_rect c e own d (inr h) = by_test (int_lt c.west c.east && int_lt c.north
 
 -- ---- where a child is
 
-pub fits_empty : (e : Edges) → Fits e empty_rect
+pub fits_empty : (e : Edges) → StandsInNode e empty_rect
 fits_empty e = record { own = own_empty; near = inl refl }
 
-fits_part : (e c : Edges) → IsDomain e → IsOwn c → IsPartOf c e → Fits e c
+fits_part : (e c : Edges) → IsDomain e → IsRectangle c → IsPartOf c e → StandsInNode e c
 fits_part e c d own part = record { own = own; near = near_part c e (part_is_rect c e own d part) d part }
 
-fits_itself : (e : Edges) → IsOwn e → IsDomain e → Fits e e
+fits_itself : (e : Edges) → IsRectangle e → IsDomain e → StandsInNode e e
 fits_itself e own d = fits_part e e d own (part_itself e)
 
-own_preferred : (e : Edges) (by : Point) (s : Shapes) → IsOwn (preferred_place e by s)
+own_preferred : (e : Edges) (by : Point) (s : Shapes) → IsRectangle (preferred_place e by s)
 own_preferred e by s = by_test (has_points e)
   where
-    by_test : (b : Bool) → IsOwn (cond b (placed e by.h by.v (s.across.pref, s.down.pref)) empty_rect)
+    by_test : (b : Bool) → IsRectangle (cond b (placed e by.h by.v (s.across.pref, s.down.pref)) empty_rect)
     by_test true = own_rect_of (e.west +ℤ by.h) (e.west +ℤ by.h +ℤ pos s.across.pref) (e.north +ℤ by.v) (e.north +ℤ by.v +ℤ pos s.down.pref)
     by_test false = own_empty
 
 -- the greatest offset of a child is less than the greatest length
-fits_near : (e c : Edges) → IsOwn c → IsNear farthest c e → Fits e c
+fits_near : (e c : Edges) → IsRectangle c → IsNear farthest c e → StandsInNode e c
 fits_near e c own (inl h) = record { own = own; near = inl h }
 fits_near e c own (inr h) = record {
   own = own;
@@ -120,72 +120,73 @@ fits_near e c own (inr h) = record {
 }
 
 -- ---- the children of each kind of node
-each_by : (e : Edges) (place : ℕ → Edges) (count : ℕ) → ((k : ℕ) → k < count → Fits e (place k)) → All (Fits e) (places_by place count)
-each_by e place count each = all_places (Fits e) place count (places_by place count) refl each
+each_by : (e : Edges) (place : ℕ → Edges) (count : ℕ) → ((k : ℕ) → k < count → StandsInNode e (place k)) → All (StandsInNode e) (places_by place count)
+each_by e place count each = all_places (StandsInNode e) place count (places_by place count) refl each
 
-pub fits_side_by_side : (vertical : Bool) (e : Edges) (cs : List Shapes) → IsOwn e → IsDomain e → All (Fits e) (hv.places vertical e cs)
+pub fits_side_by_side : (vertical : Bool) (e : Edges) (cs : List Shapes) → IsRectangle e → IsDomain e → All (StandsInNode e) (hv.places vertical e cs)
 fits_side_by_side vertical e cs own d = each_by e (place_of vertical e cs) (length cs) (λ k lt.
     fits_part e (place_of vertical e cs k) d (own_place vertical k) (place_part vertical e cs k (own_is_rect e own d) lt))
   where
-    own_place : (vertical : Bool) (k : ℕ) → IsOwn (place_of vertical e cs k)
+    own_place : (vertical : Bool) (k : ℕ) → IsRectangle (place_of vertical e cs k)
     own_place vertical k =
         let r : Edges = turned vertical e in
         let ls : List Lengths = map (along vertical) cs in
         let room : ℕ × ℕ = sides_of r in
-        own_turned vertical (r.west +ℤ pos (start_of room.0 ls k)) (r.west +ℤ pos (start_of room.0 ls k) +ℤ pos (length_of room.0 ls k))
+        own_turned vertical (r.west +ℤ pos (child_start room.0 ls k)) (r.west +ℤ pos (child_start room.0 ls k) +ℤ pos (length_of room.0 ls k))
         (r.north +ℤ pos 0) (r.north +ℤ pos 0 +ℤ pos room.1)
 
 pub fits_over : (e : Edges) (ats : List Point) (cs : List Shapes) → All (λ (c : Edges). IsNear farthest c e) (z_places e ats cs) →
-    All (Fits e) (z_places e ats cs)
+    All (StandsInNode e) (z_places e ats cs)
 fits_over e ats cs near = λ k d lt. fits_near e (get_or (z_places e ats cs) k d) (own_places ats cs k d lt) (near k d lt)
   where
-    own_places : (ats : List Point) (cs : List Shapes) → All IsOwn (z_places e ats cs)
-    own_places [] cs = All-nil IsOwn
-    own_places (at ∷ ats) [] = All-nil IsOwn
-    own_places (at ∷ ats) (c ∷ cs) = All-cons IsOwn (preferred_place e at c) (z_places e ats cs) (own_preferred e at c) (own_places ats cs)
+    own_places : (ats : List Point) (cs : List Shapes) → All IsRectangle (z_places e ats cs)
+    own_places [] cs = All-nil IsRectangle
+    own_places (at ∷ ats) [] = All-nil IsRectangle
+    own_places (at ∷ ats) (c ∷ cs) = All-cons IsRectangle (preferred_place e at c) (z_places e ats cs) (own_preferred e at c) (own_places ats cs)
 
-pub fits_shown : (e : Edges) (shown count : ℕ) → IsOwn e → IsDomain e → All (Fits e) (t_places e shown count)
-fits_shown e shown count own d = each_by e (t_place e shown) count (λ k lt. by_t_place (Fits e) e shown k (fits_itself e own d) (fits_empty e))
+pub fits_shown : (e : Edges) (shown count : ℕ) → IsRectangle e → IsDomain e → All (StandsInNode e) (t_places e shown count)
+fits_shown e shown count own d = each_by e (t_place e shown) count (λ k lt. by_t_place (StandsInNode e) e shown k (fits_itself e own d) (fits_empty e))
 
-pub fits_pages : (e : Edges) (per page count : ℕ) → 1 ≤ per → IsOwn e → IsDomain e → All (Fits e) (page_places e per page count)
+pub fits_pages : (e : Edges) (per page count : ℕ) → 1 ≤ per → IsRectangle e → IsDomain e → All (StandsInNode e) (page_places e per page count)
 fits_pages e per page count some own d = each_by e (page_place e per page) count (λ k lt.
     fits_part e (page_place e per page k) d (own_child k) (page_part e per page k (own_is_rect e own d) some))
   where
-    own_child : (k : ℕ) → IsOwn (page_place e per page k)
+    own_child : (k : ℕ) → IsRectangle (page_place e per page k)
     own_child k =
         let i : ℕ = k % per in
         let high : ℕ = (sides_of e).1 / per in
-        by_page_place IsOwn e per page k
+        by_page_place IsRectangle e per page k
         (own_rect_of (e.west +ℤ pos 0) (e.west +ℤ pos 0 +ℤ pos (sides_of e).0) (e.north +ℤ pos (i * high)) (e.north +ℤ pos (i * high) +ℤ pos high)) own_empty
 
-pub fits_border : (e : Edges) (width : ℕ) (cs : List Shapes) → IsDomain e → All (Fits e) (map (λ s. border_place e width) cs)
-fits_border e width cs d = All-map (Fits e) (λ (s : Shapes). border_place e width) cs (λ k s lt. one)
+pub fits_border : (e : Edges) (width : ℕ) (cs : List Shapes) → IsDomain e → All (StandsInNode e) (map (λ s. border_place e width) cs)
+fits_border e width cs d = All-map (StandsInNode e) (λ (s : Shapes). border_place e width) cs (λ k s lt. one)
   where
-    one : Fits e (border_place e width)
+    one : StandsInNode e (border_place e width)
     one = fits_part e (border_place e width) d
         (own_rect_of (e.west +ℤ pos width) (e.east -ℤ pos width) (e.north +ℤ pos width) (e.south -ℤ pos width)) (border_part e width)
 
-pub fits_rigid : (e : Edges) (cs : List Shapes) → IsOwn e → IsDomain e → All (Fits e) (map (λ s. e) cs)
-fits_rigid e cs own d = All-map (Fits e) (λ (s : Shapes). e) cs (λ k s lt. fits_itself e own d)
+pub fits_rigid : (e : Edges) (cs : List Shapes) → IsRectangle e → IsDomain e → All (StandsInNode e) (map (λ s. e) cs)
+fits_rigid e cs own d = All-map (StandsInNode e) (λ (s : Shapes). e) cs (λ k s lt. fits_itself e own d)
 
 pub fits_moved : (e : Edges) (by : Point) (cs : List Shapes) → All (λ (c : Edges). IsNear farthest c e) (map (preferred_place e by) cs) →
-    All (Fits e) (map (preferred_place e by) cs)
+    All (StandsInNode e) (map (preferred_place e by) cs)
 fits_moved e by cs near = λ k d lt.
-    fits_near e (get_or (map (preferred_place e by) cs) k d) (All-map IsOwn (preferred_place e by) cs (λ i s le. own_preferred e by (get_or cs i s)) k d lt)
+    fits_near e (get_or (map (preferred_place e by) cs) k d)
+    (All-map IsRectangle (preferred_place e by) cs (λ i s le. own_preferred e by (get_or cs i s)) k d lt)
     (near k d lt)
 
-pub fits_packed : (down : Bool) (gap : ℕ) (e : Edges) (cs : List Shapes) → IsDomain e → All (Fits e) (pack_places down gap e cs)
+pub fits_packed : (down : Bool) (gap : ℕ) (e : Edges) (cs : List Shapes) → IsDomain e → All (StandsInNode e) (pack_places down gap e cs)
 fits_packed down gap e cs d = λ k r lt.
     fits_part e (get_or (pack_places down gap e cs) k r) d (own_places k r lt) (pack_part down gap e cs k r lt)
   where
-    own_places : All IsOwn (pack_places down gap e cs)
-    own_places = all_of_places IsOwn (packs.place_of down e gap) [] (cut (room_of down e) gap (extents down (room_of down e) cs)) (λ rs r x.
+    own_places : All IsRectangle (pack_places down gap e cs)
+    own_places = all_of_places IsRectangle (packs.place_in_row down e gap) [] (cut (room_of down e) gap (extents down (room_of down e) cs)) (λ rs r x.
         let t : Edges = turned down e in
-        let p : Edges = placed t (pos (start_in_row gap r)) (pos (row_start gap (sides_of t).1 rs)) (x.long, x.deep) in
+        let p : Edges = placed t (pos (start_in_row gap r)) (pos (start_of_row gap (sides_of t).1 rs)) (x.long, x.deep) in
         own_turned down (int_max t.west p.west) (int_min t.east p.east) (int_max t.north p.north) (int_min t.south p.south))
 
-pub fits_none : (e : Edges) → All (Fits e) []
-fits_none e = All-nil (Fits e)
+pub fits_none : (e : Edges) → All (StandsInNode e) []
+fits_none e = All-nil (StandsInNode e)
 
 -- ---- all children of an empty node are empty
 none_by : (place : ℕ → Edges) (count : ℕ) → ((k : ℕ) → k < count → place k ≡ empty_rect) → All (λ (c : Edges). c ≡ empty_rect) (places_by place count)
@@ -241,7 +242,7 @@ root_at size is = by_rect_of (IsAt 0) (pos 0) (pos size.wide) (pos 0) (pos size.
   high = omega (arith, is.high);
 }) (at_empty 0)
   where
-    full : pos 0 <ℤ pos size.wide → pos 0 <ℤ pos size.high → IsOwn (record { west = pos 0; east = pos size.wide; north = pos 0; south = pos size.high })
+    full : pos 0 <ℤ pos size.wide → pos 0 <ℤ pos size.high → IsRectangle (record { west = pos 0; east = pos size.wide; north = pos 0; south = pos size.high })
     full across down = record { edges = rect_of-full (pos 0) (pos size.wide) (pos 0) (pos size.high) across down }
 
 pub at_more : (far more : ℕ) (e : Edges) → far ≤ more → IsAt far e → IsAt more e
@@ -256,7 +257,7 @@ at_more far more e le h = record {
 }
 
 -- a child is at most one length further
-pub at_child : (far : ℕ) (e c : Edges) → IsAt far e → Fits e c → IsAt (far + 1) c
+pub at_child : (far : ℕ) (e c : Edges) → IsAt far e → StandsInNode e c → IsAt (far + 1) c
 at_child far e c h fits = by_near fits.near
   where
     by_near : IsNear longest c e → IsAt (far + 1) c

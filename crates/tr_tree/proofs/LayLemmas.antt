@@ -11,7 +11,7 @@ use Rattle.tr_forest.specs.Forests.{IsForest}
 use Rattle.tr_tree.specs.Trees.{Seen}
 use Rattle.tr_tree.specs.Places.{child_places, domain}
 use Rattle.tr_tree.specs.Tables.{domain_in}
-use Rattle.tr_tree.specs.Laying.{Spreads, Fits, ArePlaced, IsAt, Stands, IsLaid, Lays}
+use Rattle.tr_tree.specs.Laying.{Spreads, StandsInNode, ArePlaced, IsAt, HasDomain, IsLaid, Lays}
 use Rattle.tr_forest.proofs.FamilyLemmas.{by_id, same_id, test_apart, among_at, among_split, depth_child, depth_some, under_itself, under_split}
 use Rattle.tr_tree.proofs.KinLemmas.{place_among}
 use Rattle.tr_tree.proofs.FitLemmas.{fits_empty, all_or, at_empty, at_more, at_child, root_at}
@@ -56,14 +56,14 @@ spread_all cs places old i now le s = record { placed = λ k d lt. s.placed k d 
 
 -- ---- going down
 
-pub stands_laid : (t : Seen) → IsForest t.nodes → (n : NodeId) (table : List Edges) → Stands t n table → IsLaid t table n
+pub stands_laid : (t : Seen) → IsForest t.nodes → (n : NodeId) (table : List Edges) → HasDomain t n table → IsLaid t table n
 stands_laid t forest n table s = record { right = s.right; at = at_more (depth t.nodes n - 1) 15 (domain t n) (omega (arith, forest.depths n)) s.at }
 
 -- the children have their places
-pub child_stands : (t : Seen) → IsForest t.nodes → (n : NodeId) (places old new : List Edges) (k : ℕ) (d : NodeId) → Stands t n old →
+pub child_stands : (t : Seen) → IsForest t.nodes → (n : NodeId) (places old new : List Edges) (k : ℕ) (d : NodeId) → HasDomain t n old →
     ArePlaced t.nodes n (domain t n) (take (length (node t.nodes n).children) places) → Spreads (node t.nodes n).children places old new →
     k < length (node t.nodes n).children →
-    Stands t (get_or (node t.nodes n).children k d) new
+    HasDomain t (get_or (node t.nodes n).children k d) new
 child_stands t forest n places old new k d s are spread lt =
     let cs : List NodeId = (node t.nodes n).children in
     let c : NodeId = get_or cs k d in
@@ -71,9 +71,9 @@ child_stands t forest n places old new k d s are spread lt =
     let is : domain t c ≡ place = child_domain t forest n k d lt in
     let deep : depth t.nodes c ≡ depth t.nodes n + 1 = depth_child t.nodes n c forest (among_at cs k d lt) in
     let some : 1 ≤ depth t.nodes n = depth_some 16 t.nodes n in
-    let fit : All (Fits (domain t n)) (child_places t.nodes n (domain t n)) = subst (All (Fits (domain t n))) are.right are.fit in
+    let fit : All (StandsInNode (domain t n)) (child_places t.nodes n (domain t n)) = subst (All (StandsInNode (domain t n))) are.right are.fit in
     let far : IsAt (depth t.nodes n - 1 + 1) place = at_child (depth t.nodes n - 1) (domain t n) place s.at
-    (all_or (Fits (domain t n)) (child_places t.nodes n (domain t n)) k empty_rect fit (fits_empty (domain t n))) in
+    (all_or (StandsInNode (domain t n)) (child_places t.nodes n (domain t n)) k empty_rect fit (fits_empty (domain t n))) in
     record {
       right = spread.placed k d lt ∙ sym (get_or-take (length cs) places k empty_rect lt) ∙ ap (λ (l : List Edges). get_or l k empty_rect) are.right ∙ sym is;
       at = subst (IsAt (depth t.nodes c - 1)) (sym is) (at_more (depth t.nodes n - 1 + 1) (depth t.nodes c - 1) place (omega arith) far);
@@ -83,10 +83,10 @@ child_stands t forest n places old new k d s are spread lt =
 pub record Laying (t : Seen) (n : NodeId) (old : List Edges) (cs rest : List NodeId) (now : List Edges) : Type 0 where
   pub stays : (m : NodeId) → IsLaid t old m → IsLaid t now m
   pub here : IsLaid t now n
-  pub children : (c : NodeId) → is_among c cs ≡ true → Stands t c now
+  pub children : (c : NodeId) → is_among c cs ≡ true → HasDomain t c now
   pub done : (c m : NodeId) → is_among c cs ≡ true → is_under t.nodes c m ≡ true → IsLaid t now m ⊎ (is_among c rest ≡ true)
 
-pub laying_first : (t : Seen) → IsForest t.nodes → (n : NodeId) (places old new : List Edges) → Stands t n old →
+pub laying_first : (t : Seen) → IsForest t.nodes → (n : NodeId) (places old new : List Edges) → HasDomain t n old →
     ArePlaced t.nodes n (domain t n) (take (length (node t.nodes n).children) places) → Spreads (node t.nodes n).children places old new →
     Laying t n old (node t.nodes n).children (node t.nodes n).children new
 laying_first t forest n places old new s are spread = record {
@@ -96,10 +96,10 @@ laying_first t forest n places old new s are spread = record {
   done = λ c m h k. inr h;
 }
   where
-    child : (c : NodeId) → is_among c (node t.nodes n).children ≡ true → Stands t c new
+    child : (c : NodeId) → is_among c (node t.nodes n).children ≡ true → HasDomain t c new
     child c h =
         let at = place_among c (node t.nodes n).children h in
-        subst (λ (m : NodeId). Stands t m new) at.is (child_stands t forest n places old new at.place c s are spread at.within)
+        subst (λ (m : NodeId). HasDomain t m new) at.is (child_stands t forest n places old new at.place c s are spread at.within)
 
     by_test : (m : NodeId) → IsLaid t old m → (b : Bool) → is_among m (node t.nodes n).children ≡ b → IsLaid t new m
     by_test m h true k = stands_laid t forest m new (child m k)
@@ -108,7 +108,7 @@ laying_first t forest n places old new s are spread = record {
 -- the same with the children and the rectangle as they were read
 pub laying_from : (t : Seen) → IsForest t.nodes → (n : NodeId) (cs : List NodeId) (rect : Edges) (places old new : List Edges) →
     cs ≡ (node t.nodes n).children →
-    rect ≡ domain t n → Stands t n old → ArePlaced t.nodes n rect (take (length cs) places) → Spreads cs places old new → Laying t n old cs cs new
+    rect ≡ domain t n → HasDomain t n old → ArePlaced t.nodes n rect (take (length cs) places) → Spreads cs places old new → Laying t n old cs cs new
 laying_from t forest n cs rect places old new is here s are spread =
     subst (λ (l : List NodeId). ArePlaced t.nodes n (domain t n) (take (length l) places) → Spreads l places old new → Laying t n old l l new) (sym is)
     (λ a b. laying_first t forest n places old new s a b) (subst (λ (r : Edges). ArePlaced t.nodes n r (take (length cs) places)) here are) spread
@@ -152,7 +152,7 @@ laying_end t forest n cs i old now is le l =
 
 -- without children nothing is to be done
 pub laying_nothing : (t : Seen) → IsForest t.nodes → (n : NodeId) (cs : List NodeId) (old : List Edges) → cs ≡ (node t.nodes n).children →
-    (length cs == 0) ≡ true → Stands t n old → Lays t n old old
+    (length cs == 0) ≡ true → HasDomain t n old → Lays t n old old
 laying_nothing t forest n [] old is none s =
     laying_end t forest n [] 0 old old is (omega arith)
     (record { stays = λ m h. h; here = stands_laid t forest n old s; children = λ c h. cc; done = λ c m h k. cc })
@@ -174,7 +174,7 @@ pub laid_none : (t : Seen) → IsForest t.nodes → (table : List Edges) → t.n
 laid_none t forest table none empty n = empty_laid t table n (empty n) (loose_domain t forest (λ _. true) (no_root t.nodes none) n refl)
 
 pub root_stands : (t : Seen) → IsForest t.nodes → IsScreenSize t.size → (root : NodeId) (table : List Edges) (r : Edges) → t.nodes.root ≡ Some root →
-    root.0 < length table → r ≡ whole_of t.size → Stands t root (set table root.0 r)
+    root.0 < length table → r ≡ whole_of t.size → HasDomain t root (set table root.0 r)
 root_stands t forest size root table r is lt whole =
     let domain_is : domain t root ≡ whole_of t.size = root_domain t forest root is in
     record {

@@ -9,7 +9,7 @@ use Rattle.tr_forest.specs.declared.NodeKind.{NodeKind}
 use Rattle.tr_forest.specs.declared.NodeKind.TheVariants as kinds
 use Rattle.tr_forest.specs.declared.Edit.{Edit}
 use Rattle.tr_forest.specs.declared.Edit.TheVariants as edits
-use Rattle.tr_forest.specs.Nodes.{Nodes, Entry, IsNode, fresh, node}
+use Rattle.tr_forest.specs.Nodes.{Nodes, Entry, IsNode, new_entry, node}
 use Rattle.tr_forest.specs.Edits.{IsEdit, edited, is_root}
 use Rattle.tr_forest.proofs.FamilyLemmas.{by_id}
 use Rattle.tr_forest.proofs.Editing.{count_edited}
@@ -36,11 +36,11 @@ alike_itself t = record { count = refl; root = refl; kinds = λ n. refl; ats = �
 
 -- a part of the entries that a change of one of them leaves as it is
 pub part_same : {X : Type 0} (f : Entry → X) (t : Nodes) (n : NodeId) (e : Entry) (m : NodeId) → IsNode t n → f e ≡ f (node t n) →
-    f (get_or (set t.entries n.0 e) m.0 (fresh kinds.H 0)) ≡ f (node t m)
+    f (get_or (set t.entries n.0 e) m.0 (new_entry kinds.H 0)) ≡ f (node t m)
 part_same f t n e m inside same = by_id m n
-    (λ is. subst (λ (k : NodeId). f (get_or (set t.entries n.0 e) k.0 (fresh kinds.H 0)) ≡ f (node t k)) (sym is)
-    (ap f (get_or-set_same t.entries n.0 e (fresh kinds.H 0) inside.within) ∙ same))
-    (λ other. ap f (get_or-set_other t.entries n.0 m.0 e (fresh kinds.H 0) (numbers_apart m n other)))
+    (λ is. subst (λ (k : NodeId). f (get_or (set t.entries n.0 e) k.0 (new_entry kinds.H 0)) ≡ f (node t k)) (sym is)
+    (ap f (get_or-set_same t.entries n.0 e (new_entry kinds.H 0) inside.within) ∙ same))
+    (λ other. ap f (get_or-set_other t.entries n.0 m.0 e (new_entry kinds.H 0) (numbers_apart m n other)))
 
 -- a new tint
 pub tinted_alike : (t : Nodes) (n : NodeId) (tint : ℕ) → IsNode t n → AreAlike t (edited t (edits.Tint n tint))
@@ -145,9 +145,9 @@ shapes_rooted t u n l is has = subst (λ (w : Nodes). HasShapes w l) (sym is)
     (record { each = λ m. has.each m ∙ sym (shapes_same t (record t { root = Some n }) (λ k. refl) (λ k. refl) m) })
 
 -- there is one more node, and one more place
-pub places_for_added : (t u : Nodes) (kind : NodeKind) (tint : ℕ) (before l : Layout) → u ≡ record t { entries = t.entries ++ fresh kind tint ∷ [] } →
+pub places_for_added : (t u : Nodes) (kind : NodeKind) (tint : ℕ) (before l : Layout) → u ≡ record t { entries = t.entries ++ new_entry kind tint ∷ [] } →
     ((count : ℕ) → HavePlaces count before → HavePlaces (count + 1) l) → HavePlaces (length t.entries) before → HavePlaces (length u.entries) l
 places_for_added t u kind tint before l is more places =
     subst (λ (k : ℕ). HavePlaces k l)
-    (sym (ap (λ (w : Nodes). length w.entries) is ∙ length-append t.entries (fresh kind tint ∷ [])))
+    (sym (ap (λ (w : Nodes). length w.entries) is ∙ length-append t.entries (new_entry kind tint ∷ [])))
     (more (length t.entries) places)

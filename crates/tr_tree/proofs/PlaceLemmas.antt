@@ -18,17 +18,17 @@ use Rattle.tr_forest.proofs.FamilyLemmas.{among_at, child_is_node}
 use Rattle.tr_tree.specs.Wishes.{shape}
 use Rattle.tr_tree.specs.Tables.{shape_in}
 use Rattle.tr_tree.specs.Places.{places_of}
-use Rattle.tr_tree.specs.Laying.{offsets_of, Fits, IsParent, ArePlaced}
+use Rattle.tr_tree.specs.Laying.{offsets_of, StandsInNode, IsParent, ArePlaced}
 
 -- what is placed by the node's kind and its children's shapes
 pub placed_by : (t : Nodes) (n : NodeId) (e : Edges) (shapes : List Shapes) (kind : NodeKind) (places : List Edges) → IsParent t n e shapes →
     kind ≡ (node t n).kind →
     places ≡ places_of kind (node t n).children (offsets_of t n) shapes e →
-    All (Fits e) (places_of kind (node t n).children (offsets_of t n) shapes e) → ArePlaced t n e places
+    All (StandsInNode e) (places_of kind (node t n).children (offsets_of t n) shapes e) → ArePlaced t n e places
 placed_by t n e shapes kind places parent is are fit = record {
   right = are ∙ ap (λ (s : List Shapes). places_of kind (node t n).children (offsets_of t n) s e) parent.shapes_are
       ∙ ap (λ (k : NodeKind). places_of k (node t n).children (offsets_of t n) (map (shape t) (node t n).children) e) is;
-  fit = All-same (Fits e) _ _ are fit;
+  fit = All-same (StandsInNode e) _ _ are fit;
 }
 
 pub same_count : (t : Nodes) (n : NodeId) (e : Edges) (shapes : List Shapes) → IsParent t n e shapes → length shapes ≡ length (node t n).children

@@ -44,12 +44,12 @@ pub record Spreads (cs : List NodeId) (places old new : List Edges) : Type 0 whe
   pub others : (m : NodeId) → is_among m cs ≡ false → domain_in new m ≡ domain_in old m
 
 -- it is the rectangle of its edges
-pub record IsOwn (e : Edges) : Type 0 where
+pub record IsRectangle (e : Edges) : Type 0 where
   pub edges : rect_of e.west e.east e.north e.south ≡ e
 
 -- a child is near its node, and the rectangle of its edges
-pub record Fits (e c : Edges) : Type 0 where
-  pub own : IsOwn c
+pub record StandsInNode (e c : Edges) : Type 0 where
+  pub own : IsRectangle c
   pub near : IsNear longest c e
 
 -- where a node's children stand, if it is a Z
@@ -60,18 +60,18 @@ offsets_of t n = map (λ c. (node t c).at) (node t n).children
 pub record IsParent (t : Nodes) (n : NodeId) (e : Edges) (shapes : List Shapes) : Type 0 where
   pub forest : IsForest t
   pub is_node : IsNode t n
-  pub own : IsOwn e
+  pub own : IsRectangle e
   pub small : IsDomain e
   pub shapes_are : shapes ≡ map (shape t) (node t n).children
 
 -- these are the places of a node's children, by its rectangle
 pub record ArePlaced (t : Nodes) (n : NodeId) (e : Edges) (places : List Edges) : Type 0 where
   pub right : places ≡ child_places t n e
-  pub fit : All (Fits e) places
+  pub fit : All (StandsInNode e) places
 
 -- so many lengths away from the corner of the screen, each way
 pub record IsAt (far : ℕ) (e : Edges) : Type 0 where
-  pub own : IsOwn e
+  pub own : IsRectangle e
   pub west : neg_ℤ (pos (longest * far)) ≤ℤ e.west
   pub east : e.west ≤ℤ pos (longest * far)
   pub north : neg_ℤ (pos (longest * far)) ≤ℤ e.north
@@ -80,7 +80,7 @@ pub record IsAt (far : ℕ) (e : Edges) : Type 0 where
   pub high : (sides_of e).1 ≤ longest
 
 -- the table has the domain of a node, which is at most one length further away than its parent's
-pub record Stands (t : Seen) (n : NodeId) (table : List Edges) : Type 0 where
+pub record HasDomain (t : Seen) (n : NodeId) (table : List Edges) : Type 0 where
   pub right : domain_in table n ≡ domain t n
   pub at : IsAt (depth t.nodes n - 1) (domain t n)
 

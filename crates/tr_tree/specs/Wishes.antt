@@ -23,8 +23,8 @@ only_child (c ∷ cs) = c
 
 -- the shapes of a node by its children's
 abbrev pub shape_of : NodeKind → List Shapes → Shapes
-shape_of kinds.H cs = hv.shape false cs
-shape_of kinds.V cs = hv.shape true cs
+shape_of kinds.H cs = hv.hv_shape false cs
+shape_of kinds.V cs = hv.hv_shape true cs
 shape_of kinds.Z cs = max_shape cs
 shape_of (kinds.T shown) cs = max_shape cs
 shape_of (kinds.Page per page) cs = page_shape per cs

@@ -9,7 +9,7 @@ ghost use Rattle.tr_forest.specs.Forests.{IsForest};
 ghost use Rattle.tr_tree.specs.Wishes.{shape};
 ghost use Rattle.tr_tree.specs.Places.{index_of, shown_index, child_places, domain};
 ghost use Rattle.tr_tree.specs.Tables.{shape_in, domain_in};
-ghost use Rattle.tr_tree.specs.Laying.{on_screen, laid, offsets_of, IsPlan, HasRoom, Spreads, IsParent, ArePlaced, Stands, Lays};
+ghost use Rattle.tr_tree.specs.Laying.{on_screen, laid, offsets_of, IsPlan, HasRoom, Spreads, IsParent, ArePlaced, HasDomain, Lays};
 
 use crate::rooms::Room;
 use tr_base::{NodeId, Point, Rect, Shapes, Size, empty_place, preferred_place, whole};
@@ -63,7 +63,7 @@ fn lay(plan: &Plan<'_>, n: NodeId, room: &mut Room, domains: &mut Vec<Rect>)
     requires node { IsNode plan.now.forest.now n }
     requires room { HasRoom plan.now.forest.now room.old }
     requires count { length domains.old.items ≡ length plan.now.forest.now.entries }
-    requires own { Stands (laid plan.now.forest.now plan.now.size) n domains.old.items }
+    requires own { HasDomain (laid plan.now.forest.now plan.now.size) n domains.old.items }
     ensures lays { Lays (laid plan.now.forest.now plan.now.size) n domains.old.items domains.new.items }
     ensures room { HasRoom plan.now.forest.now room.new }
     ensures count { length domains.new.items ≡ length plan.now.forest.now.entries }

@@ -2,7 +2,7 @@ ghost use Rattle.std.specs.Prelude.{◌≡◌, ◌<◌, ◌++◌, ◌∷◌, [],
 ghost use Rattle.tr_base.specs.declared.NodeId.{NodeId};
 ghost use Rattle.tr_base.specs.Rects.{whole_of};
 ghost use Rattle.tr_base.specs.Layouts.{IsDomain};
-ghost use Rattle.tr_forest.specs.Nodes.{node, fresh, IsNode, IsNodeKind, IsNextLeaf, shown_by, leaf_of, leaf_count, node_of};
+ghost use Rattle.tr_forest.specs.Nodes.{node, new_entry, IsNode, IsNodeKind, IsNextLeaf, shown_by, leaf_of, leaf_count, node_of};
 ghost use Rattle.tr_forest.specs.Families.{is_under};
 ghost use Rattle.tr_forest.specs.Forests.{IsForest};
 ghost use Rattle.tr_forest.specs.Edits.{IsEdit, IsCause, IsScreenSize, refusal, wants_memory, is_root};
@@ -67,7 +67,7 @@ impl Tree {
         requires leaf { IsNextLeaf self.old.nodes kind }
         ensures id { IfOk result (λ n. n.0 ≡ length self.old.nodes.entries) }
         ensures ok { OnOk result (self.new ≡ record self.old {
-          nodes = record self.old.nodes { entries = self.old.nodes.entries ++ fresh kind tint ∷ [] };
+          nodes = record self.old.nodes { entries = self.old.nodes.entries ++ new_entry kind tint ∷ [] };
         }) }
         ensures err { OnErr result (self.new ≡ self.old) }
     {

@@ -7,7 +7,7 @@ use Rattle.std.proofs.lemmas.Option.{slice_get-map, slice_get_within, slice_get_
 use Rattle.tr_base.specs.declared.LeafId.{LeafId}
 use Rattle.tr_client.specs.declared.clients.Client.{Ghosts}
 use Rattle.tr_machine.specs.States.{changed_at}
-use Rattle.tr_windows.specs.Presents.{Present, idle, content_at, batch_in, batch_at}
+use Rattle.tr_windows.specs.Presents.{Present, with_empty_batch, content_at, waiting_batch, batch_at}
 use Rattle.tr_windows.specs.Promises.{AreWindows}
 use Rattle.tr_windows.proofs.ChangeLemmas.{changed-all, changed-length}
 
@@ -20,13 +20,13 @@ held_changed client f ws i held new = record {
 }
 
 -- windows of contents
-pub held_idle : {C M : Type 0} (client : Ghosts C M) (xs : List C) → length xs ≤ 32 → All client.valid xs → AreWindows client (map idle xs)
+pub held_idle : {C M : Type 0} (client : Ghosts C M) (xs : List C) → length xs ≤ 32 → All client.valid xs → AreWindows client (map with_empty_batch xs)
 held_idle {C} {M} client xs few valid = record {
-  few = rw (length-map xs idle) few;
-  contents = λ n w h. by_place n w (slice_get xs n) refl (sym (slice_get-map idle xs n) ∙ h);
+  few = rw (length-map xs with_empty_batch) few;
+  contents = λ n w h. by_place n w (slice_get xs n) refl (sym (slice_get-map with_empty_batch xs n) ∙ h);
 }
   where
-    by_place : (n : ℕ) (w : Present C) (o : Option C) → slice_get xs n ≡ o → option_map idle o ≡ Some w → client.valid w.content
+    by_place : (n : ℕ) (w : Present C) (o : Option C) → slice_get xs n ≡ o → option_map with_empty_batch o ≡ Some w → client.valid w.content
     by_place n w None e h = cc
     by_place n w (Some x) e h =
         let is : x ≡ w.content = cc in
@@ -42,7 +42,7 @@ pub record IsAt {C : Type 0} (ws : List (Present C)) (leaf : LeafId) (w : Presen
 pub is_at : {C : Type 0} (ws : List (Present C)) (leaf : LeafId) (w : Present C) → leaf.0 < length ws → w ≡ get_or ws leaf.0 w → IsAt ws leaf w
 is_at ws leaf w low at =
     let is : slice_get ws leaf.0 ≡ Some w = slice_get_read ws (length ws) leaf.0 w refl low at in
-    record { is = is; content = ap (λ o. option_map (λ v. v.content) o) is; batch = ap batch_in is }
+    record { is = is; content = ap (λ o. option_map (λ v. v.content) o) is; batch = ap waiting_batch is }
 
 -- what was read is the window at the place
 pub read_is : {A : Type 0} (ws : List A) (i n : ℕ) (v w : A) → v ≡ get_or ws i v → i ≡ n → slice_get ws n ≡ Some w → v ≡ w
@@ -50,7 +50,7 @@ read_is ws i n v w is at some = is ∙ ap (λ k. get_or ws k v) at ∙ get_or_fr
 
 -- one content more
 pub idle_more : {C : Type 0} (xs : List C) (n : ℕ) (x : C) → slice_get xs n ≡ Some x →
-    map idle (take (n + 1) xs) ≡ map idle (take n xs) ++ idle x ∷ []
+    map with_empty_batch (take (n + 1) xs) ≡ map with_empty_batch (take n xs) ++ with_empty_batch x ∷ []
 idle_more xs n x is =
-    ap (λ ys. map idle ys) (take_more xs n x (slice_get_within xs n x is) ∙ ap (λ y. take n xs ++ y ∷ []) (get_or_from_slice_get xs n x x is))
-    ∙ map-append idle (take n xs) (x ∷ [])
+    ap (λ ys. map with_empty_batch ys) (take_more xs n x (slice_get_within xs n x is) ∙ ap (λ y. take n xs ++ y ∷ []) (get_or_from_slice_get xs n x x is))
+    ∙ map-append with_empty_batch (take n xs) (x ∷ [])

@@ -14,7 +14,7 @@ use Rattle.tr_paint.specs.declared.Scrolls.{Scrolls}
 use Rattle.tr_paint.specs.declared.Scrolls.TheVariants.{Absent, Alike, Various}
 use Rattle.tr_paint.specs.Paints.{area, is_opaque, op_at}
 use Rattle.tr_paint.specs.Sums.{IsOneOf, AreScrolls, is_spoil, has_spoil}
-use Rattle.tr_paint.specs.Traces.{Look, Base, Keep, Value, Change, deed, deed_within, done, after}
+use Rattle.tr_paint.specs.Traces.{Look, Base, Keep, Value, Change, deed, deed_within, after_deed, after}
 use Rattle.tr_paint.proofs.TraceLemmas.{after-last}
 use Rattle.tr_windows.specs.declared.exposures.Exposure.{Exposure}
 use Rattle.tr_windows.specs.Losses.{BringsOwn, Spares}
@@ -34,7 +34,7 @@ module _ (e : Exposure) (look : Look) (cs : List Paint) (keeps : LosesNothingOf 
 
     -- a pixel is given, or what is there is changed
     given : (c : Paint) (opaque : Bool) →
-        is_none (done look.kind (cond opaque (Value (eff look.kind (op_at look.font c q) 0)) (Change (op_at look.font c q))) before q) ≡ false
+        is_none (after_deed look.kind (cond opaque (Value (eff look.kind (op_at look.font c q) 0)) (Change (op_at look.font c q))) before q) ≡ false
     given c true = refl
     given c false = changed look.kind (op_at look.font c q) (before q) (keeps base whole q seen known)
 
@@ -47,7 +47,7 @@ module _ (e : Exposure) (look : Look) (cs : List Paint) (keeps : LosesNothingOf 
         keeps base whole r (all.visible r ∙ within) (all.known r within)
 
     -- within its area
-    inside : (c : Paint) → Spares e c → has_point (area c) q ≡ true → is_none (done look.kind (deed_within look c q) before q) ≡ false
+    inside : (c : Paint) → Spares e c → has_point (area c) q ≡ true → is_none (after_deed look.kind (deed_within look c q) before q) ≡ false
     inside (Tint clip op) spares has = given (Tint clip op) (is_opaque (Tint clip op))
     inside (Texture clip ops tile delta) spares has = given (Texture clip ops tile delta) (is_opaque (Texture clip ops tile delta))
     inside (Pixels clip src delta) spares has = given (Pixels clip src delta) (is_opaque (Pixels clip src delta))
@@ -56,17 +56,17 @@ module _ (e : Exposure) (look : Look) (cs : List Paint) (keeps : LosesNothingOf 
     inside (Spoil clip) spares has = absurd spares
 
     -- one command
-    one : (c : Paint) → Spares e c → is_none (done look.kind (deed look c q) before q) ≡ false
+    one : (c : Paint) → Spares e c → is_none (after_deed look.kind (deed look c q) before q) ≡ false
     one c spares = by_area (has_point (area c) q) refl
       where
-        by_area : (b : Bool) → has_point (area c) q ≡ b → is_none (done look.kind (cond b (deed_within look c q) Keep) before q) ≡ false
+        by_area : (b : Bool) → has_point (area c) q ≡ b → is_none (after_deed look.kind (cond b (deed_within look c q) Keep) before q) ≡ false
         by_area true has = inside c spares has
         by_area false out = keeps base whole q seen known
 
   -- one more command that spares what is known
   pub loses-more : (c : Paint) → Spares e c → LosesNothingOf e look (cs ++ c ∷ [])
   loses-more c spares base whole q seen known =
-      ap is_none (after-last look base cs c q ∙ ap (λ b. cond b (done look.kind (deed look c q) (λ r. after look base cs r) q) None) seen)
+      ap is_none (after-last look base cs c q ∙ ap (λ b. cond b (after_deed look.kind (deed look c q) (λ r. after look base cs r) q) None) seen)
       ∙ one base whole q seen known c spares
 
 -- no command loses nothing

@@ -22,13 +22,13 @@ use Rattle.tr_mail.specs.Deliveries.{is_reshaped}
 use Rattle.tr_journal.specs.declared.items.Item.{Item}
 use Rattle.tr_journal.specs.Openings.{contents_of}
 use Rattle.tr_machine.specs.Windows as windows
-use Rattle.tr_machine.specs.Windows.{Change, Command, Mark, Window, fresh, with_change, updated, content, content_after, paints_of, paints_from}
+use Rattle.tr_machine.specs.Windows.{Change, Command, Mark, Window, fresh, with_change, updated, content, changed_content, paints_of, paints_from}
 use Rattle.tr_machine.specs.States as states
-use Rattle.tr_machine.specs.States.{State, start, look, window_of, changed_at, content_of, batch_of}
+use Rattle.tr_machine.specs.States.{State, start, look, window_of, changed_at, content_of, leaf_batch}
 use Rattle.tr_machine.specs.Paintings.{acted, marked, flushed, repainted}
 use Rattle.tr_machine.specs.Edits.{altered, keeping, keeps_in, refitted_from}
 use Rattle.tr_machine.specs.Pictures.{waiting_count}
-use Rattle.tr_windows.specs.Presents.{Present, idle, cleared, mark_on, act_on, refitted, cleared_from, content_at, batch_in, batch_at, kept_in, kept_by, present, presents_from, presents}
+use Rattle.tr_windows.specs.Presents.{Present, with_empty_batch, without_batch, mark_on, act_on, refitted, cleared_from, content_at, waiting_batch, batch_at, kept_in, kept_by, present, presents_from, presents}
 use Rattle.tr_windows.specs.Promises.{Keeps, waiting_in}
 use Rattle.tr_windows.proofs.ShapeLemmas.{same_shape}
 
@@ -43,23 +43,23 @@ same_held x y a b p q = rw (p, q) refl
 
 -- the content after one change more
 pub content_more : {C M : Type 0} (client : Ghosts C M) (change : Change M) (w : Window C M) →
-    content client (with_change change w) ≡ content_after client (content client w) change
-content_more client change w = fold-append (content_after client) w.shown w.made (change ∷ [])
+    content client (with_change change w) ≡ changed_content client (content client w) change
+content_more client change w = fold-append (changed_content client) w.shown w.made (change ∷ [])
 
 -- the paint commands of one change more
 paints_more : {C M : Type 0} (client : Ghosts C M) (look : Look) (size : Size) (x : C) (changes : List (Change M)) (change : Change M) →
     paints_from client look size x (changes ++ change ∷ []) ≡
-    paints_from client look size x changes ++ paints_of client look size (fold (content_after client) x changes) change
+    paints_from client look size x changes ++ paints_of client look size (fold (changed_content client) x changes) change
 paints_more client look size x [] change = append-nil (paints_of client look size x change)
 paints_more client look size x (c ∷ changes) change =
-    ap (λ ps. paints_of client look size x c ++ ps) (paints_more client look size (content_after client x c) changes change)
-    ∙ sym (append_assoc (paints_of client look size x c) (paints_from client look size (content_after client x c) changes)
-    (paints_of client look size (fold (content_after client) (content_after client x c) changes) change))
+    ap (λ ps. paints_of client look size x c ++ ps) (paints_more client look size (changed_content client x c) changes change)
+    ∙ sym (append_assoc (paints_of client look size x c) (paints_from client look size (changed_content client x c) changes)
+    (paints_of client look size (fold (changed_content client) (changed_content client x c) changes) change))
 
 -- a window after one change more
 pub present-changed : {C M : Type 0} (client : Ghosts C M) (look : Look) (size : Size) (change : Change M) (w : Window C M) →
     present client look size (with_change change w) ≡
-    held (content_after client (content client w) change)
+    held (changed_content client (content client w) change)
     (windows.batch client look size w ++ paints_of client look size (content client w) change)
 present-changed client look size change w =
     same_held _ _ _ _ (content_more client change w) (paints_more client look size w.shown w.made change)
@@ -100,9 +100,9 @@ module _ {C M : Type 0} (client : Ghosts C M) (look : Look) (tree : Seen) where
       later v = let e : s + suc i ≡ suc s + i = omega arith in rw e at (same v)
 
   -- first contents, for which nothing waits
-  from-fresh : (s : ℕ) (xs : List C) → presents_from client s look tree (map fresh xs) ≡ map idle xs
+  from-fresh : (s : ℕ) (xs : List C) → presents_from client s look tree (map fresh xs) ≡ map with_empty_batch xs
   from-fresh s [] = refl
-  from-fresh s (x ∷ xs) = ap (λ vs. idle x ∷ vs) (from-fresh (suc s) xs)
+  from-fresh s (x ∷ xs) = ap (λ vs. with_empty_batch x ∷ vs) (from-fresh (suc s) xs)
 
   -- how many commands wait, counted leaf by leaf
   sum-from : (h : ℕ → ℕ) (s : ℕ) (ws : List (Window C M)) →
@@ -139,7 +139,7 @@ from-refitted {C} {M} client font was is s (w ∷ ws) =
 
     by_test : (b : Bool) → is_reshaped was is leaf ≡ b →
         present client (look_of is.kind font) (leaf_size is leaf) (cond b (updated client w) w) ≡
-        cond b (cleared (present client (look_of was.kind font) (leaf_size was leaf) w)) (present client (look_of was.kind font) (leaf_size was leaf) w)
+        cond b (without_batch (present client (look_of was.kind font) (leaf_size was leaf) w)) (present client (look_of was.kind font) (leaf_size was leaf) w)
     by_test true h = refl
     by_test false h = let same = same_shape was is leaf h in rw (same.size, same.kind) refl
 
@@ -175,11 +175,11 @@ presents-content {C} {M} client m leaf =
 
 -- what waits for a leaf
 pub presents-batch : {C M : Type 0} (client : Ghosts C M) (m : State C M) (leaf : LeafId) →
-    batch_at (presents client m) leaf ≡ batch_of client m leaf
-presents-batch {C} {M} client m leaf = ap batch_in (present_at client m leaf) ∙ by_window (window_of m leaf)
+    batch_at (presents client m) leaf ≡ leaf_batch client m leaf
+presents-batch {C} {M} client m leaf = ap waiting_batch (present_at client m leaf) ∙ by_window (window_of m leaf)
   where
     by_window : (o : Option (Window C M)) →
-        batch_in (option_map (present client (look m) (leaf_size m.tree leaf)) o) ≡ states.batch_in client m leaf o
+        waiting_batch (option_map (present client (look m) (leaf_size m.tree leaf)) o) ≡ states.batch_in client m leaf o
     by_window None = refl
     by_window (Some w) = refl
 
@@ -204,10 +204,10 @@ presents-keeping {C} {M} client m =
 pub presents-waiting : {C M : Type 0} (client : Ghosts C M) (m : State C M) → waiting_in (presents client m) ≡ waiting_count client m
 presents-waiting {C} {M} client m =
     ap (λ n. min n (2 ^ 64 - 1))
-    (sum-from client (look m) m.tree (λ n. length (batch_of client m (record { 0 = n }))) 0 m.windows each)
+    (sum-from client (look m) m.tree (λ n. length (leaf_batch client m (record { 0 = n }))) 0 m.windows each)
   where
     each : (k : ℕ) (w : Window C M) → slice_get m.windows k ≡ Some w →
-        length (batch_of client m (record { 0 = 0 + k })) ≡ length (windows.batch client (look m) (leaf_size m.tree (record { 0 = 0 + k })) w)
+        length (leaf_batch client m (record { 0 = 0 + k })) ≡ length (windows.batch client (look m) (leaf_size m.tree (record { 0 = 0 + k })) w)
     each k w is = let e : 0 + k ≡ k = omega arith in rw (e, is) refl
 
 -- ---- laws of the windows' contents, as laws of the machine's
@@ -235,7 +235,7 @@ presents-survive client m law leaf w is look from to small small' =
 -- ---- the steps
 
 -- at the start
-pub presents-start : {C M : Type 0} (client : Ghosts C M) (items : List (Item C)) → presents client (start items) ≡ map idle (contents_of items)
+pub presents-start : {C M : Type 0} (client : Ghosts C M) (items : List (Item C)) → presents client (start items) ≡ map with_empty_batch (contents_of items)
 presents-start {C} {M} client items =
     let m : State C M = start items in from-fresh client (look m) m.tree 0 (contents_of items)
 
@@ -265,12 +265,12 @@ presents-marked client m leaf clip =
 
 -- a flush
 pub presents-flushed : {C M : Type 0} (client : Ghosts C M) (m : State C M) (leaf : LeafId) →
-    presents client (flushed client leaf m) ≡ changed_at leaf.0 cleared (presents client m)
-presents-flushed client m leaf = changed-state client m leaf (updated client) cleared (λ w. refl)
+    presents client (flushed client leaf m) ≡ changed_at leaf.0 without_batch (presents client m)
+presents-flushed client m leaf = changed-state client m leaf (updated client) without_batch (λ w. refl)
 
 -- a repaint
 pub presents-repainted : {C M : Type 0} (client : Ghosts C M) (m : State C M) (leaf : LeafId) →
-    presents client (repainted client leaf m) ≡ changed_at leaf.0 cleared (presents client m)
+    presents client (repainted client leaf m) ≡ changed_at leaf.0 without_batch (presents client m)
 presents-repainted client m leaf = presents-flushed client m leaf
 
 -- the tree is edited

@@ -22,12 +22,12 @@ pub record Present (C : Type 0) : Type 0 where
   pub batch : List Paint
 
 -- a window with this content, for which no command waits
-abbrev pub idle : {C : Type 0} → C → Present C
-idle content = record { content = content; batch = [] }
+abbrev pub with_empty_batch : {C : Type 0} → C → Present C
+with_empty_batch content = record { content = content; batch = [] }
 
 -- the commands that wait for a window are dropped
-abbrev pub cleared : {C : Type 0} → Present C → Present C
-cleared w = idle w.content
+abbrev pub without_batch : {C : Type 0} → Present C → Present C
+without_batch w = with_empty_batch w.content
 
 -- a part of a window of this size is marked: it must be painted again
 abbrev pub mark_on : {C : Type 0} → Size → Edges → Present C → Present C
@@ -39,7 +39,7 @@ taken_over content batch w = record { content = content; batch = w.batch ++ batc
 
 -- the commands that wait for a window are dropped if its size or the kind of its pixels changes
 abbrev pub refitted : {C : Type 0} → Seen → Seen → LeafId → Present C → Present C
-refitted was is leaf w = if is_reshaped was is leaf then cleared w else w
+refitted was is leaf w = if is_reshaped was is leaf then without_batch w else w
 
 -- the same for the windows of the leaves from this number on
 abbrev pub cleared_from : {C : Type 0} → ℕ → Seen → Seen → List (Present C) → List (Present C)
@@ -51,13 +51,13 @@ abbrev pub content_at : {C : Type 0} → List (Present C) → LeafId → Option 
 content_at ws leaf = option_map (λ w. w.content) (slice_get ws leaf.0)
 
 -- the commands that wait for a window, if there is one
-abbrev pub batch_in : {C : Type 0} → Option (Present C) → List Paint
-batch_in None = []
-batch_in (Some w) = w.batch
+abbrev pub waiting_batch : {C : Type 0} → Option (Present C) → List Paint
+waiting_batch None = []
+waiting_batch (Some w) = w.batch
 
 -- the commands that wait for a leaf's window
 abbrev pub batch_at : {C : Type 0} → List (Present C) → LeafId → List Paint
-batch_at ws leaf = batch_in (slice_get ws leaf.0)
+batch_at ws leaf = waiting_batch (slice_get ws leaf.0)
 
 module _ {C M : Type 0} (client : Ghosts C M) where
   -- a command changes the content of a window of this size, and its patch waits

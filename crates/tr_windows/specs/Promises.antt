@@ -60,8 +60,8 @@ module _ {C M : Type 0} (client : Ghosts C M) where
     pub keeps : LosesNothingOf e look batch
 
   -- A batch repaints a window in one of two ways. Which of them is a question of cost alone.
-  abbrev pub Repaints : Look → Exposure → Present C → List Paint → Type 0
-  Repaints look e w batch = IsByPainting look e w batch ⊎ IsByWaiting look e w batch
+  abbrev pub RepaintsWindow : Look → Exposure → Present C → List Paint → Type 0
+  RepaintsWindow look e w batch = IsByPainting look e w batch ⊎ IsByWaiting look e w batch
 
   -- A batch flushes a window by a painting: no point is bad, and the waiting commands would lose no point, so these, too, would leave
   -- each visible point with its colour in the present picture.

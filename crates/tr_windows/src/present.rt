@@ -2,7 +2,7 @@ ghost use Rattle.std.specs.Prelude.{◌≡◌, [], unwrap_or, IfOk, IfSome, OnOk
 ghost use Rattle.tr_paint.specs.Traces.{look_of};
 ghost use Rattle.tr_client.specs.Laws.{IsWindowSize};
 ghost use Rattle.tr_windows.specs.Presents as spec;
-ghost use Rattle.tr_windows.specs.Promises.{FlushesByPainting, IsByPainting, Repaints};
+ghost use Rattle.tr_windows.specs.Promises.{FlushesByPainting, IsByPainting, RepaintsWindow};
 
 use crate::areas::{part_in_window, spanned};
 use crate::costs::{is_replaceable, keeps_all};
@@ -31,7 +31,7 @@ impl<C: Client> Model for Window<C> {
 impl<C: Client> Window<C> {
     /// A window for which no command waits.
     pub fn new(alloc: Global, content: C) -> Window<C>
-        ensures { result ≡ spec.idle content }
+        ensures { result ≡ spec.with_empty_batch content }
     {
         Window {
             content,
@@ -100,7 +100,7 @@ impl<C: Client> Window<C> {
 
     /// Drops the waiting commands.
     pub fn clear(&mut self)
-        ensures { self.new ≡ spec.cleared self.old }
+        ensures { self.new ≡ spec.without_batch self.old }
     {
         self.batch.clear();
     }
@@ -115,7 +115,7 @@ impl<C: Client> Window<C> {
     ) -> Result<Option<Batch>, NoMemory>
         requires { IsWindowSize exposure.now.size }
         ensures { let look = look_of env.now.kind env.now.font.now in IfOk result (λ painting.
-            Repaints C.Client look exposure.now self.now (unwrap_or painting self.now.batch)) }
+            RepaintsWindow C.Client look exposure.now self.now (unwrap_or painting self.now.batch)) }
     {
         if keeps_all(&self.batch, exposure) {
             return self.flushing(alloc, env, exposure);

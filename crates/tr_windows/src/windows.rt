@@ -7,7 +7,7 @@ ghost use Rattle.tr_forest.specs.Nodes.{leaf_count};
 ghost use Rattle.tr_journal.specs.Openings.{contents_of};
 ghost use Rattle.tr_machine.specs.States.{changed_at};
 ghost use Rattle.tr_windows.specs.Presents as spec;
-ghost use Rattle.tr_windows.specs.Promises.{AreWindows, FlushesByPainting, IsCovered, Keeps, Repaints, waiting_in};
+ghost use Rattle.tr_windows.specs.Promises.{AreWindows, FlushesByPainting, IsCovered, Keeps, RepaintsWindow, waiting_in};
 
 use crate::costs::is_covered;
 use crate::exposures::Exposure;
@@ -43,7 +43,7 @@ impl<C: Client> Model for Windows<C> {
 impl<C: Client> Windows<C> {
     /// The windows of an opening, with copies of its contents. Nothing waits for them.
     pub fn new(alloc: Global, opening: &Opening<C>) -> Result<Windows<C>, NoMemory>
-        ensures { IfOk result (λ ws. ws ≡ map spec.idle (contents_of opening.now)) }
+        ensures { IfOk result (λ ws. ws ≡ map spec.with_empty_batch (contents_of opening.now)) }
     {
         let windows = idle_windows(alloc, opening)?;
         Ok(Windows { windows })
@@ -133,7 +133,7 @@ impl<C: Client> Windows<C> {
     /// Drops the commands that wait for a leaf's window.
     pub fn clear(&mut self, leaf: LeafId)
         requires { leaf.0 < length self.old }
-        ensures { self.new ≡ changed_at leaf.0 spec.cleared self.old }
+        ensures { self.new ≡ changed_at leaf.0 spec.without_batch self.old }
     {
         clear_at(&mut self.windows, leaf);
     }
@@ -178,7 +178,7 @@ impl<C: Client> Windows<C> {
         requires size { IsWindowSize exposure.now.size }
         ensures { let look = look_of env.now.kind env.now.font.now in IfOk result (λ painting.
             (w : spec.Present C) → slice_get self.now leaf.0 ≡ Some w →
-            Repaints C.Client look exposure.now w (unwrap_or painting w.batch)) }
+            RepaintsWindow C.Client look exposure.now w (unwrap_or painting w.batch)) }
     {
         let alloc = *self.windows.allocator();
         self.windows[usize::from(leaf.0)].repainting(alloc, env, exposure)
@@ -238,7 +238,7 @@ impl<C: Client> Windows<C> {
 
 /// The windows of an opening, with copies of its contents.
 fn idle_windows<C: Client>(alloc: Global, opening: &Opening<C>) -> Result<Vec<Window<C>>, NoMemory>
-    ensures idle { IfOk result (λ ws. ws.items ≡ map spec.idle (contents_of opening.now)) }
+    ensures idle { IfOk result (λ ws. ws.items ≡ map spec.with_empty_batch (contents_of opening.now)) }
     ensures invariant { IfOk result (λ ws. AreWindows C.Client ws.items) }
 {
     let tree = opening.tree();
@@ -327,7 +327,7 @@ fn take_all_at<C: Client>(windows: &mut Vec<Window<C>>, leaf: LeafId, content: C
 /// Drops the commands that wait for a leaf's window.
 fn clear_at<C: Client>(windows: &mut Vec<Window<C>>, leaf: LeafId)
     requires { leaf.0 < length windows.old.items }
-    ensures { windows.new.items ≡ changed_at leaf.0 spec.cleared windows.old.items }
+    ensures { windows.new.items ≡ changed_at leaf.0 spec.without_batch windows.old.items }
 {
     let window = &mut windows[usize::from(leaf.0)];
     window.clear();

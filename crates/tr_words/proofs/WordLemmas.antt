@@ -14,15 +14,15 @@ use Rattle.std.proofs.lemmas.List.Splits.{join_with_byte-slice_split, slice_spli
 use Rattle.tr_base.specs.Lines.{is_printable}
 use Rattle.tr_grammar.specs.Texts.{is_plain}
 use Rattle.tr_grammar.specs.Words.{words_of}
-use Rattle.tr_words.specs.Answers.{Follows}
+use Rattle.tr_words.specs.Answers.{AreWordsOf}
 
 -- what is left is the words, joined again
-pub joined : (ws : List (List ℕ)) (text : List ℕ) → Follows ws text → join_with_byte 32 ws ≡ text
+pub joined : (ws : List (List ℕ)) (text : List ℕ) → AreWordsOf ws text → join_with_byte 32 ws ≡ text
 joined [] text e = sym e
 joined (w ∷ ws) text e = ap (join_with_byte 32) (sym e) ∙ join_with_byte-slice_split 32 text
 
 -- all of a line is left of it when all its words are
-pub follows_all : (ws : List (List ℕ)) (text : List ℕ) → words_of text ≡ ws → Follows ws text
+pub follows_all : (ws : List (List ℕ)) (text : List ℕ) → words_of text ≡ ws → AreWordsOf ws text
 follows_all [] text e =
     let n : length (words_of text) ≡ length {A = List ℕ} [] = ap (λ (l : List (List ℕ)). length l) e in
     absurd (omega (arith, length-slice_split (λ (b : ℕ). eqb b 32) text, n))
@@ -30,13 +30,13 @@ follows_all (w ∷ ws) text e = e
 
 -- what stands behind the first space, by what split_once answers
 after_space : (text : List ℕ) (r : Option (Bor (List ℕ) × Bor (List ℕ))) → IsSplitOnceResult 32 text r →
-    (w : List ℕ) (ws : List (List ℕ)) → words_of text ≡ w ∷ ws → MatchOption r (Follows ws []) (λ x. Follows ws x.1.now)
+    (w : List ℕ) (ws : List (List ℕ)) → words_of text ≡ w ∷ ws → MatchOption r (AreWordsOf ws []) (λ x. AreWordsOf ws x.1.now)
 after_space text None split w ws e =
     let none = split_parts 32 text None split (lit< tt) in
     let one = slice_split_none (λ (b : ℕ). eqb b 32) text (λ i d lt.
     ne_eqb _ _ (λ same. none i lt (get_or_default text i 0 d lt ∙ same))) in
     let same : text ∷ [] ≡ w ∷ ws = sym one ∙ e in
-    subst (λ (l : List (List ℕ)). Follows l []) (ap (λ (l : List (List ℕ)). drop 1 l) same) refl
+    subst (λ (l : List (List ℕ)). AreWordsOf l []) (ap (λ (l : List (List ℕ)). drop 1 l) same) refl
 after_space text (Some x) split w ws e =
     let some = split_once_first 32 text (Some x) split (lit< tt) in
     let cut = slice_split_first (λ (b : ℕ). eqb b 32) text 0 some.0 in
@@ -46,7 +46,7 @@ after_space text (Some x) split w ws e =
 
 -- what is left of a line behind one word more
 pub follows_next : (ws : List (List ℕ)) (text : List ℕ) (r : Option (Bor (List ℕ) × Bor (List ℕ))) →
-    IsSplitOnceResult 32 text r → Follows ws text → MatchOption r (Follows (drop 1 ws) []) (λ x. Follows (drop 1 ws) x.1.now)
+    IsSplitOnceResult 32 text r → AreWordsOf ws text → MatchOption r (AreWordsOf (drop 1 ws) []) (λ x. AreWordsOf (drop 1 ws) x.1.now)
 follows_next [] text None split e = refl
 follows_next [] text (Some x) split e =
     let some = split_once_first 32 text (Some x) split (lit< tt) in

@@ -31,6 +31,6 @@ abbrev pub BeginsNumber : List ℕ → Type 0
 BeginsNumber w = (48 ≤ slice_index w 0) × (slice_index w 0 ≤ 57) × (slice_index w 0 ≡ 48 → length w ≡ 1)
 
 -- these are the words of a text, which is the rest of a line; cited in private contracts only
-abbrev pub Follows : List (List ℕ) → List ℕ → Type 0
-Follows [] text = text ≡ []
-Follows (w ∷ ws) text = words_of text ≡ w ∷ ws
+abbrev pub AreWordsOf : List (List ℕ) → List ℕ → Type 0
+AreWordsOf [] text = text ≡ []
+AreWordsOf (w ∷ ws) text = words_of text ≡ w ∷ ws

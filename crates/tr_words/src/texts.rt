@@ -4,7 +4,7 @@ ghost use Rattle.std.specs.List.{list_all, slice_split, AllPass};
 ghost use Rattle.tr_base.specs.Lines.{is_printable};
 ghost use Rattle.tr_grammar.specs.Words.{words_of, rest_after};
 ghost use Rattle.tr_grammar.specs.Texts.{is_plain, is_silent, ends_empty, without_empty_end, lines_of};
-ghost use Rattle.tr_words.specs.Answers.{Follows, texts};
+ghost use Rattle.tr_words.specs.Answers.{AreWordsOf, texts};
 
 use std::alloc::{AllocError, Global};
 use tr_base::is_printable;
@@ -60,7 +60,7 @@ pub fn words_of<'a>(alloc: Global, line: &'a str) -> Result<Vec<&'a str>, AllocE
 
 /// What stands behind the first space.
 fn after_word(line: &str) -> &str
-    ensures follows { (ws : List (List ℕ)) → Follows ws line.now → Follows (drop 1 ws) result.now }
+    ensures follows { (ws : List (List ℕ)) → AreWordsOf ws line.now → AreWordsOf (drop 1 ws) result.now }
     ensures printable { AllPass is_printable line.now → AllPass is_printable result.now }
 {
     match line.split_once(' ') {

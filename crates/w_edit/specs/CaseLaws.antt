@@ -27,15 +27,15 @@ use Rattle.tr_client.proofs.KeepingLemmas.{both_hold}
 use Rattle.tr_client.proofs.StripLemmas.{rows-from, scroll-left, below-strip, above-strip, above-inside, below-inside}
 use Rattle.tr_client.proofs.LineLemmas.{colour-beyond, colour-below, colour-above}
 use Rattle.w_edit.specs.Contents.{Contents}
-use Rattle.w_edit.specs.Pictures.{top, shown, caret, caret_strip, turned, written, put, mark, raised, lowered, repainted, rewritten}
+use Rattle.w_edit.specs.Pictures.{top, shown_lines, caret, caret_strip, inverted, written, put, mark, raised, lowered, whole_painting, rewritten}
 use Rattle.w_edit.specs.PatchLaws.{IsIn, line_in, line_for, over_line, colour-line, written-left, put-run, turned-twice, turned-other, mark-left}
 
 -- the picture without the caret, and with it
 abbrev pub bare : Look → Size → Contents → Point → ℕ
-bare look size x q = colour_in look (shown size x) q
+bare look size x q = colour_in look (shown_lines size x) q
 
-abbrev pub marked : Look → Size → Contents → Point → ℕ
-marked look size x q = turned (caret size x) q (bare look size x q)
+abbrev pub with_caret : Look → Size → Contents → Point → ℕ
+with_caret look size x q = inverted (caret size x) q (bare look size x q)
 
 -- the line of a strip in the window
 abbrev pub line_on : Size → Contents → ℕ → List ℕ
@@ -68,13 +68,13 @@ put-bare look size y i q within is =
 
 -- what is painted before the mark makes the new picture without the caret; with the mark it is a patch
 pub with_mark : (look : Look) (size : Size) (x y : Contents) (cs : List Paint) →
-    ((q : Point) → IsIn size q → run look cs (marked look size x) q ≡ bare look size y q) →
-    IsPatch look size (batch_of (cs ++ mark size y ∷ [])) (marked look size x) (marked look size y)
-with_mark look size x y cs makes = patch_by_run look size (cs ++ mark size y ∷ []) (marked look size x) (marked look size y)
+    ((q : Point) → IsIn size q → run look cs (with_caret look size x) q ≡ bare look size y q) →
+    IsPatch look size (batch_of (cs ++ mark size y ∷ [])) (with_caret look size x) (with_caret look size y)
+with_mark look size x y cs makes = patch_by_run look size (cs ++ mark size y ∷ []) (with_caret look size x) (with_caret look size y)
     (λ q here.
-    run-append look cs (mark size y ∷ []) (marked look size x) q
-    ∙ mark-left look size y (λ r. run look cs (marked look size x) r) q here
-    ∙ ap (λ n. turned (caret size y) q n) (makes q here))
+    run-append look cs (mark size y ∷ []) (with_caret look size x) q
+    ∙ mark-left look size y (λ r. run look cs (with_caret look size x) r) q here
+    ∙ ap (λ n. inverted (caret size y) q n) (makes q here))
 
 -- the caret's strip is one of those that have room
 pub caret-shown : (size : Size) (x : Contents) → 0 < room size → caret_strip size x < room size
@@ -88,12 +88,12 @@ caret-shown size x some = by_test (room size == 0) refl
 pub makes-rewritten : (look : Look) (size : Size) (x y : Contents) (q : Point) → IsIn size q → 0 < room size →
     caret_strip size x ≡ caret_strip size y →
     ((k : ℕ) → (k == caret_strip size y) ≡ false → SameOn size x y k) →
-    run look (rewritten size y) (marked look size x) q ≡ bare look size y q
+    run look (rewritten size y) (with_caret look size x) q ≡ bare look size y q
 makes-rewritten look size x y q here some same others =
-    put-run look size y (caret_strip size y) (marked look size x) q here ∙ by_test (strip_of q == caret_strip size y) refl
+    put-run look size y (caret_strip size y) (with_caret look size x) q here ∙ by_test (strip_of q == caret_strip size y) refl
   where
     by_test : (b : Bool) → (strip_of q == caret_strip size y) ≡ b →
-        cond b (line_colour look (caret_strip size y) (line_for size y (caret_strip size y)) q) (marked look size x q) ≡ bare look size y q
+        cond b (line_colour look (caret_strip size y) (line_for size y (caret_strip size y)) q) (with_caret look size x q) ≡ bare look size y q
     by_test true is = put-bare look size y (caret_strip size y) q (caret-shown size y some) is
     by_test false apart =
         turned-other x.column (caret_strip size x) q (bare look size x q) (rows-from size q here)
@@ -102,8 +102,8 @@ makes-rewritten look size x y q here some same others =
 
 -- the caret is taken off, and nothing else changes
 unmarked : (look : Look) (size : Size) (x : Contents) (q : Point) → IsIn size q →
-    run_one look (mark size x) (marked look size x) q ≡ bare look size x q
-unmarked look size x q here = mark-left look size x (marked look size x) q here ∙ turned-twice (caret size x) q (bare look size x q)
+    run_one look (mark size x) (with_caret look size x) q ≡ bare look size x q
+unmarked look size x q here = mark-left look size x (with_caret look size x) q here ∙ turned-twice (caret size x) q (bare look size x q)
 
 -- two strips are put after a scroll
 abbrev over_put : Look → Size → Contents → ℕ → Point → ℕ → ℕ
@@ -167,7 +167,7 @@ no_room size x y k past =
 
 -- the caret of a strip that isn't the point's doesn't turn its colour
 aside : (look : Look) (size : Size) (x : Contents) (p : Point) → pos 0 ≤ℤ p.v → (strip_of p ≡ caret_strip size x → ⊥) →
-    marked look size x p ≡ bare look size x p
+    with_caret look size x p ≡ bare look size x p
 aside look size x p inside apart =
     turned-other x.column (caret_strip size x) p (bare look size x p) inside (by_test (strip_of p == caret_strip size x) refl)
   where
@@ -178,20 +178,20 @@ aside look size x p inside apart =
 -- a line broken: the strips below the caret take what those above them have, and the two parts of the line are put
 pub makes-broken : (look : Look) (size : Size) (x y : Contents) (q : Point) → IsIn size q → 0 < room size → IsLowered size x y →
     (let i = caret_strip size y in
-    run look (lowered size (i + 1) (room size) ∷ put size y (i - 1) ++ put size y i) (marked look size x) q ≡ bare look size y q)
+    run look (lowered size (i + 1) (room size) ∷ put size y (i - 1) ++ put size y i) (with_caret look size x) q ≡ bare look size y q)
 makes-broken look size x y q here some low =
     let i = caret_strip size y in
     let within : i < room size = caret-shown size y some in
-    let scrolled : Point → ℕ = λ r. run_one look (lowered size (i + 1) (room size)) (marked look size x) r in
+    let scrolled : Point → ℕ = λ r. run_one look (lowered size (i + 1) (room size)) (with_caret look size x) r in
     put-twice look size y (i - 1) i scrolled q here
     ∙ over_put-bare look size y i q (over_put look size y (i - 1) q (scrolled q)) within
     (λ apart. over_put-bare look size y (i - 1) q (scrolled q) (omega arith)
-    (λ apart'. scroll-left look size (i + 1) (room size) downwards (marked look size x) q here
+    (λ apart'. scroll-left look size (i + 1) (room size) downwards (with_caret look size x) q here
     ∙ by_test (nat_le (i + 1) (strip_of q) && nat_lt (strip_of q) (room size)) refl apart apart'))
   where
     by_test : (b : Bool) → nat_le (caret_strip size y + 1) (strip_of q) && nat_lt (strip_of q) (room size) ≡ b →
         (strip_of q == caret_strip size y) ≡ false → (strip_of q == caret_strip size y - 1) ≡ false →
-        cond b (marked look size x (before_shift q downwards)) (marked look size x q) ≡ bare look size y q
+        cond b (with_caret look size x (before_shift q downwards)) (with_caret look size x q) ≡ bare look size y q
     by_test true moves apart apart' =
         let next = low.next in
         let inside = rows-from size q here in
@@ -222,21 +222,21 @@ makes-broken look size x y q here some low =
 pub makes-joined : (look : Look) (size : Size) (x y : Contents) (q : Point) → IsIn size q → 0 < room size → IsRaised size x y →
     (let i = caret_strip size y in
     let last = room size - 1 in
-    run look (raised size (i + 1) last ∷ put size y last ++ put size y i) (marked look size x) q ≡ bare look size y q)
+    run look (raised size (i + 1) last ∷ put size y last ++ put size y i) (with_caret look size x) q ≡ bare look size y q)
 makes-joined look size x y q here some high =
     let i = caret_strip size y in
     let last = room size - 1 in
     let within : i < room size = caret-shown size y some in
-    let scrolled : Point → ℕ = λ r. run_one look (raised size (i + 1) last) (marked look size x) r in
+    let scrolled : Point → ℕ = λ r. run_one look (raised size (i + 1) last) (with_caret look size x) r in
     put-twice look size y last i scrolled q here
     ∙ over_put-bare look size y i q (over_put look size y last q (scrolled q)) within
     (λ apart. over_put-bare look size y last q (scrolled q) (omega arith)
-    (λ apart'. scroll-left look size (i + 1) last upwards (marked look size x) q here
+    (λ apart'. scroll-left look size (i + 1) last upwards (with_caret look size x) q here
     ∙ by_test (nat_le (i + 1) (strip_of q) && nat_lt (strip_of q) last) refl apart apart'))
   where
     by_test : (b : Bool) → nat_le (caret_strip size y + 1) (strip_of q) && nat_lt (strip_of q) (room size - 1) ≡ b →
         (strip_of q == caret_strip size y) ≡ false → (strip_of q == room size - 1) ≡ false →
-        cond b (marked look size x (before_shift q upwards)) (marked look size x q) ≡ bare look size y q
+        cond b (with_caret look size x (before_shift q upwards)) (with_caret look size x q) ≡ bare look size y q
     by_test true moves apart apart' =
         let next = high.next in
         let inside = rows-from size q here in
@@ -276,13 +276,13 @@ makes-joined look size x y q here some high =
 
 -- the caret goes: it is taken off where the top stays
 pub makes-unmarked : (look : Look) (size : Size) (x y : Contents) (q : Point) → IsIn size q → x.lines ≡ y.lines → top size x ≡ top size y →
-    run look (mark size x ∷ []) (marked look size x) q ≡ bare look size y q
+    run look (mark size x ∷ []) (with_caret look size x) q ≡ bare look size y q
 makes-unmarked look size x y q here lines first = unmarked look size x q here ∙ bare-same look size x y q (rw (lines, first) refl)
 
 -- a strip is put after a scroll after the caret is taken off
 one_put : (look : Look) (size : Size) (x y : Contents) (scroll : Paint) (i : ℕ) (q : Point) → IsIn size q →
-    run look (mark size x ∷ scroll ∷ put size y i) (marked look size x) q
-    ≡ over_put look size y i q (run_one look scroll (λ r. run_one look (mark size x) (marked look size x) r) q)
+    run look (mark size x ∷ scroll ∷ put size y i) (with_caret look size x) q
+    ≡ over_put look size y i q (run_one look scroll (λ r. run_one look (mark size x) (with_caret look size x) r) q)
 one_put look size x y scroll i q here = put-run look size y i _ q here
 
 -- the point below one that lies in the strips is one of the window, and so is the point above
@@ -315,17 +315,17 @@ above-window size q here some =
 -- it goes one row below the window: the lines move upwards
 pub makes-raised : (look : Look) (size : Size) (x y : Contents) (q : Point) → IsIn size q → 0 < room size →
     x.lines ≡ y.lines → top size y ≡ top size x + 1 →
-    run look (mark size x ∷ raised size 0 (room size - 1) ∷ put size y (room size - 1)) (marked look size x) q ≡ bare look size y q
+    run look (mark size x ∷ raised size 0 (room size - 1) ∷ put size y (room size - 1)) (with_caret look size x) q ≡ bare look size y q
 makes-raised look size x y q here some lines next =
     let last = room size - 1 in
-    let off : Point → ℕ = λ r. run_one look (mark size x) (marked look size x) r in
+    let off : Point → ℕ = λ r. run_one look (mark size x) (with_caret look size x) r in
     one_put look size x y (raised size 0 last) last q here
     ∙ over_put-bare look size y last q (run_one look (raised size 0 last) off q) (omega arith)
     (λ apart. scroll-left look size 0 last upwards off q here ∙ by_test (nat_le 0 (strip_of q) && nat_lt (strip_of q) last) refl apart)
   where
     by_test : (b : Bool) → nat_le 0 (strip_of q) && nat_lt (strip_of q) (room size - 1) ≡ b → (strip_of q == room size - 1) ≡ false →
-        cond b (run_one look (mark size x) (marked look size x) (before_shift q upwards))
-        (run_one look (mark size x) (marked look size x) q) ≡ bare look size y q
+        cond b (run_one look (mark size x) (with_caret look size x) (before_shift q upwards))
+        (run_one look (mark size x) (with_caret look size x) q) ≡ bare look size y q
     by_test true moves apart =
         let shows : strip_of q + 1 < room size = grind (arith, nat_tests) in
         unmarked look size x (before_shift q upwards) (below-window size q here shows)
@@ -345,17 +345,17 @@ makes-raised look size x y q here some lines next =
 -- it goes one row above the window: the lines move downwards
 pub makes-lowered : (look : Look) (size : Size) (x y : Contents) (q : Point) → IsIn size q → 0 < room size →
     x.lines ≡ y.lines → top size x ≡ top size y + 1 →
-    run look (mark size x ∷ lowered size 1 (room size) ∷ put size y 0) (marked look size x) q ≡ bare look size y q
+    run look (mark size x ∷ lowered size 1 (room size) ∷ put size y 0) (with_caret look size x) q ≡ bare look size y q
 makes-lowered look size x y q here some lines next =
-    let off : Point → ℕ = λ r. run_one look (mark size x) (marked look size x) r in
+    let off : Point → ℕ = λ r. run_one look (mark size x) (with_caret look size x) r in
     one_put look size x y (lowered size 1 (room size)) 0 q here
     ∙ over_put-bare look size y 0 q (run_one look (lowered size 1 (room size)) off q) some
     (λ apart. scroll-left look size 1 (room size) downwards off q here
     ∙ by_test (nat_le 1 (strip_of q) && nat_lt (strip_of q) (room size)) refl apart)
   where
     by_test : (b : Bool) → nat_le 1 (strip_of q) && nat_lt (strip_of q) (room size) ≡ b → (strip_of q == 0) ≡ false →
-        cond b (run_one look (mark size x) (marked look size x) (before_shift q downwards))
-        (run_one look (mark size x) (marked look size x) q) ≡ bare look size y q
+        cond b (run_one look (mark size x) (with_caret look size x) (before_shift q downwards))
+        (run_one look (mark size x) (with_caret look size x) q) ≡ bare look size y q
     by_test true moves apart =
         let some' : 0 < strip_of q = grind (arith, nat_tests) in
         let shows : strip_of q < room size = grind (arith, nat_tests) in
@@ -441,24 +441,24 @@ writes-none look size y first (suc count) old q here past =
     writes-none look size y (first + 1) count _ q here (omega arith) ∙ writes-other look size y first old q here apart
 
 pub makes-repainted : (look : Look) (size : Size) (x y : Contents) (q : Point) → IsIn size q →
-    run look (repainted size y) (marked look size x) q ≡ bare look size y q
-makes-repainted look size x y q here = by_test (nat_lt (strip_of q) (length (shown size y))) refl
+    run look (whole_painting size y) (with_caret look size x) q ≡ bare look size y q
+makes-repainted look size x y q here = by_test (nat_lt (strip_of q) (length (shown_lines size y))) refl
   where
-    background : run_one look (Tint (whole_of size) Bg) (marked look size x) q ≡ 0
+    background : run_one look (Tint (whole_of size) Bg) (with_caret look size x) q ≡ 0
     background = rw here refl
 
-    by_test : (b : Bool) → nat_lt (strip_of q) (length (shown size y)) ≡ b →
-        run look (map (written size y) (range_with_len 0 (length (shown size y))))
-        (λ r. run_one look (Tint (whole_of size) Bg) (marked look size x) r) q
+    by_test : (b : Bool) → nat_lt (strip_of q) (length (shown_lines size y)) ≡ b →
+        run look (map (written size y) (range_with_len 0 (length (shown_lines size y))))
+        (λ r. run_one look (Tint (whole_of size) Bg) (with_caret look size x) r) q
         ≡ bare look size y q
     by_test true within =
-        let less : strip_of q < length (shown size y) = ltb-true (strip_of q) (length (shown size y)) within in
+        let less : strip_of q < length (shown_lines size y) = ltb-true (strip_of q) (length (shown_lines size y)) within in
         let room_for : strip_of q < room size = omega (arith, length-take (room size) (drop (top size y) y.lines)) in
         let inside : nat_lt (strip_of q) (room size) ≡ true = grind (arith, nat_tests) in
-        writes-reach look size y 0 (length (shown size y)) _ q here background (omega arith) (omega arith)
+        writes-reach look size y 0 (length (shown_lines size y)) _ q here background (omega arith) (omega arith)
         ∙ rw (bare-line look size y q, inside) refl
     by_test false beyond =
-        let past : length (shown size y) ≤ strip_of q = grind (arith, nat_tests) in
-        writes-none look size y 0 (length (shown size y)) _ q here (omega arith)
+        let past : length (shown_lines size y) ≤ strip_of q = grind (arith, nat_tests) in
+        writes-none look size y 0 (length (shown_lines size y)) _ q here (omega arith)
         ∙ background
-        ∙ sym (colour-beyond look (shown size y) q past)
+        ∙ sym (colour-beyond look (shown_lines size y) q past)

@@ -4,7 +4,7 @@ use Rattle.tr_base.specs.declared.Event.{Event}
 use Rattle.tr_base.specs.declared.Event.TheVariants.{Key}
 use Rattle.tr_base.specs.Lines.{IsLine, is_printable}
 use Rattle.tr_client.specs.Words.{with_text}
-use Rattle.w_edit.specs.Numbers.{most_lines, most_bytes, IsRow, IsColumn}
+use Rattle.w_edit.specs.Numbers.{most_lines, most_bytes, IsRowNumber, IsColumn}
 use Rattle.w_edit.specs.declared.commands.EditorCmd.{EditorCmd}
 use Rattle.w_edit.specs.declared.commands.EditorCmd.TheVariants.{Insert, Erase, Split, Goto, Copy, Paste}
 
@@ -44,36 +44,36 @@ pub record IsContents (x : Contents) : Type 0 where
   pub clip : IsLine x.clip
 
 -- an editor at first: one line without a byte
-abbrev pub fresh : Contents
-fresh = record { lines = [] ∷ []; row = 0; column = 0; clip = [] }
+abbrev pub empty_text : Contents
+empty_text = record { lines = [] ∷ []; row = 0; column = 0; clip = [] }
 
 -- another text and caret; the clip stays
-abbrev pub edited : Contents → List (List ℕ) → ℕ → ℕ → Contents
-edited x lines row column = record { lines = lines; row = row; column = column; clip = x.clip }
+abbrev pub with_lines : Contents → List (List ℕ) → ℕ → ℕ → Contents
+with_lines x lines row column = record { lines = lines; row = row; column = column; clip = x.clip }
 
 -- bytes are put at the caret, which moves behind them
 abbrev pub inserted : Contents → List ℕ → Contents
-inserted x text = edited x (above x ++ (before x ++ text ++ behind x) ∷ below x) x.row (x.column + length text)
+inserted x text = with_lines x (above x ++ (before x ++ text ++ behind x) ∷ below x) x.row (x.column + length text)
 
 -- the byte before the caret goes
 abbrev pub erased : Contents → Contents
-erased x = edited x (above x ++ (take (x.column - 1) (line_of x) ++ behind x) ∷ below x) x.row (x.column - 1)
+erased x = with_lines x (above x ++ (take (x.column - 1) (line_of x) ++ behind x) ∷ below x) x.row (x.column - 1)
 
 -- the caret's line is joined to the one above it, and the caret stands at the seam
-abbrev pub joined : Contents → Contents
-joined x =
+abbrev pub joined_above : Contents → Contents
+joined_above x =
     let upper = line_at x (x.row - 1) in
-    edited x (take (x.row - 1) x.lines ++ (upper ++ line_of x) ∷ below x) (x.row - 1) (length upper)
+    with_lines x (take (x.row - 1) x.lines ++ (upper ++ line_of x) ∷ below x) (x.row - 1) (length upper)
 
 -- the line is broken at the caret, which goes to the beginning of the next row
 abbrev pub broken : Contents → Contents
-broken x = edited x (above x ++ before x ∷ behind x ∷ below x) (x.row + 1) 0
+broken x = with_lines x (above x ++ before x ∷ behind x ∷ below x) (x.row + 1) 0
 
 -- the caret goes to a row and a column, or as near as the text has them
-abbrev pub moved : Contents → ℕ → ℕ → Contents
-moved x row column =
+abbrev pub caret_to : Contents → ℕ → ℕ → Contents
+caret_to x row column =
     let r = min row (length x.lines - 1) in
-    edited x x.lines r (min column (length (line_at x r)))
+    with_lines x x.lines r (min column (length (line_at x r)))
 
 -- the clip becomes the bytes of the caret's line from one place to before another, as far as they exist
 abbrev pub copied : Contents → ℕ → ℕ → Contents
@@ -82,9 +82,9 @@ copied x from to = record { lines = x.lines; row = x.row; column = x.column; cli
 -- what a command does
 abbrev pub effect : Contents → EditorCmd → Contents
 effect x (Insert text) = inserted x text
-effect x Erase = if x.column == 0 then joined x else erased x
+effect x Erase = if x.column == 0 then joined_above x else erased x
 effect x Split = broken x
-effect x (Goto row column) = moved x row column
+effect x (Goto row column) = caret_to x row column
 effect x (Copy from to) = copied x from to
 effect x Paste = inserted x x.clip
 
@@ -105,7 +105,7 @@ abbrev pub acts : Contents → EditorCmd → Bool
 acts x (Insert text) = fits x text
 acts x Erase = if x.column == 0 then can_join x else true
 acts x Split = nat_lt (length x.lines) most_lines
-acts x (Goto row column) = has_moved x (moved x row column)
+acts x (Goto row column) = has_moved x (caret_to x row column)
 acts x (Copy from to) = true
 acts x Paste = fits x x.clip
 
@@ -116,7 +116,7 @@ editor_next x cmd = if acts x cmd then effect x cmd else x
 -- the text of a command is one of a line, and its numbers are rows and columns
 abbrev pub IsEditorCmd : EditorCmd → Type 0
 IsEditorCmd (Insert text) = IsLine text
-IsEditorCmd (Goto row column) = IsRow row × IsColumn column
+IsEditorCmd (Goto row column) = IsRowNumber row × IsColumn column
 IsEditorCmd (Copy from to) = IsColumn from × IsColumn to
 IsEditorCmd cmd = Unit {0}
 

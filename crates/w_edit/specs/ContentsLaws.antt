@@ -15,7 +15,7 @@ use Rattle.tr_client.proofs.TextLemmas.{line_in_a_row}
 use Rattle.w_edit.specs.declared.commands.EditorCmd.{EditorCmd}
 use Rattle.w_edit.specs.declared.commands.EditorCmd.TheVariants.{Insert, Erase, Split, Goto, Copy, Paste}
 use Rattle.w_edit.specs.Numbers.{most_lines, most_bytes}
-use Rattle.w_edit.specs.Contents.{Contents, IsContents, line_at, line_of, before, behind, above, below, inserted, erased, joined, broken, moved, copied, effect, fits, can_join, acts, editor_next, IsEditorCmd, editor_answer}
+use Rattle.w_edit.specs.Contents.{Contents, IsContents, line_at, line_of, before, behind, above, below, inserted, erased, joined_above, broken, caret_to, copied, effect, fits, can_join, acts, editor_next, IsEditorCmd, editor_answer}
 
 -- a text cut at the caret: the lines above, the bytes before and behind the caret, and the lines below
 abbrev pub zipped : List (List ℕ) → List ℕ → List ℕ → List (List ℕ) → List ℕ → Contents
@@ -81,9 +81,9 @@ erased-zipped x is =
     (let c = is.column in omega (arith, length-take (x.column - 1) (line_of x)))
 
 pub joined-zipped : (x : Contents) → IsContents x →
-    joined x ≡ zipped (take (x.row - 1) x.lines) (line_at x (x.row - 1)) (line_of x) (below x) x.clip
+    joined_above x ≡ zipped (take (x.row - 1) x.lines) (line_at x (x.row - 1)) (line_of x) (below x) x.clip
 joined-zipped x is =
-    same_zipped (joined x) (take (x.row - 1) x.lines) (line_at x (x.row - 1)) (line_of x) (below x)
+    same_zipped (joined_above x) (take (x.row - 1) x.lines) (line_at x (x.row - 1)) (line_of x) (below x)
     refl
     (let r = is.row in omega (arith, length-take (x.row - 1) x.lines))
     refl
@@ -162,7 +162,7 @@ erased_is x is some =
         (part_taken (x.column - 1) (line_of x) old) (part_dropped x.column (line_of x) old)
         (omega (arith, length-take (x.column - 1) (line_of x), length-drop x.column (line_of x)))
 
-pub joined_is : (x : Contents) → IsContents x → can_join x ≡ true → IsContents (joined x)
+pub joined_is : (x : Contents) → IsContents x → can_join x ≡ true → IsContents (joined_above x)
 joined_is x is can =
     subst (λ (y : Contents). IsContents y) (sym (joined-zipped x is))
     (zipped-is (take (x.row - 1) x.lines) (line_at x (x.row - 1)) (line_of x) (below x) x.clip few
@@ -194,7 +194,7 @@ broken_is x is can =
     old : IsLine (line_of x)
     old = line_is x x.row is is.row
 
-pub moved_is : (x : Contents) (row column : ℕ) → IsContents x → IsContents (moved x row column)
+pub moved_is : (x : Contents) (row column : ℕ) → IsContents x → IsContents (caret_to x row column)
 moved_is x row column is = record {
   row = let r = is.row in omega arith;
   few = is.few;
@@ -216,7 +216,7 @@ pub effect-is : (x : Contents) (cmd : EditorCmd) → IsContents x → IsEditorCm
 effect-is x (Insert text) is known does = inserted_is x text is known does
 effect-is x Erase is known does = by_column (x.column == 0) refl does
   where
-    by_column : (b : Bool) → (x.column == 0) ≡ b → cond b (can_join x) true ≡ true → IsContents (cond b (joined x) (erased x))
+    by_column : (b : Bool) → (x.column == 0) ≡ b → cond b (can_join x) true ≡ true → IsContents (cond b (joined_above x) (erased x))
     by_column true first can = joined_is x is can
     by_column false later can = let apart = eqb-false x.column 0 later in erased_is x is (omega arith)
 effect-is x Split is known does = broken_is x is does

@@ -30,15 +30,15 @@ use Rattle.tr_client.specs.Laws.{IsWindowSize, is_flat, Survives}
 use Rattle.tr_client.proofs.KeepingLemmas.{both_hold, survives-meet, survives-nothing}
 use Rattle.tr_client.proofs.FlatLemmas.{flat-whole, meet-nothing}
 use Rattle.tr_client.proofs.PlainLemmas.{meet-inside}
-use Rattle.tr_client.specs.Texts.{room, strip_of, begin_of, colour_in, area_of, upwards, downwards}
+use Rattle.tr_client.specs.Texts.{room, strip_of, begin_of, colour_in, strips_between, upwards, downwards}
 use Rattle.tr_client.proofs.StripLemmas.{no_columns}
 use Rattle.tr_client.proofs.LineLemmas.{no_text, pixel-colour_in}
 use Rattle.w_edit.specs.declared.commands.EditorCmd.{EditorCmd}
 use Rattle.w_edit.specs.declared.commands.EditorCmd.TheVariants.{Insert, Erase, Split, Goto, Copy, Paste}
-use Rattle.w_edit.specs.Contents.{Contents, IsContents, line_at, line_of, before, behind, above, below, inserted, erased, joined, broken, moved, effect, fits, can_join, acts, editor_next, IsEditorCmd}
-use Rattle.w_edit.specs.Pictures.{top, shown, cell, caret, caret_strip, turned, strip, written, put, mark, raised, lowered, repainted, rewritten, caret_moved, line_broken, lines_joined, painted, is_copy, editor_pic, editor_patch, editor_keeps}
+use Rattle.w_edit.specs.Contents.{Contents, IsContents, line_at, line_of, before, behind, above, below, inserted, erased, joined_above, broken, caret_to, effect, fits, can_join, acts, editor_next, IsEditorCmd}
+use Rattle.w_edit.specs.Pictures.{top, shown_lines, cell, caret, caret_strip, inverted, strip, written, put, mark, raised, lowered, whole_painting, rewritten, caret_moved, line_broken, lines_joined, patch_without_mark, is_copy, editor_pic, editor_patch, editor_keeps}
 use Rattle.w_edit.specs.PatchLaws.{line_in, line_for}
-use Rattle.w_edit.specs.CaseLaws.{bare, marked, line_on, IsLowered, IsRaised, with_mark, makes-rewritten, makes-broken, makes-joined, makes-unmarked, makes-raised, makes-lowered, makes-repainted}
+use Rattle.w_edit.specs.CaseLaws.{bare, with_caret, line_on, IsLowered, IsRaised, with_mark, makes-rewritten, makes-broken, makes-joined, makes-unmarked, makes-raised, makes-lowered, makes-repainted}
 
 -- the top is at most the caret's row
 top-row : (size : Size) (x : Contents) → top size x ≤ x.row
@@ -107,63 +107,63 @@ is_lowered size x is same = record {
 }
 
 -- two lines were joined
-is_raised : (size : Size) (x : Contents) → IsContents x → 0 < x.row → top size (joined x) ≡ top size x → IsRaised size x (joined x)
+is_raised : (size : Size) (x : Contents) → IsContents x → 0 < x.row → top size (joined_above x) ≡ top size x → IsRaised size x (joined_above x)
 is_raised size x is some same = record {
-  next = let first = top-row size (joined x) in omega arith;
+  next = let first = top-row size (joined_above x) in omega arith;
   over = λ k less.
-      let at : top size (joined x) + k ≡ top size x + k = omega arith in
+      let at : top size (joined_above x) + k ≡ top size x + k = omega arith in
       ap (λ l. cond (nat_lt k (room size)) l [])
-      (sym (ap (λ n. get_or (joined x).lines n []) at
+      (sym (ap (λ n. get_or (joined_above x).lines n []) at
       ∙ kept_before x.lines ((line_at x (x.row - 1) ++ line_of x) ∷ below x) (x.row - 1) (top size x + k)
       (let r = is.row in omega arith) (omega arith)));
   under = λ k more shows.
-      let first = top-row size (joined x) in
+      let first = top-row size (joined_above x) in
       let one : nat_lt (k + 1) (room size) ≡ true = grind (arith, nat_tests) in
       let other : nat_lt k (room size) ≡ true = grind (arith, nat_tests) in
-      let at : x.row + 1 + (top size (joined x) + k - (x.row - 1) - 1) ≡ top size x + (k + 1) = omega arith in
+      let at : x.row + 1 + (top size (joined_above x) + k - (x.row - 1) - 1) ≡ top size x + (k + 1) = omega arith in
       rw (one, other)
-      (sym (kept_behind x.lines ((line_at x (x.row - 1) ++ line_of x) ∷ []) (x.row - 1) (x.row + 1) (top size (joined x) + k)
+      (sym (kept_behind x.lines ((line_at x (x.row - 1) ++ line_of x) ∷ []) (x.row - 1) (x.row + 1) (top size (joined_above x) + k)
       (let r = is.row in omega arith) (omega arith)
       ∙ ap (λ n. get_or x.lines n []) at));
 }
 
 -- the law of patches, command by command, where some line has room
-abbrev Leads : Look → Size → Contents → Contents → List Paint → Type 0
-Leads look size x y cs = IsPatch look size (batch_of (cs ++ mark size y ∷ [])) (marked look size x) (marked look size y)
+abbrev LeadsByCommand : Look → Size → Contents → Contents → List Paint → Type 0
+LeadsByCommand look size x y cs = IsPatch look size (batch_of (cs ++ mark size y ∷ [])) (with_caret look size x) (with_caret look size y)
 
 leads-rewritten : (look : Look) (size : Size) (x y : Contents) → 0 < room size → caret_strip size x ≡ caret_strip size y →
-    ((k : ℕ) → (k == caret_strip size y) ≡ false → line_on size x k ≡ line_on size y k) → Leads look size x y (rewritten size y)
+    ((k : ℕ) → (k == caret_strip size y) ≡ false → line_on size x k ≡ line_on size y k) → LeadsByCommand look size x y (rewritten size y)
 leads-rewritten look size x y some same others =
     with_mark look size x y (rewritten size y) (λ q here. makes-rewritten look size x y q here some same others)
 
-leads-repainted : (look : Look) (size : Size) (x y : Contents) → Leads look size x y (repainted size y)
-leads-repainted look size x y = with_mark look size x y (repainted size y) (λ q here. makes-repainted look size x y q here)
+leads-repainted : (look : Look) (size : Size) (x y : Contents) → LeadsByCommand look size x y (whole_painting size y)
+leads-repainted look size x y = with_mark look size x y (whole_painting size y) (λ q here. makes-repainted look size x y q here)
 
 leads-joined : (look : Look) (size : Size) (x : Contents) → IsContents x → 0 < room size → 0 < x.row →
-    Leads look size x (joined x) (lines_joined size x (joined x))
-leads-joined look size x is some row = by_test (top size (joined x) == top size x) refl
+    LeadsByCommand look size x (joined_above x) (lines_joined size x (joined_above x))
+leads-joined look size x is some row = by_test (top size (joined_above x) == top size x) refl
   where
-    by_test : (b : Bool) → (top size (joined x) == top size x) ≡ b →
-        (let i = caret_strip size (joined x) in
+    by_test : (b : Bool) → (top size (joined_above x) == top size x) ≡ b →
+        (let i = caret_strip size (joined_above x) in
         let last = room size - 1 in
-        Leads look size x (joined x)
-        (cond b (raised size (i + 1) last ∷ put size (joined x) last ++ put size (joined x) i) (repainted size (joined x))))
+        LeadsByCommand look size x (joined_above x)
+        (cond b (raised size (i + 1) last ∷ put size (joined_above x) last ++ put size (joined_above x) i) (whole_painting size (joined_above x))))
     by_test true same =
-        let first : top size (joined x) ≡ top size x = eqb-true (top size (joined x)) (top size x) same in
-        with_mark look size x (joined x)
-        (raised size (caret_strip size (joined x) + 1) (room size - 1)
-        ∷ put size (joined x) (room size - 1) ++ put size (joined x) (caret_strip size (joined x)))
-        (λ q here. makes-joined look size x (joined x) q here some (is_raised size x is row first))
-    by_test false other = leads-repainted look size x (joined x)
+        let first : top size (joined_above x) ≡ top size x = eqb-true (top size (joined_above x)) (top size x) same in
+        with_mark look size x (joined_above x)
+        (raised size (caret_strip size (joined_above x) + 1) (room size - 1)
+        ∷ put size (joined_above x) (room size - 1) ++ put size (joined_above x) (caret_strip size (joined_above x)))
+        (λ q here. makes-joined look size x (joined_above x) q here some (is_raised size x is row first))
+    by_test false other = leads-repainted look size x (joined_above x)
 
 leads-broken : (look : Look) (size : Size) (x : Contents) → IsContents x → 0 < room size →
-    Leads look size x (broken x) (line_broken size x (broken x))
+    LeadsByCommand look size x (broken x) (line_broken size x (broken x))
 leads-broken look size x is some = by_test (top size (broken x) == top size x) refl
   where
     by_test : (b : Bool) → (top size (broken x) == top size x) ≡ b →
         (let i = caret_strip size (broken x) in
-        Leads look size x (broken x)
-        (cond b (lowered size (i + 1) (room size) ∷ put size (broken x) (i - 1) ++ put size (broken x) i) (repainted size (broken x))))
+        LeadsByCommand look size x (broken x)
+        (cond b (lowered size (i + 1) (room size) ∷ put size (broken x) (i - 1) ++ put size (broken x) i) (whole_painting size (broken x))))
     by_test true same =
         let first : top size (broken x) ≡ top size x = eqb-true (top size (broken x)) (top size x) same in
         with_mark look size x (broken x)
@@ -172,14 +172,14 @@ leads-broken look size x is some = by_test (top size (broken x) == top size x) r
         (λ q here. makes-broken look size x (broken x) q here some (is_lowered size x is first))
     by_test false other = leads-repainted look size x (broken x)
 
-leads-moved : (look : Look) (size : Size) (x y : Contents) → 0 < room size → x.lines ≡ y.lines → Leads look size x y (caret_moved size x y)
+leads-moved : (look : Look) (size : Size) (x y : Contents) → 0 < room size → x.lines ≡ y.lines → LeadsByCommand look size x y (caret_moved size x y)
 leads-moved look size x y some lines =
     by_tests (top size y == top size x) (top size y == top size x + 1) (top size x == top size y + 1) refl refl refl
   where
     by_tests : (s d u : Bool) → (top size y == top size x) ≡ s → (top size y == top size x + 1) ≡ d → (top size x == top size y + 1) ≡ u →
         (let last = room size - 1 in
-        Leads look size x y (cond s (mark size x ∷ []) (cond d (mark size x ∷ raised size 0 last ∷ put size y last)
-        (cond u (mark size x ∷ lowered size 1 (room size) ∷ put size y 0) (repainted size y)))))
+        LeadsByCommand look size x y (cond s (mark size x ∷ []) (cond d (mark size x ∷ raised size 0 last ∷ put size y last)
+        (cond u (mark size x ∷ lowered size 1 (room size) ∷ put size y 0) (whole_painting size y)))))
     by_tests true d u same down up =
         with_mark look size x y (mark size x ∷ [])
         (λ q here. makes-unmarked look size x y q here lines (sym (eqb-true (top size y) (top size x) same)))
@@ -192,13 +192,13 @@ leads-moved look size x y some lines =
     by_tests false false false same down up = leads-repainted look size x y
 
 leads : (look : Look) (size : Size) (x : Contents) (cmd : EditorCmd) → IsContents x → 0 < room size → acts x cmd ≡ true →
-    is_copy cmd ≡ false → Leads look size x (effect x cmd) (painted size x (effect x cmd) cmd)
+    is_copy cmd ≡ false → LeadsByCommand look size x (effect x cmd) (patch_without_mark size x (effect x cmd) cmd)
 leads look size x (Insert text) is some does other =
     leads-rewritten look size x (inserted x text) some refl (λ k apart. line_changed size x (before x ++ text ++ behind x) k is apart)
 leads look size x Erase is some does other = by_column (x.column == 0) refl does
   where
     by_column : (b : Bool) → (x.column == 0) ≡ b → cond b (can_join x) true ≡ true →
-        (let y = cond b (joined x) (erased x) in Leads look size x y (cond b (lines_joined size x y) (rewritten size y)))
+        (let y = cond b (joined_above x) (erased x) in LeadsByCommand look size x y (cond b (lines_joined size x y) (rewritten size y)))
     by_column true first can =
         leads-joined look size x is some
         (ltb-true 0 x.row (both_hold (nat_lt 0 x.row) (nat_le (length (line_at x (x.row - 1)) + length (line_of x)) 80) can).0)
@@ -206,7 +206,7 @@ leads look size x Erase is some does other = by_column (x.column == 0) refl does
         leads-rewritten look size x (erased x) some refl
         (λ k apart. line_changed size x (take (x.column - 1) (line_of x) ++ behind x) k is apart)
 leads look size x Split is some does other = leads-broken look size x is some
-leads look size x (Goto row column) is some does other = leads-moved look size x (moved x row column) some refl
+leads look size x (Goto row column) is some does other = leads-moved look size x (caret_to x row column) some refl
 leads look size x (Copy from to) is some does other = cc
 leads look size x Paste is some does other =
     leads-rewritten look size x (inserted x x.clip) some refl (λ k apart. line_changed size x (before x ++ x.clip ++ behind x) k is apart)
@@ -217,7 +217,7 @@ pub editor_patches : (look : Look) (size : Size) (x : Contents) (cmd : EditorCmd
 editor_patches look size x cmd is known small = by_tests (room size == 0) (is_copy cmd) (acts x cmd) refl refl refl
   where
     same-copy : (cmd : EditorCmd) (a : Bool) (q : Point) → is_copy cmd ≡ true →
-        marked look size x q ≡ marked look size (cond a (effect x cmd) x) q
+        with_caret look size x q ≡ with_caret look size (cond a (effect x cmd) x) q
     same-copy (Insert text) a q copy = cc
     same-copy Erase a q copy = cc
     same-copy Split a q copy = cc
@@ -227,8 +227,8 @@ editor_patches look size x cmd is known small = by_tests (room size == 0) (is_co
     same-copy Paste a q copy = cc
 
     by_tests : (z c a : Bool) → (room size == 0) ≡ z → is_copy cmd ≡ c → acts x cmd ≡ a →
-        IsPatch look size (cond (z || c || not a) [] (batch_of (painted size x (effect x cmd) cmd ++ mark size (effect x cmd) ∷ [])))
-        (λ q. cond z 0 (marked look size x q)) (λ q. cond z 0 (marked look size (cond a (effect x cmd) x) q))
+        IsPatch look size (cond (z || c || not a) [] (batch_of (patch_without_mark size x (effect x cmd) cmd ++ mark size (effect x cmd) ∷ [])))
+        (λ q. cond z 0 (with_caret look size x q)) (λ q. cond z 0 (with_caret look size (cond a (effect x cmd) x) q))
     by_tests true c a none copy does = no_patch look size _ _ (λ q here. refl)
     by_tests false true a some copy does = no_patch look size _ _ (λ q here. same-copy cmd a q copy)
     by_tests false false true some copy does =
@@ -243,7 +243,7 @@ AreNone cs = batch_of cs ≡ []
 both_none : (xs ys : List Paint) → AreNone xs → AreNone ys → AreNone (xs ++ ys)
 both_none xs ys first second = flat_map-append kept xs ys ∙ rw (first, second) refl
 
-no-scroll : (size : Size) (from to : ℕ) (delta : Point) → size.wide ≡ 0 → AreNone (Scroll (area_of size from to) delta ∷ [])
+no-scroll : (size : Size) (from to : ℕ) (delta : Point) → size.wide ≡ 0 → AreNone (Scroll (strips_between size from to) delta ∷ [])
 no-scroll size from to delta flat = rw (no_columns size from to flat) refl
 
 no-written : (size : Size) (y : Contents) (i : ℕ) → size.wide ≡ 0 → AreNone (written size y i ∷ [])
@@ -261,17 +261,17 @@ no-lines size y [] flat = refl
 no-lines size y (i ∷ is) flat =
     both_none (written size y i ∷ []) (map (written size y) is) (no-written size y i flat) (no-lines size y is flat)
 
-no-repainted : (size : Size) (y : Contents) → size.wide ≡ 0 → whole_of size ≡ empty_rect → AreNone (repainted size y)
+no-repainted : (size : Size) (y : Contents) → size.wide ≡ 0 → whole_of size ≡ empty_rect → AreNone (whole_painting size y)
 no-repainted size y flat none =
-    both_none (Tint (whole_of size) Bg ∷ []) (map (written size y) (range_with_len 0 (length (shown size y)))) (rw none refl)
-    (no-lines size y (range_with_len 0 (length (shown size y))) flat)
+    both_none (Tint (whole_of size) Bg ∷ []) (map (written size y) (range_with_len 0 (length (shown_lines size y)))) (rw none refl)
+    (no-lines size y (range_with_len 0 (length (shown_lines size y))) flat)
 
-no-painted : (size : Size) (x y : Contents) (cmd : EditorCmd) → size.wide ≡ 0 → whole_of size ≡ empty_rect → AreNone (painted size x y cmd)
+no-painted : (size : Size) (x y : Contents) (cmd : EditorCmd) → size.wide ≡ 0 → whole_of size ≡ empty_rect → AreNone (patch_without_mark size x y cmd)
 no-painted size x y (Insert text) flat none = no-put size y (caret_strip size y) flat
 no-painted size x y Erase flat none = by_tests (x.column == 0) (top size y == top size x)
   where
     by_tests : (b s : Bool) → (let i = caret_strip size y in let last = room size - 1 in
-        AreNone (cond b (cond s (raised size (i + 1) last ∷ put size y last ++ put size y i) (repainted size y)) (rewritten size y)))
+        AreNone (cond b (cond s (raised size (i + 1) last ∷ put size y last ++ put size y i) (whole_painting size y)) (rewritten size y)))
     by_tests true true =
         both_none (raised size (caret_strip size y + 1) (room size - 1) ∷ [])
         (put size y (room size - 1) ++ put size y (caret_strip size y))
@@ -283,7 +283,7 @@ no-painted size x y Erase flat none = by_tests (x.column == 0) (top size y == to
 no-painted size x y Split flat none = by_test (top size y == top size x)
   where
     by_test : (s : Bool) → (let i = caret_strip size y in
-        AreNone (cond s (lowered size (i + 1) (room size) ∷ put size y (i - 1) ++ put size y i) (repainted size y)))
+        AreNone (cond s (lowered size (i + 1) (room size) ∷ put size y (i - 1) ++ put size y i) (whole_painting size y)))
     by_test true =
         both_none (lowered size (caret_strip size y + 1) (room size) ∷ [])
         (put size y (caret_strip size y - 1) ++ put size y (caret_strip size y))
@@ -297,7 +297,7 @@ no-painted size x y (Goto row column) flat none =
     by_tests : (s d u : Bool) →
         (let last = room size - 1 in
         AreNone (cond s (mark size x ∷ []) (cond d (mark size x ∷ raised size 0 last ∷ put size y last)
-        (cond u (mark size x ∷ lowered size 1 (room size) ∷ put size y 0) (repainted size y)))))
+        (cond u (mark size x ∷ lowered size 1 (room size) ∷ put size y 0) (whole_painting size y)))))
     by_tests true d u = no-mark size x none
     by_tests false true u =
         both_none (mark size x ∷ []) (raised size 0 (room size - 1) ∷ put size y (room size - 1)) (no-mark size x none)
@@ -316,7 +316,7 @@ pub editor_empty_patches : (look : Look) (size : Size) (x : Contents) (cmd : Edi
 editor_empty_patches look size x cmd is known small flat = by_tests (room size == 0) (is_copy cmd) (acts x cmd) refl
   where
     by_tests : (z c a : Bool) → (room size == 0) ≡ z →
-        cond (z || c || not a) [] (batch_of (painted size x (effect x cmd) cmd ++ mark size (effect x cmd) ∷ [])) ≡ []
+        cond (z || c || not a) [] (batch_of (patch_without_mark size x (effect x cmd) cmd ++ mark size (effect x cmd) ∷ [])) ≡ []
     by_tests true c a none = refl
     by_tests false true a some = refl
     by_tests false false false some = refl
@@ -325,7 +325,7 @@ editor_empty_patches look size x cmd is known small flat = by_tests (room size =
         let high : 0 < size.high = omega arith in
         let no_column : size.wide ≡ 0 = grind (arith, nat_tests) in
         let none = flat-whole size flat in
-        both_none (painted size x (effect x cmd) cmd) (mark size (effect x cmd) ∷ [])
+        both_none (patch_without_mark size x (effect x cmd) cmd) (mark size (effect x cmd) ∷ [])
         (no-painted size x (effect x cmd) cmd no_column none) (no-mark size (effect x cmd) none)
 
 -- the first of a list, as many of them as there are
@@ -338,19 +338,19 @@ take-same lines m n same =
 pub editor_keeping : (look : Look) (from to : Size) (x : Contents) → IsContents x → IsWindowSize from → IsWindowSize to →
     Survives (editor_keeps x from to) from to (editor_pic look from x) (editor_pic look to x)
 editor_keeping look from to x is small small' =
-    by_tests (top from x == top to x) (length (shown from x) == length (shown to x)) refl refl
+    by_tests (top from x == top to x) (length (shown_lines from x) == length (shown_lines to x)) refl refl
   where
-    some_shown : (size : Size) → 0 < room size → 0 < length (shown size x)
+    some_shown : (size : Size) → 0 < room size → 0 < length (shown_lines size x)
     some_shown size some =
         let first = top-row size x in
         let r = is.row in
         omega (arith, length-take (room size) (drop (top size x) x.lines), length-drop (top size x) x.lines)
 
-    none_shown : (size : Size) → room size ≡ 0 → length (shown size x) ≡ 0
+    none_shown : (size : Size) → room size ≡ 0 → length (shown_lines size x) ≡ 0
     none_shown size none = omega (arith, length-take (room size) (drop (top size x) x.lines))
 
-    same_colour : top from x ≡ top to x → length (shown from x) ≡ length (shown to x) → (q : Point) → (a b : Bool) →
-        (room from == 0) ≡ a → (room to == 0) ≡ b → cond a 0 (marked look from x q) ≡ cond b 0 (marked look to x q)
+    same_colour : top from x ≡ top to x → length (shown_lines from x) ≡ length (shown_lines to x) → (q : Point) → (a b : Bool) →
+        (room from == 0) ≡ a → (room to == 0) ≡ b → cond a 0 (with_caret look from x q) ≡ cond b 0 (with_caret look to x q)
     same_colour first count q true true one other = refl
     same_colour first count q true false one other =
         let none = none_shown from (eqb-true (room from) 0 one) in
@@ -363,18 +363,18 @@ editor_keeping look from to x is small small' =
         let some = some_shown from (omega arith) in
         absurd (omega arith)
     same_colour first count q false false one other =
-        let lines : shown from x ≡ shown to x =
+        let lines : shown_lines from x ≡ shown_lines to x =
         ap (λ n. take (room from) (drop n x.lines)) first
         ∙ take-same (drop (top to x) x.lines) (room from) (room to)
         (ap (λ n. length (take (room from) (drop n x.lines))) (sym first) ∙ count) in
-        ap (λ n. turned (cell x.column (x.row - n)) q (colour_in look (shown from x) q)) first
-        ∙ ap (λ (ls : List (List ℕ)). turned (caret to x) q (colour_in look ls q)) lines
+        ap (λ n. inverted (cell x.column (x.row - n)) q (colour_in look (shown_lines from x) q)) first
+        ∙ ap (λ (ls : List (List ℕ)). inverted (caret to x) q (colour_in look ls q)) lines
 
-    by_tests : (t n : Bool) → (top from x == top to x) ≡ t → (length (shown from x) == length (shown to x)) ≡ n →
+    by_tests : (t n : Bool) → (top from x == top to x) ≡ t → (length (shown_lines from x) == length (shown_lines to x)) ≡ n →
         Survives (cond (t && n) (meet_of (whole_of from) (whole_of to)) empty_rect) from to (editor_pic look from x) (editor_pic look to x)
     by_tests true true first count =
         survives-meet from to (editor_pic look from x) (editor_pic look to x)
-        (λ q h k. same_colour (eqb-true (top from x) (top to x) first) (eqb-true (length (shown from x)) (length (shown to x)) count) q
+        (λ q h k. same_colour (eqb-true (top from x) (top to x) first) (eqb-true (length (shown_lines from x)) (length (shown_lines to x)) count) q
         (room from == 0) (room to == 0) refl refl)
     by_tests true false first count = survives-nothing from to (editor_pic look from x) (editor_pic look to x)
     by_tests false n first count = survives-nothing from to (editor_pic look from x) (editor_pic look to x)
@@ -391,7 +391,7 @@ editor_kinds look size x p is small = by_tests (room size == 0) (has_point (care
     one = pixel-bit look.kind 1 (omega arith)
 
     lines : IsPixel look.kind (bare look size x p)
-    lines = pixel-colour_in look (shown size x) p
+    lines = pixel-colour_in look (shown_lines size x) p
 
     by_tests : (none here : Bool) → IsPixel look.kind (cond none 0 (cond here (exchanged 0 1 (bare look size x p)) (bare look size x p)))
     by_tests true here = zero
@@ -401,9 +401,9 @@ editor_kinds look size x p is small = by_tests (room size == 0) (has_point (care
 -- once the lines of a part are painted, the caret is marked there
 pub caret_pushed : (look : Look) (part : Edges) (batch : List Paint) (e : Edges) (picture : Point → ℕ) →
     IsPainting look part batch picture →
-    IsPainting look part (batch ++ kept (Tint (meet_of part e) (Exchange 0 1))) (λ q. turned e q (picture q))
+    IsPainting look part (batch ++ kept (Tint (meet_of part e) (Exchange 0 1))) (λ q. inverted e q (picture q))
 caret_pushed look part batch e picture painted =
-    painting_more look part batch (Tint (meet_of part e) (Exchange 0 1)) picture (λ q. turned e q (picture q)) painted
+    painting_more look part batch (Tint (meet_of part e) (Exchange 0 1)) picture (λ q. inverted e q (picture q)) painted
     (λ q here. rw (has_point-meet_of part e q, here) (by_test (has_point e q) look.kind (picture q)))
     (meet-inside part e)
   where
@@ -415,22 +415,22 @@ caret_pushed look part batch e picture painted =
 
 -- the lines alone are the picture where no line has room, and with the caret they are it elsewhere
 pub lines_are_painting : (look : Look) (size : Size) (x : Contents) (part : Edges) (batch : List Paint) → room size ≡ 0 →
-    IsPainting look part batch (colour_in look (shown size x)) → IsPainting look part batch (editor_pic look size x)
+    IsPainting look part batch (colour_in look (shown_lines size x)) → IsPainting look part batch (editor_pic look size x)
 lines_are_painting look size x part batch none painted =
-    painting_along look part batch (colour_in look (shown size x)) (editor_pic look size x)
-    (λ q here. subst (λ n. colour_in look (take n (drop (top size x) x.lines)) q ≡ cond (n == 0) 0 (marked look size x q)) (sym none)
+    painting_along look part batch (colour_in look (shown_lines size x)) (editor_pic look size x)
+    (λ q here. subst (λ n. colour_in look (take n (drop (top size x) x.lines)) q ≡ cond (n == 0) 0 (with_caret look size x q)) (sym none)
     (no_text look (strip_of q) q))
     painted
 
 pub caret_is_painting : (look : Look) (size : Size) (x : Contents) (part : Edges) (batch : List Paint) → (room size ≡ 0 → ⊥) →
-    IsPainting look part batch (colour_in look (shown size x)) →
+    IsPainting look part batch (colour_in look (shown_lines size x)) →
     IsPainting look part (batch ++ kept (Tint (meet_of part (caret size x)) (Exchange 0 1))) (editor_pic look size x)
 caret_is_painting look size x part batch some painted = by_test (room size == 0) refl
   where
     by_test : (b : Bool) → (room size == 0) ≡ b →
-        IsPainting look part (batch ++ kept (Tint (meet_of part (caret size x)) (Exchange 0 1))) (λ q. cond b 0 (marked look size x q))
+        IsPainting look part (batch ++ kept (Tint (meet_of part (caret size x)) (Exchange 0 1))) (λ q. cond b 0 (with_caret look size x q))
     by_test true none = absurd (some (eqb-true (room size) 0 none))
-    by_test false is = caret_pushed look part batch (caret size x) (colour_in look (shown size x)) painted
+    by_test false is = caret_pushed look part batch (caret size x) (colour_in look (shown_lines size x)) painted
 
 -- a command that has its effect changes the content, if it doesn't copy
 changes : (x : Contents) (cmd : EditorCmd) → acts x cmd ≡ true → is_copy cmd ≡ false → effect x cmd ≡ x → ⊥
@@ -444,7 +444,7 @@ changes x (Insert text) does other same = put_changes text does same
         omega arith
 changes x Erase does other same = by_column (x.column == 0) refl does same
   where
-    by_column : (b : Bool) → (x.column == 0) ≡ b → cond b (can_join x) true ≡ true → cond b (joined x) (erased x) ≡ x → ⊥
+    by_column : (b : Bool) → (x.column == 0) ≡ b → cond b (can_join x) true ≡ true → cond b (joined_above x) (erased x) ≡ x → ⊥
     by_column true first can same =
         let row : x.row - 1 ≡ x.row = ap (λ (y : Contents). y.row) same in
         let some : 0 < x.row =

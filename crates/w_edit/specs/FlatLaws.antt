@@ -16,8 +16,8 @@ use Rattle.tr_client.proofs.KeepingLemmas.{both_hold}
 use Rattle.w_edit.specs.declared.commands.EditorCmd.{EditorCmd}
 use Rattle.w_edit.specs.declared.commands.EditorCmd.TheVariants.{Insert, Erase, Split, Goto, Copy, Paste}
 use Rattle.w_edit.specs.Numbers.{most_bytes}
-use Rattle.w_edit.specs.Contents.{Contents, IsContents, line_at, line_of, before, behind, above, below, inserted, erased, joined, broken, moved, copied, effect, can_join, acts, editor_next, IsEditorCmd}
-use Rattle.w_edit.specs.Flat.{FlatText, flat, ended, place, flat_text, lines_of, put_in, feed, flat_effect, flat_next, flat_after, editor_after, IsFlatOf}
+use Rattle.w_edit.specs.Contents.{Contents, IsContents, line_at, line_of, before, behind, above, below, inserted, erased, joined_above, broken, caret_to, copied, effect, can_join, acts, editor_next, IsEditorCmd}
+use Rattle.w_edit.specs.Flat.{FlatText, flat, ended, place, flat_text, split_lines, put_in, feed, flat_effect, flat_next, flat_after, editor_after, IsFlatOf}
 use Rattle.w_edit.specs.ContentsLaws.{zipped, is_zipped, above-length, before-length, inserted-zipped, erased-zipped, joined-zipped, broken-zipped, part_taken, editor_contents}
 
 -- lines with a line feed before each
@@ -63,16 +63,16 @@ less_at front back bytes c at is here =
     rw (is, here, first, drop_at (front ++ c ∷ []) back (length (front ++ c ∷ [])) refl) refl
 
 -- the bytes before the caret and those behind it
-abbrev front_of : Contents → List ℕ
-front_of x = ended (above x) ++ before x
+abbrev bytes_before : Contents → List ℕ
+bytes_before x = ended (above x) ++ before x
 
 abbrev back_of : Contents → List ℕ
 back_of x = behind x ++ started (below x)
 
-pub flat-cut : (x : Contents) → IsContents x → flat x ≡ front_of x ++ back_of x
+pub flat-cut : (x : Contents) → IsContents x → flat x ≡ bytes_before x ++ back_of x
 flat-cut x is = ap (λ (y : Contents). flat y) (is_zipped x is) ∙ flat-zipped (above x) (before x) (behind x) (below x) x.clip
 
-pub place-cut : (x : Contents) → IsContents x → place x ≡ length (front_of x)
+pub place-cut : (x : Contents) → IsContents x → place x ≡ length (bytes_before x)
 place-cut x is = ap (λ (y : Contents). place y) (is_zipped x is) ∙ place-zipped (above x) (before x) (behind x) (below x) x.clip
 
 -- lines more
@@ -85,7 +85,7 @@ flat-inserted x text is =
     ap (λ (y : Contents). flat y) (inserted-zipped x text is)
     ∙ flat-zipped (above x) (before x ++ text) (behind x) (below x) x.clip
     ∙ ap (λ f. f ++ back_of x) (sym (append_assoc (ended (above x)) (before x) text))
-    ∙ sym (put_at (front_of x) (back_of x) text (flat x) (place x) (flat-cut x is) (place-cut x is))
+    ∙ sym (put_at (bytes_before x) (back_of x) text (flat x) (place x) (flat-cut x is) (place-cut x is))
 
 place-inserted : (x : Contents) (text : List ℕ) → IsContents x → place (inserted x text) ≡ place x + length text
 place-inserted x text is =
@@ -101,7 +101,7 @@ place-inserted x text is =
 
 -- where one byte goes, what stands before it stays before the caret
 record Loses (x y : Contents) (kept : List ℕ) (c : ℕ) : Type 0 where
-  front : front_of x ≡ kept ++ c ∷ []
+  front : bytes_before x ≡ kept ++ c ∷ []
   bytes : flat y ≡ kept ++ back_of x
   at : place y ≡ length kept
 
@@ -139,7 +139,7 @@ erased-loses x is some = record {
         ap (λ n. take n (line_of x)) more ∙ take_more (line_of x) (x.column - 1) 0 within
 
 joined-loses : (x : Contents) → IsContents x → x.column ≡ 0 → 0 < x.row →
-    Loses x (joined x) (ended (take (x.row - 1) x.lines) ++ line_at x (x.row - 1)) feed
+    Loses x (joined_above x) (ended (take (x.row - 1) x.lines) ++ line_at x (x.row - 1)) feed
 joined-loses x is first some = record {
   front =
       ap (λ (f : List ℕ). ended (above x) ++ f) (ap (λ n. take n (line_of x)) first)
@@ -162,7 +162,7 @@ joined-loses x is first some = record {
         let within : x.row - 1 < length x.lines = omega arith in
         ap (λ n. take n x.lines) more ∙ take_more x.lines (x.row - 1) [] within
 
-broken-front : (x : Contents) → (ended (above x ++ before x ∷ []) ++ []) ≡ front_of x ++ feed ∷ []
+broken-front : (x : Contents) → (ended (above x ++ before x ∷ []) ++ []) ≡ bytes_before x ++ feed ∷ []
 broken-front x = append-nil (ended (above x ++ before x ∷ [])) ∙ ended-push (above x) (before x)
 
 flat-broken : (x : Contents) → IsContents x → flat (broken x) ≡ put_in (flat x) (place x) (feed ∷ [])
@@ -170,15 +170,15 @@ flat-broken x is =
     ap (λ (y : Contents). flat y) (broken-zipped x is)
     ∙ flat-zipped (above x ++ before x ∷ []) [] (behind x) (below x) x.clip
     ∙ ap (λ f. f ++ back_of x) (broken-front x)
-    ∙ sym (put_at (front_of x) (back_of x) (feed ∷ []) (flat x) (place x) (flat-cut x is) (place-cut x is))
+    ∙ sym (put_at (bytes_before x) (back_of x) (feed ∷ []) (flat x) (place x) (flat-cut x is) (place-cut x is))
 
 place-broken : (x : Contents) → IsContents x → place (broken x) ≡ place x + 1
 place-broken x is =
     let cut = place-cut x is in
-    let new : place (broken x) ≡ length (front_of x ++ feed ∷ []) =
+    let new : place (broken x) ≡ length (bytes_before x ++ feed ∷ []) =
     ap (λ (y : Contents). place y) (broken-zipped x is) ∙ place-zipped (above x ++ before x ∷ []) [] (behind x) (below x) x.clip
     ∙ ap (λ (f : List ℕ). length f) (broken-front x) in
-    omega (arith, length-append (front_of x) (feed ∷ []))
+    omega (arith, length-append (bytes_before x) (feed ∷ []))
 
 -- no byte of a line is a line feed
 no_feed : (line : List ℕ) → IsLine line → All (λ c. (c == feed) ≡ false) line
@@ -188,10 +188,10 @@ no_feed line is = All-weaker (λ c. is_printable c ≡ true) (λ c. (c == feed) 
     other c p = grind (arith, nat_tests)
 
 -- lines are had back from their bytes
-lines-back : (over : List (List ℕ)) (last : List ℕ) → All IsLine over → IsLine last → lines_of (ended over ++ last) ≡ over ++ last ∷ []
+lines-back : (over : List (List ℕ)) (last : List ℕ) → All IsLine over → IsLine last → split_lines (ended over ++ last) ≡ over ++ last ∷ []
 lines-back [] last all is = slice_split_none (λ b. b == feed) last (no_feed last is)
 lines-back (first ∷ over) last all is =
-    ap (λ bytes. lines_of bytes) (append_assoc (first ++ feed ∷ []) (ended over) last ∙ append_assoc first (feed ∷ []) (ended over ++ last))
+    ap (λ bytes. split_lines bytes) (append_assoc (first ++ feed ∷ []) (ended over) last ∙ append_assoc first (feed ∷ []) (ended over ++ last))
     ∙ slice_split_at (λ b. b == feed) first feed (ended over ++ last) (no_feed first (All-head IsLine first over all)) refl
     ∙ ap (λ (lines : List (List ℕ)). first ∷ lines) (lines-back over last (All-tail IsLine first over all) is)
 
@@ -201,7 +201,7 @@ flat_says_all x is = record {
   back = rw (all, front, row, column) refl;
   within = let cut = place-cut x is in
       let bytes = ap (λ (all : List ℕ). length all) (flat-cut x is) in
-      omega (arith, bytes, length-append (front_of x) (back_of x));
+      omega (arith, bytes, length-append (bytes_before x) (back_of x));
 }
   where
     last : ℕ
@@ -214,21 +214,21 @@ flat_says_all x is = record {
         let within : length x.lines - 1 < length x.lines = omega arith in
         sym (take-length x.lines) ∙ ap (λ n. take n x.lines) more ∙ take_more x.lines (length x.lines - 1) [] within
 
-    all : lines_of (flat x) ≡ x.lines
+    all : split_lines (flat x) ≡ x.lines
     all =
         let r = is.row in
         let over = take (length x.lines - 1) x.lines in
         let line = line_at x (length x.lines - 1) in
-        ap (λ (lines : List (List ℕ)). lines_of (join_with_byte feed lines)) parts
-        ∙ ap (λ bytes. lines_of bytes) (flat-over over line [] ∙ ap (λ b. ended over ++ b) (append-nil line))
+        ap (λ (lines : List (List ℕ)). split_lines (join_with_byte feed lines)) parts
+        ∙ ap (λ bytes. split_lines bytes) (flat-over over line [] ∙ ap (λ b. ended over ++ b) (append-nil line))
         ∙ lines-back over line (All-take IsLine (length x.lines - 1) x.lines is.each)
         (All-get_or IsLine x.lines (length x.lines - 1) [] (omega arith) is.each)
         ∙ sym parts
 
-    front : lines_of (take (place x) (flat x)) ≡ above x ++ before x ∷ []
+    front : split_lines (take (place x) (flat x)) ≡ above x ++ before x ∷ []
     front =
-        ap (λ (bytes : List ℕ). lines_of (take (place x) bytes)) (flat-cut x is)
-        ∙ ap (λ bytes. lines_of bytes) (take_at (front_of x) (back_of x) (place x) (sym (place-cut x is)))
+        ap (λ (bytes : List ℕ). split_lines (take (place x) bytes)) (flat-cut x is)
+        ∙ ap (λ bytes. split_lines bytes) (take_at (bytes_before x) (back_of x) (place x) (sym (place-cut x is)))
         ∙ lines-back (above x) (before x) (All-take IsLine x.row x.lines is.each)
         (part_taken x.column (line_of x) (All-get_or IsLine x.lines x.row [] is.row is.each))
 
@@ -249,21 +249,21 @@ flat-effect x (Insert text) is does = same_text _ _ (flat-inserted x text is) (p
 flat-effect x Erase is does = by_column (x.column == 0) refl does
   where
     by_column : (b : Bool) → (x.column == 0) ≡ b → cond b (can_join x) true ≡ true →
-        flat_text (cond b (joined x) (erased x)) ≡ flat_effect (flat_text x) Erase
+        flat_text (cond b (joined_above x) (erased x)) ≡ flat_effect (flat_text x) Erase
     by_column true first can =
         let start : x.column ≡ 0 = eqb-true x.column 0 first in
         let some : 0 < x.row =
         ltb-true 0 x.row
         (both_hold (nat_lt 0 x.row) (nat_le (length (line_at x (x.row - 1)) + length (line_of x)) most_bytes) can).0 in
         let loses = joined-loses x is start some in
-        same_text _ _ (flat-lost x (joined x) _ _ is loses) (place-lost x (joined x) _ _ is loses) refl
+        same_text _ _ (flat-lost x (joined_above x) _ _ is loses) (place-lost x (joined_above x) _ _ is loses) refl
     by_column false later can =
         let some : 0 < x.column = let apart = eqb-false x.column 0 later in omega arith in
         let loses = erased-loses x is some in
         same_text _ _ (flat-lost x (erased x) _ _ is loses) (place-lost x (erased x) _ _ is loses) refl
 flat-effect x Split is does = same_text _ _ (flat-broken x is) (place-broken x is) refl
 flat-effect x (Goto row column) is does =
-    same_text _ _ refl (ap (λ (y : Contents). place (moved y row column)) (sym (flat_says_all x is).back)) refl
+    same_text _ _ refl (ap (λ (y : Contents). place (caret_to y row column)) (sym (flat_says_all x is).back)) refl
 flat-effect x (Copy from to) is does =
     same_text _ _ refl refl (ap (λ (y : Contents). (copied y from to).clip) (sym (flat_says_all x is).back))
 flat-effect x Paste is does = same_text _ _ (flat-inserted x x.clip is) (place-inserted x x.clip is) refl

@@ -10,8 +10,8 @@ abbrev pub most_bytes : ℕ
 most_bytes = 80
 
 -- the number of a row is less than the most lines
-abbrev pub IsRow : ℕ → Type 0
-IsRow row = row < most_lines
+abbrev pub IsRowNumber : ℕ → Type 0
+IsRowNumber row = row < most_lines
 
 -- the number of a column is at most the length of the longest line, behind whose last byte it is
 abbrev pub IsColumn : ℕ → Type 0

@@ -23,7 +23,7 @@ use Rattle.tr_client.specs.Texts.{strip_of, begin_of, in_cells, line_colour, col
 use Rattle.tr_client.proofs.PlainLemmas.{text-makes}
 use Rattle.tr_client.proofs.StripLemmas.{strip-has}
 use Rattle.w_edit.specs.Contents.{Contents, line_at}
-use Rattle.w_edit.specs.Pictures.{top, cell, caret, turned, strip, written, put, mark}
+use Rattle.w_edit.specs.Pictures.{top, cell, caret, inverted, strip, written, put, mark}
 
 -- a point lies in a window
 abbrev pub IsIn : Size → Point → Type 0
@@ -81,7 +81,7 @@ put-run look size y i old q here =
     by_test false outside = rw outside refl
 
 -- an exchange in a cell, done twice, is none
-pub turned-twice : (e : Edges) (q : Point) (n : ℕ) → turned e q (turned e q n) ≡ n
+pub turned-twice : (e : Edges) (q : Point) (n : ℕ) → inverted e q (inverted e q n) ≡ n
 turned-twice e q n = by_test (has_point e q) (n == 0) (n == 1) refl refl
   where
     by_test : (b z o : Bool) → (n == 0) ≡ z → (n == 1) ≡ o →
@@ -92,7 +92,7 @@ turned-twice e q n = by_test (has_point e q) (n == 0) (n == 1) refl refl
     by_test true false false zero one = rw (zero, one, zero, one) refl
 
 -- it leaves the points of other strips
-pub turned-other : (column i : ℕ) (q : Point) (n : ℕ) → pos 0 ≤ℤ q.v → (strip_of q == i) ≡ false → turned (cell column i) q n ≡ n
+pub turned-other : (column i : ℕ) (q : Point) (n : ℕ) → pos 0 ≤ℤ q.v → (strip_of q == i) ≡ false → inverted (cell column i) q n ≡ n
 turned-other column i q n inside apart =
     ap (λ b. cond b (exchanged 0 1 n) n) outside
   where
@@ -108,7 +108,7 @@ turned-other column i q n inside apart =
 
 -- the mark is such an exchange
 pub mark-left : (look : Look) (size : Size) (y : Contents) (old : Point → ℕ) (q : Point) → IsIn size q →
-    run_one look (mark size y) old q ≡ turned (caret size y) q (old q)
+    run_one look (mark size y) old q ≡ inverted (caret size y) q (old q)
 mark-left look size y old q here =
     rw (has_point-meet_of (whole_of size) (caret size y) q, here) (by_test (has_point (caret size y) q) look.kind)
   where

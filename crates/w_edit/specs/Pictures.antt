@@ -11,7 +11,7 @@ use Rattle.tr_paint.specs.declared.Paint.TheVariants.{Tint, Text, Scroll}
 use Rattle.tr_paint.specs.Traces.{Look}
 use Rattle.tr_paint.specs.Batches.{batch_of}
 use Rattle.tr_client.specs.Plain.{plain}
-use Rattle.tr_client.specs.Texts.{room, begin_of, colour_in, area_of, upwards, downwards}
+use Rattle.tr_client.specs.Texts.{room, begin_of, colour_in, strips_between, upwards, downwards}
 use Rattle.w_edit.specs.declared.commands.EditorCmd.{EditorCmd}
 use Rattle.w_edit.specs.declared.commands.EditorCmd.TheVariants.{Insert, Erase, Split, Goto, Copy, Paste}
 use Rattle.w_edit.specs.Contents.{Contents, line_at, acts, effect}
@@ -21,8 +21,8 @@ abbrev pub top : Size → Contents → ℕ
 top size x = if room size == 0 then 0 else x.row + 1 - room size
 
 -- the lines that the window shows, from north to south
-abbrev pub shown : Size → Contents → List (List ℕ)
-shown size x = take (room size) (drop (top size x) x.lines)
+abbrev pub shown_lines : Size → Contents → List (List ℕ)
+shown_lines size x = take (room size) (drop (top size x) x.lines)
 
 -- the cell of a column, in the strip that has so many others above it
 abbrev pub cell : ℕ → ℕ → Edges
@@ -37,16 +37,16 @@ abbrev pub caret : Size → Contents → Edges
 caret size x = cell x.column (caret_strip size x)
 
 -- in the caret's cell background and foreground change places
-abbrev pub turned : Edges → Point → ℕ → ℕ
-turned e q colour = if has_point e q then exchanged 0 1 colour else colour
+abbrev pub inverted : Edges → Point → ℕ → ℕ
+inverted e q colour = if has_point e q then exchanged 0 1 colour else colour
 
 -- the lines with the caret; where no line has room all is background
 abbrev pub editor_pic : Look → Size → Contents → Point → ℕ
-editor_pic look size x q = if room size == 0 then 0 else turned (caret size x) q (colour_in look (shown size x) q)
+editor_pic look size x q = if room size == 0 then 0 else inverted (caret size x) q (colour_in look (shown_lines size x) q)
 
 -- the strip of a window that has so many others above it
 abbrev pub strip : Size → ℕ → Edges
-strip size i = area_of size i (i + 1)
+strip size i = strips_between size i (i + 1)
 
 -- the line of a strip is written; one that the text doesn't have has no byte, and so an empty area
 abbrev pub written : Size → Contents → ℕ → Paint
@@ -62,14 +62,14 @@ mark size x = Tint (meet_of (whole_of size) (caret size x)) (Exchange 0 1)
 
 -- the strips from one to before another take what the strip below or above each of them has
 abbrev pub raised : Size → ℕ → ℕ → Paint
-raised size from to = Scroll (area_of size from to) upwards
+raised size from to = Scroll (strips_between size from to) upwards
 
 abbrev pub lowered : Size → ℕ → ℕ → Paint
-lowered size from to = Scroll (area_of size from to) downwards
+lowered size from to = Scroll (strips_between size from to) downwards
 
 -- all becomes background, and each line that is shown is written
-abbrev pub repainted : Size → Contents → List Paint
-repainted size y = Tint (whole_of size) Bg ∷ map (written size y) (range_with_len 0 (length (shown size y)))
+abbrev pub whole_painting : Size → Contents → List Paint
+whole_painting size y = Tint (whole_of size) Bg ∷ map (written size y) (range_with_len 0 (length (shown_lines size y)))
 
 -- within a line: the caret's strip is painted anew
 abbrev pub rewritten : Size → Contents → List Paint
@@ -82,14 +82,14 @@ caret_moved size x y =
     if top size y == top size x then mark size x ∷ []
     else if top size y == top size x + 1 then mark size x ∷ raised size 0 last ∷ put size y last
     else if top size x == top size y + 1 then mark size x ∷ lowered size 1 (room size) ∷ put size y 0
-    else repainted size y
+    else whole_painting size y
 
 -- where a line was broken
 abbrev pub line_broken : Size → Contents → Contents → List Paint
 line_broken size x y =
     let i = caret_strip size y in
     if top size y == top size x then lowered size (i + 1) (room size) ∷ put size y (i - 1) ++ put size y i
-    else repainted size y
+    else whole_painting size y
 
 -- where two lines were joined
 abbrev pub lines_joined : Size → Contents → Contents → List Paint
@@ -97,16 +97,16 @@ lines_joined size x y =
     let i = caret_strip size y in
     let last = room size - 1 in
     if top size y == top size x then raised size (i + 1) last ∷ put size y last ++ put size y i
-    else repainted size y
+    else whole_painting size y
 
 -- what is painted before the mark, from the content x to y
-abbrev pub painted : Size → Contents → Contents → EditorCmd → List Paint
-painted size x y (Insert text) = rewritten size y
-painted size x y Erase = if x.column == 0 then lines_joined size x y else rewritten size y
-painted size x y Split = line_broken size x y
-painted size x y (Goto row column) = caret_moved size x y
-painted size x y (Copy from to) = []
-painted size x y Paste = rewritten size y
+abbrev pub patch_without_mark : Size → Contents → Contents → EditorCmd → List Paint
+patch_without_mark size x y (Insert text) = rewritten size y
+patch_without_mark size x y Erase = if x.column == 0 then lines_joined size x y else rewritten size y
+patch_without_mark size x y Split = line_broken size x y
+patch_without_mark size x y (Goto row column) = caret_moved size x y
+patch_without_mark size x y (Copy from to) = []
+patch_without_mark size x y Paste = rewritten size y
 
 -- a copy changes nothing that is shown
 abbrev pub is_copy : EditorCmd → Bool
@@ -117,9 +117,10 @@ is_copy cmd = false
 abbrev pub editor_patch : Look → Size → Contents → EditorCmd → List Paint
 editor_patch look size x cmd =
     if room size == 0 || is_copy cmd || not (acts x cmd) then []
-    else let y = effect x cmd in batch_of (painted size x y cmd ++ mark size y ∷ [])
+    else let y = effect x cmd in batch_of (patch_without_mark size x y cmd ++ mark size y ∷ [])
 
 -- what both windows have, if they show the same lines, and else nothing
 abbrev pub editor_keeps : Contents → Size → Size → Edges
 editor_keeps x from to =
-    if top from x == top to x && length (shown from x) == length (shown to x) then meet_of (whole_of from) (whole_of to) else empty_rect
+    if top from x == top to x && length (shown_lines from x) == length (shown_lines to x)
+    then meet_of (whole_of from) (whole_of to) else empty_rect

@@ -39,7 +39,7 @@ impl Model for Editor {
 impl Editor {
     /// A text of one line without a byte.
     pub fn new(alloc: Global) -> Result<Editor, NoMemory>
-        ensures { IfOk result (λ e. e ≡ spec.fresh) }
+        ensures { IfOk result (λ e. e ≡ spec.empty_text) }
     {
         let mut lines = Vec::new(alloc);
         lines.push(Line::of(alloc, &[])?)?;
@@ -183,8 +183,8 @@ impl Editor {
 
     /// The row and the column of the text that are nearest to these.
     pub(crate) fn nearest(&self, row: &RowNumber, column: &ColumnNumber) -> (usize, usize)
-        ensures row { result.0 ≡ (spec.moved self.now row.now column.now).row }
-        ensures column { result.1 ≡ (spec.moved self.now row.now column.now).column }
+        ensures row { result.0 ≡ (spec.caret_to self.now row.now column.now).row }
+        ensures column { result.1 ≡ (spec.caret_to self.now row.now column.now).column }
     {
         let row = usize::from(row.number()).min(self.lines.len() - 1);
         let column = usize::from(column.number()).min(self.lines[row].bytes().len());

@@ -141,7 +141,7 @@ impl Editor {
     /// The content with the caret's line joined to the one above it.
     fn joined(&self, alloc: Global) -> Result<Editor, NoMemory>
         requires { spec.can_join self.now ≡ true }
-        ensures { IfOk result (λ y. y ≡ spec.joined self.now) }
+        ensures { IfOk result (λ y. y ≡ spec.joined_above self.now) }
     {
         let row = self.row - 1;
         let upper = self.upper().bytes();
@@ -181,7 +181,7 @@ impl Editor {
         row: &RowNumber,
         column: &ColumnNumber,
     ) -> Result<Editor, NoMemory>
-        ensures { IfOk result (λ y. y ≡ spec.moved self.now row.now column.now) }
+        ensures { IfOk result (λ y. y ≡ spec.caret_to self.now row.now column.now) }
     {
         let (row, column) = self.nearest(row, column);
         let lines = self.copies(alloc)?;

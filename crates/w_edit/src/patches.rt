@@ -92,7 +92,7 @@ impl Editor {
 
     /// The lines that a window shows.
     pub(crate) fn shown(&self, size: Size) -> &[Line]
-        ensures { result.now ≡ spec.shown size self.now }
+        ensures { result.now ≡ spec.shown_lines size self.now }
     {
         let below = &self.lines()[self.top(size)..];
         &below[..room(size).min(below.len())]
@@ -101,7 +101,7 @@ impl Editor {
     /// All becomes background, and each line that is shown is written.
     fn repainted(&self, alloc: Global, size: Size) -> Result<Batch, NoMemory>
         requires { IsWindowSize size }
-        ensures { IfOk result (λ batch. batch ≡ batch_of (spec.repainted size self.now)) }
+        ensures { IfOk result (λ batch. batch ≡ batch_of (spec.whole_painting size self.now)) }
     {
         let mut batch = cleared(alloc, window(size))?;
         let shown = self.shown(size);
@@ -200,7 +200,8 @@ impl Editor {
         requires size { IsWindowSize size }
         requires some { 0 < room size }
         requires next { next.now ≡ contents.effect self.now cmd.now }
-        ensures { IfOk result (λ batch. batch ≡ batch_of (spec.painted size self.now next.now cmd.now)) }
+        ensures { IfOk result
+            (λ batch. batch ≡ batch_of (spec.patch_without_mark size self.now next.now cmd.now)) }
     {
         match cmd {
             EditorCmd::Insert(_) | EditorCmd::Paste => next.rewritten(alloc, size),

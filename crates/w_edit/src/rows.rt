@@ -11,7 +11,7 @@ pub struct RowNumber {
 
 impl Model for RowNumber {
     ghost use Rattle.std.specs.Prelude.{ℕ};
-    ghost use Rattle.w_edit.specs.Numbers.{IsRow};
+    ghost use Rattle.w_edit.specs.Numbers.{IsRowNumber};
 
     ghost Value = { ℕ };
 
@@ -19,13 +19,13 @@ impl Model for RowNumber {
 
     ghost inverse = { λ n. record { number = n } };
 
-    ghost invariant = { λ r. IsRow r.number };
+    ghost invariant = { λ r. IsRowNumber r.number };
 }
 
 impl RowNumber {
     /// The row with so many others above it.
     pub fn of(number: u8) -> RowNumber
-        requires { spec.IsRow number }
+        requires { spec.IsRowNumber number }
         ensures { result ≡ number }
     {
         RowNumber { number }
@@ -34,7 +34,7 @@ impl RowNumber {
     /// The number.
     pub fn number(&self) -> u8
         ensures value { result ≡ self.now }
-        ensures invariant { spec.IsRow result }
+        ensures invariant { spec.IsRowNumber result }
     {
         self.number
     }

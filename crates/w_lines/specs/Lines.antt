@@ -12,28 +12,28 @@ use Rattle.tr_paint.specs.declared.Paint.TheVariants.{Tint, Text, Scroll}
 use Rattle.tr_paint.specs.Traces.{Look}
 use Rattle.tr_paint.specs.Batches.{batch_of}
 use Rattle.tr_client.specs.Plain.{plain}
-use Rattle.tr_client.specs.Texts.{room, begin_of, colour_in, area_of, upwards, cleared}
+use Rattle.tr_client.specs.Texts.{room, begin_of, colour_in, strips_between, upwards, cleared}
 use Rattle.tr_client.specs.Words.{with_text}
 use Rattle.w_lines.specs.declared.commands.LinesCmd.{LinesCmd}
 use Rattle.w_lines.specs.declared.commands.LinesCmd.TheVariants.{Line, Clear}
 
 -- no more lines are kept
-abbrev pub most_lines : ℕ
-most_lines = 200
+abbrev pub most_kept_lines : ℕ
+most_kept_lines = 200
 
 -- the last n lines, or all where there are fewer
-abbrev pub last_of : ℕ → List (List ℕ) → List (List ℕ)
-last_of n lines = drop (length lines - n) lines
+abbrev pub newest_lines : ℕ → List (List ℕ) → List (List ℕ)
+newest_lines n lines = drop (length lines - n) lines
 
 -- there are at most 200 lines, and each has at most 80 bytes, which can all be printed
 pub record IsLines (lines : List (List ℕ)) : Type 0 where
-  pub few : length lines ≤ most_lines
+  pub few : length lines ≤ most_kept_lines
   pub each : All IsLine lines
 
 -- lines lie in a block behind others that are no longer kept, which are fewer than 200
 pub record IsBlock (stale : ℕ) (block : List (List ℕ)) : Type 0 where
   pub within : stale ≤ length block
-  pub few : stale < most_lines
+  pub few : stale < most_kept_lines
   pub lines : IsLines (drop stale block)
 
 -- the text of a command is one of a line
@@ -48,11 +48,11 @@ lines_words Clear = codes "clear"
 
 -- a window shows the last lines, as many as it has room for
 abbrev pub lines_pic : Look → Size → List (List ℕ) → Point → ℕ
-lines_pic look size lines q = colour_in look (last_of (room size) lines) q
+lines_pic look size lines q = colour_in look (newest_lines (room size) lines) q
 
 -- a command puts a line behind the others, of which the oldest goes where there are 200, or removes all lines
 abbrev pub lines_next : List (List ℕ) → LinesCmd → List (List ℕ)
-lines_next lines (Line line) = last_of most_lines (lines ++ line ∷ [])
+lines_next lines (Line line) = newest_lines most_kept_lines (lines ++ line ∷ [])
 lines_next lines Clear = []
 
 -- a line is written below so many others
@@ -63,12 +63,12 @@ written_below size above line = batch_of (Text (whole_of size) (begin_of above) 
 abbrev pub moved_up : Size → ℕ → List ℕ → List Paint
 moved_up size count line =
     let last = count - 1 in
-    batch_of (Scroll (area_of size 0 last) upwards ∷ Tint (area_of size last count) Bg
+    batch_of (Scroll (strips_between size 0 last) upwards ∷ Tint (strips_between size last count) Bg
     ∷ Text (whole_of size) (begin_of last) plain line ∷ [])
 
 -- how many lines a window shows at most
 abbrev pub most_shown : Size → ℕ
-most_shown size = min (room size) most_lines
+most_shown size = min (room size) most_kept_lines
 
 -- a new line is written below the others; where there is no room, they move upwards; and where no line has room, nothing is painted
 abbrev pub line_patch : Size → List (List ℕ) → List ℕ → List Paint

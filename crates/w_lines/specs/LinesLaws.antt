@@ -25,14 +25,14 @@ use Rattle.tr_paint.proofs.PaintingLemmas.{painting_is_patch}
 use Rattle.tr_paint.proofs.RunLemmas.{run_one, run, patch_by_run, makes-left}
 use Rattle.tr_client.specs.Laws.{IsWindowSize, is_flat, IsEvent, Survives}
 use Rattle.tr_client.specs.Plain.{plain}
-use Rattle.tr_client.specs.Texts.{room, strip_of, begin_of, colour_in, area_of, upwards, cleared}
+use Rattle.tr_client.specs.Texts.{room, strip_of, begin_of, colour_in, strips_between, upwards, cleared}
 use Rattle.tr_client.proofs.KeepingLemmas.{survives-meet, survives-nothing}
 use Rattle.tr_client.proofs.FlatLemmas.{flat-whole, meet-nothing}
 use Rattle.tr_client.proofs.StripLemmas.{rows-from, no_columns, scroll-left, cleared-left}
 use Rattle.tr_client.proofs.LineLemmas.{colour-beyond, colour-moved, line-makes, cleared_painting, pixel-colour_in}
 use Rattle.w_lines.specs.declared.commands.LinesCmd.{LinesCmd}
 use Rattle.w_lines.specs.declared.commands.LinesCmd.TheVariants.{Line, Clear}
-use Rattle.w_lines.specs.Lines.{IsLines, IsLinesCmd, most_lines, last_of, most_shown, lines_pic, lines_next, written_below, moved_up, line_patch, lines_patch, lines_answer, lines_keeps}
+use Rattle.w_lines.specs.Lines.{IsLines, IsLinesCmd, most_kept_lines, newest_lines, most_shown, lines_pic, lines_next, written_below, moved_up, line_patch, lines_patch, lines_answer, lines_keeps}
 
 -- a line that is written below the others is a patch to the picture of one line more
 written_patch : (look : Look) (size : Size) (lines : List (List ℕ)) (line : List ℕ) →
@@ -81,10 +81,10 @@ moved_patch look size (first ∷ lines) line count long some =
     all = omega arith
 
     scroll : Paint
-    scroll = Scroll (area_of size 0 (length lines)) upwards
+    scroll = Scroll (strips_between size 0 (length lines)) upwards
 
     tint : Paint
-    tint = Tint (area_of size (length lines) (length lines + 1)) Bg
+    tint = Tint (strips_between size (length lines) (length lines + 1)) Bg
 
     text : Paint
     text = Text (whole_of size) (begin_of (length lines)) plain line
@@ -103,29 +103,29 @@ moved_patch look size (first ∷ lines) line count long some =
         (line-makes look (whole_of size) lines line q here)
 
 -- of lines that are no more than n, the last n are all
-pub last_of-all : (n : ℕ) (lines : List (List ℕ)) → length lines ≤ n → last_of n lines ≡ lines
+pub last_of-all : (n : ℕ) (lines : List (List ℕ)) → length lines ≤ n → newest_lines n lines ≡ lines
 last_of-all n lines few = let none : length lines - n ≡ 0 = omega arith in ap (λ i. drop i lines) none
 
-last_of-none : (n : ℕ) (lines : List (List ℕ)) → n ≡ 0 → last_of n lines ≡ []
+last_of-none : (n : ℕ) (lines : List (List ℕ)) → n ≡ 0 → newest_lines n lines ≡ []
 last_of-none n lines none = drop_all (length lines - n) lines (omega arith)
 
 -- where a window has room for one line more, it shows it below the others
-shown_more : (n : ℕ) (lines : List (List ℕ)) (line : List ℕ) → length lines < min n most_lines →
-    last_of n (last_of most_lines (lines ++ line ∷ [])) ≡ lines ++ line ∷ []
+shown_more : (n : ℕ) (lines : List (List ℕ)) (line : List ℕ) → length lines < min n most_kept_lines →
+    newest_lines n (newest_lines most_kept_lines (lines ++ line ∷ [])) ≡ lines ++ line ∷ []
 shown_more n lines line fits =
-    ap (λ (all : List (List ℕ)). last_of n all)
-    (last_of-all most_lines (lines ++ line ∷ []) (omega (arith, length-append lines (line ∷ []))))
+    ap (λ (all : List (List ℕ)). newest_lines n all)
+    (last_of-all most_kept_lines (lines ++ line ∷ []) (omega (arith, length-append lines (line ∷ []))))
     ∙ last_of-all n (lines ++ line ∷ []) (omega (arith, length-append lines (line ∷ [])))
 
 -- where it has none, it shows it below the others without the first
-shown_full : (n : ℕ) (lines : List (List ℕ)) (line : List ℕ) → 0 < n → min n most_lines ≤ length lines → length lines ≤ most_lines →
-    last_of n (last_of most_lines (lines ++ line ∷ [])) ≡ drop 1 (last_of n lines) ++ line ∷ []
+shown_full : (n : ℕ) (lines : List (List ℕ)) (line : List ℕ) → 0 < n → min n most_kept_lines ≤ length lines → length lines ≤ most_kept_lines →
+    newest_lines n (newest_lines most_kept_lines (lines ++ line ∷ [])) ≡ drop 1 (newest_lines n lines) ++ line ∷ []
 shown_full n lines line some full few =
     let all = lines ++ line ∷ [] in
     let more = length-append lines (line ∷ []) in
-    let rest = length-drop (length all - most_lines) all in
-    let at : length all - most_lines + (length (last_of most_lines all) - n) ≡ length lines - n + 1 = omega (arith, more, rest) in
-    drop-drop (length (last_of most_lines all) - n) (length all - most_lines) all
+    let rest = length-drop (length all - most_kept_lines) all in
+    let at : length all - most_kept_lines + (length (newest_lines most_kept_lines all) - n) ≡ length lines - n + 1 = omega (arith, more, rest) in
+    drop-drop (length (newest_lines most_kept_lines all) - n) (length all - most_kept_lines) all
     ∙ ap (λ i. drop i all) at
     ∙ drop-append-le (length lines - n + 1) lines (line ∷ []) (omega arith)
     ∙ ap (λ (front : List (List ℕ)). front ++ line ∷ []) (sym (drop-drop 1 (length lines - n) lines))
@@ -143,22 +143,22 @@ lines_answers x event valid known = tt
 
 pub lines_contents : (x : List (List ℕ)) (cmd : LinesCmd) → IsLines x → IsLinesCmd cmd → IsLines (lines_next x cmd)
 lines_contents x (Line line) valid known = record {
-  few = omega (arith, length-drop (length (x ++ line ∷ []) - most_lines) (x ++ line ∷ []));
-  each = All-drop IsLine (length (x ++ line ∷ []) - most_lines) (x ++ line ∷ []) (All-push IsLine x line valid.each known);
+  few = omega (arith, length-drop (length (x ++ line ∷ []) - most_kept_lines) (x ++ line ∷ []));
+  each = All-drop IsLine (length (x ++ line ∷ []) - most_kept_lines) (x ++ line ∷ []) (All-push IsLine x line valid.each known);
 }
 lines_contents x Clear valid known = record { few = omega arith; each = All-nil IsLine }
 
 -- the law of patches for one line more
 line_patches : (look : Look) (size : Size) (x : List (List ℕ)) (line : List ℕ) → IsLines x →
-    IsPatch look size (line_patch size x line) (lines_pic look size x) (lines_pic look size (last_of most_lines (x ++ line ∷ [])))
+    IsPatch look size (line_patch size x line) (lines_pic look size x) (lines_pic look size (newest_lines most_kept_lines (x ++ line ∷ [])))
 line_patches look size x line valid = by_tests (most_shown size == 0) (nat_lt (length x) (most_shown size)) refl refl
   where
     next : List (List ℕ)
-    next = last_of most_lines (x ++ line ∷ [])
+    next = newest_lines most_kept_lines (x ++ line ∷ [])
 
     by_tests : (none fits : Bool) → (most_shown size == 0) ≡ none → nat_lt (length x) (most_shown size) ≡ fits →
         IsPatch look size (cond none [] (cond fits (written_below size (length x) line) (moved_up size (most_shown size) line)))
-        (colour_in look (last_of (room size) x)) (colour_in look (last_of (room size) (last_of most_lines (x ++ line ∷ []))))
+        (colour_in look (newest_lines (room size) x)) (colour_in look (newest_lines (room size) (newest_lines most_kept_lines (x ++ line ∷ []))))
     by_tests true fits is fit =
         let zero : most_shown size ≡ 0 = eqb-true (most_shown size) 0 is in
         let no_room : room size ≡ 0 = omega arith in
@@ -168,13 +168,13 @@ line_patches look size x line valid = by_tests (most_shown size == 0) (nat_lt (l
         let less : length x < most_shown size = ltb-true (length x) (most_shown size) fit in
         let P : List (List ℕ) → List (List ℕ) → Type 0 =
         λ old new. IsPatch look size (written_below size (length x) line) (colour_in look old) (colour_in look new) in
-        subst (λ (old : List (List ℕ)). P old (last_of (room size) next)) (sym (last_of-all (room size) x (omega arith)))
+        subst (λ (old : List (List ℕ)). P old (newest_lines (room size) next)) (sym (last_of-all (room size) x (omega arith)))
         (subst (λ (new : List (List ℕ)). P x new) (sym (shown_more (room size) x line less)) (written_patch look size x line))
     by_tests false false is fit =
         let some : 0 < most_shown size = grind (arith, nat_tests) in
         let full : most_shown size ≤ length x = grind (arith, nat_tests) in
         let few = valid.few in
-        let shown = last_of (room size) x in
+        let shown = newest_lines (room size) x in
         let long : length shown ≡ most_shown size = omega (arith, length-drop (length x - room size) x) in
         subst
         (λ (new : List (List ℕ)). IsPatch look size (moved_up size (most_shown size) line) (colour_in look shown) (colour_in look new))
@@ -229,4 +229,4 @@ lines_keeping look from to x valid small small' = by_test (min (length x) (room 
 -- each colour is one of two
 pub lines_kinds : (look : Look) (size : Size) (x : List (List ℕ)) (p : Point) → IsLines x → IsWindowSize size →
     IsPixel look.kind (lines_pic look size x p)
-lines_kinds look size x p valid small = pixel-colour_in look (last_of (room size) x) p
+lines_kinds look size x p valid small = pixel-colour_in look (newest_lines (room size) x) p

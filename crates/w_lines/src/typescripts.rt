@@ -64,7 +64,7 @@ impl Lines {
 
     /// One line more.
     fn take_line(&mut self, line: &Line) -> Result<(), NoMemory>
-        ensures ok { OnOk result (self.new ≡ spec.last_of MOST_LINES (self.old ++ line.now ∷ [])) }
+        ensures ok { OnOk result (self.new ≡ spec.newest_lines MOST_LINES (self.old ++ line.now ∷ [])) }
         ensures err { OnErr result (self.new ≡ self.old) }
     {
         let _bytes = line.bytes();
@@ -132,7 +132,7 @@ impl Lines {
 
 /// The last `n` lines, or all where there are fewer.
 fn last_of(lines: &[Line], n: usize) -> &[Line]
-    ensures { result.now ≡ spec.last_of n lines.now }
+    ensures { result.now ≡ spec.newest_lines n lines.now }
 {
     &lines[lines.len().saturating_sub(n)..]
 }
@@ -141,7 +141,7 @@ fn last_of(lines: &[Line], n: usize) -> &[Line]
 /// in front of them, these leave the block.
 fn without_stale(block: &mut Vec<Line>, stale: usize) -> usize
     requires { stale ≤ length block.old.items }
-    ensures lines { drop result block.new.items ≡ spec.last_of MOST_LINES (drop stale block.old.items) }
+    ensures lines { drop result block.new.items ≡ spec.newest_lines MOST_LINES (drop stale block.old.items) }
     ensures within { result ≤ length block.new.items }
     ensures few { result < MOST_LINES }
 {

@@ -2,7 +2,7 @@ use Rattle.std.proofs.Common.{◌≡◌, ◌∙◌, rules, ap, ap₂, true}
 use Rattle.std.proofs.lemmas.Result.{IfOk-weaker}
 use Rattle.clap.specs.Words.{App, Shape, app_of, with_subcommand}
 use Rattle.clap.specs.Simple.{app_of_fields, on_top}
-use Rattle.tr_arguments.specs.Parsers.{bare}
+use Rattle.tr_arguments.specs.Parsers.{bare_words}
 use Rattle.tr_arguments.proofs.parsers.playing.Goals as goal
 
 pub returns : goal.returns
@@ -12,7 +12,7 @@ returns c =
     let no_flag : App → App = on_top (λ s. record s { disable_help_flag = true }) in
     let no_help : App → App = on_top (λ s. record s { disable_help_subcommand = true }) in
     let needs : App → App = on_top (λ s. record s { subcommand_required = true }) in
-    let bare_is : app_of c.subcommand_required-bare.result ≡ bare =
+    let bare_is : app_of c.subcommand_required-bare.result ≡ bare_words =
     ap app_of_fields c.subcommand_required-bare.ensures ∙ ap needs
     (ap app_of_fields c.disable_help_subcommand.ensures ∙ ap no_help
     (ap app_of_fields c.disable_help_flag.ensures ∙ ap no_flag

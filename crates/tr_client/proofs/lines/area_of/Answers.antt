@@ -3,21 +3,21 @@ use Rattle.std.specs.Prelude.{int_lt}
 use Rattle.std.proofs.lemmas.Int.{ints}
 use Rattle.tr_base.specs.Rects.{InReach, rect_of, empty_rect}
 use Rattle.tr_base.proofs.RectLemmas.{cast-rect}
-use Rattle.tr_paint.specs.Paints.{IsNear, IsNearRect}
+use Rattle.tr_paint.specs.Paints.{IsNearZero, IsNearRect}
 use Rattle.tr_client.proofs.lines.area_of.Goals as goal
 
 -- the rectangle of edges that are near is near
-near-rect : (w e n s : ℤ) → IsNear w → IsNear e → IsNear n → IsNear s → IsNearRect (rect_of w e n s)
+near-rect : (w e n s : ℤ) → IsNearZero w → IsNearZero e → IsNearZero n → IsNearZero s → IsNearRect (rect_of w e n s)
 near-rect w e n s hw he hn hs = by_test (int_lt w e && int_lt n s)
   where
-    none : IsNear (pos 0)
+    none : IsNearZero (pos 0)
     none = record { low = omega (arith, ints); high = omega (arith, ints) }
 
     by_test : (b : Bool) → IsNearRect (cond b (record { west = w; east = e; north = n; south = s }) empty_rect)
     by_test true = record { west = hw; east = he; north = hn; south = hs }
     by_test false = record { west = none; east = none; north = none; south = none }
 
-near-length : (n : ℕ) → n ≤ 4096 → IsNear (pos n)
+near-length : (n : ℕ) → n ≤ 4096 → IsNearZero (pos n)
 near-length n small = record { low = omega (arith, ints); high = omega (arith, ints) }
 
 pub returns-clause-near : goal.returns-clause-near

@@ -13,7 +13,7 @@ use Rattle.tr_stage.specs.Stages.{IsOf, StageView, state}
 use Rattle.tr_stage.specs.Standings.{Stands}
 use Rattle.tr_run.specs.Views.{IsNamed}
 use Rattle.tr_parts.specs.Runs.{HasBegunPart}
-use Rattle.tr_parts.specs.Turns.{HasRun, IsMade}
+use Rattle.tr_parts.specs.Turns.{HasRun, IsPartStep}
 use Rattle.tr_parts.proofs.PlayLemmas.{next_played, run_named}
 use Rattle.tr_play.specs.Plays.{part_of}
 use Rattle.tr_play.proofs.PlayLemmas.{steps_made}
@@ -29,8 +29,8 @@ make_side_by_side-requires-after_bounds g c κs within =
     let same : c.deref-2.result.now ≡ c.args.part.now.steps = search rules in
     let begun = c.in-Ok.ensures.ok in
     let opening = ap (λ (s : StageView _ _). s.opening) c.pause-stage.ensures.stage ∙ begun.reported.adds.opening ∙ begun.sync.opening in
-    subst (λ (items : List (Item _)). All (IsMade (tree_of items).nodes) c.deref-2.result.now) (sym opening)
-    (subst (λ (steps : List (Actor × Step _)). All (IsMade (tree_of c.args.run.stage.opening).nodes) steps) (sym same)
+    subst (λ (items : List (Item _)). All (IsPartStep (tree_of items).nodes) c.deref-2.result.now) (sym opening)
+    (subst (λ (steps : List (Actor × Step _)). All (IsPartStep (tree_of c.args.run.stage.opening).nodes) steps) (sym same)
     (steps_made (tree_of c.args.run.stage.opening).nodes c.args.part.now c.requires.playable))
 
 pub resume-requires-clause-named : goal.resume-requires-clause-named

@@ -3,7 +3,7 @@ use Rattle.tr_grammar.specs.Texts.{is_silent}
 use Rattle.tr_grammar.specs.Words.{words_of, word_at}
 use Rattle.tr_grammar.specs.Forms.{forms, form_of}
 use Rattle.tr_grammar.specs.Faults.{first_of, line_faults, fault_of}
-use Rattle.tr_grammar.specs.Scripts.{next, after}
+use Rattle.tr_grammar.specs.Scripts.{after_line, after_meaning}
 use Rattle.tr_words.specs.Answers.{texts}
 use Rattle.tr_reader.specs.Adding.{IsFault}
 use Rattle.tr_script.specs.Reading.{Reads}
@@ -30,7 +30,7 @@ fault_is c =
     ∙ fault_behind reader c.args.number (form_of reader.version words) words c.in_ok-meaning.meaning read.0 read.1
 
 next_is : (c : goal.After-drop-words-2) →
-    next c.args.reader.now c.args.bytes.now ≡ after c.args.reader.now c.second.result.now c.in_ok-meaning.meaning
+    after_line c.args.reader.now c.args.bytes.now ≡ after_meaning c.args.reader.now c.second.result.now c.in_ok-meaning.meaning
 next_is c =
     let reader = c.args.reader.now in
     let words = words_of c.args.bytes.now in
@@ -38,7 +38,7 @@ next_is c =
     let again : texts c.deref-2.result.now ≡ words = ap texts c.deref-2.ensures.value ∙ c.in_ok-words.ensures ∙ ap words_of c.in-Some.ensures.value.1 in
     let named : c.second.result.now ≡ word_at words 1 = c.second.ensures ∙ ap (λ (ws : List (List ℕ)). word_at ws 1) again in
     next_of_words reader c.args.bytes.now (loud c) ∙ after_said reader (form_of reader.version words) words c.in_ok-meaning.meaning read.1
-    ∙ ap (λ (w : List ℕ). after reader w c.in_ok-meaning.meaning) (sym named)
+    ∙ ap (λ (w : List ℕ). after_meaning reader w c.in_ok-meaning.meaning) (sym named)
 
 pub returns-clause-none : goal.returns-clause-none
 returns-clause-none c = rw (fault_is c) c.take_meaning.ensures.none

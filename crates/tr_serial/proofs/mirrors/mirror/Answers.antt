@@ -6,7 +6,7 @@ use Rattle.tr_widget.specs.declared.Widget.{Widget}
 use Rattle.tr_widget.specs.declared.WidgetCmd.{WidgetCmd}
 use Rattle.tr_widget.specs.Widgets.{widget_words}
 use Rattle.tr_grammar.specs.Scripts.{IsPlayablePart, Script}
-use Rattle.tr_mirror.specs.Readings.{IsStream, shown}
+use Rattle.tr_mirror.specs.Readings.{IsStream, screens_shown}
 use Rattle.tr_stage.specs.Stages.{StageView}
 use Rattle.tr_run.specs.declared.Mode.TheVariants.{Gen}
 use Rattle.tr_serial.specs.Outputs.{cues, widgets}
@@ -42,7 +42,7 @@ returns c =
     record {
       text = c.into_bytes.ensures ∙ whole.bytes;
       stream = subst (λ (b : List ℕ). IsStream b) (sym c.into_bytes.ensures) whole.is_stream;
-      shows = ap (λ (b : List ℕ). shown b) c.into_bytes.ensures ∙ whole.shows;
+      shows = ap (λ (b : List ℕ). screens_shown b) c.into_bytes.ensures ∙ whole.shows;
       journal = ap (λ (s : StageView Widget WidgetCmd). s.journal) c.finish-stage.ensures.stage ∙ ends.journal;
       opening = ap (λ (s : StageView Widget WidgetCmd). s.opening) c.finish-stage.ensures.stage ∙ ends.opening;
     }

@@ -8,7 +8,7 @@ use Rattle.tr_base.proofs.RectLemmas.{has_point-meet_of}
 use Rattle.tr_region.specs.Points.{holds}
 use Rattle.tr_screen.specs.Pictures.{IsScreenSize}
 use Rattle.tr_paint.specs.Traces.{after, look_of}
-use Rattle.tr_exec.specs.Executions.{IsOrigin, base_of, placed}
+use Rattle.tr_exec.specs.Executions.{IsOrigin, base_of, screen_point}
 use Rattle.tr_exec.proofs.PlacedLemmas.{before-placed}
 use Rattle.tr_sketch.proofs.SketchLemmas.{IsAside, IsSmall, aside_area, aside_held, aside_is, aside_place, small_domain, small_origin}
 use Rattle.tr_sketch.proofs.sketches.painted.Goals as goal
@@ -49,7 +49,7 @@ returns-clause-colours g c =
     let picture : Point → ℕ = λ q. g.C.Client.pic look c.args.size c.args.content.now q in
     IfOk-weaker c.pixels_at-pixels.result _ _
     (λ v pixels q has.
-    let there : Point = placed origin q in
+    let there : Point = screen_point origin q in
     let held : holds all there ≡ true = aside_held part all origin aside q has in
     let inside : has_point (meet_of (whole_of c.args.size) part) q ≡ true =
     has_point-meet_of (whole_of c.args.size) part q ∙ and_from _ _ (c.requires.within q has) has in

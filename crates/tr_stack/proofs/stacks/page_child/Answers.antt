@@ -2,7 +2,7 @@ use Rattle.std.proofs.Common.{◌%◌, ap, subst, sym, ◌∙◌}
 use Rattle.std.proofs.lemmas.Nat.{mod_below}
 use Rattle.tr_base.specs.Rects.{Edges}
 use Rattle.tr_base.specs.Layouts.{IsPartOf}
-use Rattle.tr_stack.specs.Stacks.{strip}
+use Rattle.tr_stack.specs.Stacks.{page_strip}
 use Rattle.tr_stack.proofs.StackLemmas.{strip_part, strip_empty}
 use Rattle.tr_stack.proofs.stacks.page_child.Goals as goal
 
@@ -13,5 +13,5 @@ returns-then-k-count-clause-part c =
 
 pub returns-then-k-count-clause-empty : goal.returns-then-k-count-clause-empty
 returns-then-k-count-clause-empty c h =
-    rw c.from-count.ensures at c.strip.ensures ∙ ap (λ (r : Edges). strip r c.args.per (c.args.k % c.args.per)) h
+    rw c.from-count.ensures at c.strip.ensures ∙ ap (λ (r : Edges). page_strip r c.args.per (c.args.k % c.args.per)) h
     ∙ strip_empty c.args.per (c.args.k % c.args.per) (mod_below c.args.k c.args.per c.requires.per)

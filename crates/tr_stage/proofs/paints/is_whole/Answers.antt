@@ -3,7 +3,7 @@ use Rattle.tr_base.specs.declared.Point.{Point}
 use Rattle.tr_base.specs.Rects.{Edges, has_point, whole_of}
 use Rattle.tr_base.proofs.RectFacts.{same_edges}
 use Rattle.tr_region.specs.Points.{holds}
-use Rattle.tr_exec.specs.Executions.{placed}
+use Rattle.tr_exec.specs.Executions.{screen_point}
 use Rattle.tr_spot.specs.Spots.{size_of}
 use Rattle.tr_spot.specs.Leaves.{leaf_corner, leaf_domain}
 use Rattle.tr_stage.proofs.WholeLemmas.{first_holds, in_domain}
@@ -12,11 +12,11 @@ use Rattle.tr_stage.proofs.paints.is_whole.Goals as goal
 pub returns-then-rects-eq1 : goal.returns-then-rects-eq1
 returns-then-rects-eq1 c = λ same q has.
     let d = c.domain-domain.result in
-    let p : Point = placed (leaf_corner c.args.tree.now c.args.leaf) q in
+    let p : Point = screen_point (leaf_corner c.args.tree.now c.args.leaf) q in
     let domain : c.domain-domain.result ≡ leaf_domain c.args.tree.now c.args.leaf = rw c.node_of.ensures.is at c.domain-domain.ensures.domain in
     let inside = in_domain d q c.is_empty.ensures.invariant (ap (λ (e : Edges). has_point (whole_of (size_of e)) q) domain ∙ has) in
     let there : has_point d p ≡ true =
-    ap (λ (e : Edges). has_point d (placed (record { h = e.west; v = e.north }) q)) (sym domain) ∙ inside in
+    ap (λ (e : Edges). has_point d (screen_point (record { h = e.west; v = e.north }) q)) (sym domain) ∙ inside in
     let equal = (same_edges c.index-rects-0.result d).0 (sym c.eq.ensures ∙ same) in
     let rects = c.rects-rects.result.now in
     ap (λ (rs : List Edges). holds rs p) (sym c.rects-rects.ensures.value)

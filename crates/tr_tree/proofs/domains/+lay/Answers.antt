@@ -8,7 +8,7 @@ use Rattle.tr_forest.specs.Families.{depth, is_among}
 use Rattle.tr_forest.proofs.FamilyLemmas.{among_at, depth_child}
 use Rattle.tr_tree.specs.Places.{domain}
 use Rattle.tr_tree.specs.Tables.{shape_in}
-use Rattle.tr_tree.specs.Laying.{laid, IsOwn}
+use Rattle.tr_tree.specs.Laying.{laid, IsRectangle}
 use Rattle.tr_tree.proofs.KinLemmas.{few_children}
 use Rattle.tr_tree.proofs.FitLemmas.{at_is_domain}
 use Rattle.tr_tree.proofs.PlaceLemmas.{child_read, shapes_read}
@@ -38,7 +38,7 @@ place_first-requires-clause-parent t c =
     record {
       forest = c.requires.forest;
       is_node = c.requires.node;
-      own = subst IsOwn (sym here) own.at.own;
+      own = subst IsRectangle (sym here) own.at.own;
       small = subst IsDomain (sym here) (at_is_domain (domain s c.args.n) own.at);
       shapes_are = shapes_read c.args.plan.now.forest.now c.args.n c.args.plan.now.shapes.now _ c.children-children.result.now c.requires.plan.shapes_are
           c.children-children.ensures (rw c.deref.ensures.value c.gather.ensures.shapes);

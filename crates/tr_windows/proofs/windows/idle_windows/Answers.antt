@@ -3,7 +3,7 @@ use Rattle.std.proofs.lemmas.List.{take_all}
 use Rattle.tr_forest.specs.Nodes.{leaf_count}
 use Rattle.tr_tree.specs.Trees.{Seen}
 use Rattle.tr_journal.specs.Openings.{contents_of, tree_of}
-use Rattle.tr_windows.specs.Presents.{idle}
+use Rattle.tr_windows.specs.Presents.{with_empty_batch}
 use Rattle.tr_windows.proofs.HeldLemmas.{held_idle, idle_more}
 use Rattle.tr_windows.proofs.windows.idle_windows.Goals as goal
 
@@ -22,4 +22,4 @@ returns-clause-invariant g c =
     let most : leaf_count c.tree-tree.result.now.nodes ≤ 32 = c.count.ensures.invariant.leaf_numbers in
     let few : length contents ≤ 32 = omega arith in
     let ended : length contents ≤ c.loop-n.n = omega (arith, c.leaves-n-end.ensures) in
-    rw (c.loop-n.invariant ∙ ap (λ xs. map idle xs) (take_all c.loop-n.n contents ended)) (held_idle g.C.Client contents few opened.contents)
+    rw (c.loop-n.invariant ∙ ap (λ xs. map with_empty_batch xs) (take_all c.loop-n.n contents ended)) (held_idle g.C.Client contents few opened.contents)

@@ -3,7 +3,7 @@ use Rattle.std.proofs.lemmas.List.{take_more, take_all}
 use Rattle.tr_base.specs.declared.Size.{Size}
 use Rattle.tr_paint.specs.declared.Paint.{Paint}
 use Rattle.tr_paint.specs.Traces.{look_of}
-use Rattle.tr_exec.specs.Executions.{LiesOn}
+use Rattle.tr_exec.specs.Executions.{RegionLiesOn}
 use Rattle.tr_exec.proofs.ShownLemmas.{shown_none, shown_more}
 use Rattle.tr_exec.proofs.PaintingLemmas.{zip_at}
 use Rattle.tr_exec.proofs.sites.Site.paint_all.Goals as goal
@@ -15,7 +15,7 @@ loop-i-init c = λ bad.
 
 pub paint-requires-clause-visible : goal.paint-requires-clause-visible
 paint-requires-clause-visible c =
-    let P : Size → Type 0 = λ s. LiesOn s c.args.self.now.visible.now in subst P (sym (c.loop-i.invariant []).size) c.requires.visible
+    let P : Size → Type 0 = λ s. RegionLiesOn s c.args.self.now.visible.now in subst P (sym (c.loop-i.invariant []).size) c.requires.visible
 
 pub paint-requires-clause-moved : goal.paint-requires-clause-moved
 paint-requires-clause-moved c =

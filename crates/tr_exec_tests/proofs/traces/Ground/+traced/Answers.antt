@@ -2,7 +2,7 @@ use Rattle.std.proofs.Common.{◌≡◌, ◌+◌, true, false, length, rules}
 use Rattle.tr_base.specs.Rects.{has_point}
 use Rattle.tr_region.specs.Points.{holds}
 use Rattle.tr_paint.specs.Traces.{look_of}
-use Rattle.tr_exec.specs.Executions.{placed, base_of}
+use Rattle.tr_exec.specs.Executions.{screen_point, base_of}
 use Rattle.tr_exec.proofs.TracedLemmas.{batch_split, near_point, near-origin, traced_hidden}
 use Rattle.tr_exec_tests.proofs.traces.Ground.+traced.Goals as goal
 
@@ -10,7 +10,7 @@ pub returns-then-not-has : goal.returns-then-not-has
 returns-then-not-has t c =
     let self = c.args.self.now in
     let has : holds self.visible.now c.place-p.result ≡ false = search rules in
-    let hidden : holds self.visible.now (placed self.origin c.args.q) ≡ false = rw c.place-p.ensures at has in
+    let hidden : holds self.visible.now (screen_point self.origin c.args.q) ≡ false = rw c.place-p.ensures at has in
     traced_hidden (look_of self.env.kind self.env.font.now)
     (base_of self.origin self.visible.now self.bad.now self.screen.now) c.args.paints.now c.args.q hidden
 

@@ -1,7 +1,7 @@
 use Rattle.std.proofs.Common.{subst, get_or, ap, ◌∙◌}
 use Rattle.tr_forest.specs.Nodes.{Nodes, node_of}
 use Rattle.tr_forest.specs.Forests.{IsForest}
-use Rattle.tr_forest.specs.Tables.{IsKept}
+use Rattle.tr_forest.specs.Tables.{IsLeafTable}
 use Rattle.tr_forest.proofs.FamilyLemmas.{same_id}
 use Rattle.tr_forest.proofs.Adding.{place_is, place_is_node}
 use Rattle.tr_forest.proofs.LeafLemmas.{leaf_is_node_of}
@@ -9,7 +9,7 @@ use Rattle.tr_forest.proofs.forests.Forest.node_of.Goals as goal
 
 pub returns-clause-leaf : goal.returns-clause-leaf
 returns-clause-leaf c = place_is c.args.self.now c.self.inside.leaves.items c.args.leaf c.index.result.now
-    (subst (λ (t : Nodes). IsKept t c.self.inside.leaves.items) c.self.view_is c.self.invariant) c.requires
+    (subst (λ (t : Nodes). IsLeafTable t c.self.inside.leaves.items) c.self.view_is c.self.invariant) c.requires
     (c.index.ensures ∙ ap (λ k. get_or c.self.inside.leaves.items k c.index.result.now) c.from.ensures)
 
 pub returns-clause-node : goal.returns-clause-node

@@ -1,7 +1,7 @@
 use Rattle.std.proofs.Common.{◌≡◌, ◌+◌, ◌<◌, ◌≤◌, ◌∷◌, [], length, refl, ap, sym, ◌∙◌, subst, rules, arith, length-append}
 use Rattle.std.specs.Prelude.{vec_len}
 use Rattle.tr_forest.specs.declared.NodeKind.TheVariants as kinds
-use Rattle.tr_forest.specs.Nodes.{fresh, leaf_count}
+use Rattle.tr_forest.specs.Nodes.{new_entry, leaf_count}
 use Rattle.tr_tree.specs.Trees.{Seen}
 use Rattle.tr_journal.specs.Openings.{tree_of}
 use Rattle.tr_journal.specs.Kept.{loose_count}
@@ -17,7 +17,7 @@ invariant_of-self-2 g c =
     let kind = kinds.Leaf (record { 0 = leaf_count s.nodes }) c.args.shapes in
     let new = with_leaf c.args.shapes s in
     let made : c.add.new.self ≡ new = rw (c.in_ok-add.ensures.ok, c.leaf_kind.ensures, c.leaves.ensures) refl in
-    let more : length new.nodes.entries ≡ length s.nodes.entries + 1 = length-append s.nodes.entries (fresh kind 0 ∷ []) in
+    let more : length new.nodes.entries ≡ length s.nodes.entries + 1 = length-append s.nodes.entries (new_entry kind 0 ∷ []) in
     let most : length new.nodes.entries ≤ 256 = omega arith in
     let few : loose_count new.nodes ≤ length new.nodes.entries = loose_few new.nodes in
     let all : length c.make_room.new.items.items ≡ vec_len c.make_room.new.items = search rules in

@@ -1,6 +1,6 @@
 use Rattle.std.proofs.Common.{◌≡◌, ◌+◌, ◌≤◌, ◌<◌, ◌++◌, length, sym, ap, ◌∙◌, arith, length-append}
 use Rattle.std.proofs.lemmas.List.{take-append-drop}
-use Rattle.tr_mirror.specs.Readings.{Reading, cut_between, read, try_len}
+use Rattle.tr_mirror.specs.Readings.{Reading, cut_between, after_bytes, try_len}
 use Rattle.tr_mirror.proofs.ReadingLemmas.{gathers, read-append, tried_fed, IsReading-tried}
 use Rattle.tr_mirror.proofs.RecordLemmas.{gathers_shown}
 use Rattle.tr_mirror.proofs.ShownLemmas.{screen_at_cut}
@@ -18,7 +18,8 @@ returns-clause-read c =
     let some : 0 < length front = omega (arith, c.split_at.ensures.front_len, c.min.ensures, c.requires.reading.short) in
     let reach : length m.begun + length front ≤ try_len m.begun = omega (arith, c.split_at.ensures.front_len, c.min.ensures, c.requires.reading.short) in
     let parts : front ++ rest ≡ piece = rw (c.split_at.ensures.front, c.split_at.ensures.back) (take-append-drop c.min.result piece) in
-    ap (λ r. read r rest) (c.gather.ensures ∙ sym (gathers m front c.requires.free some reach)) ∙ sym (read-append m front rest) ∙ ap (λ l. read m l) parts
+    ap (λ r. after_bytes r rest) (c.gather.ensures ∙ sym (gathers m front c.requires.free some reach)) ∙ sym (read-append m front rest)
+    ∙ ap (λ l. after_bytes m l) parts
 
 pub returns-clause-front : goal.returns-clause-front
 returns-clause-front c =

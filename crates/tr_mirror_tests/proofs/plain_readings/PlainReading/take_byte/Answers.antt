@@ -1,7 +1,7 @@
 use Rattle.std.proofs.Common.{◌≡◌, ◌+◌, ◌≤◌, ◌==◌, [], ◌∷◌, ◌++◌, length, sym, subst, ◌∙◌, arith}
 use Rattle.std.proofs.lemmas.Bool.{eqb-true}
 use Rattle.tr_mirror.specs.Headers.{record_len}
-use Rattle.tr_mirror.specs.Readings.{Reading, IsReading, fault_of, try_len}
+use Rattle.tr_mirror.specs.Readings.{Reading, IsReading, record_fault, try_len}
 use Rattle.tr_mirror.proofs.ReadingLemmas.{IsClean, IsClean-append}
 use Rattle.tr_mirror_tests.proofs.plain_readings.PlainReading.take_byte.Goals as goal
 
@@ -14,7 +14,7 @@ take_record-requires-clause-sound c =
     let reach : length m.begun + length front ≤ try_len m.begun = omega (arith, w.short) in
     let judged = rw (c.deref.ensures.value, c.in_ok-push.ensures.items) at c.fault_of.ensures in
     let clean : IsClean m.standing (m.begun ++ front) = IsClean-append m front w (omega arith) reach
-    (◌∙◌ {a = fault_of m.standing (m.begun ++ front)} (sym judged) c.in-None.is) in
+    (◌∙◌ {a = record_fault m.standing (m.begun ++ front)} (sym judged) c.in-None.is) in
     let tested = rw (c.deref-in-None.ensures.value, c.in_ok-push.ensures.items) at c.is_whole.ensures in
     let whole : length (m.begun ++ front) ≡ record_len (m.begun ++ front) =
     eqb-true _ _ (◌∙◌ {a = length (m.begun ++ front) == record_len (m.begun ++ front)} (sym tested) c.if-is_whole.true) in

@@ -1,5 +1,5 @@
 use Rattle.std.proofs.lemmas.Bool.{not-false}
-use Rattle.tr_mirror.specs.Standings.{is_on}
+use Rattle.tr_mirror.specs.Standings.{is_segment_on}
 use Rattle.tr_mirror.proofs.HeaderLemmas.{no_fault, screen_range}
 use Rattle.tr_mirror_tests.specs.Heads.{segment}
 use Rattle.tr_mirror_tests.proofs.plain_standings.PlainStanding.put.Goals as goal
@@ -12,12 +12,12 @@ begin-requires c =
 pub write-requires-clause-on : goal.write-requires-clause-on
 write-requires-clause-on c =
     let h = rw c.in-Run.is at c.requires.sound in
-    not-false (is_on c.args.self.now.screen (segment c.in-Run.place)) (no_fault _ _ h).2
+    not-false (is_segment_on c.args.self.now.screen (segment c.in-Run.place)) (no_fault _ _ h).2
 
 pub write-requires-in-Fill-clause-on : goal.write-requires-in-Fill-clause-on
 write-requires-in-Fill-clause-on c =
     let h = rw c.in-Fill.is at c.requires.sound in
-    not-false (is_on c.args.self.now.screen (segment c.in-Fill.place)) (no_fault _ _ h).2
+    not-false (is_segment_on c.args.self.now.screen (segment c.in-Fill.place)) (no_fault _ _ h).2
 
 pub cut-requires : goal.cut-requires
 cut-requires c =

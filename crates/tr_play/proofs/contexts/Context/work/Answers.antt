@@ -2,7 +2,7 @@ use Rattle.std.proofs.Common.{◌≡◌, ◌+◌, ◌*◌, ◌++◌, ap, drop, t
 use Rattle.std.proofs.lemmas.List.Elements.{All-drop, All-take}
 use Rattle.tr_journal.specs.declared.steps.Step.{Step}
 use Rattle.tr_journal.specs.Openings.{tree_of}
-use Rattle.tr_parts.specs.Turns.{IsMade}
+use Rattle.tr_parts.specs.Turns.{IsPartStep}
 use Rattle.tr_play.proofs.WorkerLemmas.{made_on, worked_on}
 use Rattle.tr_play.proofs.contexts.Context.work.Goals as goal
 
@@ -10,7 +10,7 @@ pub make_slice-requires-clause-ready : goal.make_slice-requires-clause-ready
 make_slice-requires-clause-ready g c κs within =
     let from = c.loop-n.n * 16 in
     let list = c.args.list.now in
-    let P : Step g.row.C-Cmd.Denot → Type 0 = λ step. IsMade (tree_of c.args.self.now.server.now.opening).nodes (c.args.pass.now.actor, step) in
+    let P : Step g.row.C-Cmd.Denot → Type 0 = λ step. IsPartStep (tree_of c.args.self.now.server.now.opening).nodes (c.args.pass.now.actor, step) in
     rw (c.slice-slice.ensures, c.loop-n.invariant.0) (All-take P 16 (drop from list) (All-drop P from list c.requires))
 
 pub returns-in_default : goal.returns-in_default

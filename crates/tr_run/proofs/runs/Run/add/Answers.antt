@@ -2,7 +2,7 @@ use Rattle.std.proofs.Common.{List, [], ◌∷◌, ◌++◌, sym, ap, subst, ◌
 use Rattle.tr_levels.specs.declared.Level.{Level}
 use Rattle.tr_journal.specs.Openings.{tree_of}
 use Rattle.tr_journal.specs.Steps.{IsOwn}
-use Rattle.tr_machine.specs.Replays.{line_of}
+use Rattle.tr_machine.specs.Replays.{line_of_step}
 use Rattle.tr_journal.specs.Names.{names_of}
 use Rattle.tr_stage.specs.Stages.{state}
 use Rattle.tr_run.specs.Views.{RunView}
@@ -18,5 +18,6 @@ invariant_of-self-2 g c =
       own = subst (λ (v : RunView _ _). IsOwn (tree_of v.stage.opening).nodes c.args.actor c.args.step) (sym c.self.view_is) c.requires.own;
       opening = c.step.ensures.made.opening;
       journal = c.in_ok-step.ensures.made.ok
-          ∙ ap (λ (held : List Level). s.journal ++ line_of g.C.Client (state g.C.Client s) c.args.actor held c.args.step ∷ []) c.stated-level.ensures.value;
+          ∙ ap (λ (held : List Level). s.journal ++ line_of_step g.C.Client (state g.C.Client s) c.args.actor held c.args.step ∷ [])
+          c.stated-level.ensures.value;
     })

@@ -2,7 +2,7 @@ use Rattle.std.proofs.Common.{[], ◌∷◌, ◌++◌, ap, ◌∙◌, inl, inr, 
 use Rattle.tr_levels.specs.declared.Level.TheVariants.{Mu}
 use Rattle.tr_journal.specs.declared.steps.Actor.TheVariants.{Player}
 use Rattle.tr_journal.specs.declared.steps.Step.TheVariants.{Report}
-use Rattle.tr_machine.specs.Replays.{line_of}
+use Rattle.tr_machine.specs.Replays.{line_of_step}
 use Rattle.tr_stage.specs.Stages.{StageView, state}
 use Rattle.tr_stage.proofs.SettleLemmas.{on_err}
 use Rattle.tr_run.proofs.RunLemmas.{made_adds}
@@ -14,7 +14,7 @@ returns-clause-ok g c = made_adds g.C.Client {step = Report c.args.query} (recor
   names = c.add.ensures.names ∙ c.tell.ensures.names;
   mode = c.add.ensures.mode ∙ c.tell.ensures.mode;
   journal = c.in_ok-add.ensures.made.ok
-      ∙ ap (λ (s : StageView _ _). s.journal ++ line_of g.C.Client (state g.C.Client s) Player (Mu ∷ []) (Report c.args.query) ∷ []) c.tell.ensures.stage;
+      ∙ ap (λ (s : StageView _ _). s.journal ++ line_of_step g.C.Client (state g.C.Client s) Player (Mu ∷ []) (Report c.args.query) ∷ []) c.tell.ensures.stage;
   text = c.add.ensures.text ∙ c.in_ok-tell.ensures.text;
   sum = c.add.ensures.sum ∙ c.in_ok-tell.ensures.sum;
 })

@@ -1,7 +1,7 @@
 use Rattle.std.proofs.Common.{◌≡◌, [], ◌∷◌, ◌++◌, ap, subst, ◌∙◌}
 use Rattle.tr_levels.specs.declared.Level.TheVariants.{Mu}
 use Rattle.tr_journal.specs.declared.steps.Actor.TheVariants.{Painter}
-use Rattle.tr_machine.specs.Replays.{lines_of}
+use Rattle.tr_machine.specs.Replays.{lines_of_steps}
 use Rattle.tr_machine.specs.Settling.{settling, settling_lines}
 use Rattle.tr_stage.specs.Stages.{state}
 use Rattle.tr_stage.specs.Standings.{Stands}
@@ -20,7 +20,7 @@ returns-clause-screen g c =
     c.in_ok-steps.ensures.steps in
     settled_screen g.C.Client s n stands
     (settled_is g.C.Client s n stood c.in_ok-paint_all.ensures.ok.opening
-    (c.in_ok-paint_all.ensures.ok.journal ∙ ap (λ xs. s.journal ++ lines_of g.C.Client Painter (Mu ∷ []) (state g.C.Client s) xs) steps))
+    (c.in_ok-paint_all.ensures.ok.journal ∙ ap (λ xs. s.journal ++ lines_of_steps g.C.Client Painter (Mu ∷ []) (state g.C.Client s) xs) steps))
 
 pub returns-in_err-steps-clause-err : goal.returns-in_err-steps-clause-err
 returns-in_err-steps-clause-err g c =
@@ -33,5 +33,5 @@ returns-in_err-paint_all-clause-err g c = on_err c.from_residual-in_err-paint_al
     c.in_ok-steps.ensures.steps in
     some-more g.C.Client c.args.self.now c.paint_all.new.self (settling_lines g.C.Client (state g.C.Client s)) (line ∷ [])
     (subst (λ xs. AddsSome g.C.Client g.C.Cmd.Command.words c.args.self.now c.paint_all.new.self
-    (lines_of g.C.Client Painter (Mu ∷ []) (state g.C.Client s) xs))
+    (lines_of_steps g.C.Client Painter (Mu ∷ []) (state g.C.Client s) xs))
     steps c.in_err-paint_all.ensures.err))

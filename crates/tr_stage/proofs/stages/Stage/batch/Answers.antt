@@ -1,7 +1,7 @@
 use Rattle.std.proofs.Common.{sym, ap, subst, ◌<◌, ◌∙◌}
 use Rattle.tr_forest.specs.Nodes.{leaf_count}
 use Rattle.tr_journal.specs.Openings.{tree_of}
-use Rattle.tr_machine.specs.States.{batch_of}
+use Rattle.tr_machine.specs.States.{leaf_batch}
 use Rattle.tr_stage.specs.Stages.{StageView, state}
 use Rattle.tr_stage.proofs.PartLemmas.{batch_at_leaf, has_window}
 use Rattle.tr_stage.proofs.stages.Stage.batch.Goals as goal
@@ -14,4 +14,4 @@ batch-requires-after_bounds g c κs within =
 pub returns : goal.returns
 returns g c =
     c.batch.ensures ∙ batch_at_leaf g.C.Client c.args.leaf c.self.invariant.kept
-    ∙ ap (λ (v : StageView _ _). batch_of g.C.Client (state g.C.Client v) c.args.leaf) c.self.view_is
+    ∙ ap (λ (v : StageView _ _). leaf_batch g.C.Client (state g.C.Client v) c.args.leaf) c.self.view_is

@@ -10,7 +10,7 @@ use Rattle.tr_region.specs.Places.{place_in}
 use Rattle.tr_region.specs.Points.{holds}
 use Rattle.tr_region.proofs.OrderLemmas.{AreInOrder-canonical}
 use Rattle.tr_screen.specs.Pictures.{IsScreenSize}
-use Rattle.tr_exec.specs.Executions.{IsOrigin, placed}
+use Rattle.tr_exec.specs.Executions.{IsOrigin, screen_point}
 use Rattle.tr_exec.proofs.SiteLemmas.{region_in_reach}
 use Rattle.tr_spot.specs.Leaves.{in_leaf, leaf_corner, leaf_domain}
 use Rattle.tr_spot.specs.Spots.{from_corner}
@@ -137,10 +137,10 @@ returns-clause-colours g c =
     let origin : c.from_corner-origin.result ≡ from_corner area (leaf_corner m.tree leaf) =
     c.from_corner-origin.ensures
     ∙ ap (from_corner area) (c.corner_of-corner.ensures.value ∙ ap (λ t. leaf_corner t leaf) tree) in
-    let there : Point → Point = λ p. placed c.from_corner-origin.result (in_leaf m.tree leaf p) in
+    let there : Point → Point = λ p. screen_point c.from_corner-origin.result (in_leaf m.tree leaf p) in
     let back : (p : Point) → before_shift (there p) by ≡ p = λ p.
-    ap (λ (o : Point). before_shift (placed o (in_leaf m.tree leaf p)) by) origin
-    ∙ ap (λ (d : Point). before_shift (placed (from_corner area (leaf_corner m.tree leaf)) (in_leaf m.tree leaf p)) d) c.from_corner-by.ensures
+    ap (λ (o : Point). before_shift (screen_point o (in_leaf m.tree leaf p)) by) origin
+    ∙ ap (λ (d : Point). before_shift (screen_point (from_corner area (leaf_corner m.tree leaf)) (in_leaf m.tree leaf p)) d) c.from_corner-by.ensures
     ∙ placed_back area (leaf_corner m.tree leaf) p in
     let place : (p : Point) → place_in c.in_ok-here.here (there p) ≡ place_in part p = λ p.
     ap (λ rs. place_in rs (there p)) c.in_ok-here.ensures.rects

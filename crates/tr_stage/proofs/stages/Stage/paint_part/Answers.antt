@@ -3,7 +3,7 @@ use Rattle.std.proofs.lemmas.Result.{on_ok_weaker}
 use Rattle.tr_base.specs.declared.Point.{Point}
 use Rattle.tr_region.specs.Points.{holds}
 use Rattle.tr_screen.specs.Pictures.{pixel_of}
-use Rattle.tr_exec.specs.Executions.{placed}
+use Rattle.tr_exec.specs.Executions.{screen_point}
 use Rattle.tr_spot.specs.Leaves.{in_leaf, leaf_corner}
 use Rattle.tr_machine.proofs.BaseLemmas.{placed-in_leaf}
 use Rattle.tr_stage.specs.Stages.{state}
@@ -22,8 +22,8 @@ returns-clause-painted g c =
     let corner = c.corner_of-corner.result in
     let tree = c.tree.ensures.value ∙ c.self.invariant.kept.tree ∙ ap (λ v. (state g.C.Client v).tree) c.self.view_is in
     let is : corner ≡ leaf_corner m.tree leaf = c.corner_of-corner.ensures.value ∙ ap (λ t. leaf_corner t leaf) tree in
-    let there : (p : Point) → placed corner (in_leaf m.tree leaf p) ≡ p = λ p.
-    ap (λ (o : Point). placed o (in_leaf m.tree leaf p)) is ∙ placed-in_leaf m.tree leaf p in
+    let there : (p : Point) → screen_point corner (in_leaf m.tree leaf p) ≡ p = λ p.
+    ap (λ (o : Point). screen_point o (in_leaf m.tree leaf p)) is ∙ placed-in_leaf m.tree leaf p in
     on_ok_weaker c.paint_window.result
     (λ painted p held.
     ap (λ (q : Point). pixel_of c.paint_window.new.wanted q) (sym (there p))

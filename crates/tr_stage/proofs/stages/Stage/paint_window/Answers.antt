@@ -5,7 +5,7 @@ use Rattle.tr_region.specs.Points.{holds}
 use Rattle.tr_screen.specs.Pictures.{pixel_of}
 use Rattle.tr_paint.specs.Paintings.{IsPainting}
 use Rattle.tr_paint.specs.Traces.{look_of}
-use Rattle.tr_exec.specs.Executions.{placed}
+use Rattle.tr_exec.specs.Executions.{screen_point}
 use Rattle.tr_forest.specs.Forests.{IsForest}
 use Rattle.tr_spot.specs.Leaves.{in_leaf, leaf_size}
 use Rattle.tr_machine.specs.Paintings.{is_visible}
@@ -41,7 +41,7 @@ returns-clause-painted g c =
           c.in_ok-painting.ensures.painting;
     } in
     subst (λ v. let m = state g.C.Client v in (p : Point) → is_visible m leaf p ≡ true →
-    holds c.args.part.now (placed c.args.origin (in_leaf m.tree leaf p)) ≡ true →
-    pixel_of c.execute-executed.new.screen (placed c.args.origin (in_leaf m.tree leaf p)) ≡ want g.C.Client m p) c.self.view_is
+    holds c.args.part.now (screen_point c.args.origin (in_leaf m.tree leaf p)) ≡ true →
+    pixel_of c.execute-executed.new.screen (screen_point c.args.origin (in_leaf m.tree leaf p)) ≡ want g.C.Client m p) c.self.view_is
     (painted_window g.C.Client c.args.origin c.args.part.now c.empty-unknown.result c.args.wanted.now c.execute-executed.new.screen
     (subst (λ t. IsForest t.nodes) c.self.invariant.kept.tree c.tree-tree.ensures.invariant.forest) plan c.in_ok-executed.ensures.known)

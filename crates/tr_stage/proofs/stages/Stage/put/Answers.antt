@@ -5,7 +5,7 @@ use Rattle.tr_spot.specs.Spots.{is_in_leaf, spot}
 use Rattle.tr_journal.specs.Openings.{tree_of}
 use Rattle.tr_machine.specs.Replays.{replay}
 use Rattle.tr_journal.specs.declared.steps.Step.TheVariants.{Repaint}
-use Rattle.tr_machine.specs.States.{batch_of}
+use Rattle.tr_machine.specs.States.{leaf_batch}
 use Rattle.tr_stage.specs.Stages.{Parts, StageView, state}
 use Rattle.tr_machine.specs.Sharing.{IsPaintedOf}
 use Rattle.tr_stage.proofs.DeviceLemmas.{Before, IsMaking}
@@ -49,7 +49,7 @@ invariant_of-self-2 g c =
     (put_made g.C.Client b c.args.leaf new m (record {
       shown = c.tree-2.ensures.invariant;
       tree = c.put.ensures.tree;
-      idle = subst (λ (v : StageView _ _). batch_of g.C.Client (state g.C.Client v) c.args.leaf ≡ []) back c.requires.idle;
+      idle = subst (λ (v : StageView _ _). leaf_batch g.C.Client (state g.C.Client v) c.args.leaf ≡ []) back c.requires.idle;
       part = c.args.part.now;
       pixels = c.args.pixels.now;
       painted = subst (λ (v : StageView _ _). IsPaintedOf g.C.Client (state g.C.Client v) c.args.leaf c.args.part.now c.args.pixels.now)

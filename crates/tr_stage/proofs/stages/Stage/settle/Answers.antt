@@ -1,7 +1,7 @@
 use Rattle.std.proofs.Common.{◌++◌, ◌∷◌, [], ap, ◌∙◌}
 use Rattle.tr_levels.specs.declared.Level.TheVariants.{Mu}
 use Rattle.tr_journal.specs.declared.steps.Actor.TheVariants.{Painter}
-use Rattle.tr_machine.specs.Replays.{lines_of}
+use Rattle.tr_machine.specs.Replays.{lines_of_steps}
 use Rattle.tr_machine.proofs.SettleLemmas.{IsSettled}
 use Rattle.tr_stage.specs.Stages.{state}
 use Rattle.tr_stage.proofs.SettleLemmas.{settled_is, settled_screen}
@@ -15,7 +15,7 @@ settled g c =
     let old = c.args.self.now in
     settled_is g.C.Client old c.paint_all.new.self c.stands.ensures.invariant c.paint_all.ensures.opening
     (c.in_ok-paint_all.ensures.ok
-    ∙ ap (λ steps. old.journal ++ lines_of g.C.Client Painter (Mu ∷ []) (state g.C.Client old) steps) c.in_ok-steps.ensures.steps)
+    ∙ ap (λ steps. old.journal ++ lines_of_steps g.C.Client Painter (Mu ∷ []) (state g.C.Client old) steps) c.in_ok-steps.ensures.steps)
 
 pub returns-clause-idle : goal.returns-clause-idle
 returns-clause-idle g c = (settled g c).batches

@@ -3,7 +3,7 @@ use Rattle.tr_forest.specs.Nodes.{leaf_count}
 use Rattle.tr_spot.specs.Leaves.{leaf_size}
 use Rattle.tr_journal.specs.Openings.{tree_of}
 use Rattle.tr_journal.specs.Journals.{silent}
-use Rattle.tr_machine.specs.States.{batch_of, content_of}
+use Rattle.tr_machine.specs.States.{leaf_batch, content_of}
 use Rattle.tr_machine.specs.Handing.{act_entries}
 use Rattle.tr_machine.proofs.HandingLemmas.{handed_lines}
 use Rattle.tr_stage.specs.Stages.{StageView, state}
@@ -19,7 +19,7 @@ take_all-requires-clause-leaf g c κs within =
 pub take_all-requires-clause-idle : goal.take_all-requires-clause-idle
 take_all-requires-clause-idle g c κs within =
     batch_at_leaf g.C.Client c.args.leaf c.self.invariant.kept
-    ∙ subst (λ (u : StageView _ _). batch_of g.C.Client (state g.C.Client u) c.args.leaf ≡ []) (sym c.self.view_is) c.requires.idle
+    ∙ subst (λ (u : StageView _ _). leaf_batch g.C.Client (state g.C.Client u) c.args.leaf ≡ []) (sym c.self.view_is) c.requires.idle
 
 pub extend-requires : goal.extend-requires
 extend-requires g c = record { silent = rw c.entries_in-entries.ensures.entries (entries_quiet c.args.leaf _ _) }

@@ -1,5 +1,5 @@
 use Rattle.std.proofs.Common.{ap, ◌∙◌}
-use Rattle.tr_desk.specs.Desks.{owner}
+use Rattle.tr_desk.specs.Desks.{selection_owner}
 use Rattle.tr_journal.specs.declared.answers.Answer.TheVariants.{Value}
 use Rattle.tr_machine.specs.Machines as machine
 use Rattle.tr_stage.specs.Stages.{StageView, state}
@@ -15,4 +15,4 @@ pub returns-in_ok-value-in-Some : goal.returns-in_ok-value-in-Some
 returns-in_ok-value-in-Some g c =
     ap Value c.in_ok-value-in-Some.ensures.value
     ∙ value_read g.C.Client c.args.selection c.self.invariant.kept c.desk.ensures c.in-Some.ensures.owner c.content.ensures.content
-    ∙ ap (λ (v : StageView _ _). machine.read g.C.Client (owner (state g.C.Client v).mail.desk c.args.selection) (state g.C.Client v)) c.self.view_is
+    ∙ ap (λ (v : StageView _ _). machine.read g.C.Client (selection_owner (state g.C.Client v).mail.desk c.args.selection) (state g.C.Client v)) c.self.view_is

@@ -11,7 +11,7 @@ use Rattle.tr_forest.specs.Edits.{refusal}
 use Rattle.tr_tree.specs.Trees.{Seen, edited_tree}
 use Rattle.tr_spot.specs.Spots.{HasRoot}
 use Rattle.tr_surface.specs.Surfaces.{IsShown, Shown, is_bad, is_on}
-use Rattle.tr_surface.specs.TreeSteps.{bad_after, good_after, moved_child, source}
+use Rattle.tr_surface.specs.TreeSteps.{bad_after_edit, good_after, moved_child, source}
 use Rattle.tr_surface.specs.Survivors.{IsFitted, IsLike, change, follows_by, way_of_moved}
 use Rattle.tr_surface.proofs.GoodLemmas.{bad_is}
 use Rattle.tr_surface.proofs.EditLemmas.{forest_edited, like_edited, move_edited, nodes_still, rooted}
@@ -79,7 +79,7 @@ returns-clause-bad g c = λ p.
     let new = c.in_ok-is.is' in
     let good = c.in-Ok.known.good.items in
     let P : Seen → Type 0 = λ u.
-    is_bad (record { tree = u; screen = c.move_pixels.new.screen; good = good }) p ≡ bad_after k s.tree u c.args.edit.now (is_bad s) p in
+    is_bad (record { tree = u; screen = c.move_pixels.new.screen; good = good }) p ≡ bad_after_edit k s.tree u c.args.edit.now (is_bad s) p in
     subst P (sym c.replace.ensures.after)
     (bad_is (record { tree = new; screen = c.move_pixels.new.screen; good = good }) p
     ∙ ap (λ b. is_on new p && not b) (c.in-Ok.ensures.good.any p))

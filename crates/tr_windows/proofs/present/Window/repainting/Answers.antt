@@ -7,13 +7,13 @@ use Rattle.tr_paint.specs.Traces.{Look, look_of}
 use Rattle.tr_client.specs.declared.clients.Client.{Ghosts}
 use Rattle.tr_windows.specs.declared.exposures.Exposure.{Exposure}
 use Rattle.tr_windows.specs.Presents.{Present}
-use Rattle.tr_windows.specs.Promises.{FlushesByPainting, LosesNothingOf, Repaints}
+use Rattle.tr_windows.specs.Promises.{FlushesByPainting, LosesNothingOf, RepaintsWindow}
 use Rattle.tr_windows.proofs.present.Window.repainting.Goals as goal
 
 -- where nothing is bad or lost, what flushes a window repaints it
 by_flush : {C M E : Type 0} (client : Ghosts C M) (look : Look) (e : Exposure) (w : Present C) → ((q : Point) → has_point e.bad q ≡ false) →
     LosesNothingOf e look w.batch → (made : Result (Option (List Paint)) E) →
-    IfOk made (λ o. IfSome o (λ cs. FlushesByPainting client look e w cs)) → IfOk made (λ o. Repaints client look e w (unwrap_or o w.batch))
+    IfOk made (λ o. IfSome o (λ cs. FlushesByPainting client look e w cs)) → IfOk made (λ o. RepaintsWindow client look e w (unwrap_or o w.batch))
 by_flush client look e w good keeps (Err x) h = h
 by_flush client look e w good keeps (Ok None) h = inr (record { waits = refl; good = good; keeps = keeps })
 by_flush client look e w good keeps (Ok (Some cs)) h = inl h.painting

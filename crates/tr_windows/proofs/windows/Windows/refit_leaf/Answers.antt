@@ -2,12 +2,12 @@ use Rattle.std.proofs.Common.{◌≡◌, Bool, true, false, cond, List, [], refl
 use Rattle.tr_paint.specs.declared.Paint.{Paint}
 use Rattle.tr_mail.specs.Deliveries.{is_reshaped}
 use Rattle.tr_machine.proofs.ListLemmas.{unchanged}
-use Rattle.tr_windows.specs.Presents.{Present, batch_at, cleared, refitted}
+use Rattle.tr_windows.specs.Presents.{Present, batch_at, without_batch, refitted}
 use Rattle.tr_windows.proofs.ChangeLemmas.{unchanged_at}
 use Rattle.tr_windows.proofs.windows.Windows.refit_leaf.Goals as goal
 
 -- a window for which nothing waits stays as it is
-idle : {C : Type 0} (b : Bool) (w : Present C) → w.batch ≡ [] → cond b (cleared w) w ≡ w
+idle : {C : Type 0} (b : Bool) (w : Present C) → w.batch ≡ [] → cond b (without_batch w) w ≡ w
 idle true w none = ap (λ (cs : List Paint). record { content = w.content; batch = cs }) (sym none)
 idle false w none = refl
 

@@ -11,7 +11,7 @@ use Rattle.tr_paint.specs.declared.Paint.TheVariants.{Tint}
 use Rattle.tr_paint.specs.Batches.{batch_of, kept}
 use Rattle.tr_client.specs.Texts.{room}
 use Rattle.w_edit.specs.Contents.{Contents, line_at}
-use Rattle.w_edit.specs.Pictures.{top, shown, written}
+use Rattle.w_edit.specs.Pictures.{top, shown_lines, written}
 use Rattle.w_edit.proofs.editors.Editor.repainted.Goals as goal
 
 -- one line more is written
@@ -27,7 +27,7 @@ one_more size y first n =
 
 -- a line that is shown is the one that stands as many rows below the top as it has others above it
 line_shown : (size : Size) (y : Contents) (lines : List (List ℕ)) (k : ℕ) (line : List ℕ) →
-    lines ≡ shown size y → k < length lines → line ≡ get_or lines k line → line ≡ line_at y (top size y + k)
+    lines ≡ shown_lines size y → k < length lines → line ≡ get_or lines k line → line ≡ line_at y (top size y + k)
 line_shown size y lines k line are within is =
     let below = drop (top size y) y.lines in
     let fits : k < room size = omega (arith, ap (λ (ls : List (List ℕ)). length ls) are, length-take (room size) below) in
