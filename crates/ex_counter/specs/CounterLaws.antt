@@ -3,6 +3,7 @@
 use Rattle.std.proofs.Common.{◌≡◌, ℕ, ◌+◌, ◌<◌, ◌≤◌, ◌^◌, ◌==◌, ◌&&◌, min, ℤ, pos, Bool, true, false, cond, [], ◌∷◌, Some, None, refl, ap, ◌∙◌, arith}
 use Rattle.std.specs.Prelude.{IfSome}
 use Rattle.std.proofs.lemmas.Int.{ints}
+use Rattle.std.proofs.lemmas.Bool.{and_parts}
 use Rattle.tr_base.specs.declared.Point.{Point}
 use Rattle.tr_base.specs.declared.Size.{Size}
 use Rattle.tr_base.specs.declared.Event.{Event}
@@ -25,7 +26,7 @@ use Rattle.tr_paint.proofs.PatchLemmas.{Gives, kept_patch, no_patch, two_patches
 use Rattle.tr_paint.proofs.PaintingLemmas.{Makes, painting_alone, painting_pushed}
 use Rattle.tr_client.specs.Laws.{IsWindowSize, is_flat, IsEvent, Survives}
 use Rattle.tr_client.proofs.PlainLemmas.{meet-inside}
-use Rattle.tr_client.proofs.KeepingLemmas.{both_hold, survives-meet}
+use Rattle.tr_client.proofs.KeepingLemmas.{survives-meet}
 use Rattle.tr_client.proofs.FlatLemmas.{flat-whole, meet-nothing}
 use Rattle.ex_counter.specs.declared.counters.Counter.{Counter}
 use Rattle.ex_counter.specs.declared.counters.CounterCmd.{CounterCmd}
@@ -46,7 +47,7 @@ columns-have part from to q here =
     ∙ ap (λ b. b && has_point (rect_of (pos from) (pos to) part.north part.south) q) here
     ∙ has_point-rect_of (pos from) (pos to) part.north part.south q
     ∙ ap (λ b. between (pos from) (pos to) q.h && b)
-    (both_hold (between part.west part.east q.h) (between part.north part.south q.v) here).1
+    (and_parts (between part.west part.east q.h) (between part.north part.south q.v) here).1
     ∙ and_true (between (pos from) (pos to) q.h)
 
 -- what a bar grows by lies in the longer bar

@@ -1,8 +1,9 @@
 -- Pixels that lie row after row: where the pixel of a point lies among them.
-use Rattle.std.proofs.Common.{◌≡◌, ℕ, ◌+◌, ◌*◌, ◌<◌, ◌≤◌, ℤ, pos, Bool, true, false, ◌&&◌, IsTrue, refl, arith}
+use Rattle.std.proofs.Common.{◌≡◌, ℕ, ◌+◌, ◌*◌, ◌<◌, ◌≤◌, ℤ, pos, true, IsTrue, arith}
 use Rattle.std.specs.Prelude.{negsuc, unsigned_abs}
 use Rattle.std.proofs.lemmas.Nat.{rows}
 use Rattle.std.proofs.lemmas.Int.{ints}
+use Rattle.std.proofs.lemmas.Bool.{and_parts}
 use Rattle.tr_base.specs.declared.points.Point.{Point}
 use Rattle.tr_base.specs.declared.sizes.Size.{Size}
 use Rattle.tr_base.specs.Rects.{has_point, whole_of, between}
@@ -12,10 +13,6 @@ use Rattle.tr_base.proofs.RectLemmas.{has_point-rect_of}
 pub row_fits : (n k v : ℕ) → v < k → v * n + n ≤ k * n
 row_fits n k v h = grind (arith, rows)
 
-both_true : (a b : Bool) → a && b ≡ true → (a ≡ true) × (b ≡ true)
-both_true true b h = (refl, h)
-both_true false b h = cc
-
 -- a coordinate from 0 on, and before n
 from_zero : (n : ℕ) (x : ℤ) → between (pos 0) (pos n) x ≡ true → unsigned_abs x < n
 from_zero n (pos a) h = grind (arith, ints)
@@ -24,7 +21,7 @@ from_zero n (negsuc a) h = cc
 -- a point of a window of this size has its row and its column there
 pub in_whole : (size : Size) (p : Point) → IsTrue (has_point (whole_of size) p) → (unsigned_abs p.v < size.high) × (unsigned_abs p.h < size.wide)
 in_whole size p on =
-    let both = both_true _ _ (rw (has_point-rect_of (pos 0) (pos size.wide) (pos 0) (pos size.high) p) at on) in
+    let both = and_parts _ _ (rw (has_point-rect_of (pos 0) (pos size.wide) (pos 0) (pos size.high) p) at on) in
     (from_zero size.high p.v both.1, from_zero size.wide p.h both.0)
 
 -- the place of a point's pixel is one of the places

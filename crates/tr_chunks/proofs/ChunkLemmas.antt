@@ -1,7 +1,7 @@
 -- Lines that make steps, one behind another, and chunk behind chunk.
 use Rattle.std.proofs.Common.{◌≡◌, ℕ, ◌+◌, ◌*◌, ◌/◌, ◌%◌, ◌<◌, ◌≤◌, zero, suc, min, true, Option, Some, None, List, map, All, [], ◌∷◌, ◌++◌, length, get_or, take, drop, refl, sym, ap, subst, ◌∙◌, arith, inl, inr, ⊎_elim, div-add-mod', mod-lt, eq-zero-or-pos, add-mul, one-mul, mul-le-mul_right, zero-mul, add-zero, suc-mul, drop-drop, length-drop, append_assoc, append-nil, length-append, ap₂, length-take-le, take-suc, take-add, take_all, take-append-drop, take-take, length-take}
 use Rattle.std.proofs.lemmas.List.Elements.{All-nil, All-append, All-from_get_or, All-head, All-rest, All-same}
-use Rattle.std.proofs.lemmas.List.{length-map, flat_map_more}
+use Rattle.std.proofs.lemmas.List.{length-map, flat_map_more, nil_from_length}
 use Rattle.std.specs.Borrow.{Bor}
 use Rattle.std.specs.Fork.{slice_chunk}
 use Rattle.tr_grammar.specs.States.{SoFar}
@@ -168,11 +168,6 @@ module _ (c : SoFar) (n size : ℕ) (lines : List (List ℕ)) (read : List (Opti
   pub all_playable : All (λ (steps : Made). All (IsPlayable (nodes_so_far c)) steps) chunks
   all_playable =
       All-from_get_or (λ (steps : Made). All (IsPlayable (nodes_so_far c)) steps) chunks [] (λ k lt. (each_chunk k lt).playable)
-
--- no chunk is left
-pub no_length : {A : Type 0} (xs : List A) → length xs ≡ 0 → xs ≡ []
-no_length [] none = refl
-no_length (x ∷ xs) none = absurd (omega arith)
 
 -- of these chunks, behind the script so far, some are added, and the rest are left
 pub record IsAdding (first now : SoFar) (all done rest : List Made) : Type 0 where

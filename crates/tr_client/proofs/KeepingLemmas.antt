@@ -1,15 +1,11 @@
 -- What survives a change of size.
-use Rattle.std.proofs.Common.{◌≡◌, ℕ, Bool, true, false, ◌&&◌, refl, sym, ◌∙◌}
+use Rattle.std.proofs.Common.{◌≡◌, ℕ, true, refl, sym, ◌∙◌}
+use Rattle.std.proofs.lemmas.Bool.{and_parts}
 use Rattle.tr_base.specs.declared.Point.{Point}
 use Rattle.tr_base.specs.declared.Size.{Size}
 use Rattle.tr_base.specs.Rects.{has_point, empty_rect, meet_of, whole_of}
 use Rattle.tr_base.proofs.RectLemmas.{false-true, empty-has_point, has_point-meet_of}
 use Rattle.tr_client.specs.Laws.{Survives}
-
--- both parts of a test that holds
-pub both_hold : (a b : Bool) → a && b ≡ true → (a ≡ true) × (b ≡ true)
-both_hold true b h = (refl, h)
-both_hold false b h = absurd (false-true h)
 
 -- the common part of both windows survives where the colours there don't depend on the size
 pub survives-meet : (from to : Size) (before after : Point → ℕ) →
@@ -22,7 +18,7 @@ survives-meet from to before after same = record {
 }
   where
     parts : (q : Point) → has_point (meet_of (whole_of from) (whole_of to)) q ≡ true → (has_point (whole_of from) q ≡ true) × (has_point (whole_of to) q ≡ true)
-    parts q h = both_hold _ _ (sym (has_point-meet_of (whole_of from) (whole_of to) q) ∙ h)
+    parts q h = and_parts _ _ (sym (has_point-meet_of (whole_of from) (whole_of to) q) ∙ h)
 
 -- nothing survives where no point is kept
 pub survives-nothing : (from to : Size) (before after : Point → ℕ) → Survives empty_rect from to before after

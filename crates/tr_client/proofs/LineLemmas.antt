@@ -3,7 +3,7 @@ use Rattle.std.proofs.Common.{◌≡◌, ℕ, ◌+◌, ◌*◌, ◌/◌, ◌<◌
 use Rattle.std.specs.Prelude.{nat_lt, slice_index, unsigned_abs}
 use Rattle.std.proofs.lemmas.Int.{ints}
 use Rattle.std.proofs.lemmas.Bool.Decides.{nat_tests}
-use Rattle.std.proofs.lemmas.Bool.{eqb-false}
+use Rattle.std.proofs.lemmas.Bool.{eqb-false, and_parts}
 use Rattle.std.proofs.lemmas.List.{length-append, get_or_append_left, get_or_push, get_or_past}
 use borrow.Author.Tests.{ltb-true}
 use Rattle.tr_base.specs.declared.Point.{Point}
@@ -21,7 +21,6 @@ use Rattle.tr_paint.specs.Paintings.{IsPainting}
 use Rattle.tr_paint.proofs.PaintingLemmas.{Makes, painting_alone, painting_more, painting_along}
 use Rattle.tr_client.specs.Plain.{plain, colour_of}
 use Rattle.tr_client.specs.Texts.{strip_of, begin_of, in_cells, line_colour, colour_in, upwards, downwards, cleared}
-use Rattle.tr_client.proofs.KeepingLemmas.{both_hold}
 use Rattle.tr_client.proofs.PlainLemmas.{text-makes, meet-inside, pixel-text}
 use Rattle.tr_client.proofs.StripLemmas.{below-strip, above-strip, there_and_back}
 
@@ -35,7 +34,7 @@ pixel-colour_in look lines q =
 pub cells-above : (above : ℕ) (line : List ℕ) (q : Point) → in_cells above line q ≡ true → strip_of q ≡ above
 cells-above above line q here =
     let east = pos 0 +ℤ pos (8 * length line) in
-    let both = both_hold _ _ (sym (has_point-rect_of (pos 0) east (pos (8 * above)) (pos (8 * above) +ℤ pos 8) q) ∙ here) in
+    let both = and_parts _ _ (sym (has_point-rect_of (pos 0) east (pos (8 * above)) (pos (8 * above) +ℤ pos 8) q) ∙ here) in
     down above q.v both.1
   where
     down : (above : ℕ) (v : ℤ) → between (pos (8 * above)) (pos (8 * above) +ℤ pos 8) v ≡ true → unsigned_abs v / 8 ≡ above

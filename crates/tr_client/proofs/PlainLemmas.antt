@@ -6,6 +6,7 @@ use Rattle.tr_base.specs.declared.Tile.{Tile}
 use Rattle.tr_base.specs.Ops.{eff, IsPixel}
 use Rattle.tr_base.specs.Tiles.{tile_bit}
 use Rattle.std.specs.Prelude.{◌-ℤ◌}
+use Rattle.std.proofs.lemmas.Bool.{and_parts}
 use Rattle.tr_base.specs.Rects.{Edges, has_point, meet_of}
 use Rattle.tr_base.proofs.RectLemmas.{has_point-meet_of}
 use Rattle.tr_base.proofs.OpLemmas.{pixel-bit}
@@ -14,7 +15,6 @@ use Rattle.tr_paint.specs.Paints.{cells_of, text_bit, chosen}
 use Rattle.tr_paint.specs.Traces.{Look, Keep, Value, deed}
 use Rattle.tr_paint.proofs.PaintingLemmas.{Makes}
 use Rattle.tr_client.specs.Plain.{plain, colour_of}
-use Rattle.tr_client.proofs.KeepingLemmas.{both_hold}
 
 -- the operation for a bit gives its colour
 pub plain-colour : (kind : Kind) (bit : Bool) → eff kind (chosen plain bit) 0 ≡ colour_of bit
@@ -51,4 +51,4 @@ text-makes look part at text q old here =
 
 -- what lies in a common part lies in the first
 pub meet-inside : (part e : Edges) (q : Point) → has_point (meet_of part e) q ≡ true → has_point part q ≡ true
-meet-inside part e q h = (both_hold _ _ (sym (has_point-meet_of part e q) ∙ h)).0
+meet-inside part e q h = (and_parts _ _ (sym (has_point-meet_of part e q) ∙ h)).0

@@ -3,6 +3,7 @@ use Rattle.std.proofs.Common.{◌≡◌, ℕ, ◌+◌, ◌*◌, ◌/◌, ◌<◌
 use Rattle.std.specs.Prelude.{nat_lt, nat_le, unsigned_abs}
 use Rattle.std.proofs.lemmas.Int.{ints}
 use Rattle.std.proofs.lemmas.Bool.Decides.{nat_tests}
+use Rattle.std.proofs.lemmas.Bool.{and_parts}
 use Rattle.tr_base.specs.declared.Point.{Point}
 use Rattle.tr_base.specs.declared.Size.{Size}
 use Rattle.tr_base.specs.declared.Op.TheVariants.{Bg}
@@ -12,11 +13,10 @@ use Rattle.tr_paint.specs.declared.Paint.TheVariants.{Tint, Scroll}
 use Rattle.tr_paint.specs.Traces.{Look, Keep, From, Value}
 use Rattle.tr_paint.proofs.RunLemmas.{left, run_one}
 use Rattle.tr_client.specs.Texts.{strip_of, strips_between, upwards, downwards}
-use Rattle.tr_client.proofs.KeepingLemmas.{both_hold}
 
 -- a point of a window lies no higher than its first row
 pub rows-from : (size : Size) (q : Point) → has_point (whole_of size) q ≡ true → pos 0 ≤ℤ q.v
-rows-from size q here = first q.v (both_hold _ _ (sym (has_point-rect_of (pos 0) (pos size.wide) (pos 0) (pos size.high) q) ∙ here)).1
+rows-from size q here = first q.v (and_parts _ _ (sym (has_point-rect_of (pos 0) (pos size.wide) (pos 0) (pos size.high) q) ∙ here)).1
   where
     first : (v : ℤ) → between (pos 0) (pos size.high) v ≡ true → pos 0 ≤ℤ v
     first v h = grind (arith, ints)
@@ -25,7 +25,7 @@ rows-from size q here = first q.v (both_hold _ _ (sym (has_point-rect_of (pos 0)
 pub area-has : (size : Size) (above end : ℕ) (q : Point) → has_point (whole_of size) q ≡ true →
     has_point (strips_between size above end) q ≡ nat_le above (strip_of q) && nat_lt (strip_of q) end
 area-has size above end q here =
-    let both = both_hold _ _ (sym (has_point-rect_of (pos 0) (pos size.wide) (pos 0) (pos size.high) q) ∙ here) in
+    let both = and_parts _ _ (sym (has_point-rect_of (pos 0) (pos size.wide) (pos 0) (pos size.high) q) ∙ here) in
     has_point-rect_of (pos 0) (pos size.wide) (pos (8 * above)) (pos (8 * end)) q
     ∙ ap (λ b. b && between (pos (8 * above)) (pos (8 * end)) q.v) both.0
     ∙ down above end q.v (rows-from size q here)

@@ -37,7 +37,7 @@ pub record IsThere (p : Point) : Type 0 where
   pub north : pos 0 ≤ℤ p.v
   pub south : p.v <ℤ pos 1024
 
-there : (p : Point) → has_point (whole_of greatest_screen) p ≡ true → IsThere p
+pub there : (p : Point) → has_point (whole_of greatest_screen) p ≡ true → IsThere p
 there p on =
     let held : between (pos 0) (pos 1024) p.h && between (pos 0) (pos 1024) p.v ≡ true =
     sym (has_point-rect_of (pos 0) (pos 1024) (pos 0) (pos 1024) p) ∙ on in

@@ -1,5 +1,6 @@
 -- Bits along a run.
 use Rattle.std.proofs.Common.{◌≡◌, ℕ, ◌+◌, ◌-◌, ◌*◌, ◌/◌, ◌%◌, ◌==◌, ◌<◌, ◌≤◌, ℤ, pos, ◌+ℤ◌, ◌≤ℤ◌, List, take, drop, length, refl, sym, ap, ◌∙◌, arith}
+use Rattle.tr_screen.proofs.RunLemmas.{abs_is}
 use Rattle.std.specs.Prelude.{negsuc, unsigned_abs, slice_index}
 use Rattle.std.specs.Int.{bit_at}
 use Rattle.std.proofs.lemmas.List.{get_or-take, get_or-drop}
@@ -10,11 +11,6 @@ use Rattle.std.specs.Int.{int_rem_euclid}
 use Rattle.std.proofs.lemmas.Int.{ints, int_rem_euclid_is}
 use Rattle.tr_base.specs.Tiles.{is_set, tile_index}
 use Rattle.tr_exec.specs.Strokes.{IsWithin, AreGlyphRows, east_of}
-
--- a coordinate from 0 on is a number
-pub abs_is : (x : ℤ) → pos 0 ≤ℤ x → x ≡ pos (unsigned_abs x)
-abs_is (pos a) h = refl
-abs_is (negsuc a) h = absurd (omega (arith, ints))
 
 -- far enough east no coordinate is negative
 far_east : (x : ℤ) → pos 0 ≤ℤ (x +ℤ pos (unsigned_abs x * 8))

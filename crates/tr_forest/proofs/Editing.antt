@@ -2,6 +2,7 @@
 use Rattle.std.proofs.Common.{◌≡◌, ℕ, ◌+◌, Bool, true, false, cond, not, ◌&&◌, ◌||◌, ◌==◌, List, [], ◌∷◌, Option, Some, None, nat_lt, length, refl, sym, ap, subst, ◌∙◌, arith}
 use Rattle.std.specs.Prelude.{is_some}
 use Rattle.std.proofs.lemmas.Bool.Decides.{nat_tests}
+use Rattle.std.proofs.lemmas.Bool.{not-false, or_parts}
 use Rattle.tr_base.specs.declared.Point.{Point}
 use Rattle.tr_base.specs.declared.NodeId.{NodeId}
 use Rattle.tr_base.specs.declared.Shapes.{Shapes}
@@ -15,23 +16,19 @@ use Rattle.tr_forest.specs.Nodes.{Entry, Nodes, IsNode, IsNodeKind, node, is_lea
 use Rattle.tr_forest.specs.Families.{levels, is_among, depth, height, is_under, of_parent}
 use Rattle.tr_forest.specs.Edits.{IsEdit, edited, refusal, changed, with_child, hung, turned_to, paged, reshaped, at_parent, bereft, loose, lifting, hangs, is_root, is_occupied}
 use Rattle.tr_forest.specs.Forests.{IsForest}
-use Rattle.tr_forest.proofs.FamilyLemmas.{either, test_same}
+use Rattle.tr_forest.proofs.FamilyLemmas.{test_same}
 use Rattle.tr_forest.proofs.Keeping.{Follows, IsLike, follows_like, changed_count}
 use Rattle.tr_forest.proofs.Hanging.{CanHang, follows_hung}
 use Rattle.tr_forest.proofs.Parting.{follows_parted, follows_lifted}
 
 -- what is known where the first of two faults isn't there
 
-passed : (b : Bool) (x : NodeFault) (y : Option NodeFault) → cond b (Some x) y ≡ None → (b ≡ false) × (y ≡ None)
+pub passed : (b : Bool) (x : NodeFault) (y : Option NodeFault) → cond b (Some x) y ≡ None → (b ≡ false) × (y ≡ None)
 passed true x y h = cc
 passed false x y h = (refl, h)
 
 single : (b : Bool) (x : NodeFault) → cond b (Some x) None ≡ None → b ≡ false
 single b x h = (passed b x None h).0
-
-negated : (b : Bool) → not b ≡ false → b ≡ true
-negated true h = refl
-negated false h = cc
 
 no_value : (o : Option NodeId) → is_some o ≡ false → o ≡ None
 no_value None h = refl
@@ -46,7 +43,7 @@ no_items [] h = refl
 no_items (c ∷ cs) h = let none : length (c ∷ cs) ≡ 0 = grind (arith, nat_tests) in absurd (omega arith)
 
 free_of : (b : Bool) (cs : List NodeId) → (b && not (length cs == 0)) ≡ false → b ≡ true → cs ≡ []
-free_of true cs h is = no_items cs (negated (length cs == 0) h)
+free_of true cs h is = no_items cs (not-false (length cs == 0) h)
 free_of false cs h is = cc
 
 can_hang : (t : Nodes) (child parent : NodeId) (at : Point) → refusal t (edits.Attach child parent at) ≡ None → CanHang t child parent
@@ -60,7 +57,7 @@ can_hang t child parent at h =
     let c = passed (is_occupied t parent) faults.Occupied placed b.1 in
     let d = passed (hangs t child || is_root t child) faults.Attached deep c.1 in
     let e = single (nat_lt levels (depth t parent + height t child)) faults.TooDeep d.1 in
-    let place = either (hangs t child) (is_root t child) d.0 in
+    let place = or_parts (hangs t child) (is_root t child) d.0 in
     record {
       holder = a.0;
       apart = b.0;
@@ -160,7 +157,7 @@ follows_same t forest = record { values = record { count = refl; root = refl; le
 
 hangs_in_z : (t : Nodes) (child parent : NodeId) → (node t child).parent ≡ Some parent →
     of_parent (node t child).parent (λ p. not (is_z (node t p).kind)) ≡ false → is_z (node t parent).kind ≡ true
-hangs_in_z t child parent up h = negated (is_z (node t parent).kind) (sym (ap (λ o. of_parent o (λ p. not (is_z (node t p).kind))) up) ∙ h)
+hangs_in_z t child parent up h = not-false (is_z (node t parent).kind) (sym (ap (λ o. of_parent o (λ p. not (is_z (node t p).kind))) up) ∙ h)
 
 follows_detached : (t : Nodes) (child : NodeId) → IsForest t → IsNode t child → hangs t child ≡ true → Follows t (edited t (edits.Detach child))
 follows_detached t child forest h hang =
@@ -172,7 +169,7 @@ follows_lift : (t : Nodes) (child : NodeId) → IsForest t → refusal t (edits.
 follows_lift t child forest h =
     let a = passed (of_parent (node t child).parent (λ p. not (is_z (node t p).kind))) faults.WrongKind
     (cond (not (hangs t child)) (Some faults.NotChild) None) h in
-    let hang : hangs t child ≡ true = negated (hangs t child) (single (not (hangs t child)) faults.NotChild a.1) in
+    let hang : hangs t child ≡ true = not-false (hangs t child) (single (not (hangs t child)) faults.NotChild a.1) in
     let up = some_value (node t child).parent hang in
     subst (λ (o : Option NodeId). Follows t (at_parent o (λ parent. changed parent (lifting child)) t)) (sym up.1)
     (follows_lifted t child up.0 forest up.1 (hangs_in_z t child up.0 up.1 a.0))
@@ -181,25 +178,25 @@ follows_lift t child forest h =
 pub follows_edited : (t : Nodes) (edit : Edit) → IsForest t → IsEdit t edit → refusal t edit ≡ None → Follows t (edited t edit)
 follows_edited t (edits.Attach child parent at) forest is h = follows_hung t child parent at forest is.0 is.1 is.2 (can_hang t child parent at h)
 follows_edited t (edits.Detach child) forest is h = follows_detached t child forest is
-    (negated (hangs t child) (single (not (hangs t child)) faults.NotChild h))
+    (not-false (hangs t child) (single (not (hangs t child)) faults.NotChild h))
 follows_edited t (edits.Tint n tint) forest is h = follows_like t n (λ e. record e { tint = tint }) forest is
     (record { parent = refl; children = refl; leaf = refl; filter = refl; kind = forest.kinds n; offset = forest.offsets n; shown = forest.shown n })
 follows_edited t (edits.Border n width) forest is h =
     follows_filter t n (kinds.Border width) forest is refl refl refl tt
-    (border_like (node t n).kind (negated (is_border (node t n).kind) (single (not (is_border (node t n).kind)) faults.WrongKind h)))
+    (border_like (node t n).kind (not-false (is_border (node t n).kind) (single (not (is_border (node t n).kind)) faults.WrongKind h)))
 follows_edited t (edits.Offset n by) forest is h =
     follows_filter t n (kinds.Translate by) forest is.0 refl refl refl is.1
-    (translate_like (node t n).kind (negated (is_translate (node t n).kind) (single (not (is_translate (node t n).kind)) faults.WrongKind h)))
+    (translate_like (node t n).kind (not-false (is_translate (node t n).kind) (single (not (is_translate (node t n).kind)) faults.WrongKind h)))
 follows_edited t (edits.Fix n size) forest is h =
     follows_filter t n (kinds.Rigid size) forest is.0 refl refl refl is.1
-    (rigid_like (node t n).kind (negated (is_rigid (node t n).kind) (single (not (is_rigid (node t n).kind)) faults.WrongKind h)))
+    (rigid_like (node t n).kind (not-false (is_rigid (node t n).kind) (single (not (is_rigid (node t n).kind)) faults.WrongKind h)))
 follows_edited t (edits.Move child at) forest is h = follows_like t child (λ e. record e { at = at }) forest is.0
     (record { parent = refl; children = refl; leaf = refl; filter = refl; kind = forest.kinds child; offset = is.1; shown = forest.shown child })
 follows_edited t (edits.Lift child) forest is h = follows_lift t child forest h
 follows_edited t (edits.Show n child) forest is h =
     let a = passed (not (is_t (node t n).kind)) faults.WrongKind (cond (not (is_among child (node t n).children)) (Some faults.NotChild) None) h in
-    follows_shown t n child forest is.0 (negated (is_t (node t n).kind) a.0)
-    (negated (is_among child (node t n).children) (single (not (is_among child (node t n).children)) faults.NotChild a.1))
+    follows_shown t n child forest is.0 (not-false (is_t (node t n).kind) a.0)
+    (not-false (is_among child (node t n).children) (single (not (is_among child (node t n).children)) faults.NotChild a.1))
 follows_edited t (edits.Turn n page) forest is h = follows_like t n (λ e. turned_to (paged page e.kind) e) forest is
     (like_turned t n (paged page (node t n).kind) forest (paged_leaf page (node t n).kind) (paged_filter page (node t n).kind)
     (paged_kind page (node t n).kind (forest.kinds n))

@@ -2,8 +2,10 @@
 use Rattle.std.proofs.Common.{◌≡◌, ℕ, zero, suc, ◌+◌, ◌<◌, ◌≤◌, Bool, true, false, ◌||◌, ◌==◌, ◌⊎◌, inl, inr, List, [], ◌∷◌, Option, Some, None, length, get_or, nat_lt, refl, sym, ap, ◌∙◌, arith}
 use Rattle.std.proofs.lemmas.Bool.Decides.{nat_tests}
 use Rattle.std.proofs.Math.ListN.{get_or-eq_default}
+use Rattle.std.proofs.lemmas.Bool.{or_parts}
 use Rattle.tr_base.specs.declared.NodeId.{NodeId}
 use Rattle.tr_base.specs.Layouts.{greatest_by}
+use Rattle.tr_base.proofs.BoolLemmas.{or_true}
 use Rattle.tr_forest.specs.Nodes.{Entry, Nodes, IsNode, node, new_entry}
 use Rattle.tr_forest.specs.declared.kinds.NodeKind.TheVariants as kinds
 use Rattle.tr_forest.specs.Families.{levels, is_among, deeper, depth_within, depth, height_within, height, of_parent, is_under_within, is_under}
@@ -32,14 +34,6 @@ by_id {P = P} a b same apart = by_test (a.0 == b.0) refl
     by_test false h = apart h
 
 -- lists of children
-
-pub or_true : (b : Bool) → (b || true) ≡ true
-or_true true = refl
-or_true false = refl
-
-pub either : (a b : Bool) → (a || b) ≡ false → (a ≡ false) × (b ≡ false)
-either true b h = cc
-either false b h = (refl, h)
 
 pub among_first : (n : NodeId) (ns : List NodeId) → is_among n (n ∷ ns) ≡ true
 among_first n ns = rw (test_same n n refl) refl
@@ -92,7 +86,7 @@ parent_is_node t n parent f h = holder_is_node t parent n (f.parents n parent h)
 
 -- depths
 
-deeper_enough : (o : Option NodeId) (u v : NodeId → ℕ) (m : ℕ) → deeper o v ≤ suc m → ((p : NodeId) → v p ≤ m → u p ≡ v p) → deeper o u ≡ deeper o v
+pub deeper_enough : (o : Option NodeId) (u v : NodeId → ℕ) (m : ℕ) → deeper o v ≤ suc m → ((p : NodeId) → v p ≤ m → u p ≡ v p) → deeper o u ≡ deeper o v
 deeper_enough None u v m h ih = refl
 deeper_enough (Some p) u v m h ih = ap (λ k. k + 1) (ih p (omega arith))
 
@@ -104,10 +98,10 @@ pub depth_suc : (f : ℕ) (t : Nodes) (n : NodeId) → depth_within (suc f) t n 
 unfolding depth_within
 depth_suc f t n = refl
 
-no_depth : (t : Nodes) (n : NodeId) → depth_within 0 t n ≤ 0 → ⊥
+pub no_depth : (t : Nodes) (n : NodeId) → depth_within 0 t n ≤ 0 → ⊥
 no_depth t n h = let one : depth_within 0 t n ≡ 1 = depth_zero t n in omega arith
 
-depth_enough : (f : ℕ) (t : Nodes) (n : NodeId) → depth_within f t n ≤ f → depth_within (suc f) t n ≡ depth_within f t n
+pub depth_enough : (f : ℕ) (t : Nodes) (n : NodeId) → depth_within f t n ≤ f → depth_within (suc f) t n ≡ depth_within f t n
 unfolding depth_within
 depth_enough zero t n h = absurd (no_depth t n h)
 depth_enough (suc f) t n h = deeper_enough (node t n).parent (depth_within (suc f) t) (depth_within f t) f h (λ p k. depth_enough f t p k)
@@ -217,7 +211,7 @@ pub record IsBelowChild (f : ℕ) (t : Nodes) (n m : NodeId) : Type 0 where
   pub among : is_among child (node t n).children ≡ true
   pub under : is_under_within f t child m ≡ true
 
-parent_case : (o : Option NodeId) (up : NodeId → Bool) → of_parent o up ≡ true → (q : NodeId) × (o ≡ Some q) × (up q ≡ true)
+pub parent_case : (o : Option NodeId) (up : NodeId → Bool) → of_parent o up ≡ true → (q : NodeId) × (o ≡ Some q) × (up q ≡ true)
 parent_case None up h = cc
 parent_case (Some p) up h = (p, refl, h)
 

@@ -1,13 +1,15 @@
 -- After an Attach the nodes are still a forest.
 use Rattle.std.proofs.Common.{◌≡◌, ℕ, zero, suc, ◌+◌, ◌≤◌, Bool, true, false, ◌||◌, ◌==◌, ◌⊎◌, inl, inr, List, [], Option, Some, None, length, refl, sym, ap, subst, ◌∙◌, arith}
+use Rattle.std.proofs.lemmas.Bool.{or_parts}
 use Rattle.tr_base.specs.declared.Point.{Point}
 use Rattle.tr_base.specs.declared.NodeId.{NodeId}
 use Rattle.tr_base.specs.Layouts.{farthest, IsOffset, greatest_by}
+use Rattle.tr_base.proofs.BoolLemmas.{or_true}
 use Rattle.tr_forest.specs.Nodes.{Entry, Nodes, IsNode, node, is_leaf, is_z, is_filter, shown_by}
 use Rattle.tr_forest.specs.Families.{levels, is_among, deeper, depth_within, depth, height, of_parent, is_under_within, is_under}
 use Rattle.tr_forest.specs.Edits.{changed, with_child, hung}
 use Rattle.tr_forest.specs.Forests.{IsForest}
-use Rattle.tr_forest.proofs.FamilyLemmas.{by_id, or_true, either, deeper_same, deeper_le, among_first, depth_zero, depth_suc, depth_law, depth_some, height_law, greatest_member}
+use Rattle.tr_forest.proofs.FamilyLemmas.{by_id, deeper_same, deeper_le, among_first, depth_zero, depth_suc, depth_law, depth_some, height_law, greatest_member}
 use Rattle.tr_forest.proofs.Lists.{AreApart, joined, among_joined, length_joined, apart_joined}
 use Rattle.tr_forest.proofs.Keeping.{HasRanges, HasLinks, Follows, follows, keeps_both, keeps_changed, ranges_of, ranges_changed, changed_here, changed_other, changed_part, still_node}
 
@@ -65,7 +67,7 @@ unfolding depth_within is_under_within
 depth_beside zero g t new child parent n e h k = refl
 depth_beside (suc f) zero t new child parent n e h k = absurd (omega arith)
 depth_beside (suc f) (suc g) t new child parent n e h k =
-    let both = either (n.0 == child.0) (of_parent (node t n).parent (is_under_within g t child)) k in
+    let both = or_parts (n.0 == child.0) (of_parent (node t n).parent (is_under_within g t child)) k in
     ap (λ o. deeper o (depth_within f new)) (e.other_up n both.0)
     ∙ deeper_same (node t n).parent (depth_within f new) (depth_within f t)
     (λ p is. depth_beside f g t new child parent p e (omega arith) (sym (ap (λ o. of_parent o (is_under_within g t child)) is) ∙ both.1))

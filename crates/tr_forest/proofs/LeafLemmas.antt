@@ -6,13 +6,13 @@ use Rattle.std.proofs.lemmas.List.Folds.{list_any_at}
 use Rattle.std.proofs.lemmas.List.Sums.{passes_at_first}
 use Rattle.std.proofs.lemmas.Map.Keys.{IsDistinct-cons}
 use Rattle.std.proofs.lemmas.Map.Steps.{length-le_from_distinct_below}
+use Rattle.std.proofs.lemmas.Bool.{or_parts}
 use Rattle.tr_base.specs.declared.NodeId.{NodeId}
 use Rattle.tr_base.specs.declared.LeafId.{LeafId}
 use Rattle.tr_forest.specs.declared.kinds.NodeKind.{NodeKind}
 use Rattle.tr_forest.specs.declared.kinds.NodeKind.TheVariants as kinds
 use Rattle.tr_forest.specs.Nodes.{Entry, Nodes, IsNode, node, new_entry, is_leaf, is_that_leaf, leaf_of, leaf_count, node_of}
 use Rattle.tr_forest.specs.Forests.{IsForest}
-use Rattle.tr_forest.proofs.FamilyLemmas.{either}
 use Rattle.tr_forest.proofs.Adding.{place_is_node}
 
 -- the kind of a leaf
@@ -92,7 +92,7 @@ AreUnlike es = (i j : ℕ) (leaf : LeafId) → leaf_of (get_or es i (new_entry k
 
 apart : (k : ℕ) (ks : List ℕ) → list_any (eqb k) ks ≡ false → AllByRecursion (λ y. eqb k y ≡ false) ks
 apart k [] h = tt
-apart k (x ∷ xs) h = ((either (eqb k x) (list_any (eqb k) xs) h).0, apart k xs (either (eqb k x) (list_any (eqb k) xs) h).1)
+apart k (x ∷ xs) h = ((or_parts (eqb k x) (list_any (eqb k) xs) h).0, apart k xs (or_parts (eqb k x) (list_any (eqb k) xs) h).1)
 
 distinct : (es : List Entry) → AreUnlike es → IsDistinct eqb (numbers es)
 unfolding IsDistinct

@@ -8,6 +8,7 @@ use Rattle.std.proofs.lemmas.List.Quantifiers.{all_pairs_push}
 use Rattle.std.proofs.lemmas.List.Elements.{filter_passes}
 use Rattle.std.proofs.lemmas.List.Sums.{length-filter, count_by-le-length}
 use Rattle.tr_base.specs.declared.NodeId.{NodeId}
+use Rattle.tr_base.proofs.BoolLemmas.{and_true}
 use Rattle.tr_forest.specs.Families.{is_among}
 use Rattle.tr_forest.specs.Edits.{without}
 use Rattle.tr_forest.proofs.FamilyLemmas.{same_id, by_id, among_first, among_at}
@@ -84,10 +85,6 @@ apart_lifted n ns h = AllPairs-cons (λ a b. a.0 ≢ b.0) n (without n ns) (λ k
     let passes : not ((get_or (without n ns) k d).0 == n.0) ≡ true = filter_passes (λ (c : NodeId). not (c.0 == n.0)) ns k d lt in
     let test : ((get_or (without n ns) k d).0 == n.0) ≡ true = grind (arith, nat_tests) in
     cc) (apart_without n ns h)
-
-and_true : (a : Bool) → (a && true) ≡ a
-and_true true = refl
-and_true false = refl
 
 -- who stays of a list when another one is taken out
 pub among_rest : (m n : NodeId) (ns : List NodeId) → (m.0 == n.0) ≡ false → is_among m (without n ns) ≡ is_among m ns

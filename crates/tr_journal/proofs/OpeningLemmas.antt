@@ -1,5 +1,5 @@
 -- One item more in an opening.
-use Rattle.std.proofs.Common.{◌≡◌, ℕ, zero, suc, ◌+◌, ◌<◌, ◌≤◌, Bool, true, false, cond, ◌||◌, nat_lt, List, [], ◌∷◌, ◌++◌, Option, Some, None, is_some, is_none, filter, map, count_by, length, get_or, set, refl, ap, sym, subst, ◌∙◌, arith, length-append}
+use Rattle.std.proofs.Common.{◌≡◌, ℕ, zero, suc, ◌+◌, ◌<◌, ◌≤◌, Bool, false, cond, ◌||◌, nat_lt, List, [], ◌∷◌, ◌++◌, Option, Some, None, is_some, is_none, filter, map, count_by, length, get_or, set, refl, ap, sym, subst, ◌∙◌, arith, length-append}
 use Rattle.std.specs.Prelude.{slice_get, IsSome}
 use Rattle.std.proofs.Math.Seq.{map-set_same}
 use Rattle.std.proofs.lemmas.List.{append-nil, length-map, map-append, map-set, get_or-map}
@@ -20,6 +20,7 @@ use Rattle.tr_forest.specs.Nodes.{Entry, Nodes, IsNode, node, new_entry, is_leaf
 use Rattle.tr_forest.specs.Families.{levels, depth, height, is_under}
 use Rattle.tr_forest.specs.Edits.{edited, changed, with_child, hung, hangs, is_root, is_occupied, refusal}
 use Rattle.tr_forest.proofs.Keeping.{KeepsValues, keeps_changed, still_node}
+use Rattle.tr_forest.proofs.Editing.{passed}
 use Rattle.tr_tree.specs.Trees.{Seen}
 use Rattle.tr_client.specs.declared.clients.Client.{Ghosts}
 use Rattle.tr_journal.specs.declared.items.Item.{Item}
@@ -134,11 +135,6 @@ pub some_within : {A : Type 0} (xs : List A) (k : ℕ) → k < length xs → IsS
 some_within [] k within = absurd (omega arith)
 some_within (x ∷ xs) zero within = refl
 some_within (x ∷ xs) (suc k) within = some_within xs k (omega arith)
-
--- what is known where an edit's first fault isn't there
-passed : (b : Bool) (x : NodeFault) (y : Option NodeFault) → cond b (Some x) y ≡ None → (b ≡ false) × (y ≡ None)
-passed true x y h = cc
-passed false x y h = (refl, h)
 
 no_parent : (o : Option NodeId) (b : Bool) → (is_some o || b) ≡ false → o ≡ None
 no_parent None b h = refl

@@ -2,9 +2,8 @@
 use Rattle.std.proofs.Common.{◌≡◌, ℕ, ◌+◌, ◌-◌, ◌<◌, ◌≤◌, List, length, get_or, set, refl, sym, ap, ◌∙◌, arith, inl, inr}
 use Rattle.std.proofs.lemmas.Simd.{get_or-put_chunk_below, get_or-put_chunk_at, get_or-put_chunk_above}
 use Rattle.std.proofs.lemmas.List.{get_or-set_other}
-use Rattle.std.proofs.lemmas.Grind.{get_or-set_at}
+use Rattle.std.proofs.lemmas.Grind.{get_or-set_at, same_number_lists}
 use Rattle.std.proofs.lemmas.Bool.{cases_lt}
-use Rattle.std.proofs.lemmas.List.FromFn.{fill_by_all}
 use lib.Lanes.{put_chunk}
 
 -- the first i pixels are those of f, and the others are old
@@ -46,9 +45,3 @@ module _ (f : ℕ → ℕ) (old row : List ℕ) (i : ℕ) (so_far : IsDoneTo f o
 
       left : (k : ℕ) → next ≤ k → get_or (put_chunk at row ys) k 0 ≡ get_or old k 0
       left k le = get_or-put_chunk_above at row ys k 0 (omega arith) ∙ so_far.left k (omega arith)
-
--- two lists with the same numbers are one
-pub same_list : (xs ys : List ℕ) → length xs ≡ length ys → ((k : ℕ) → k < length xs → get_or xs k 0 ≡ get_or ys k 0) → xs ≡ ys
-same_list xs ys long each =
-    fill_by_all (λ k. get_or ys k 0) xs (length ys) 0 long (λ k lt. each k (omega arith))
-    ∙ sym (fill_by_all (λ k. get_or ys k 0) ys (length ys) 0 refl (λ k lt. refl))

@@ -31,6 +31,7 @@ use Rattle.tr_spot.specs.Spots.{spot, is_in_leaf}
 use Rattle.tr_spot.specs.Leaves.{in_leaf, leaf_size, same_kind, same_size}
 use Rattle.tr_spot.proofs.LeafLemmas.{IsPartOf, part_of}
 use Rattle.tr_spot.proofs.WayLemmas.{and_left, and_right, equal_numbers, equal_test}
+use Rattle.tr_spot.proofs.SpotLemmas.{leaf_by_number}
 use Rattle.tr_surface.specs.Surfaces.{Shown, IsShown, is_on, is_bad}
 use Rattle.tr_surface.specs.TreeSteps.{Keeping, bad_after_edit, good_after, is_kept, moved_child, same_point, source, survives}
 use Rattle.tr_surface.proofs.KnownLemmas.{IsGood, good_parts}
@@ -41,20 +42,20 @@ use Rattle.tr_machine.specs.Edits.{altered, keeping, keeps_in, refitted}
 use Rattle.tr_machine.specs.Paintings.{is_visible}
 use Rattle.tr_machine.specs.Pictures.{colour_by, content_colour, shown, shown_of}
 use Rattle.tr_machine.specs.Promises.{Fits}
-use Rattle.tr_machine.proofs.ListLemmas.{leaf_by_number, refitted_window}
+use Rattle.tr_machine.proofs.ListLemmas.{refitted_window}
 use Rattle.tr_machine.proofs.ShownLemmas.{IsShowing, colour_look, untouched_colour}
 
 -- ---- tests that tell equal things
 
 -- kinds that pass the test are equal
-kinds_equal : (a b : Kind) → same_kind a b ≡ true → a ≡ b
+pub kinds_equal : (a b : Kind) → same_kind a b ≡ true → a ≡ b
 kinds_equal Mono Mono h = refl
 kinds_equal Map4 Map4 h = refl
 kinds_equal Map8 Map8 h = refl
 kinds_equal a b h = absurd (false-true h)
 
 -- and sizes
-sizes_equal : (a b : Size) → same_size a b ≡ true → a ≡ b
+pub sizes_equal : (a b : Size) → same_size a b ≡ true → a ≡ b
 sizes_equal a b h =
     ap (λ n. record { wide = n; high = a.high }) (equal_numbers a.wide b.wide (and_left (a.wide == b.wide) (a.high == b.high) h))
     ∙ ap (λ n. record { wide = b.wide; high = n }) (equal_numbers a.high b.high (and_right (a.wide == b.wide) (a.high == b.high) h))

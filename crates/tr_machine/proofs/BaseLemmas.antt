@@ -1,26 +1,25 @@
 -- What is known before and after a leaf's batch: alike bases, the points of a leaf, and what the base of a leaf shows.
-use Rattle.std.proofs.Common.{◌≡◌, ℕ, Bool, true, false, cond, List, [], ◌∷◌, Option, Some, None, refl, sym, ap, ◌∙◌}
+use Rattle.std.proofs.Common.{◌≡◌, ℕ, Bool, true, false, cond, List, [], ◌∷◌, Some, None, refl, sym, ap, ◌∙◌}
 use mathlib.Core.List.{reverse}
 use Rattle.std.specs.Prelude.{IfSome}
 use Rattle.std.specs.Option.{option_map}
 use Rattle.tr_base.specs.declared.Point.{Point}
-use Rattle.tr_base.specs.declared.Kind.{Kind}
 use Rattle.tr_base.specs.declared.LeafId.{LeafId}
 use Rattle.tr_base.specs.declared.Spot.TheVariants as spots
-use Rattle.tr_base.specs.Ops.{eff}
 use Rattle.tr_base.specs.Rects.{has_point, whole_of}
 use Rattle.tr_paint.specs.declared.paints.Paint.{Paint}
-use Rattle.tr_paint.specs.Traces.{Look, Deed, Keep, Lose, From, Value, Change, deed, Base, after_deed, trace, after}
+use Rattle.tr_paint.specs.Traces.{Look, deed, Base, after_deed, trace, after}
 use Rattle.tr_paint.specs.Patches.{LiesIn, Shows}
+use Rattle.tr_paint.proofs.TraceLemmas.{done-same}
 use Rattle.tr_exec.specs.Executions.{screen_point}
 use Rattle.tr_exec.proofs.PlacedLemmas.{placed-before, before-placed}
 use Rattle.tr_client.specs.declared.clients.Client.{Ghosts}
 use Rattle.tr_forest.specs.Forests.{IsForest}
 use Rattle.tr_tree.specs.Trees.{Seen}
-use Rattle.tr_spot.specs.Spots.{spot, spot_below, is_in_leaf}
+use Rattle.tr_spot.specs.Spots.{spot, is_in_leaf}
 use Rattle.tr_spot.specs.Leaves.{leaf_corner, leaf_size, in_leaf}
 use Rattle.tr_spot.proofs.LeafLemmas.{part_of}
-use Rattle.tr_surface.specs.Surfaces.{is_on}
+use Rattle.tr_surface.proofs.ShownLemmas.{in_leaf_on}
 use Rattle.tr_machine.specs.Windows.{Window}
 use Rattle.tr_machine.specs.States.{State, base, look, shown_at, window_of}
 use Rattle.tr_machine.specs.Paintings.{is_visible}
@@ -32,14 +31,6 @@ pub record AreAlike (a b : Base) : Type 0 where
   pub visible : (q : Point) → a.visible q ≡ b.visible q
   pub known : (q : Point) → b.visible q ≡ true → a.known q ≡ b.known q
 
--- a deed depends on the colours before it alone
-done-alike : (kind : Kind) (d : Deed) (f g : Point → Option ℕ) (q : Point) → ((r : Point) → f r ≡ g r) → after_deed kind d f q ≡ after_deed kind d g q
-done-alike kind Keep f g q same = same q
-done-alike kind Lose f g q same = refl
-done-alike kind (From r) f g q same = same r
-done-alike kind (Value x) f g q same = refl
-done-alike kind (Change op) f g q same = ap (λ o. option_map (eff kind op) o) (same q)
-
 -- over alike bases, commands traced back give the same colours
 trace-alike : (look : Look) (a b : Base) → AreAlike a b → (batch : List Paint) (q : Point) → trace look a batch q ≡ trace look b batch q
 trace-alike look a b alike [] q = ap (λ v. cond v (a.known q) None) (alike.visible q) ∙ by_sight (b.visible q) refl
@@ -49,7 +40,7 @@ trace-alike look a b alike [] q = ap (λ v. cond v (a.known q) None) (alike.visi
     by_sight false unseen = refl
 trace-alike look a b alike (c ∷ before) q =
     ap (λ v. cond v (after_deed look.kind (deed look c q) (trace look a before) q) None) (alike.visible q)
-    ∙ ap (λ o. cond (b.visible q) o None) (done-alike look.kind (deed look c q) _ _ q (λ r. trace-alike look a b alike before r))
+    ∙ ap (λ o. cond (b.visible q) o None) (done-same look.kind (deed look c q) _ _ q (λ r. trace-alike look a b alike before r))
 
 -- a batch makes the same of alike bases
 pub after-alike : (look : Look) (a b : Base) → AreAlike a b → (batch : List Paint) (q : Point) → after look a batch q ≡ after look b batch q
@@ -64,14 +55,6 @@ in_leaf-placed t leaf q = before-placed (leaf_corner t leaf) q
 -- a point of the screen, looked at in the window and placed again
 pub placed-in_leaf : (t : Seen) (leaf : LeafId) (p : Point) → screen_point (leaf_corner t leaf) (in_leaf t leaf p) ≡ p
 placed-in_leaf t leaf p = placed-before (leaf_corner t leaf) p
-
--- a point whose spot is a leaf's is on the screen
-pub leaf_on : (t : Seen) (leaf : LeafId) (p : Point) → is_in_leaf leaf (spot t p) ≡ true → is_on t p ≡ true
-leaf_on t leaf p = by_screen (has_point (whole_of t.size) p)
-  where
-    by_screen : (b : Bool) → is_in_leaf leaf (cond b (spot_below t p t.nodes.root) spots.Off) ≡ true → b ≡ true
-    by_screen true h = refl
-    by_screen false h = h
 
 -- a visible point of a leaf, by its place on the screen, lies in the leaf's window
 pub leaf_within : (t : Seen) (leaf : LeafId) (p : Point) → IsForest t.nodes → is_in_leaf leaf (spot t p) ≡ true →

@@ -18,6 +18,7 @@ use Rattle.tr_tree.specs.Trees.{Seen}
 use Rattle.tr_spot.specs.Spots.{spot, is_in_leaf}
 use Rattle.tr_spot.specs.Leaves.{leaf_corner, leaf_size, in_leaf}
 use Rattle.tr_spot.proofs.WayLemmas.{equal_numbers, equal_test}
+use Rattle.tr_spot.proofs.SpotLemmas.{leaf_by_number}
 use Rattle.tr_surface.specs.Surfaces.{Shown, IsShown, is_on, leaf_base, is_bad}
 use Rattle.tr_surface.proofs.ShownLemmas.{IsExecuted}
 use Rattle.tr_machine.specs.Windows.{Window, content, updated}
@@ -25,7 +26,7 @@ use Rattle.tr_machine.specs.States.{State, base, leaf_batch, content_of, look, w
 use Rattle.tr_machine.specs.Paintings.{flushed, is_visible}
 use Rattle.tr_machine.specs.Pictures.{content_colour, shown, shown_of}
 use Rattle.tr_machine.specs.Promises.{Fits}
-use Rattle.tr_machine.proofs.ListLemmas.{leaf_by_number, window_here, window_there}
+use Rattle.tr_machine.proofs.ListLemmas.{window_here, window_there}
 use Rattle.tr_machine.proofs.ShownLemmas.{IsShowing, after-base, bad_state, base_sees, colour_in_leaf, colour_same, on_tree}
 
 -- what isn't nothing is something

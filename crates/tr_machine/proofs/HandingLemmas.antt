@@ -1,12 +1,13 @@
 -- Commands that are handed over: their lines, and the state after them.
-use Rattle.std.proofs.Common.{◌≡◌, ℕ, ◌==◌, Bool, true, false, List, [], ◌∷◌, ◌++◌, map, length, refl, sym, ap, ◌∙◌, arith, append-nil}
+use Rattle.std.proofs.Common.{◌≡◌, Bool, true, false, List, [], ◌∷◌, ◌++◌, map, length, refl, sym, ap, ◌∙◌, arith, append-nil}
 use Rattle.std.specs.Prelude.{◌||◌, ◌&&◌}
 use Rattle.std.specs.List.{list_any}
 use Rattle.std.proofs.Math.Path.{fun_ext}
-use Rattle.std.proofs.lemmas.Bool.Decides.{nat_tests}
 use Rattle.std.proofs.lemmas.List.{append_assoc}
 use Rattle.std.proofs.lemmas.List.Elements.{All-head, All-push, All-tail, All-weaker}
+use Rattle.std.proofs.lemmas.Bool.{or_right}
 use Rattle.tr_base.specs.declared.LeafId.{LeafId}
+use Rattle.tr_base.proofs.BoolLemmas.{same_number}
 use Rattle.tr_client.specs.declared.clients.Client.{Ghosts}
 use Rattle.tr_forest.specs.Nodes.{Nodes}
 use Rattle.tr_levels.specs.declared.Level.{Level}
@@ -34,19 +35,10 @@ window_levels t held leaf free is = All-push (IsLevel t) held (Win leaf) (All-we
     lock (Share a) h = absurd h
     lock (Win a) h = absurd h
 
--- a number is the same as itself
-same_number : (n : ℕ) → (n == n) ≡ true
-same_number n = grind (arith, nat_tests)
-
--- one of two is true
-or_true : (a b : Bool) → b ≡ true → (a || b) ≡ true
-or_true true b is = refl
-or_true false b is = is
-
 -- the last of a list passes a test
 last_passes : (p : Level → Bool) (held : List Level) (x : Level) → p x ≡ true → list_any p (held ++ x ∷ []) ≡ true
 last_passes p [] x is = ap (λ b. b || false) is
-last_passes p (y ∷ ys) x is = or_true (p y) (list_any p (ys ++ x ∷ [])) (last_passes p ys x is)
+last_passes p (y ∷ ys) x is = or_right (p y) (list_any p (ys ++ x ∷ [])) (last_passes p ys x is)
 
 module _ {C M : Type 0} (client : Ghosts C M) where
   -- ---- the state

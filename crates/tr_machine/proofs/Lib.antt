@@ -1,6 +1,5 @@
 pub mod AlterLemmas
 pub mod BaseLemmas
-pub mod CountLemmas
 pub mod FlushLemmas
 pub mod FrameLemmas
 pub mod HandingLemmas

@@ -1,5 +1,6 @@
 -- Lists with something made of one element, and the windows of a state after a step.
 use Rattle.std.proofs.Common.{◌≡◌, ℕ, zero, suc, ◌+◌, ◌<◌, List, [], ◌∷◌, Option, Some, None, map, length, refl, sym, ap, ◌∙◌, arith, add-zero}
+use Rattle.tr_spot.proofs.SpotLemmas.{leaf_by_number}
 use Rattle.std.specs.List.{slice_get}
 use Rattle.std.specs.Option.{option_map}
 use Rattle.std.proofs.lemmas.Option.{slice_get-map, slice_get_cases}
@@ -68,10 +69,6 @@ slice_get-some xs i within = by_place (slice_get xs i) refl
     by_place (Some x) e = (x, e)
 
 -- ---- windows
-
--- a leaf is told by its number
-pub leaf_by_number : (a b : LeafId) → a.0 ≡ b.0 → a ≡ b
-leaf_by_number a b e = let numbered : ℕ → LeafId = λ k. record { 0 = k } in ap numbered e
 
 module _ {C M : Type 0} (client : Ghosts C M) where
   -- the windows are as many as before their leaves were refitted

@@ -1,27 +1,23 @@
 -- Where no point is bad and no command waits, the screen is the picture that the contents give, painted from nothing.
 use Rattle.std.proofs.Common.{◌≡◌, ℕ, pos, ◌<◌, true, false, List, [], ◌⊎◌, inl, inr, get_or, sym, ap, ◌∙◌, arith}
 use Rattle.std.proofs.lemmas.List.FromFn.{fill_by_all}
-use Rattle.std.proofs.lemmas.Int.{ints}
 use Rattle.tr_base.specs.declared.Point.{Point}
 use Rattle.tr_base.specs.declared.Size.{Size}
 use Rattle.tr_base.specs.declared.Kind.{Kind}
 use Rattle.tr_base.specs.declared.LeafId.{LeafId}
 use Rattle.tr_base.specs.Rects.{has_point, whole_of}
-use Rattle.tr_base.proofs.RectLemmas.{false-true, has_point-rect_of}
+use Rattle.tr_base.proofs.RectLemmas.{false-true}
 use Rattle.tr_screen.specs.Pictures.{Picture, IsPicture, picture_by, pixel_of, row_by}
 use Rattle.tr_paint.specs.Batches.{touches}
 use Rattle.tr_client.specs.declared.clients.Client.{Ghosts}
 use Rattle.tr_forest.specs.Forests.{IsForest}
 use Rattle.tr_spot.specs.Leaves.{in_leaf}
 use Rattle.tr_surface.specs.Surfaces.{is_on}
+use Rattle.tr_surface.proofs.CountLemmas.{on_screen}
 use Rattle.tr_machine.specs.States.{State, leaf_batch}
 use Rattle.tr_machine.specs.Pictures.{render, shown, want}
 use Rattle.tr_machine.specs.Promises.{Agrees, Fits, IsAwaited}
 use Rattle.tr_machine.proofs.LagLemmas.{good_shows}
-
--- a point of the screen by its row and column
-on_screen : (size : Size) (h v : ℕ) → h < size.wide → v < size.high → has_point (whole_of size) (record { h = pos h; v = pos v }) ≡ true
-on_screen size h v across down = has_point-rect_of (pos 0) (pos size.wide) (pos 0) (pos size.high) (record { h = pos h; v = pos v }) ∙ grind (arith, ints)
 
 -- a picture is made by its pixels
 pub picture_is : (picture : Picture) (pixel : Point → ℕ) → IsPicture picture →

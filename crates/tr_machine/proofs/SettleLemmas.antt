@@ -12,6 +12,7 @@ use Rattle.tr_base.specs.declared.LeafId.{LeafId}
 use Rattle.tr_base.specs.declared.Spot.{Spot}
 use Rattle.tr_base.specs.declared.Spot.TheVariants as spots
 use Rattle.tr_base.specs.Rects.{has_point, whole_of}
+use Rattle.tr_base.proofs.BoolLemmas.{and_false, and_true}
 use Rattle.tr_region.proofs.ListLemmas.{AllByRecursion-append}
 use Rattle.tr_paint.specs.declared.paints.Paint.{Paint}
 use Rattle.tr_paint.specs.Patches.{IsPatch}
@@ -23,6 +24,7 @@ use Rattle.tr_spot.specs.Spots.{HasRoot, spot, is_in_leaf}
 use Rattle.tr_spot.specs.Leaves.{in_leaf, leaf_corner, leaf_size}
 use Rattle.tr_spot.proofs.LeafLemmas.{IsPartOf, part_of}
 use Rattle.tr_spot.proofs.WayLemmas.{and_left, equal_numbers, equal_test}
+use Rattle.tr_spot.proofs.SpotLemmas.{leaf_by_number}
 use Rattle.tr_surface.specs.Surfaces.{is_on, is_frame}
 use Rattle.tr_surface.specs.Counts.{any_on}
 use Rattle.tr_levels.specs.declared.Level.TheVariants.{Mu}
@@ -37,7 +39,7 @@ use Rattle.tr_machine.specs.Pictures.{content_colour, colour_by, shown, shown_of
 use Rattle.tr_machine.specs.Promises.{IsSound}
 use Rattle.tr_machine.specs.Replays.{IsLegalFrom, after_steps}
 use Rattle.tr_machine.specs.Settling.{frame_steps, is_frame_bad, is_unsettled, repaint_steps, repaints_below, settling, settling_lines}
-use Rattle.tr_machine.proofs.ListLemmas.{changed_at-here, changed_at-there, leaf_by_number}
+use Rattle.tr_machine.proofs.ListLemmas.{changed_at-here, changed_at-there}
 use Rattle.tr_machine.proofs.LeadLemmas.{same_pictures}
 use Rattle.tr_machine.proofs.PointLemmas.{covered, none_on}
 use Rattle.tr_machine.proofs.SoundLemmas.{sound_framed, sound_repainted}
@@ -49,19 +51,9 @@ use Rattle.tr_machine.proofs.JournalLemmas.{after_steps-append, legal_lines}
 abbrev numbered : ℕ → LeafId
 numbered n = record { 0 = n }
 
--- what is false beside a test
-and_none : (b : Bool) → (b && false) ≡ false
-and_none true = refl
-and_none false = refl
-
--- what is true beside a test
-and_all : (b : Bool) → (b && true) ≡ b
-and_all true = refl
-and_all false = refl
-
 -- what holds beside a true test, if both don't hold
 and_first : (a b : Bool) → (a && b) ≡ false → b ≡ true → a ≡ false
-and_first a b none is = sym (and_all a) ∙ ap (λ c. a && c) (sym is) ∙ none
+and_first a b none is = sym (and_true a) ∙ ap (λ c. a && c) (sym is) ∙ none
 
 -- what follows from a test that fails doesn't hold
 unless_before : (a b : Bool) → (a ≡ true → b ≡ true) → b ≡ false → a ≡ false
@@ -128,7 +120,7 @@ module _ {C M : Type 0} (client : Ghosts C M) where
       lost p = is_none (colour_after (look m) (base client m leaf) (leaf_batch client m leaf) (leaf_corner m.tree leaf) p)
 
       by_sight : (p : Point) (b : Bool) → (cond b (lost p) (m.bad p) && not b) ≡ (m.bad p && not b)
-      by_sight p true = and_none _ ∙ sym (and_none (m.bad p))
+      by_sight p true = and_false _ ∙ sym (and_false (m.bad p))
       by_sight p false = refl
 
   -- the repaints of the first n leaves make that state
@@ -272,7 +264,7 @@ module _ {C M : Type 0} (client : Ghosts C M) where
 
       here : IsRepainted m (numbered n) p → bad_below (suc n) m p ≡ false
       here it =
-          ap (λ b. left_by b m (numbered n) (bad_below n m) p) it.is ∙ ap (λ b. bad_below n m p && not b) it.seen ∙ and_none (bad_below n m p)
+          ap (λ b. left_by b m (numbered n) (bad_below n m) p) it.is ∙ ap (λ b. bad_below n m p && not b) it.seen ∙ and_false (bad_below n m p)
 
   -- no visible point of a leaf is bad
   leaf_good : (m : State C M) (leaf : LeafId) (p : Point) → leaf.0 < length m.windows → is_on m.tree p ≡ true → is_visible m leaf p ≡ true →
@@ -297,7 +289,7 @@ module _ {C M : Type 0} (client : Ghosts C M) where
       is_bad r = m.bad r && is_frame (spot m.tree r)
 
       by_test : (b : Bool) → is_frame_bad m ≡ b → framed_by b m p ≡ false
-      by_test true is = ap (λ b. (repainted_all m).bad p && not b) framed ∙ and_none ((repainted_all m).bad p)
+      by_test true is = ap (λ b. (repainted_all m).bad p && not b) framed ∙ and_false ((repainted_all m).bad p)
       by_test false quiet =
           let good : m.bad p ≡ false = and_first (m.bad p) (is_frame (spot m.tree p)) (none_on m.tree.size is_bad quiet p on) framed in
           unless_before ((repainted_all m).bad p) (m.bad p) (bad_before (length m.windows) m p) good

@@ -15,6 +15,7 @@ use Rattle.tr_client.specs.declared.clients.Client.{Ghosts}
 use Rattle.tr_forest.specs.Nodes.{Nodes, leaf_count}
 use Rattle.tr_forest.specs.Forests.{IsForest}
 use Rattle.tr_spot.specs.Spots.{HasRoot, spot}
+use Rattle.tr_spot.proofs.SpotLemmas.{leaf_by_number}
 use Rattle.tr_surface.specs.Surfaces.{is_on, is_frame}
 use Rattle.tr_levels.specs.declared.Level.TheVariants.{Mu}
 use Rattle.tr_journal.specs.declared.items.Item.{Item}
@@ -33,7 +34,7 @@ use Rattle.tr_machine.specs.Settling.{frame_steps, is_frame_bad}
 use Rattle.tr_machine.specs.Sharing.{IsPaintedOf, all_bad_leaves, bad_leaves, flushes_below, flushing, has_bad, repainted_each, share_lines, waits}
 use Rattle.tr_machine.proofs.FlushLemmas.{one_leaf}
 use Rattle.tr_machine.proofs.JournalLemmas.{after_steps-append, replay-append}
-use Rattle.tr_machine.proofs.ListLemmas.{leaf_by_number, window_here, window_there}
+use Rattle.tr_machine.proofs.ListLemmas.{window_here, window_there}
 use Rattle.tr_machine.proofs.PointLemmas.{covered, none_on}
 use Rattle.tr_machine.proofs.SettleLemmas.{no_batch, repainted-is}
 use Rattle.tr_machine.proofs.ShownLemmas.{colour_same}

@@ -1,5 +1,5 @@
 -- What each step keeps of a state: it is sound, and so it fits.
-use Rattle.std.proofs.Common.{◌≡◌, ℕ, ◌==◌, Bool, true, false, not, ◌&&◌, cond, List, Option, Some, None, length, inl, inr, refl, sym, ap, subst, ◌∙◌}
+use Rattle.std.proofs.Common.{◌≡◌, ℕ, Bool, true, false, not, ◌&&◌, cond, List, Option, Some, None, length, inl, inr, refl, sym, subst, ◌∙◌}
 use Rattle.std.specs.Prelude.{IfSome, is_none, ⊤}
 use Rattle.std.specs.Option.{option_map}
 use Rattle.std.specs.List.{slice_get}
@@ -8,11 +8,9 @@ use Rattle.std.proofs.lemmas.Bool.{cases_eq, not-false}
 use Rattle.tr_base.specs.declared.Point.{Point}
 use Rattle.tr_base.specs.declared.Size.{Size}
 use Rattle.tr_base.specs.declared.Kind.{Kind}
-use Rattle.tr_base.specs.declared.Kind.TheVariants.{Mono, Map4, Map8}
 use Rattle.tr_base.specs.declared.LeafId.{LeafId}
 use Rattle.tr_base.specs.declared.Event.{Event}
 use Rattle.tr_base.specs.Rects.{Edges}
-use Rattle.tr_base.proofs.RectLemmas.{false-true}
 use Rattle.tr_paint.specs.Traces.{look_of, after}
 use Rattle.tr_paint.specs.Patches.{IsPatch}
 use Rattle.tr_exec.specs.Executions.{colour_after}
@@ -26,9 +24,10 @@ use Rattle.tr_forest.proofs.Editing.{follows_edited}
 use Rattle.tr_tree.specs.Trees.{Seen, edited_tree}
 use Rattle.tr_spot.specs.Spots.{spot}
 use Rattle.tr_spot.specs.Leaves.{leaf_corner, leaf_size, same_size, same_kind}
-use Rattle.tr_spot.proofs.WayLemmas.{and_left, and_right, equal_numbers}
+use Rattle.tr_spot.proofs.WayLemmas.{and_left, and_right}
 use Rattle.tr_surface.specs.Surfaces.{is_on, is_frame}
 use Rattle.tr_surface.specs.TreeSteps.{good_after}
+use Rattle.tr_surface.proofs.ShownLemmas.{in_leaf_on}
 use Rattle.tr_desk.specs.declared.desks.DeskFault.{DeskFault}
 use Rattle.tr_desk.specs.Faults.{time_fault, mouse_fault, own_fault, disown_fault}
 use Rattle.tr_mail.specs.Mails.{Mails, Sending}
@@ -48,25 +47,11 @@ use Rattle.tr_machine.specs.Pictures.{content_colour}
 use Rattle.tr_machine.specs.Replays.{next}
 use Rattle.tr_machine.specs.Promises.{Fits, IsSound, Leads}
 use Rattle.tr_machine.proofs.ListLemmas.{fresh-length, fresh_window, refitted_from-length, refitted_window, with_window-length, window_here, window_there}
-use Rattle.tr_machine.proofs.BaseLemmas.{base-lies, base-nothing, base-shows, leaf_on}
+use Rattle.tr_machine.proofs.BaseLemmas.{base-lies, base-nothing, base-shows}
 use Rattle.tr_machine.proofs.LeadLemmas.{IsLed, led_command, led_fresh, led_mark, led_updated}
+use Rattle.tr_machine.proofs.AlterLemmas.{kinds_equal, sizes_equal}
 
 -- ---- small facts
-
--- sizes that pass the test are equal
-same_sizes : (a b : Size) → same_size a b ≡ true → a ≡ b
-same_sizes a b h =
-    let wide : a.wide ≡ b.wide = equal_numbers a.wide b.wide (and_left (a.wide == b.wide) (a.high == b.high) h) in
-    let high : a.high ≡ b.high = equal_numbers a.high b.high (and_right (a.wide == b.wide) (a.high == b.high) h) in
-    let sized : ℕ → ℕ → Size = λ x y. record { wide = x; high = y } in
-    ap (λ x. sized x a.high) wide ∙ ap (λ y. sized b.wide y) high
-
--- and so are kinds
-same_kinds : (a b : Kind) → same_kind a b ≡ true → a ≡ b
-same_kinds Mono Mono h = refl
-same_kinds Map4 Map4 h = refl
-same_kinds Map8 Map8 h = refl
-same_kinds a b h = absurd (false-true h)
 
 -- what is something made of an element is made of one
 mapped : {A B : Type 0} (f : A → B) (o : Option A) (y : B) → option_map f o ≡ Some y → (x : A) × (o ≡ Some x) × (f x ≡ y)
@@ -147,7 +132,7 @@ module _ {C M : Type 0} (client : Ghosts C M) where
       by_sight : (p : Point) (b : Bool) → is_visible m leaf p ≡ b →
           cond b (is_none (colour_after (look m) (base client m leaf) (leaf_batch client m leaf) (leaf_corner m.tree leaf) p)) (m.bad p) ≡ true →
           is_on m.tree p ≡ true
-      by_sight p true seen h = leaf_on m.tree leaf p seen
+      by_sight p true seen h = in_leaf_on m.tree leaf p seen
       by_sight p false unseen h = sound.bad p h
 
   -- a repaint
@@ -186,8 +171,8 @@ module _ {C M : Type 0} (client : Ghosts C M) where
           let size_stays : Bool = same_size (leaf_size m.tree leaf) (leaf_size is leaf) in
           let kind_stays : Bool = same_kind m.tree.kind is.kind in
           let both : size_stays && kind_stays ≡ true = not-false (size_stays && kind_stays) stays in
-          let size : leaf_size m.tree leaf ≡ leaf_size is leaf = same_sizes _ _ (and_left size_stays kind_stays both) in
-          let kind : m.tree.kind ≡ is.kind = same_kinds _ _ (and_right size_stays kind_stays both) in
+          let size : leaf_size m.tree leaf ≡ leaf_size is leaf = sizes_equal _ _ (and_left size_stays kind_stays both) in
+          let kind : m.tree.kind ≡ is.kind = kinds_equal _ _ (and_right size_stays kind_stays both) in
           subst (λ (k : Kind). LedBy k (leaf_size is leaf) v) kind
           (subst (λ (s : Size). LedBy m.tree.kind s v) size (sound.leads leaf v at))
 

@@ -1,7 +1,7 @@
 -- Records that are spelled are read, one after the other.
 use Rattle.std.proofs.Common.{◌≡◌, ◌≢◌, ℕ, ◌+◌, ◌<◌, ◌≤◌, ◌&&◌, false, not, nat_le, List, [], ◌∷◌, ◌++◌, length, take, drop, None, refl, sym, ap, subst, ◌∙◌, arith, inl, inr, append_assoc, length-append}
 use Rattle.std.proofs.lemmas.Bool.{ne_eqb, eq-eqb, cases_eq}
-use Rattle.std.proofs.lemmas.List.{append-nil, drop_at, take-append-drop, length-take-le, length-drop}
+use Rattle.std.proofs.lemmas.List.{append-nil, drop_at, take-append-drop, length-take-le, length-drop, nil_from_length}
 use Rattle.std.proofs.lemmas.Nat.{from_be_bytes-to_be_bytes_2, from_be_bytes-to_be_bytes_4}
 use Rattle.tr_screen.specs.Pictures.{Picture}
 use Rattle.tr_mirror.specs.declared.headers.Segment.{Segment}
@@ -119,10 +119,6 @@ waits_for m bytes none part = rw (none, ne_eqb (length bytes) (record_len bytes)
 abbrev pub ready : Standing → ℕ → Reading
 ready s fed = record { standing = s; begun = []; fed = fed; fault = None }
 
-none_left : (xs : List ℕ) → length xs ≡ 0 → xs ≡ []
-none_left [] e = refl
-none_left (x ∷ xs) e = absurd (omega arith)
-
 -- the bytes of a record's header, and what they say
 record IsHeader (hb bytes : List ℕ) : Type 0 where
   len : length hb ≡ header_len bytes
@@ -188,7 +184,7 @@ module _ (m : Reading) (bytes : List ℕ) (free : m.fault ≡ None) (none : m.be
       fault_header m.standing hb (omega (arith, k.len)) (k.len ∙ sym k.same) ∙ ap (λ x. header_fault m.standing x) k.is ∙ f.header in
       elim (cases_eq (length px) 0) [
         | inl e ↦
-            let same : hb ≡ bytes = sym (ap (λ l. hb ++ l) (none_left px e) ∙ append-nil hb) ∙ all in
+            let same : hb ≡ bytes = sym (ap (λ l. hb ++ l) (nil_from_length px e) ∙ append-nil hb) ∙ all in
             record { tried = subst (λ l. Reads m l (tried m l)) same (to_header hb k); clean = ap (λ l. record_fault m.standing l) (sym same) ∙ sound }
         | inr n ↦
             let more : length px ≢ 0 = n in

@@ -6,6 +6,7 @@ use Rattle.std.proofs.lemmas.Int.{ints}
 use Rattle.std.proofs.lemmas.List.{map-append, get_or-map, length-map}
 use Rattle.std.proofs.lemmas.List.Elements.{All-nil, All-cons, All-append, All-weaker}
 use Rattle.std.proofs.lemmas.List.Sums.{sum_by_push}
+use Rattle.std.proofs.lemmas.Bool.{and_parts}
 use Rattle.tr_base.specs.declared.points.Point.{Point}
 use Rattle.tr_base.specs.declared.shapes.Shapes.{Shapes}
 use Rattle.tr_base.specs.Rects.{Edges, IsRect, has_point, between, empty_rect, meet_of, sides_of}
@@ -63,10 +64,6 @@ place_has e x y size p h =
     ∙ ap (λ b. has_point e p && b) (has_point-rect_of (e.west +ℤ pos x) (e.west +ℤ pos x +ℤ pos size.0) (e.north +ℤ pos y)
     (e.north +ℤ pos y +ℤ pos size.1) p)) ∙ h
 
-both_true : (a b : Bool) → a && b ≡ true → (a ≡ true) × (b ≡ true)
-both_true true b h = (refl, h)
-both_true false b h = cc
-
 from_low : (low high x : ℤ) → between low high x ≡ true → (low ≤ℤ x) × (x <ℤ high)
 from_low low high x h = (grind (arith, ints), grind (arith, ints))
 
@@ -75,8 +72,8 @@ place_after : (e : Edges) (gap : ℕ) (rows : List (List Extent)) (row : List Ex
 place_after e gap rows row x = record {
   points = λ p on.
       let all = place_has e (start_in_row gap row) (start_of_row gap (sides_of e).1 rows) (x.long, x.deep) p on in
-      let mine = (both_true _ _ all).1 in
-      (from_low _ _ _ (both_true _ _ mine).0).0;
+      let mine = (and_parts _ _ all).1 in
+      (from_low _ _ _ (and_parts _ _ mine).0).0;
 }
 
 place_before : (e : Edges) (gap : ℕ) (rows : List (List Extent)) (row : List Extent) (x : Extent) →
@@ -84,8 +81,8 @@ place_before : (e : Edges) (gap : ℕ) (rows : List (List Extent)) (row : List E
 place_before e gap rows row x = record {
   points = λ p on.
       let all = place_has e (start_in_row gap row) (start_of_row gap (sides_of e).1 rows) (x.long, x.deep) p on in
-      let mine = (both_true _ _ all).1 in
-      as_one e.west p.h (start_in_row gap row) x.long (from_low _ _ _ (both_true _ _ mine).0).1;
+      let mine = (and_parts _ _ all).1 in
+      as_one e.west p.h (start_in_row gap row) x.long (from_low _ _ _ (and_parts _ _ mine).0).1;
 }
   where
     as_one : (w h : ℤ) (m n : ℕ) → h <ℤ (w +ℤ pos m +ℤ pos n) → h <ℤ (w +ℤ pos (m + n))
@@ -96,17 +93,17 @@ place_under : (e : Edges) (gap : ℕ) (rows : List (List Extent)) (row : List Ex
 place_under e gap rows row x = record {
   points = λ p on.
       let all = place_has e (start_in_row gap row) (start_of_row gap (sides_of e).1 rows) (x.long, x.deep) p on in
-      let mine = (both_true _ _ all).1 in
-      (from_low _ _ _ (both_true _ _ mine).1).0;
+      let mine = (and_parts _ _ all).1 in
+      (from_low _ _ _ (and_parts _ _ mine).1).0;
 }
 
 place_over : (e : Edges) (gap : ℕ) (rows : List (List Extent)) (row : List Extent) (x : Extent) → IsRect e →
     IsOver e (min (start_of_row gap (sides_of e).1 rows + x.deep) (sides_of e).1) (place_in_row_across e gap rows row x)
 place_over e gap rows row x is = record {
   points = λ p on.
-      let all = both_true _ _ (place_has e (start_in_row gap row) (start_of_row gap (sides_of e).1 rows) (x.long, x.deep) p on) in
-      let node = (from_low _ _ _ (both_true _ _ all.0).1).1 in
-      let mine = (from_low _ _ _ (both_true _ _ all.1).1).1 in
+      let all = and_parts _ _ (place_has e (start_in_row gap row) (start_of_row gap (sides_of e).1 rows) (x.long, x.deep) p on) in
+      let node = (from_low _ _ _ (and_parts _ _ all.0).1).1 in
+      let mine = (from_low _ _ _ (and_parts _ _ all.1).1).1 in
       within e.north e.south p.v (start_of_row gap (sides_of e).1 rows) x.deep (ordered e is).1 node mine;
 }
   where

@@ -1,7 +1,7 @@
 -- The sums of commands in a row.
 use Rattle.std.proofs.Common.{◌≡◌, ◌≢◌, ℕ, ◌+◌, ◌-◌, ◌*◌, ◌^◌, Bool, true, false, ◌||◌, List, [], ◌∷◌, ◌++◌, refl, sym, ap, ◌∙◌, ⊎_elim, take, arith}
 use Rattle.std.specs.Prelude.{min, int_lt}
-use Rattle.std.proofs.lemmas.Bool.{or_cases, and_parts}
+use Rattle.std.proofs.lemmas.Bool.{or_cases, and_parts, or_left, or_right}
 use Rattle.std.proofs.lemmas.List.Folds.{list_any-append}
 use Rattle.std.proofs.lemmas.List.Sums.{sum_by-append}
 use Rattle.std.proofs.lemmas.List.Elements.{All-append, All-weaker, All-nil, All-cons, All-take, All-from_recursion, recursion_from_All}
@@ -15,15 +15,6 @@ use Rattle.tr_paint.specs.Hulls.{HasAll}
 use Rattle.tr_paint.proofs.HullLemmas.{lies}
 use Rattle.tr_paint.specs.Sums.{points_in, weight, cost_of, IsOneOf, AreScrolls, IsHull}
 
--- a test that is true passes beside any other
-or_first : (a b : Bool) → a ≡ true → (a || b) ≡ true
-or_first true b h = refl
-or_first false b h = cc
-
-or_second : (a b : Bool) → b ≡ true → (a || b) ≡ true
-or_second true b h = refl
-or_second false b h = h
-
 -- the least rectangle round those of two lists
 pub hull-append : (e a b : Edges) (xs ys : List Paint) → HasAll e (has_point a) → HasAll e (has_point b) →
     ((outer : Edges) → HasAll outer (has_point a) → HasAll outer (has_point b) → HasAll outer (has_point e)) →
@@ -33,8 +24,8 @@ hull-append e a b xs ys first second least some others = record {
       ⊎_elim (λ (k : touches xs q ≡ true). first q (some.touched q k)) (λ (k : touches ys q ≡ true). second q (others.touched q k))
       (or_cases (touches xs q) (touches ys q) (sym (both q) ∙ h));
   least = λ outer all.
-      least outer (some.least outer (λ q k. all q (both q ∙ or_first (touches xs q) (touches ys q) k)))
-      (others.least outer (λ q k. all q (both q ∙ or_second (touches xs q) (touches ys q) k)));
+      least outer (some.least outer (λ q k. all q (both q ∙ or_left (touches xs q) (touches ys q) k)))
+      (others.least outer (λ q k. all q (both q ∙ or_right (touches xs q) (touches ys q) k)));
 }
   where
     both : (q : Point) → touches (xs ++ ys) q ≡ (touches xs q || touches ys q)
@@ -44,7 +35,7 @@ hull-append e a b xs ys first second least some others = record {
 pub hull-one : (c : Paint) → IsHull (area c) (c ∷ [])
 hull-one c = record {
   touched = λ q h. or_none (has_point (area c) q) h;
-  least = λ outer all q h. all q (or_first (has_point (area c) q) false h);
+  least = λ outer all q h. all q (or_left (has_point (area c) q) false h);
 }
   where
     or_none : (b : Bool) → (b || false) ≡ true → b ≡ true

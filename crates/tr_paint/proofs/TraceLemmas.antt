@@ -10,7 +10,7 @@ use Rattle.tr_paint.specs.declared.paints.Paint.{Paint}
 use Rattle.tr_paint.specs.Traces.{Look, Deed, Keep, Lose, From, Value, Change, deed, Base, after_deed, trace, after, left_by}
 
 -- a deed depends on the colours before it alone
-done-same : (kind : Kind) (d : Deed) (f g : Point → Option ℕ) (q : Point) → ((r : Point) → f r ≡ g r) → after_deed kind d f q ≡ after_deed kind d g q
+pub done-same : (kind : Kind) (d : Deed) (f g : Point → Option ℕ) (q : Point) → ((r : Point) → f r ≡ g r) → after_deed kind d f q ≡ after_deed kind d g q
 done-same kind Keep f g q same = same q
 done-same kind Lose f g q same = refl
 done-same kind (From r) f g q same = same r

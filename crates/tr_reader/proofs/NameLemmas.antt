@@ -8,7 +8,8 @@ use Rattle.std.proofs.lemmas.Slice.Eq.{bytes_eq-Decides}
 use Rattle.tr_grammar.specs.Names.{number_of}
 
 -- the number of one more name is less than their count
-within_one : (b : Bool) (o : Option ℕ) (k most : ℕ) → ((j : ℕ) → o ≡ Some j → j < most) → cond b (Some 0) (option_map (λ j. j + 1) o) ≡ Some k → k < suc most
+pub within_one : (b : Bool) (o : Option ℕ) (k most : ℕ) → ((j : ℕ) → o ≡ Some j → j < most) → cond b (Some 0) (option_map (λ j. j + 1) o) ≡ Some k →
+    k < suc most
 within_one true o k most h e = let is : 0 ≡ k = same_Some 0 k e in omega arith
 within_one false None k most h e = cc
 within_one false (Some j) k most h e = let less = h j refl in let is : j + 1 ≡ k = same_Some (j + 1) k e in omega arith

@@ -9,6 +9,7 @@ use Rattle.std.proofs.lemmas.List.Sums.{sum_by-cons, sum_by-append, sum_by-take-
 use Rattle.tr_base.specs.declared.Point.{Point}
 use Rattle.tr_base.specs.Rects.{Edges, between, has_point, sides_of}
 use Rattle.tr_base.proofs.RectLemmas.{false-true}
+use Rattle.tr_base.proofs.BoolLemmas.{or_true}
 use Rattle.tr_region.specs.Areas.{area_of, total_area}
 use Rattle.tr_region.specs.Places.{place_in, place_within}
 use Rattle.tr_region.specs.Points.{holds}
@@ -60,10 +61,6 @@ pub held_first : (r : Edges) (rs : List Edges) (p : Point) → holds (r ∷ rs) 
 held_first r rs p h none = sym (or-false (has_point r p)) ∙ ap (λ b. has_point r p || b) (sym none) ∙ h
 
 -- ---- one rectangle more at the end
-
-or_true : (b : Bool) → (b || true) ≡ true
-or_true true = refl
-or_true false = refl
 
 pub holds-push : (rects : List Edges) (r : Edges) (p : Point) → holds (rects ++ r ∷ []) p ≡ (holds rects p || has_point r p)
 holds-push rects r p = holds-append rects (r ∷ []) p ∙ ap (λ b. holds rects p || b) (or-false (has_point r p))

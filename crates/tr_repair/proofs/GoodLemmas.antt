@@ -1,21 +1,16 @@
 -- The test of points that stay in one region, as a fact.
-use Rattle.std.proofs.Common.{◌≡◌, ℕ, ◌+◌, ◌<◌, Bool, true, false, ◌&&◌, ◌||◌, List, length, add-one, refl, sym, ap, ◌∙◌}
+use Rattle.std.proofs.Common.{◌≡◌, ℕ, ◌+◌, ◌<◌, Bool, true, ◌&&◌, ◌||◌, List, length, add-one, refl, sym, ap, ◌∙◌}
 use Rattle.std.specs.Prelude.{◌↔◌}
 use Rattle.std.specs.Bool.{Decides}
 use Rattle.std.proofs.lemmas.Bool.Decides.{Decides-and, Decides-below_or}
 use Rattle.tr_base.specs.declared.points.Point.{Point}
 use Rattle.tr_base.specs.Rects.{Edges}
+use Rattle.tr_base.proofs.BoolLemmas.{or_swap}
 use Rattle.tr_repair.specs.Good.{held_by, StaysInOne, any_below, stays_below}
 
 pub any_below-more : (n : ℕ) (test : ℕ → Bool) → any_below (n + 1) test ≡ any_below n test || test n
 unfolding any_below
 any_below-more n test = ap (λ m. any_below m test) (add-one n)
-
-or_swap : (a b : Bool) → a || b ≡ b || a
-or_swap true true = refl
-or_swap true false = refl
-or_swap false true = refl
-or_swap false false = refl
 
 Decides-itself : (b : Bool) → Decides b (b ≡ true)
 Decides-itself b = (λ h. h, λ h. h)

@@ -1,7 +1,6 @@
 -- What a point belongs to is a leaf or a node of the tree, and has a name.
-use Rattle.std.proofs.Common.{◌≡◌, ℕ, zero, suc, ◌<◌, Bool, true, false, cond, Option, Some, None, length, refl, ap, arith}
+use Rattle.std.proofs.Common.{◌≡◌, ◌<◌, Bool, true, false, cond, Option, Some, None, length, refl, ap, arith}
 use Rattle.std.specs.Prelude.{⊤}
-use Rattle.std.specs.List.{find}
 use Rattle.tr_base.specs.declared.Point.{Point}
 use Rattle.tr_base.specs.declared.NodeId.{NodeId}
 use Rattle.tr_base.specs.declared.Spot.{Spot}
@@ -13,9 +12,8 @@ use Rattle.tr_forest.specs.Nodes.{Nodes, IsNode, leaf_count, leaf_of, node}
 use Rattle.tr_forest.specs.Families.{levels}
 use Rattle.tr_forest.specs.Forests.{IsForest}
 use Rattle.tr_tree.specs.Trees.{Seen}
-use Rattle.tr_tree.specs.Places.{domain}
-use Rattle.tr_spot.specs.Spots.{followed, owner, owner_within, spot, spot_below, spot_on}
-use Rattle.tr_spot.proofs.NodeLemmas.{child_below, find_among}
+use Rattle.tr_spot.specs.Spots.{owner, spot, spot_below, spot_on}
+use Rattle.tr_spot.proofs.GainLemmas.{owner_is_node}
 use Rattle.tr_journal.specs.Names.{Names}
 use Rattle.tr_dump.specs.Names.{IsNamedSpot}
 use Rattle.tr_run.specs.Views.{AreNamed}
@@ -25,20 +23,6 @@ abbrev pub IsWithin : Nodes → Spot → Type 0
 IsWithin t (spots.Leaf leaf at size kind) = leaf.0 < leaf_count t
 IsWithin t (spots.Frame n tint kind) = IsNode t n
 IsWithin t spots.Off = ⊤
-
--- the owner of a point is a node
-owner_is_node : (f : ℕ) (t : Seen) → IsForest t.nodes → (n : NodeId) (p : Point) → IsNode t.nodes n → IsNode t.nodes (owner_within f t n p)
-unfolding owner_within
-owner_is_node zero t forest n p is = is
-owner_is_node (suc f) t forest n p is =
-    by_child (find (λ c. has_point (domain t c) p) (node t.nodes n).children) refl (λ c below. owner_is_node f t forest c p below)
-  where
-    by_child : (o : Option NodeId) → find (λ c. has_point (domain t c) p) (node t.nodes n).children ≡ o →
-        ((c : NodeId) → IsNode t.nodes c → IsNode t.nodes (owner_within f t c p)) →
-        IsNode t.nodes (followed n (λ c. owner_within f t c p) o)
-    by_child None e below = is
-    by_child (Some c) e below =
-        below c (child_below t.nodes forest n c (find_among (λ k. has_point (domain t k) p) (node t.nodes n).children c e)).is_node
 
 -- the spot of a node
 by_kind : (t : Seen) → IsForest t.nodes → (p : Point) (n : NodeId) → IsNode t.nodes n → (kind : NodeKind) → (node t.nodes n).kind ≡ kind →

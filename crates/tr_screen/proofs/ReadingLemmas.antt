@@ -10,6 +10,7 @@ use Rattle.tr_base.specs.declared.sizes.Size.{Size}
 use Rattle.tr_base.specs.declared.ops.Kind.{Kind}
 use Rattle.tr_base.specs.Rects.{Edges, InReach, IsRect, between, sides_of}
 use Rattle.tr_base.proofs.RectLemmas.{rect_cases}
+use Rattle.tr_base.proofs.RectFacts.{between-within}
 use Rattle.tr_screen.specs.declared.runs.Run.{Run}
 use Rattle.tr_screen.specs.Pictures.{picture_of, pixel_of}
 use Rattle.tr_screen.specs.Runs.{IsRun, column_in, in_run, point_in, start_of, width_of}
@@ -84,15 +85,12 @@ module _ (pixel : Point → ℕ) (r : Edges) where
 abs_is : (z : ℤ) → pos 0 ≤ℤ z → pos (unsigned_abs z) ≡ z
 abs_is z h = grind (arith, ints)
 
-between_is : (low high x : ℤ) → low ≤ℤ x → x <ℤ high → between low high x ≡ true
-between_is low high x h k = grind (arith, ints)
-
 -- a point between the edges is on the screen
 corner_on : (size : Size) (r : Edges) → LiesOn size r → (h v : ℤ) → r.west ≤ℤ h → h <ℤ r.east → r.north ≤ℤ v → v <ℤ r.south →
     IsThere size (record { h = h; v = v })
 corner_on size r on h v a b c d =
     there size (record { h = h; v = v })
-    (on (record { h = h; v = v }) (ap (λ x. x && between r.north r.south v) (between_is r.west r.east h a b) ∙ between_is r.north r.south v c d))
+    (on (record { h = h; v = v }) (ap (λ x. x && between r.north r.south v) (between-within r.west r.east h a b) ∙ between-within r.north r.south v c d))
 
 -- a row of a rectangle that lies on a screen is a run of the screen
 row_is_run : (size : Size) (r : Edges) (n : ℕ) → r.west <ℤ r.east → n < (sides_of r).1 → r.north <ℤ r.south → LiesOn size r → IsRun size (row_in r n)

@@ -21,7 +21,7 @@ use Rattle.tr_screen.specs.Copies.{IsCopied}
 use Rattle.tr_screen.proofs.PictureLemmas.{pixel_of-picture_of, concat-first_chunks, written_at-is}
 
 -- a coordinate from 0 on is a number
-abs_is : (x : ℤ) → pos 0 ≤ℤ x → x ≡ pos (unsigned_abs x)
+pub abs_is : (x : ℤ) → pos 0 ≤ℤ x → x ≡ pos (unsigned_abs x)
 abs_is (pos a) h = refl
 abs_is (negsuc a) h = absurd (omega (arith, ints))
 

@@ -1,9 +1,8 @@
 -- The nodes and leaves that words name are those of the opening.
-use Rattle.std.proofs.Common.{◌≡◌, ℕ, ◌+◌, ◌<◌, Bool, true, false, cond, List, [], ◌∷◌, length, Option, Some, None, Ok, Err, Result, refl, sym, arith}
-use Rattle.std.specs.Prelude.{is_none, unwrap_or, option_map, bytes_eq, IfOk}
+use Rattle.std.proofs.Common.{◌≡◌, ℕ, ◌<◌, false, List, [], length, Option, Some, None, Ok, Err, Result, refl, sym, arith}
+use Rattle.std.specs.Prelude.{is_none, unwrap_or, IfOk}
 use Prim.Native.Nat.{suc}
 use Rattle.std.proofs.lemmas.Bool.{false≢true}
-use Rattle.std.proofs.lemmas.Option.{same_Some}
 use Rattle.tr_base.specs.declared.NodeId.{NodeId}
 use Rattle.tr_base.specs.declared.LeafId.{LeafId}
 use Rattle.tr_forest.specs.Nodes.{IsNode}
@@ -15,18 +14,7 @@ use Rattle.tr_grammar.specs.States.{SoFar}
 use Rattle.tr_grammar.specs.Faults.{nodes_so_far}
 use Rattle.tr_words.specs.Answers.{Answers}
 use Rattle.tr_reader.specs.Laws.{IsSoFar}
-
--- the number of one more name is less than their count
-within_one : (b : Bool) (o : Option ℕ) (k most : ℕ) → ((j : ℕ) → o ≡ Some j → j < most) →
-    cond b (Some 0) (option_map (λ j. j + 1) o) ≡ Some k → k < suc most
-within_one true o k most h e = let is : 0 ≡ k = same_Some 0 k e in omega arith
-within_one false None k most h e = cc
-within_one false (Some j) k most h e = let less = h j refl in let is : j + 1 ≡ k = same_Some (j + 1) k e in omega arith
-
--- a number of the names is less than their count
-number_of-within : (ns : List (List ℕ)) (w : List ℕ) (k : ℕ) → number_of ns w ≡ Some k → k < length ns
-number_of-within [] w k e = cc
-number_of-within (n ∷ ns) w k e = within_one (bytes_eq n w) (number_of ns w) k (length ns) (number_of-within ns w) e
+use Rattle.tr_reader.proofs.NameLemmas.{number_of-within}
 
 -- the number that a name has is less than their count
 within : (ns : List (List ℕ)) (w : List ℕ) (o : Option ℕ) → number_of ns w ≡ o → is_none o ≡ false → unwrap_or o 0 < length ns

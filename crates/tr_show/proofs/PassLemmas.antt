@@ -1,9 +1,9 @@
 -- A stream is shown cut after cut.
-use Rattle.std.proofs.Common.{◌≡◌, ◌≢◌, ℕ, ◌+◌, ◌-◌, ◌≤◌, ◌<◌, Bool, false, take, drop, if◌then◌else◌, List, [], ◌∷◌, ◌++◌, length, Option, Some, None, refl, sym, ap, ◌∙◌, arith, append_assoc}
+use Rattle.std.proofs.Common.{◌≡◌, ◌≢◌, ℕ, ◌+◌, ◌-◌, ◌≤◌, ◌<◌, Bool, false, take, drop, if◌then◌else◌, List, [], ◌++◌, length, Option, Some, None, refl, sym, ap, ◌∙◌, arith, append_assoc}
 use Rattle.std.specs.List.{flat_map}
 use Rattle.std.proofs.lemmas.Bool.{le-ltb, ne_eqb}
 use Rattle.std.proofs.lemmas.Grind.{flat_map-append}
-use Rattle.std.proofs.lemmas.List.{append-nil, length-drop, length-take-le, take-append-drop, take_all}
+use Rattle.std.proofs.lemmas.List.{append-nil, length-drop, length-take-le, take-append-drop, take_all, nil_from_length}
 use Rattle.tr_screen.specs.Pictures.{Picture}
 use Rattle.tr_dump.specs.Reports.{dump_text}
 use Rattle.tr_mirror.specs.declared.faults.MirrorFault.{MirrorFault}
@@ -81,13 +81,9 @@ cut_pass old new bytes before text n some most more came fine fed shows wrote =
 
 -- ---- the end
 
-none_left : (xs : List ℕ) → length xs ≡ 0 → xs ≡ []
-none_left [] e = refl
-none_left (x ∷ xs) e = absurd (omega arith)
-
 module _ (stream rest text : List ℕ) (m : Reading) (h : HasShown stream rest text m) where
   whole : length rest ≡ 0 → h.front ≡ stream
-  whole none = sym (append-nil h.front) ∙ ap (λ l. h.front ++ l) (sym (none_left rest none)) ∙ h.parts
+  whole none = sym (append-nil h.front) ∙ ap (λ l. h.front ++ l) (sym (nil_from_length rest none)) ∙ h.parts
 
   pub text_is : length rest ≡ 0 → text ≡ flat_map dump_text (screens_shown stream)
   text_is none = h.written ∙ ap (λ l. flat_map dump_text (screens_shown l)) (whole none)

@@ -1,5 +1,5 @@
 -- A part of a window that is painted on a screen of its size: where its points lie there, and where their pixels stand.
-use Rattle.std.proofs.Common.{◌≡◌, ◌≢◌, ◌≤◌, ℤ, pos, ◌-ℤ◌, ◌<ℤ◌, true, false, Bool, ◌||◌, List, [], ◌∷◌, inl, inr, refl, sym, ap, subst, ◌∙◌, arith}
+use Rattle.std.proofs.Common.{◌≡◌, ◌≢◌, ◌≤◌, ℤ, pos, ◌-ℤ◌, ◌<ℤ◌, true, List, [], ◌∷◌, inl, inr, sym, ap, subst, ◌∙◌, arith}
 use Rattle.std.proofs.lemmas.Int.{ints}
 use Rattle.std.proofs.lemmas.List.Sums.{sum_by-cons}
 use Rattle.tr_base.specs.declared.Point.{Point}
@@ -8,6 +8,7 @@ use Rattle.tr_base.specs.Layouts.{IsDomain}
 use Rattle.tr_base.specs.Rects.{Edges, IsRect, before_shift, empty_rect, has_point, shifted, sides_of, whole_of}
 use Rattle.tr_base.proofs.RectFacts.{edges_are, rect_of-full}
 use Rattle.tr_base.proofs.RectLemmas.{has_point-shifted, rect_cases}
+use Rattle.tr_base.proofs.BoolLemmas.{or_false}
 use Rattle.tr_region.specs.Areas.{area_of, total_area}
 use Rattle.tr_region.specs.Places.{place_in, place_within}
 use Rattle.tr_region.specs.Points.{holds}
@@ -77,10 +78,6 @@ corner_rect part full =
     ∙ edges_are _ (pos 0) (pos (size_of part).wide) (pos 0) (pos (size_of part).high)
     (omega (arith, ints)) (omega (arith, ints)) (omega (arith, ints)) (omega (arith, ints))
     ∙ sym (moved_rect (from_corner part zero_point) part full)
-
-or_false : (b : Bool) → (b || false) ≡ b
-or_false true = refl
-or_false false = refl
 
 -- the region of that screen, and where the window's corner lies, from that of the part
 pub record IsAside (part : Edges) (all : List Edges) (origin : Point) : Type 0 where

@@ -1,5 +1,6 @@
 -- Going over the children of a node in order: the first whose domain has a point, and what is left of a region.
 use Rattle.std.proofs.Common.{◌≡◌, ℕ, ◌+◌, ◌<◌, ◌≤◌, Bool, true, false, cond, ◌&&◌, ◌==◌, not, drop, List, ◌∷◌, Option, Some, None, Result, IfOk, length, get_or, refl, sym, ap, ◌∙◌, add-one}
+use Rattle.tr_forest.proofs.FamilyLemmas.{same_id}
 use Rattle.std.proofs.Math.Seq.{drop-cons}
 use Rattle.std.proofs.lemmas.List.{drop_all}
 use Rattle.std.proofs.lemmas.Result.{IfOk-weaker}
@@ -7,11 +8,12 @@ use Rattle.tr_base.specs.declared.Point.{Point}
 use Rattle.tr_base.specs.declared.NodeId.{NodeId}
 use Rattle.tr_base.specs.Rects.{Edges, has_point}
 use Rattle.tr_base.proofs.RectLemmas.{false-true}
+use Rattle.tr_base.proofs.BoolLemmas.{and_false}
 use Rattle.tr_region.specs.Points.{holds}
 use Rattle.tr_tree.specs.Trees.{Seen}
 use Rattle.tr_tree.specs.Places.{domain}
 use Rattle.tr_spot.specs.Ways.{front, is_it, is_nobody}
-use Rattle.tr_spot.proofs.NodeLemmas.{by_number, find_passes, zero_node}
+use Rattle.tr_spot.proofs.NodeLemmas.{find_passes, zero_node}
 use Rattle.tr_spot.proofs.WayLemmas.{it_is, equal_test, other_test}
 
 -- the children from one on
@@ -55,10 +57,6 @@ passed_end true true rest c child same inside = sym same
 passed_end true false rest c child same inside = absurd (false-true (inside refl))
 passed_end false b rest c child same inside = refl
 
-and_false : (b : Bool) → (b && false) ≡ false
-and_false true = refl
-and_false false = refl
-
 pub passed_next : (t : Seen) (p : Point) (i : ℕ) (cs : List NodeId) (child : NodeId) (left rest : Bool) → i < length cs →
     ((get_or cs i zero_node).0 ≡ child.0 → ⊥) →
     rest ≡ (left && not (has_point (domain t (get_or cs i zero_node)) p)) →
@@ -72,7 +70,7 @@ pub passed_found : (t : Seen) (p : Point) (i : ℕ) (cs : List NodeId) (child : 
     (left ≡ true → has_point (domain t child) p ≡ true) → left ≡ (left && is_it child (front t p (drop i cs)))
 passed_found t p i cs child left lt same inside =
     passed_end left (has_point (domain t (get_or cs i zero_node)) p) (front t p (drop (i + 1) cs)) (get_or cs i zero_node) child (equal_test _ _ same)
-    (λ h. ap (λ (k : NodeId). has_point (domain t k) p) (by_number _ child same) ∙ inside h)
+    (λ h. ap (λ (k : NodeId). has_point (domain t k) p) (same_id _ child same) ∙ inside h)
     ∙ ap (λ (o : Option NodeId). left && is_it child o) (sym (front_next t p i cs lt))
 
 pub passed_none : (t : Seen) (p : Point) (i : ℕ) (cs : List NodeId) (child : NodeId) (left : Bool) → length cs ≤ i →

@@ -11,7 +11,7 @@ use Rattle.tr_forest.specs.Nodes.{Nodes, node}
 use Rattle.tr_forest.specs.Families.{levels, depth, deeper, is_among, is_under, is_under_within, of_parent}
 use Rattle.tr_forest.specs.Forests.{IsForest}
 use Rattle.tr_forest.specs.Edits.{without}
-use Rattle.tr_forest.proofs.FamilyLemmas.{by_id, depth_child, depth_law, test_apart, test_same, tested_same, under_itself, under_law, under_suc, under_zero}
+use Rattle.tr_forest.proofs.FamilyLemmas.{by_id, depth_child, depth_law, test_apart, test_same, tested_same, under_itself, under_law, under_suc, under_zero, same_id, hanger_is_node, parent_case}
 use Rattle.tr_forest.proofs.Lists.{among_left, among_rest}
 use Rattle.tr_tree.specs.Trees.{Seen}
 use Rattle.tr_tree.specs.Places.{domain}
@@ -19,7 +19,7 @@ use Rattle.tr_spot.specs.Spots.{followed, owner, owner_within}
 use Rattle.tr_spot.specs.Ways.{comes_to, ends_at, front, is_it, is_nobody, owns}
 use Rattle.tr_spot.specs.Changes.{without_child}
 use Rattle.tr_spot.specs.Covers.{IsCarried, comes_upon, lies_under}
-use Rattle.tr_spot.proofs.NodeLemmas.{by_number, find_among, hangs_is_node}
+use Rattle.tr_spot.proofs.NodeLemmas.{find_among}
 use Rattle.tr_spot.proofs.OwnerLemmas.{followed_same}
 use Rattle.tr_spot.proofs.ChangeLemmas.{among_others, find_same}
 use Rattle.tr_spot.proofs.WayLemmas.{Leads, and_left, and_right, child_no_root, comes_parent, equal_numbers, leads, owns_end, owns_is}
@@ -157,7 +157,7 @@ front_apart by child was is c p n out new old =
     same : (d : NodeId) → is_among d (without_child child (node is.nodes n).children) ≡ true → has_point (domain is d) p ≡ has_point (domain was d) p
     same d h =
         let up : (node is.nodes d).parent ≡ Some n = c.after.children n d (among_others child d (node is.nodes n).children h) in
-        c.still d p (hangs_is_node is.nodes d n up)
+        c.still d p (hanger_is_node is.nodes d n up)
         (under_parent is.nodes c.after child n d up (not_child child d (node is.nodes n).children h) ∙ out)
 
 owner_apart : (f : ℕ) (by : Point) (child : Option NodeId) (was is : Seen) → IsCarried by child was is → (p : Point) (n : NodeId) →
@@ -190,16 +190,11 @@ owner_apart (suc f) by child was is c p n out new old =
 
 -- ---- below the child the walk comes to the same owner as before the move
 
--- what a node's parent passes on
-parent_of : (o : Option NodeId) (up : NodeId → Bool) → of_parent o up ≡ true → (q : NodeId) × (o ≡ Some q) × (up q ≡ true)
-parent_of None up h = absurd (false-true h)
-parent_of (Some q) up h = (q, refl, h)
-
 -- a node that isn't the top lies below it where its parent does
 above : (f : ℕ) (t : Nodes) (top n : NodeId) → (n.0 == top.0) ≡ false → is_under_within (suc f) t top n ≡ true →
     (q : NodeId) × ((node t n).parent ≡ Some q) × (is_under_within f t top q ≡ true)
 above f t top n ne h =
-    parent_of (node t n).parent (is_under_within f t top)
+    parent_case (node t n).parent (is_under_within f t top)
     (sym (under_suc f t top n ∙ ap (λ b. b || of_parent (node t n).parent (is_under_within f t top)) ne) ∙ h)
 
 -- it lies no higher than the top
@@ -271,7 +266,7 @@ owner_moved (suc f) by child was is c p n h =
     below d among = lies_below is.nodes c.after child n d (λ other. c.after.children n d among) h
 
     same : (d : NodeId) → is_among d (node is.nodes n).children ≡ true → has_point (domain is d) p ≡ has_point (domain was d) q
-    same d among = c.moved d p (hangs_is_node is.nodes d n (c.after.children n d among)) (below d among)
+    same d among = c.moved d p (hanger_is_node is.nodes d n (c.after.children n d among)) (below d among)
 
 -- ---- the walk, and whom it comes to
 
@@ -308,7 +303,7 @@ owned t p n h = by_root t.nodes.root refl (and_right (has_point (whole_of t.size
       screen = and_left (has_point (whole_of t.size) p) (is_it n (ends_at t p t.nodes.root)) h;
       root = root;
       is_root = e;
-      owner = by_number (owner t root p) n (equal_numbers (owner t root p).0 n.0 k);
+      owner = same_id (owner t root p) n (equal_numbers (owner t root p).0 n.0 k);
     }
 
 -- two roots are one

@@ -15,13 +15,15 @@ use Rattle.tr_forest.specs.Nodes.{node, leaf_of, node_of}
 use Rattle.tr_forest.specs.Families.{levels}
 use Rattle.tr_forest.specs.Forests.{IsForest}
 use Rattle.tr_forest.proofs.LeafLemmas.{leaf_is_node_of}
+use Rattle.tr_forest.proofs.FamilyLemmas.{same_id}
 use Rattle.tr_tree.specs.Trees.{Seen}
 use Rattle.tr_tree.specs.Places.{domain}
 use Rattle.tr_tree.proofs.DomainLemmas.{root_domain}
 use Rattle.tr_spot.specs.Spots.{followed, owner, owner_within, spot, spot_on, spot_below, from_corner, size_of, is_in_leaf}
 use Rattle.tr_spot.specs.Leaves.{leaf_domain, leaf_size, in_leaf}
-use Rattle.tr_spot.proofs.NodeLemmas.{by_number, find_passes}
+use Rattle.tr_spot.proofs.NodeLemmas.{find_passes}
 use Rattle.tr_spot.proofs.WayLemmas.{equal_numbers, and_left, and_right}
+use Rattle.tr_spot.proofs.SpotLemmas.{leaf_by_number}
 
 -- the point is one of the leaf's window
 pub record IsPartOf (t : Seen) (leaf : LeafId) (p : Point) : Type 0 where
@@ -55,15 +57,12 @@ in_window e p h =
     has_point-rect_of (pos 0) (pos (size_of e).wide) (pos 0) (pos (size_of e).high) (from_corner e p)
     ∙ and_both _ _ (between-start e.west e.east p.h (and_left _ _ h)) (between-start e.north e.south p.v (and_right (between e.west e.east p.h) _ h))
 
-leaf_by_number : (a b : LeafId) → a.0 ≡ b.0 → a ≡ b
-leaf_by_number a b e = let numbered : ℕ → LeafId = λ k. record { 0 = k } in ap numbered e
-
 by_kind : (t : Seen) → IsForest t.nodes → (leaf : LeafId) (p : Point) (n : NodeId) → has_point (whole_of t.size) p ≡ true → has_point (domain t n) p ≡ true →
     (kind : NodeKind) → (node t.nodes n).kind ≡ kind → is_in_leaf leaf (spot_on t p n kind) ≡ true → spot t p ≡ spot_on t p n kind → IsPartOf t leaf p
 by_kind t forest leaf p n on has (kinds.Leaf own shapes) e h is =
     let same : own ≡ leaf = leaf_by_number own leaf (equal_numbers own.0 leaf.0 h) in
     let at : n ≡ node_of t.nodes leaf =
-    by_number n (node_of t.nodes leaf) (leaf_is_node_of t.nodes n leaf forest (ap leaf_of e ∙ ap (λ (l : LeafId). Some l) same)) in
+    same_id n (node_of t.nodes leaf) (leaf_is_node_of t.nodes n leaf forest (ap leaf_of e ∙ ap (λ (l : LeafId). Some l) same)) in
     record {
       on = on;
       is = is

@@ -3,6 +3,7 @@ use Rattle.std.proofs.Common.{◌≡◌, Bool, true, false, ◌&&◌, refl, sym,
 use Rattle.tr_base.specs.declared.Point.{Point}
 use Rattle.tr_base.specs.declared.NodeId.{NodeId}
 use Rattle.tr_base.specs.Rects.{has_point, whole_of}
+use Rattle.tr_base.proofs.BoolLemmas.{and_false}
 use Rattle.tr_forest.specs.Families.{levels}
 use Rattle.tr_forest.specs.Forests.{IsForest}
 use Rattle.tr_tree.specs.Trees.{Seen}
@@ -10,10 +11,6 @@ use Rattle.tr_spot.specs.Spots.{spot, is_spot_of}
 use Rattle.tr_spot.specs.Ways.{comes_to, ends_at, is_it}
 use Rattle.tr_spot.proofs.SpotLemmas.{spot_is}
 use Rattle.tr_spot.proofs.WayLemmas.{leads}
-
-and_false : (b : Bool) → (b && false) ≡ false
-and_false true = refl
-and_false false = refl
 
 -- what belongs to a node lies on the screen
 pub own_on : (t : Seen) → IsForest t.nodes → (n : NodeId) (p : Point) →

@@ -12,10 +12,10 @@ use Rattle.tr_forest.specs.declared.NodeKind.{NodeKind}
 use Rattle.tr_forest.specs.declared.NodeKind.TheVariants as kinds
 use Rattle.tr_forest.specs.Nodes.{Nodes, node, is_leaf, leaf_of}
 use Rattle.tr_forest.specs.Forests.{IsForest}
+use Rattle.tr_forest.proofs.FamilyLemmas.{same_id}
 use Rattle.tr_tree.specs.Trees.{Seen}
 use Rattle.tr_spot.specs.Spots.{owner, spot, spot_on, spot_below, is_in_leaf, is_on_frame, is_spot_as, is_spot_of}
 use Rattle.tr_spot.specs.Ways.{is_it, ends_at, owns}
-use Rattle.tr_spot.proofs.NodeLemmas.{by_number}
 use Rattle.tr_spot.proofs.WayLemmas.{equal_numbers, equal_test, same_tests}
 
 -- nodes of which one alone is a leaf differ
@@ -23,7 +23,7 @@ apart : (t : Nodes) (m n : NodeId) → is_leaf (node t m).kind ≡ true → is_l
 apart t m n leaf other = by_test (m.0 == n.0) refl
   where
     by_test : (b : Bool) → (m.0 == n.0) ≡ b → b ≡ false
-    by_test true is = sym leaf ∙ ap (λ (k : NodeId). is_leaf (node t k).kind) (by_number m n (equal_numbers m.0 n.0 is)) ∙ other
+    by_test true is = sym leaf ∙ ap (λ (k : NodeId). is_leaf (node t k).kind) (same_id m n (equal_numbers m.0 n.0 is)) ∙ other
     by_test false is = refl
 
 swapped : (m n : NodeId) → (m.0 == n.0) ≡ false → (n.0 == m.0) ≡ false
@@ -34,7 +34,7 @@ swapped m n h = by_test (n.0 == m.0) refl
     by_test false is = refl
 
 -- a leaf is told by its number
-leaf_by_number : (a b : LeafId) → a.0 ≡ b.0 → a ≡ b
+pub leaf_by_number : (a b : LeafId) → a.0 ≡ b.0 → a ≡ b
 leaf_by_number a b e = let numbered : ℕ → LeafId = λ k. record { 0 = k } in ap numbered e
 
 off : (n : NodeId) (kind : NodeKind) → false ≡ is_spot_as kind n spots.Off
@@ -47,7 +47,7 @@ by_kinds t forest p o n (kinds.Leaf lo so) (kinds.Leaf ln sn) eo en = same_tests
   where
     there : (o.0 == n.0) ≡ true → (lo.0 == ln.0) ≡ true
     there h =
-        let same : kinds.Leaf lo so ≡ kinds.Leaf ln sn = sym eo ∙ ap (λ (k : NodeId). (node t.nodes k).kind) (by_number o n (equal_numbers o.0 n.0 h)) ∙ en in
+        let same : kinds.Leaf lo so ≡ kinds.Leaf ln sn = sym eo ∙ ap (λ (k : NodeId). (node t.nodes k).kind) (same_id o n (equal_numbers o.0 n.0 h)) ∙ en in
         let leaf : lo ≡ ln = cc in
         equal_test lo.0 ln.0 (ap (λ (l : LeafId). l.0) leaf)
 

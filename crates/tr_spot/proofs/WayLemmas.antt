@@ -9,10 +9,11 @@ use Rattle.tr_forest.specs.Nodes.{Nodes, node}
 use Rattle.tr_forest.specs.Families.{levels, depth, depth_within, deeper, of_parent}
 use Rattle.tr_forest.specs.Forests.{IsForest}
 use Rattle.tr_forest.specs.Edits.{is_root}
+use Rattle.tr_forest.proofs.FamilyLemmas.{same_id, no_depth}
 use Rattle.tr_tree.specs.Trees.{Seen}
 use Rattle.tr_spot.specs.Spots.{followed, owner, owner_within}
 use Rattle.tr_spot.specs.Ways.{front, is_it, is_nobody, comes_below, comes_within, comes_to, ends_at, owns}
-use Rattle.tr_spot.proofs.NodeLemmas.{by_number, no_depth, IsBelow}
+use Rattle.tr_spot.proofs.NodeLemmas.{IsBelow}
 use Rattle.tr_spot.proofs.OwnerLemmas.{front_below, owner_stays, owner_goes_on}
 
 -- ---- tests
@@ -42,7 +43,7 @@ same_tests false false f g = refl
 
 pub it_is : (n : NodeId) (o : Option NodeId) → is_it n o ≡ true → o ≡ Some n
 it_is n None h = absurd (false-true h)
-it_is n (Some m) h = ap (λ (k : NodeId). Some k) (by_number m n (equal_numbers m.0 n.0 h))
+it_is n (Some m) h = ap (λ (k : NodeId). Some k) (same_id m n (equal_numbers m.0 n.0 h))
 
 nobody_is : (o : Option NodeId) → is_nobody o ≡ true → o ≡ None
 nobody_is None h = refl
@@ -89,7 +90,7 @@ comes_parent t forest p n parent other up = comes_law t forest p n ∙ rw (other
 -- the root is told by its number, and is no child
 root_is : (o : Option NodeId) (n : NodeId) → of_parent o (λ root. root.0 == n.0) ≡ true → o ≡ Some n
 root_is None n h = absurd (false-true h)
-root_is (Some m) n h = ap (λ (k : NodeId). Some k) (by_number m n (equal_numbers m.0 n.0 h))
+root_is (Some m) n h = ap (λ (k : NodeId). Some k) (same_id m n (equal_numbers m.0 n.0 h))
 
 pub child_no_root : (t : Nodes) → IsForest t → (parent n : NodeId) → (node t n).parent ≡ Some parent → is_root t n ≡ false
 child_no_root t forest parent n up = by_test (is_root t n) refl
@@ -179,7 +180,7 @@ owns_is t forest p n = same_tests _ _ there back
     by_root (Some root) e screen h =
         let rooted : is_root t.nodes root ≡ true = rw e (equal_test root.0 root.0 refl) in
         let at : Ends t p (owner t root p) = ends levels t forest p root (comes_root t forest p root rooted ∙ screen) (omega arith) in
-        subst (λ (m : NodeId). Ends t p m) (by_number _ n (equal_numbers _ n.0 h)) at
+        subst (λ (m : NodeId). Ends t p m) (same_id _ n (equal_numbers _ n.0 h)) at
 
     back : owns t p n ≡ true → (comes_to t p n && is_nobody (front t p (node t.nodes n).children)) ≡ true
     back h =

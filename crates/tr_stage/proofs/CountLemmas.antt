@@ -18,7 +18,7 @@ use Rattle.tr_region.specs.Points.{count_below, holds, sum_below}
 use Rattle.tr_region.specs.Rows.{HoldsRow, IsNearest}
 use Rattle.tr_region.proofs.BandRows.{cut_rows}
 use Rattle.tr_region.proofs.ColumnLemmas.{in_spans-push, none_west}
-use Rattle.tr_region.proofs.CountLemmas.{count_below-le, count_below-same, sum_below-add, sum_below-le, sum_below-same, sum_below-zero}
+use Rattle.tr_region.proofs.CountLemmas.{count_below-le, sum_below-add, sum_below-le, sum_below-same, sum_below-zero}
 use Rattle.tr_screen.specs.Pictures.{IsScreenSize, Picture, row_of}
 use Rattle.tr_surface.specs.Counts.{count_on}
 use Rattle.tr_stage.specs.Stages.{is_different}
@@ -82,11 +82,6 @@ count_on-apart size both f g each =
   where
     at : ℕ → ℕ → Point
     at h v = record { h = pos h; v = pos v }
-
--- tests that agree count as many points
-pub count_on-same : (size : Size) (f g : Point → Bool) → ((p : Point) → f p ≡ g p) → count_on size f ≡ count_on size g
-count_on-same size f g same =
-    sum_below-same size.high _ _ (λ v. count_below-same size.wide _ _ (λ h. same (record { h = pos h; v = pos v })))
 
 -- no point passes a test that fails everywhere
 pub count_on-none : (size : Size) (f : Point → Bool) → ((p : Point) → f p ≡ false) → count_on size f ≡ 0

@@ -7,6 +7,7 @@ use Rattle.tr_base.specs.declared.Point.{Point}
 use Rattle.tr_base.specs.declared.Size.{Size}
 use Rattle.tr_base.specs.declared.LeafId.{LeafId}
 use Rattle.tr_base.specs.Rects.{Edges, has_point, whole_of}
+use Rattle.tr_base.proofs.BoolLemmas.{and_false, and_true}
 use Rattle.tr_region.specs.Points.{holds}
 use Rattle.tr_screen.specs.Pictures.{Picture, pixel_of}
 use Rattle.tr_screen.specs.Runs.{Repaints}
@@ -21,6 +22,7 @@ use Rattle.tr_tree.specs.Trees.{Seen}
 use Rattle.tr_spot.specs.Spots.{spot, is_in_leaf}
 use Rattle.tr_spot.specs.Leaves.{in_leaf, leaf_size}
 use Rattle.tr_surface.specs.Surfaces.{Shown, IsShown, is_on, is_bad}
+use Rattle.tr_surface.proofs.ShownLemmas.{in_leaf_on}
 use Rattle.tr_region.specs.Places.{place_in}
 use Rattle.tr_journal.specs.declared.answers.Answer.TheVariants as answers
 use Rattle.tr_journal.specs.declared.steps.Step.TheVariants as steps
@@ -30,7 +32,6 @@ use Rattle.tr_machine.specs.Paintings.{is_visible, repainted}
 use Rattle.tr_machine.specs.Pictures.{content_colour, shown, shown_of, want}
 use Rattle.tr_machine.specs.Promises.{Fits}
 use Rattle.tr_machine.specs.Machines.{done}
-use Rattle.tr_machine.proofs.BaseLemmas.{leaf_on}
 use Rattle.tr_machine.proofs.FlushLemmas.{apart, brought, forest_of, now_shown}
 use Rattle.tr_machine.proofs.ListLemmas.{window_there}
 use Rattle.tr_machine.proofs.ShownLemmas.{IsShowing, colour_in_leaf, colour_same, untouched_colour}
@@ -42,14 +43,6 @@ use Rattle.tr_machine.specs.Sharing.{IsPaintedOf}
 use Rattle.tr_stage.proofs.StageLemmas.{holding}
 use Rattle.tr_stage.proofs.DeviceLemmas.{Before, IsAfter, IsMaking, forest_before, made_step, state_before}
 use Rattle.tr_stage.proofs.StaleLemmas.{IsPlan, plan_paints}
-
-and_false : (b : Bool) → (b && false) ≡ false
-and_false true = refl
-and_false false = refl
-
-and_true : (b : Bool) → (b && true) ≡ b
-and_true true = refl
-and_true false = refl
 
 -- what is left of the bad points is none of those that are put
 left_in : (b : Bool) → (b && not (b && true)) ≡ false
@@ -261,4 +254,4 @@ module _ {C M : Type 0} (client : Ghosts C M) where
   -- visible points of a leaf lie on each screen of the tree's size
   pub part_on : (m : State C M) (leaf : LeafId) (part : List Edges) (size : Size) → size ≡ m.tree.size →
       ((p : Point) → holds part p ≡ true → is_visible m leaf p ≡ true) → (p : Point) → holds part p ≡ true → has_point (whole_of size) p ≡ true
-  part_on m leaf part size same sees p held = ap (λ (z : Size). has_point (whole_of z) p) same ∙ leaf_on m.tree leaf p (sees p held)
+  part_on m leaf part size same sees p held = ap (λ (z : Size). has_point (whole_of z) p) same ∙ in_leaf_on m.tree leaf p (sees p held)

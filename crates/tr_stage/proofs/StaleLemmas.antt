@@ -25,6 +25,8 @@ use Rattle.tr_spot.specs.Leaves.{in_leaf, leaf_size}
 use Rattle.tr_spot.proofs.WayLemmas.{and_left, and_right}
 use Rattle.tr_surface.specs.Counts.{count_on}
 use Rattle.tr_surface.specs.Surfaces.{is_bad}
+use Rattle.tr_surface.proofs.ShownLemmas.{in_leaf_on}
+use Rattle.tr_surface.proofs.CountLemmas.{count_on-same}
 use Rattle.tr_journal.specs.declared.items.Item.{Item}
 use Rattle.tr_journal.specs.Journals.{JournalLine}
 use Rattle.tr_machine.specs.Windows.{Window}
@@ -33,7 +35,7 @@ use Rattle.tr_machine.specs.Paintings.{is_visible}
 use Rattle.tr_machine.specs.Pictures.{bad_count, content_colour, is_stale, shown, stale_count, waiting_count, want}
 use Rattle.tr_machine.specs.Promises.{Agrees, Fits, IsAwaited}
 use Rattle.tr_machine.specs.Replays.{replay}
-use Rattle.tr_machine.proofs.BaseLemmas.{leaf_on, leaf_within}
+use Rattle.tr_machine.proofs.BaseLemmas.{leaf_within}
 use Rattle.tr_machine.proofs.LagLemmas.{stale_waits}
 use Rattle.tr_machine.proofs.FlushLemmas.{one_leaf}
 use Rattle.tr_machine.proofs.ShownLemmas.{colour_in_leaf}
@@ -44,7 +46,7 @@ use Rattle.tr_windows.specs.Promises.{waiting_in}
 use Rattle.tr_windows.proofs.PresentLemmas.{presents-waiting}
 use Rattle.tr_stage.specs.Standings.{Stands}
 use Rattle.tr_stage.specs.Stages.{RepresentsState, IsStage, Parts, StageView, is_different, is_good_in, state}
-use Rattle.tr_stage.proofs.CountLemmas.{count_on-apart, count_on-few, count_on-none, count_on-same}
+use Rattle.tr_stage.proofs.CountLemmas.{count_on-apart, count_on-few, count_on-none}
 use Rattle.tr_stage.proofs.SettleLemmas.{IsView, batch_is, windows_many}
 
 -- ---- tests
@@ -180,7 +182,7 @@ module _ {C M : Type 0} (client : Ghosts C M) where
       by_test false seen b bad = refl
       by_test true seen true bad = refl
       by_test true seen false good =
-          ap (λ n. not (n == pixel_of wanted p)) (agrees.good p (leaf_on m.tree leaf p seen) good)
+          ap (λ n. not (n == pixel_of wanted p)) (agrees.good p (in_leaf_on m.tree leaf p seen) good)
           ∙ ap (λ n. not (shown client m p == n)) (paints p (ap (λ c. c && not (m.bad p)) seen ∙ ap not good))
 
   -- so they are counted by the pixels that differ among a leaf's good points

@@ -9,7 +9,7 @@ use Rattle.std.proofs.lemmas.Int.{ints}
 use Rattle.tr_base.specs.declared.Point.{Point}
 use Rattle.tr_base.specs.declared.LeafId.{LeafId}
 use Rattle.tr_base.specs.Rects.{Edges, IsRect, between, has_point, whole_of}
-use Rattle.tr_base.proofs.RectLemmas.{false-true, has_point-rect_of}
+use Rattle.tr_base.proofs.RectLemmas.{has_point-rect_of}
 use Rattle.tr_base.proofs.LayoutLemmas.{ordered}
 use Rattle.tr_region.specs.Points.{holds}
 use Rattle.tr_paint.specs.Traces.{after}
@@ -17,6 +17,7 @@ use Rattle.tr_exec.specs.Executions.{screen_point}
 use Rattle.tr_client.specs.declared.clients.Client.{Ghosts}
 use Rattle.tr_spot.specs.Spots.{size_of}
 use Rattle.tr_spot.specs.Leaves.{leaf_corner, leaf_size, in_leaf}
+use Rattle.tr_spot.proofs.WayLemmas.{same_tests}
 use Rattle.tr_surface.specs.Surfaces.{IsShown, Shown, is_bad}
 use Rattle.tr_machine.specs.Windows.{Window}
 use Rattle.tr_machine.specs.States.{State, base, leaf_batch, look, window_of}
@@ -48,12 +49,6 @@ pub first_holds : (rects : List Edges) (e : Edges) (p : Point) → 0 < length re
     holds rects p ≡ true
 first_holds [] e p some same has = absurd (omega (arith, some))
 first_holds (r ∷ rest) e p some same has = ap (λ b. b || holds rest p) (ap (λ (x : Edges). has_point x p) same ∙ has)
-
--- two tests that pass for the same are equal
-pub same_test : (a b : Bool) → (a ≡ true → b ≡ true) → (b ≡ true → a ≡ true) → a ≡ b
-same_test true b to from = sym (to refl)
-same_test false true to from = absurd (false-true (from refl))
-same_test false false to from = refl
 
 -- what is false where a test passes stays as it is if it is made false there
 none_left : (a test : Bool) → (test ≡ true → a ≡ false) → a ≡ (a && not test)
@@ -90,7 +85,7 @@ module _ {C M : Type 0} (client : Ghosts C M) where
     -- and so, where all points are visible, all of the window is
     known_whole : IsWhole m leaf → IsKnownWhole (leaf_size m.tree leaf) (base client m leaf)
     known_whole whole = record {
-      visible = λ q. same_test _ _ (base-lies client m leaf (forest_of client m s k.was k.showing) q) (whole q);
+      visible = λ q. same_tests _ _ (base-lies client m leaf (forest_of client m s k.was k.showing) q) (whole q);
       known = λ q has. known_before q (whole q has);
     }
 

@@ -1,18 +1,17 @@
 -- Regions of the screen: they lie in a square of 1024 points each way, and a region that isn't empty holds a point.
-use Rattle.std.proofs.Common.{◌≡◌, ◌<◌, ◌≤◌, ℤ, pos, ◌-ℤ◌, ◌≤ℤ◌, ◌<ℤ◌, Bool, true, false, ◌&&◌, ◌||◌, not, List, [], ◌∷◌, length, refl, sym, ◌∙◌, arith}
+use Rattle.std.proofs.Common.{◌≡◌, ◌<◌, ◌≤◌, ℤ, pos, ◌-ℤ◌, ◌≤ℤ◌, ◌<ℤ◌, Bool, true, false, ◌&&◌, ◌||◌, not, List, [], ◌∷◌, length, refl, sym, arith}
 use Rattle.std.specs.Prelude.{IsTrue}
 use Rattle.std.specs.List.{AllByRecursion}
 use Rattle.std.proofs.lemmas.Int.{ints}
 use Rattle.tr_base.specs.declared.Point.{Point}
 use Rattle.tr_base.specs.declared.NodeId.{NodeId}
-use Rattle.tr_base.specs.Rects.{Edges, between, has_point, whole_of}
-use Rattle.tr_base.proofs.RectLemmas.{has_point-rect_of}
+use Rattle.tr_base.specs.Rects.{Edges, has_point}
 use Rattle.tr_region.specs.Points.{holds, count_below, count_in_square, IsInSquare}
 use Rattle.tr_region.specs.Bands.{IsCanonical}
 use Rattle.tr_region.proofs.CountLemmas.{count_below-le, sum_below-le}
 use Rattle.tr_region.proofs.OrderLemmas.{IsFull, AreInOrder, AreInOrder-canonical}
 use Rattle.tr_exec.specs.Executions.{RegionLiesOn, greatest_screen}
-use Rattle.tr_exec.proofs.SiteLemmas.{IsThere}
+use Rattle.tr_exec.proofs.SiteLemmas.{IsThere, there}
 use Rattle.tr_forest.specs.Forests.{IsForest}
 use Rattle.tr_spot.specs.Spots.{spot, is_on_frame}
 use Rattle.tr_surface.specs.Surfaces.{Shown, is_bad, is_frame}
@@ -51,13 +50,6 @@ some_point rects canonical some = by_list rects (AreInOrder-canonical rects cano
 pub not_both : (b : Bool) → IsTrue (not b) → IsTrue b → ⊥
 not_both true h k = cc
 not_both false h k = cc
-
--- a region of the screen lies in the square
-there : (p : Point) → has_point (whole_of greatest_screen) p ≡ true → IsThere p
-there p on =
-    let held : between (pos 0) (pos 1024) p.h && between (pos 0) (pos 1024) p.v ≡ true =
-    sym (has_point-rect_of (pos 0) (pos 1024) (pos 0) (pos 1024) p) ∙ on in
-    record { west = grind (arith, ints); east = grind (arith, ints); north = grind (arith, ints); south = grind (arith, ints) }
 
 rect_in_square : (r : Edges) → IsFull r → ((p : Point) → has_point r p ≡ true → IsThere p) → IsInSquare r
 rect_in_square r full on =

@@ -65,7 +65,7 @@ sum-all (suc n) k f all =
     let here : f n ≡ k = all n (omega arith) in
     omega (arith, before, here)
 
-on_screen : (size : Size) (h v : ℕ) → h < size.wide → v < size.high → has_point (whole_of size) (record { h = pos h; v = pos v }) ≡ true
+pub on_screen : (size : Size) (h v : ℕ) → h < size.wide → v < size.high → has_point (whole_of size) (record { h = pos h; v = pos v }) ≡ true
 on_screen size h v left above =
     has_point-rect_of (pos 0) (pos size.wide) (pos 0) (pos size.high) (record { h = pos h; v = pos v })
     ∙ rw (within h size.wide left, within v size.high above) refl
@@ -80,7 +80,7 @@ count_on-all size =
 
 -- ---- a greater square
 
-sum_below-cut : (n k : ℕ) (f : ℕ → ℕ) → k ≤ n → ((x : ℕ) → k ≤ x → f x ≡ 0) → sum_below n f ≡ sum_below k f
+pub sum_below-cut : (n k : ℕ) (f : ℕ → ℕ) → k ≤ n → ((x : ℕ) → k ≤ x → f x ≡ 0) → sum_below n f ≡ sum_below k f
 unfolding sum_below
 sum_below-cut zero k f within off = let none : 0 ≡ k = omega arith in ap (λ i. sum_below i f) none
 sum_below-cut (suc n) k f within off = by_place (cases_lt k (suc n)) (λ h. sum_below-cut n k f h off)
@@ -89,7 +89,7 @@ sum_below-cut (suc n) k f within off = by_place (cases_lt k (suc n)) (λ h. sum_
     by_place (inl before) rest = omega (arith, rest (omega (arith, before)), off n (omega (arith, before)))
     by_place (inr beyond) rest = let same : suc n ≡ k = omega (arith, within, beyond) in ap (λ i. sum_below i f) same
 
-count_below-cut : (n k : ℕ) (test : ℕ → Bool) → k ≤ n → ((x : ℕ) → k ≤ x → test x ≡ false) → count_below n test ≡ count_below k test
+pub count_below-cut : (n k : ℕ) (test : ℕ → Bool) → k ≤ n → ((x : ℕ) → k ≤ x → test x ≡ false) → count_below n test ≡ count_below k test
 unfolding count_below
 count_below-cut zero k test within off = let none : 0 ≡ k = omega arith in ap (λ i. count_below i test) none
 count_below-cut (suc n) k test within off = by_place (cases_lt k (suc n)) (λ h. count_below-cut n k test h off)
@@ -101,12 +101,12 @@ count_below-cut (suc n) k test within off = by_place (cases_lt k (suc n)) (λ h.
         omega (arith, rest (omega (arith, before)), none)
     by_place (inr beyond) rest = let same : suc n ≡ k = omega (arith, within, beyond) in ap (λ i. count_below i test) same
 
-count_below-none : (n : ℕ) (test : ℕ → Bool) → ((x : ℕ) → test x ≡ false) → count_below n test ≡ 0
+pub count_below-none : (n : ℕ) (test : ℕ → Bool) → ((x : ℕ) → test x ≡ false) → count_below n test ≡ 0
 unfolding count_below
 count_below-none zero test off = refl
 count_below-none (suc n) test off = rw (count_below-none n test off, off n) refl
 
-off_screen : (size : Size) (h v : ℕ) → (h < size.wide → v < size.high → ⊥) → has_point (whole_of size) (record { h = pos h; v = pos v }) ≡ false
+pub off_screen : (size : Size) (h v : ℕ) → (h < size.wide → v < size.high → ⊥) → has_point (whole_of size) (record { h = pos h; v = pos v }) ≡ false
 off_screen size h v out = by_test (has_point (whole_of size) p) refl
   where
     p : Point

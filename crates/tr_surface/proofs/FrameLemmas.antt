@@ -21,12 +21,13 @@ use Rattle.tr_forest.specs.declared.NodeKind.TheVariants as kinds
 use Rattle.tr_forest.specs.Nodes.{node, is_leaf, IsNode}
 use Rattle.tr_forest.specs.Families.{levels}
 use Rattle.tr_forest.specs.Forests.{IsForest}
+use Rattle.tr_forest.proofs.FamilyLemmas.{same_id}
 use Rattle.tr_tree.specs.Trees.{Seen}
 use Rattle.tr_tree.specs.Places.{domain}
 use Rattle.tr_tree.proofs.DomainLemmas.{root_domain}
 use Rattle.tr_spot.specs.Spots.{followed, owner, owner_within, spot, spot_on, spot_below, is_on_frame, region_of}
 use Rattle.tr_spot.specs.Ways.{front}
-use Rattle.tr_spot.proofs.NodeLemmas.{by_number, find_passes}
+use Rattle.tr_spot.proofs.NodeLemmas.{find_passes}
 use Rattle.tr_spot.proofs.OwnerLemmas.{front_below}
 use Rattle.tr_spot.proofs.SpotLemmas.{frame_spot, no_frame}
 use Rattle.tr_spot.proofs.WayLemmas.{equal_numbers, equal_test, and_left, and_right, same_tests}
@@ -48,7 +49,7 @@ colour_is t n p h = by_test (has_point (whole_of t.size) p) h
   where
     by_kind : (o : NodeId) (kind : NodeKind) → is_on_frame n (spot_on t p o kind) ≡ true → frame_colour (spot_on t p o kind) ≡ colour_on t n
     by_kind o (kinds.Leaf leaf shapes) h = absurd (false-true h)
-    by_kind o kind h = ap (λ (m : NodeId). colour_on t m) (by_number o n (equal_numbers o.0 n.0 h))
+    by_kind o kind h = ap (λ (m : NodeId). colour_on t m) (same_id o n (equal_numbers o.0 n.0 h))
 
     by_root : (o : Option NodeId) → is_on_frame n (spot_below t p o) ≡ true → frame_colour (spot_below t p o) ≡ colour_on t n
     by_root None h = absurd (false-true h)

@@ -9,6 +9,7 @@ use Rattle.tr_base.specs.declared.Point.{Point}
 use Rattle.tr_base.specs.declared.NodeId.{NodeId}
 use Rattle.tr_base.specs.declared.LeafId.{LeafId}
 use Rattle.tr_base.specs.Rects.{Edges, has_point, whole_of}
+use Rattle.tr_base.proofs.BoolLemmas.{not_not, from_false-true}
 use Rattle.tr_region.specs.Points.{holds}
 use Rattle.tr_forest.specs.Nodes.{IsNode, leaf_of, node}
 use Rattle.tr_forest.specs.Forests.{IsForest}
@@ -16,15 +17,12 @@ use Rattle.tr_tree.specs.Trees.{Seen}
 use Rattle.tr_spot.specs.Spots.{HasRoot, is_in_leaf, owner, region_of, spot}
 use Rattle.tr_spot.specs.Ways.{ends_at, is_it}
 use Rattle.tr_spot.proofs.GainLemmas.{owner_is_node}
-use Rattle.tr_spot.proofs.NodeLemmas.{by_number}
 use Rattle.tr_spot.proofs.SpotLemmas.{leaf_spot, spot_is}
 use Rattle.tr_spot.proofs.WayLemmas.{and_left, and_right, it_is, owns_end}
 use Rattle.tr_forest.specs.Families.{levels}
+use Rattle.tr_forest.proofs.FamilyLemmas.{same_id}
 use Rattle.tr_surface.specs.Surfaces.{AreOwn, IsShown, Shown, any_holds, is_bad, is_on}
 use Rattle.tr_surface.proofs.SurvivorLemmas.{IsOf, owns_point}
-
-false-true : {X : Type 0} → false ≡ true → X
-false-true h = absurd cc
 
 -- ---- one node has a point
 
@@ -46,7 +44,7 @@ pub has_owner : (t : Seen) → IsForest t.nodes → HasRoot t → (p : Point) �
 has_owner t forest root p on = by_root t.nodes.root refl root
   where
     by_root : (o : Option NodeId) → t.nodes.root ≡ o → IsSome o → HasOwner t p
-    by_root None e some = false-true some
+    by_root None e some = from_false-true some
     by_root (Some r) e some = record {
       node_at = owner t r p;
       is_node = owner_is_node levels t forest r p (forest.root r e);
@@ -111,27 +109,19 @@ bad_here s is n inside p mine =
     ∙ ap (λ b. b && not (any_holds s.good p)) (owns_point s.tree is.forest n p mine).on
     ∙ ap not (any_here s.tree is.forest s.good is.own n inside p mine)
 
-not_twice : (b : Bool) → not (not b) ≡ b
-not_twice true = refl
-not_twice false = refl
-
-and_false : (b : Bool) → (b && false) ≡ false
-and_false true = refl
-and_false false = refl
-
 -- the good points of a node are those of its own that aren't bad
 pub good_own : (s : Shown) → IsShown s → (n : NodeId) → IsNode s.tree.nodes n → (p : Point) →
     holds (region_of s.good n) p ≡ (IsOf s.tree n p && not (is_bad s p))
 good_own s is n inside p = by_region (holds (region_of s.good n) p) refl
   where
     none : holds (region_of s.good n) p ≡ false → (b : Bool) → IsOf s.tree n p ≡ b → (b && not (is_bad s p)) ≡ false
-    none h true mine = ap not (bad_here s is n inside p mine) ∙ not_twice (holds (region_of s.good n) p) ∙ h
+    none h true mine = ap not (bad_here s is n inside p mine) ∙ not_not (holds (region_of s.good n) p) ∙ h
     none h false mine = refl
 
     by_region : (b : Bool) → holds (region_of s.good n) p ≡ b → holds (region_of s.good n) p ≡ (IsOf s.tree n p && not (is_bad s p))
     by_region true h =
         let mine : IsOf s.tree n p ≡ true = is.own.points n p inside h in
-        h ∙ sym (ap (λ b. b && not (is_bad s p)) mine ∙ ap not (bad_here s is n inside p mine) ∙ not_twice (holds (region_of s.good n) p) ∙ h)
+        h ∙ sym (ap (λ b. b && not (is_bad s p)) mine ∙ ap not (bad_here s is n inside p mine) ∙ not_not (holds (region_of s.good n) p) ∙ h)
     by_region false h = h ∙ sym (none h (IsOf s.tree n p) refl)
 
 -- the same of a leaf
@@ -169,11 +159,11 @@ region_same good n region lt = get_or-set_same good n.0 region [] lt
 
 region_other : (good : List (List Edges)) (n m : NodeId) (region : List Edges) → (m ≡ n → ⊥) → region_of (set good n.0 region) m ≡ region_of good m
 region_other good n m region other =
-    let apart : m.0 ≢ n.0 = λ e. other (by_number m n e) in
+    let apart : m.0 ≢ n.0 = λ e. other (same_id m n e) in
     get_or-set_other good n.0 m.0 region [] apart
 
 by_node : {P : Type 0} (m n : NodeId) → (m ≡ n → P) → ((m ≡ n → ⊥) → P) → P
-by_node m n same other = elim (cases_eq m.0 n.0) [ inl e ↦ same (by_number m n e) | inr ne ↦ other (λ e. ne (ap (λ (k : NodeId). k.0) e)) ]
+by_node m n same other = elim (cases_eq m.0 n.0) [ inl e ↦ same (same_id m n e) | inr ne ↦ other (λ e. ne (ap (λ (k : NodeId). k.0) e)) ]
 
 pub own_with : (t : Seen) (good : List (List Edges)) → AreOwn t good → (n : NodeId) → IsNode t.nodes n → (region : List Edges) →
     ((p : Point) → holds region p ≡ true → IsOf t n p ≡ true) → AreOwn t (set good n.0 region)
@@ -208,7 +198,7 @@ bad_others s new is after n region tree good p out = by_screen (is_on s.tree p) 
     by_screen true on =
         let at : HasOwner s.tree p = has_owner s.tree is.forest is.root p on in
         let m : NodeId = at.node_at in
-        let other : m ≡ n → ⊥ = λ e. false-true (sym out ∙ ap (λ (k : NodeId). IsOf s.tree k p) (sym e) ∙ at.mine) in
+        let other : m ≡ n → ⊥ = λ e. from_false-true (sym out ∙ ap (λ (k : NodeId). IsOf s.tree k p) (sym e) ∙ at.mine) in
         bad_here new after m (record { within = omega (arith, at.is_node.within, ap (λ (t : Seen). length t.nodes.entries) tree) }) p
         (ap (λ (t : Seen). IsOf t m p) tree ∙ at.mine)
         ∙ ap (λ (g : List (List Edges)). not (holds (region_of g m) p)) good
@@ -231,5 +221,5 @@ regions_push test regions more n region count is were next m p lt =
       | inr not_before ↦
           let same : m.0 ≡ n = omega (arith, lt, not_before) in
           ap (λ (r : List Edges). holds r p) (get_or_push regions region [] m.0 (count ∙ sym same)) ∙ next p
-          ∙ ap (λ (k : NodeId). test k p) (sym (by_number m (record { 0 = n }) same))
+          ∙ ap (λ (k : NodeId). test k p) (sym (same_id m (record { 0 = n }) same))
     ]

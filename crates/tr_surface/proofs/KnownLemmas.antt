@@ -6,6 +6,7 @@ use Rattle.tr_base.specs.declared.Kind.{Kind}
 use Rattle.tr_base.specs.declared.NodeId.{NodeId}
 use Rattle.tr_base.specs.declared.Spot.{Spot}
 use Rattle.tr_base.specs.declared.Spot.TheVariants as spots
+use Rattle.tr_base.proofs.BoolLemmas.{from_false-true}
 use Rattle.tr_forest.specs.declared.NodeKind.{NodeKind}
 use Rattle.tr_forest.specs.declared.NodeKind.TheVariants as kinds
 use Rattle.tr_forest.specs.Nodes.{node}
@@ -15,13 +16,6 @@ use Rattle.tr_spot.specs.Leaves.{same_kind, same_size}
 use Rattle.tr_surface.specs.Surfaces.{is_on}
 use Rattle.tr_surface.specs.TreeSteps.{Keeping, is_kept, same_point, source_by, survives}
 use Rattle.tr_surface.specs.Survivors.{change, good_by}
-
-false-true : {X : Type 0} → false ≡ true → X
-false-true h = absurd cc
-
-pub and_false : (b : Bool) → (b && false) ≡ false
-and_false true = refl
-and_false false = refl
 
 -- a good point is on the screen, its source was, and survives
 pub record IsGood (k : Keeping) (was is : Seen) (moved : Option NodeId) (bad : Point → Bool) (p : Point) : Type 0 where
@@ -40,10 +34,10 @@ good_parts k was is moved bad p h = by_tests (is_on is p) (is_on was s) (bad s) 
     by_tests : (a b c d : Bool) → is_on is p ≡ a → is_on was s ≡ b → bad s ≡ c → survives k (spot was s) (spot is p) ≡ d →
         (a && b && not c && d) ≡ true → IsGood k was is moved bad p
     by_tests true true false true e f g i h = record { on = e; was_on = f; was_good = g; lasts = i }
-    by_tests true true false false e f g i h = false-true h
-    by_tests true true true d e f g i h = false-true h
-    by_tests true false c d e f g i h = false-true h
-    by_tests false b c d e f g i h = false-true h
+    by_tests true true false false e f g i h = from_false-true h
+    by_tests true true true d e f g i h = from_false-true h
+    by_tests true false c d e f g i h = from_false-true h
+    by_tests false b c d e f g i h = from_false-true h
 
 -- ---- another kind
 
@@ -76,7 +70,7 @@ other_kind k old new (spots.Leaf a p from x) (spots.Frame n b y) on h = refl
 other_kind k old new (spots.Frame m a x) (spots.Leaf b q to y) on h = refl
 other_kind k old new spots.Off (spots.Leaf b q to y) on h = refl
 other_kind k old new spots.Off (spots.Frame n b y) on h = refl
-other_kind k old new s spots.Off on h = false-true (sym on)
+other_kind k old new s spots.Off on h = from_false-true (sym on)
 
 -- a spot tells the kind of its screen
 on_kind : (t : Seen) (p : Point) (n : NodeId) (kind : NodeKind) → kind_in t.kind (spot_on t p n kind) ≡ t.kind
@@ -107,7 +101,7 @@ on_is : (t : Seen) → HasRoot t → (p : Point) → is_on t p ≡ true → is_o
 on_is t root p on = ap (λ b. is_off (cond b (spot_below t p t.nodes.root) spots.Off)) on ∙ by_root t.nodes.root root
   where
     by_root : (o : Option NodeId) → IsSome o → is_off (spot_below t p o) ≡ false
-    by_root None some = false-true some
+    by_root None some = from_false-true some
     by_root (Some r) some = on_node t p (owner t r p) (node t.nodes (owner t r p)).kind
 
 -- where the kind changes no point stays good

@@ -4,6 +4,7 @@ use Rattle.tr_base.specs.declared.Point.{Point}
 use Rattle.tr_base.specs.declared.Size.{Size}
 use Rattle.tr_base.specs.declared.NodeId.{NodeId}
 use Rattle.tr_base.specs.Rects.{before_shift, has_point, whole_of}
+use Rattle.tr_base.proofs.BoolLemmas.{from_false-true}
 use Rattle.tr_screen.specs.Pictures.{Picture, pixel_of}
 use Rattle.tr_screen.specs.Runs.{Repaints}
 use Rattle.tr_repair.specs.Moves.{MovesOn}
@@ -20,9 +21,6 @@ pub record IsMove (was is : Seen) (moved : Option NodeId) : Type 0 where
   pub root : HasRoot is
   pub size : (child : NodeId) → moved ≡ Some child → is.size ≡ was.size
 
-false-true : {X : Type 0} → false ≡ true → X
-false-true h = absurd cc
-
 on_same : (t u : Seen) → u.size ≡ t.size → (p : Point) → is_on t p ≡ true → is_on u p ≡ true
 on_same t u same p on = ap (λ (z : Size). has_point (whole_of z) p) same ∙ on
 
@@ -30,7 +28,7 @@ on_same t u same p on = ap (λ (z : Size). has_point (whole_of z) p) same ∙ on
 follows_from : (k : Keeping) (was is : Seen) (moved : Option NodeId) (bad : Point → Bool) → IsMove was is moved →
     (p : Point) → follows_by k (change was is moved bad) p ≡ true →
     (is_on is p ≡ true) × (is_on is (before_shift p (way_of_moved was is moved)) ≡ true)
-follows_from k was is None bad move p h = false-true h
+follows_from k was is None bad move p h = from_false-true h
 follows_from k was is (Some child) bad move p h = by_below (is_below is.nodes child (spot is p)) refl h
   where
     good : Bool
@@ -38,7 +36,7 @@ follows_from k was is (Some child) bad move p h = by_below (is_below is.nodes ch
 
     by_below : (b : Bool) → is_below is.nodes child (spot is p) ≡ b → (b && good) ≡ true →
         (is_on is p ≡ true) × (is_on is (before_shift p (way_of was is child)) ≡ true)
-    by_below false e g = false-true g
+    by_below false e g = from_false-true g
     by_below true e g =
         let fine : IsGood k was is (Some child) bad p = good_parts k was is (Some child) bad p g in
         let source : source_by was is (Some child) p ≡ before_shift p (way_of was is child) = ap (λ b. cond b (before_shift p (way_of was is child)) p) e in

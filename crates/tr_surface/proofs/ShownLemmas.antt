@@ -8,6 +8,7 @@ use Rattle.tr_base.specs.declared.NodeId.{NodeId}
 use Rattle.tr_base.specs.declared.LeafId.{LeafId}
 use Rattle.tr_base.specs.declared.Spot.TheVariants as spots
 use Rattle.tr_base.specs.Rects.{Edges, before_shift, has_point, whole_of}
+use Rattle.tr_base.proofs.BoolLemmas.{not_not}
 use Rattle.tr_region.specs.Points.{holds}
 use Rattle.tr_screen.specs.Pictures.{Picture, pixel_of}
 use Rattle.tr_paint.specs.declared.Paint.{Paint}
@@ -115,17 +116,13 @@ pub record IsExecuted (s new : Shown) (font : List (List ℕ)) (leaf : LeafId) (
   pub pixels : (p : Point) → is_on s.tree p ≡ true → is_in_leaf leaf (spot s.tree p) ≡ false → pixel_of new.screen p ≡ pixel_of s.screen p
   pub others : (p : Point) → is_in_leaf leaf (spot s.tree p) ≡ false → is_bad new p ≡ is_bad s p
 
-not_twice : (b : Bool) → not (not b) ≡ b
-not_twice true = refl
-not_twice false = refl
-
 -- the bad points of the leaf where these are its good ones
 pub bad_seen : (s new : Shown) → IsShown s → IsShown new → (leaf : LeafId) (n : NodeId) (visible : List Edges) → IsSeen s leaf n visible →
     (region : List Edges) → new.tree ≡ s.tree → new.good ≡ set s.good n.0 region → (none : Bool) (p : Point) →
     holds region p ≡ (holds visible p && not none) → is_in_leaf leaf (spot s.tree p) ≡ true → is_bad new p ≡ none
 bad_seen s new is after leaf n visible seen region tree good none p its in_it =
     bad_with s new is after n seen.is_node region tree good p (of_leaf s leaf n visible seen p ∙ in_it)
-    ∙ ap not (its ∙ ap (λ b. b && not none) (seen.are p ∙ in_it)) ∙ not_twice none
+    ∙ ap not (its ∙ ap (λ b. b && not none) (seen.are p ∙ in_it)) ∙ not_not none
 
 pub bad_unseen : (s new : Shown) → IsShown s → IsShown new → (leaf : LeafId) (n : NodeId) (visible : List Edges) → IsSeen s leaf n visible →
     (region : List Edges) → new.tree ≡ s.tree → new.good ≡ set s.good n.0 region → (p : Point) →

@@ -13,6 +13,7 @@ use Rattle.tr_base.specs.declared.LeafId.{LeafId}
 use Rattle.tr_base.specs.declared.Spot.{Spot}
 use Rattle.tr_base.specs.declared.Spot.TheVariants as spots
 use Rattle.tr_base.specs.Rects.{before_shift, has_point, whole_of}
+use Rattle.tr_base.proofs.BoolLemmas.{same_number, from_false-true}
 use Rattle.tr_forest.specs.declared.NodeKind.{NodeKind}
 use Rattle.tr_forest.specs.declared.NodeKind.TheVariants as kinds
 use Rattle.tr_forest.specs.Nodes.{node, leaf_of, is_leaf}
@@ -22,7 +23,7 @@ use Rattle.tr_tree.specs.Places.{domain}
 use Rattle.tr_spot.specs.Spots.{spot, spot_on, spot_below, is_in_leaf, is_on_frame, is_spot_of, from_corner}
 use Rattle.tr_spot.specs.Ways.{ends_at, owns}
 use Rattle.tr_spot.specs.Leaves.{same_size, same_kind}
-use Rattle.tr_spot.proofs.WayLemmas.{and_left, and_right, equal_numbers, equal_test, it_is}
+use Rattle.tr_spot.proofs.WayLemmas.{and_left, and_right, equal_numbers, it_is}
 use Rattle.tr_spot.proofs.SpotLemmas.{spot_is, leaf_spot, frame_spot}
 use Rattle.tr_surface.specs.declared.survivors.Survivors.TheVariants as variants
 use Rattle.tr_surface.specs.Surfaces.{is_on}
@@ -30,12 +31,6 @@ use Rattle.tr_surface.specs.TreeSteps.{Keeping, is_kept, same_point, survives}
 use Rattle.tr_surface.specs.Survivors.{corner, domain_size, leaf_survivors, survivors_by, has_survivor}
 
 -- ---- tests
-
-false-true : {X : Type 0} → false ≡ true → X
-false-true h = absurd cc
-
-same_number : (n : ℕ) → (n == n) ≡ true
-same_number n = equal_test n n refl
 
 same_kind_itself : (kind : Kind) → same_kind kind kind ≡ true
 same_kind_itself Mono = refl
@@ -131,8 +126,8 @@ leaf_apart k leaf (spots.Leaf a p from old) (spots.Leaf b q to new) h here =
     rw apart refl
 leaf_apart k leaf (spots.Frame n a old) (spots.Leaf b q to new) h here = refl
 leaf_apart k leaf spots.Off (spots.Leaf b q to new) h here = refl
-leaf_apart k leaf s (spots.Frame n b new) h here = false-true here
-leaf_apart k leaf s spots.Off h here = false-true here
+leaf_apart k leaf s (spots.Frame n b new) h here = from_false-true here
+leaf_apart k leaf s spots.Off h here = from_false-true here
 
 -- a frame's in the frame alone
 frame_apart : (k : Keeping) (n : NodeId) (s t : Spot) → is_on_frame n s ≡ false → is_on_frame n t ≡ true → survives k s t ≡ false
@@ -141,8 +136,8 @@ frame_apart k n (spots.Frame a x old) (spots.Frame b y new) h here =
     rw apart refl
 frame_apart k n (spots.Leaf a p from old) (spots.Frame b y new) h here = refl
 frame_apart k n spots.Off (spots.Frame b y new) h here = refl
-frame_apart k n s (spots.Leaf b q to new) h here = false-true here
-frame_apart k n s spots.Off h here = false-true here
+frame_apart k n s (spots.Leaf b q to new) h here = from_false-true here
+frame_apart k n s spots.Off h here = from_false-true here
 
 -- a point of a node, and one that isn't, before and after
 abbrev pub IsOf : Seen → NodeId → Point → Bool

@@ -7,15 +7,16 @@ use Rattle.tr_base.specs.declared.NodeId.{NodeId}
 use Rattle.tr_base.specs.declared.LeafId.{LeafId}
 use Rattle.tr_base.specs.declared.Spot.{Spot}
 use Rattle.tr_base.specs.Rects.{Edges, before_shift}
+use Rattle.tr_base.proofs.BoolLemmas.{and_false, and_true, or_true}
 use Rattle.tr_region.specs.Points.{holds}
 use Rattle.tr_forest.specs.Nodes.{Nodes, node, node_of, IsNode, leaf_of}
 use Rattle.tr_forest.specs.Families.{is_under}
 use Rattle.tr_forest.specs.Forests.{IsForest}
 use Rattle.tr_forest.proofs.LeafLemmas.{leaf_is_node_of}
+use Rattle.tr_forest.proofs.FamilyLemmas.{same_id}
 use Rattle.tr_tree.specs.Trees.{Seen}
 use Rattle.tr_tree.specs.Places.{domain}
 use Rattle.tr_spot.specs.Spots.{HasRoot, spot, spot_on, from_corner, region_of}
-use Rattle.tr_spot.proofs.NodeLemmas.{by_number}
 use Rattle.tr_spot.proofs.WayLemmas.{and_right}
 use Rattle.tr_surface.specs.declared.survivors.Survivors.{Survivors}
 use Rattle.tr_surface.specs.Surfaces.{AreOwn, IsShown, Shown, any_holds, is_bad, is_on}
@@ -41,7 +42,7 @@ below_is t forest child n p mine =
     by_leaf : (o : Option LeafId) → leaf_of (node t.nodes n).kind ≡ o → is_below t.nodes child (spot_on t p n (node t.nodes n).kind) ≡ is_under t.nodes child n
     by_leaf (Some leaf) e =
         ap (λ (s : Spot). is_below t.nodes child s) (leaf_on t p n (node t.nodes n).kind leaf e)
-        ∙ ap (λ (m : NodeId). is_under t.nodes child m) (sym (by_number n (node_of t.nodes leaf) (leaf_is_node_of t.nodes n leaf forest e)))
+        ∙ ap (λ (m : NodeId). is_under t.nodes child m) (sym (same_id n (node_of t.nodes leaf) (leaf_is_node_of t.nodes n leaf forest e)))
     by_leaf None e = ap (λ (s : Spot). is_below t.nodes child s) (frame_on t p n (node t.nodes n).kind e)
 
 pub source_is : (was is : Seen) → IsForest is.nodes → (moved : Option NodeId) (n : NodeId) (p : Point) → IsOf is n p ≡ true →
@@ -55,10 +56,6 @@ source_is was is forest (Some child) n p mine =
     by_test false = sym (before_none p)
 
 -- ---- the points of a node that are good
-
-and_false : (b : Bool) → (b && false) ≡ false
-and_false true = refl
-and_false false = refl
 
 -- what an edit leaves of two trees whose kind is the same
 pub record AreKin (was is : Seen) : Type 0 where
@@ -96,10 +93,6 @@ node_good k was is kin moved bad n p mine =
         ∙ sym (ap (λ b. b && not (bad from) && has_survivor k (survivors_from was is by n) (from_corner (domain is n) p)) e)
 
 -- ---- the good points of all nodes
-
-and_true : (b : Bool) → (b && true) ≡ b
-and_true true = refl
-and_true false = refl
 
 -- a point of a node is good where it goes on
 goes_good : (k : Keeping) (s : Shown) (is : Seen) → IsShown s → AreKin s.tree is → (moved : Option NodeId) (n : NodeId) → IsNode is.nodes n → (p : Point) →
@@ -184,10 +177,6 @@ moved_past n t child regions p none = sym (moved_more n t child regions p ∙ pl
     plain true u e = refl
     plain false true e = e
     plain false false e = refl
-
-or_true : (b : Bool) → (b || true) ≡ true
-or_true true = refl
-or_true false = refl
 
 moved_at : (n i : ℕ) (t : Nodes) (child : NodeId) (regions : List (List Edges)) (p : Point) → i < n →
     (is_under t child (record { 0 = i }) && holds (get_or regions i []) p) ≡ true → in_moved n t child regions p ≡ true

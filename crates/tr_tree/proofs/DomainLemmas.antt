@@ -10,7 +10,7 @@ use Rattle.tr_forest.specs.Forests.{IsForest}
 use Rattle.tr_tree.specs.Trees.{Seen}
 use Rattle.tr_tree.specs.Wishes.{shape}
 use Rattle.tr_tree.specs.Places.{index_of, child_places, place_below, domain, domain_within}
-use Rattle.tr_forest.proofs.FamilyLemmas.{tested_same, test_same, among_at, depth_zero, under_law}
+use Rattle.tr_forest.proofs.FamilyLemmas.{tested_same, test_same, among_at, under_law, no_depth}
 use Rattle.tr_tree.proofs.LayoutLemmas.{alike_itself, below_alike}
 use Rattle.tr_tree.proofs.KinLemmas.{index_at}
 use Rattle.tr_tree.proofs.FitLemmas.{all_empty, all_or}
@@ -20,9 +20,6 @@ use Rattle.tr_tree.proofs.FitLemmas.{all_empty, all_or}
 shallow : (o : Option NodeId) (dep : NodeId → ℕ) (m : ℕ) (p : NodeId) → o ≡ Some p → deeper o dep ≤ suc m → dep p ≤ m
 shallow None dep m p e h = absurd cc
 shallow (Some q) dep m p e h = let same : q ≡ p = cc in subst (λ (r : NodeId). dep r ≤ m) same (omega arith)
-
-no_depth : (t : Nodes) (n : NodeId) → depth_within 0 t n ≤ 0 → ⊥
-no_depth t n h = let one : depth_within 0 t n ≡ 1 = depth_zero t n in omega arith
 
 domain_enough : (f : ℕ) (t : Seen) (n : NodeId) → depth_within f t.nodes n ≤ f → domain_within (suc f) t n ≡ domain_within f t n
 unfolding domain_within depth_within

@@ -1,5 +1,6 @@
 -- Which edits leave the shapes of all nodes.
 use Rattle.std.proofs.Common.{◌≡◌, ℕ, ◌≤◌, Bool, true, false, cond, not, ◌==◌, List, [], ◌∷◌, Option, Some, None, map, refl, sym, ap, subst, ◌∙◌, arith, max}
+use Rattle.std.proofs.lemmas.Bool.{not-false}
 use Rattle.tr_base.specs.declared.Point.{Point}
 use Rattle.tr_base.specs.declared.NodeId.{NodeId}
 use Rattle.tr_base.specs.declared.Shapes.{Shapes}
@@ -96,10 +97,6 @@ first_passed : (b : Bool) (x : NodeFault) (o : Option NodeFault) → cond b (Som
 first_passed true x o h = cc
 first_passed false x o h = refl
 
-is_true : (b : Bool) → not b ≡ false → b ≡ true
-is_true true h = refl
-is_true false h = cc
-
 -- an edit leaves the shapes if the node that it changes wants the same as before, whatever its children want
 one_changed : (t : Nodes) (n : NodeId) (change : Entry → Entry) (l : Layout) → IsNode t n →
     ((s : NodeId → Shapes) →
@@ -116,7 +113,7 @@ lifted_kept : (t : Nodes) → IsForest t → (child : NodeId) (l : Layout) (o : 
 lifted_kept t forest child l None up z has = has
 lifted_kept t forest child l (Some p) up z has =
     one_changed t p (lifting child) l (parent_is_node t child p forest up)
-    (λ s. lifted_shape (node t p).kind s child (node t p).children (is_true (is_z (node t p).kind) z) (forest.parents child p up)) has
+    (λ s. lifted_shape (node t p).kind s child (node t p).children (not-false (is_z (node t p).kind) z) (forest.parents child p up)) has
 
 kept_by : (t : Nodes) → IsForest t → (l : Layout) → HasShapes t l → (edit : Edit) → IsEdit t edit → refusal t edit ≡ None → keeps_shapes edit ≡ true →
     HasShapes (edited t edit) l
@@ -129,7 +126,7 @@ kept_by t forest l has (edits.Lift child) fits allowed keeps =
     lifted_kept t forest child l (node t child).parent refl (first_passed _ _ _ allowed) has
 kept_by t forest l has (edits.Show n child) fits allowed keeps =
     one_changed t n (turned_to (kinds.T (Some child))) l fits.0
-    (λ s. shown_shape (node t n).kind (Some child) (map s (node t n).children) (is_true (is_t (node t n).kind) (first_passed _ _ _ allowed))) has
+    (λ s. shown_shape (node t n).kind (Some child) (map s (node t n).children) (not-false (is_t (node t n).kind) (first_passed _ _ _ allowed))) has
 kept_by t forest l has (edits.Turn n page) fits allowed keeps =
     one_changed t n (λ e. turned_to (paged page e.kind) e) l fits
     (λ s. turned_shape (node t n).kind page (map s (node t n).children)) has

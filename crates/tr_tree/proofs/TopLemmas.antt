@@ -1,7 +1,8 @@
 -- Each node lies below a topmost one.
-use Rattle.std.proofs.Common.{◌≡◌, ◌≢◌, ℕ, zero, suc, ◌≤◌, Bool, true, false, ◌||◌, ◌==◌, Option, Some, None, refl, ap, ◌∙◌, arith}
+use Rattle.std.proofs.Common.{◌≡◌, ◌≢◌, ℕ, zero, suc, ◌≤◌, true, false, ◌||◌, ◌==◌, Option, Some, None, refl, ap, ◌∙◌, arith}
 use Rattle.std.proofs.lemmas.Bool.Decides.{nat_tests}
 use Rattle.tr_base.specs.declared.NodeId.{NodeId}
+use Rattle.tr_base.proofs.BoolLemmas.{or_true}
 use Rattle.tr_forest.specs.Nodes.{Nodes, IsNode, node}
 use Rattle.tr_forest.specs.Families.{levels, deeper, depth_within, of_parent, is_under, is_under_within}
 use Rattle.tr_forest.specs.Forests.{IsForest}
@@ -9,10 +10,6 @@ use Rattle.tr_forest.proofs.FamilyLemmas.{depth_suc, depth_zero, parent_is_node,
 
 pub numbers_apart : (a b : NodeId) → (a.0 == b.0) ≡ false → a.0 ≢ b.0
 numbers_apart a b h e = let test : (a.0 == b.0) ≡ true = grind (arith, nat_tests) in absurd cc
-
-or_true : (b : Bool) → (b || true) ≡ true
-or_true true = refl
-or_true false = refl
 
 -- the topmost node above a node
 pub record IsTopOf (f : ℕ) (t : Nodes) (m : NodeId) : Type 0 where

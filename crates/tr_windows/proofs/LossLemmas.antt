@@ -1,8 +1,9 @@
 -- Commands that lose nothing: what is known of a point before them is known after them, or something else is.
-use Rattle.std.proofs.Common.{◌≡◌, ℕ, Bool, true, false, ◌||◌, cond, List, [], ◌∷◌, ◌++◌, Option, Some, None, option_map, refl, sym, ap, subst, append_assoc, ◌∙◌}
+use Rattle.std.proofs.Common.{◌≡◌, ℕ, Bool, true, false, cond, List, [], ◌∷◌, ◌++◌, Option, Some, None, option_map, refl, sym, ap, subst, append_assoc, ◌∙◌}
 use Rattle.std.specs.Prelude.{⊤, is_none, All}
 use Rattle.std.proofs.lemmas.List.{append-nil}
 use Rattle.std.proofs.lemmas.List.Elements.{All-nil, All-cons, All-head, All-tail}
+use Rattle.std.proofs.lemmas.Bool.{or_parts}
 use Rattle.tr_base.specs.declared.Point.{Point}
 use Rattle.tr_base.specs.declared.Op.{Op}
 use Rattle.tr_base.specs.declared.Kind.{Kind}
@@ -100,15 +101,11 @@ spares-one e (Alike c d) (Scroll clip delta) sparing clean is = (
 spares-one e Various (Scroll clip delta) sparing clean is = absurd sparing
 spares-one e s (Spoil clip) sparing clean is = cc
 
-neither : (a b : Bool) → (a || b) ≡ false → (a ≡ false) × (b ≡ false)
-neither false b h = (refl, h)
-neither true b h = cc
-
 -- the same for all commands of a batch
 spares-all : (e : Exposure) (s : Scrolls) (cs : List Paint) → AreSparing e s → has_spoil cs ≡ false → AreScrolls s cs → All (Spares e) cs
 spares-all e s [] sparing none are = All-nil (Spares e)
 spares-all e s (c ∷ cs) sparing none are =
-    let both = neither (is_spoil c) (has_spoil cs) none in
+    let both = or_parts (is_spoil c) (has_spoil cs) none in
     All-cons (Spares e) c cs (spares-one e s c sparing both.0 (All-head (IsOneOf s) c cs are))
     (spares-all e s cs sparing both.1 (All-tail (IsOneOf s) c cs are))
 

@@ -1,33 +1,12 @@
 -- What is the same of a window that isn't reshaped, and a walk that clears those that are.
-use Rattle.std.proofs.Common.{◌≡◌, ℕ, zero, suc, ◌+◌, Bool, true, false, not, ◌&&◌, ◌==◌, List, [], ◌∷◌, length, refl, ap, ◌∙◌, add-zero, arith}
-use Rattle.tr_base.specs.declared.Size.{Size}
-use Rattle.tr_base.specs.declared.Kind.{Kind}
-use Rattle.tr_base.specs.declared.Kind.TheVariants.{Mono, Map4, Map8}
+use Rattle.std.proofs.Common.{◌≡◌, ℕ, zero, suc, ◌+◌, Bool, true, false, not, ◌&&◌, List, [], ◌∷◌, length, refl, ap, ◌∙◌, add-zero, arith}
+use Rattle.tr_machine.proofs.AlterLemmas.{kinds_equal, sizes_equal}
 use Rattle.tr_base.specs.declared.LeafId.{LeafId}
 use Rattle.tr_spot.specs.Leaves.{leaf_size, same_size, same_kind}
-use Rattle.tr_spot.proofs.WayLemmas.{equal_numbers}
 use Rattle.tr_tree.specs.Trees.{Seen}
 use Rattle.tr_mail.specs.Deliveries.{is_reshaped}
 use Rattle.tr_windows.specs.Presents.{Present, refitted, cleared_from}
 use Rattle.tr_windows.proofs.ChangeLemmas.{changed_below, changed_below-first}
-
--- sizes with the same sides are equal
-sizes_are : (a b : Size) → same_size a b ≡ true → a ≡ b
-sizes_are a b h = by_sides (a.wide == b.wide) refl h
-  where
-    joined : (w h : ℕ) → a.wide ≡ w → a.high ≡ h → (let s : Size = record { wide = w; high = h } in a ≡ s)
-    joined w h p q = rw (← p, ← q) refl
-
-    by_sides : (x : Bool) → (a.wide == b.wide) ≡ x → x && (a.high == b.high) ≡ true → a ≡ b
-    by_sides true wide high = joined b.wide b.high (equal_numbers a.wide b.wide wide) (equal_numbers a.high b.high high)
-    by_sides false wide high = cc
-
--- kinds that are the same are equal
-kinds_are : (a b : Kind) → same_kind a b ≡ true → a ≡ b
-kinds_are Mono Mono h = refl
-kinds_are Map4 Map4 h = refl
-kinds_are Map8 Map8 h = refl
-kinds_are a b h = cc
 
 -- what a window has before and after an edit of the tree that doesn't reshape it
 pub record IsSameShape (was is : Seen) (leaf : LeafId) : Type 0 where
@@ -40,7 +19,7 @@ same_shape was is leaf h = by_tests (same_size (leaf_size was leaf) (leaf_size i
   where
     by_tests : (x y : Bool) → same_size (leaf_size was leaf) (leaf_size is leaf) ≡ x → same_kind was.kind is.kind ≡ y → not (x && y) ≡ false →
         IsSameShape was is leaf
-    by_tests true true size kind h = record { size = sizes_are _ _ size; kind = kinds_are _ _ kind }
+    by_tests true true size kind h = record { size = sizes_equal _ _ size; kind = kinds_equal _ _ kind }
     by_tests true false size kind h = cc
     by_tests false y size kind h = cc
 

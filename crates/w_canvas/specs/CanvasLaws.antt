@@ -9,6 +9,7 @@ use Rattle.std.proofs.lemmas.List.Elements.{All-append, All-take, All-from_recur
 use Rattle.std.proofs.lemmas.List.Sums.{fold-append}
 use Rattle.std.proofs.lemmas.Int.{ints}
 use Rattle.std.proofs.lemmas.Option.{slice_get_cases}
+use Rattle.std.proofs.lemmas.Bool.{and_parts}
 use borrow.Author.Tests.{ltb-true}
 use Rattle.tr_base.specs.declared.Point.{Point}
 use Rattle.tr_base.specs.declared.Size.{Size}
@@ -33,7 +34,7 @@ use Rattle.tr_paint.specs.Paintings.{IsPainting}
 use Rattle.tr_paint.proofs.PatchLemmas.{Gives, no_patch, kept_patch}
 use Rattle.tr_paint.proofs.PaintingLemmas.{Makes, painting_first, painting_more}
 use Rattle.tr_client.specs.Laws.{IsWindowSize, is_flat, IsEvent, Survives}
-use Rattle.tr_client.proofs.KeepingLemmas.{both_hold, survives-meet}
+use Rattle.tr_client.proofs.KeepingLemmas.{survives-meet}
 use Rattle.tr_client.proofs.FlatLemmas.{flat-whole, meet-nothing}
 use Rattle.tr_client.proofs.PlainLemmas.{meet-inside}
 use Rattle.w_canvas.specs.declared.canvases.Figure.{Figure}
@@ -195,7 +196,7 @@ canvas_contents x Undo valid known = without-valid x valid
 -- the small square at a point of the greatest window is in range
 square-valid : (at : Point) → is_drawable at ≡ true → IsArea (square_at at)
 square-valid at drawable =
-    let both = both_hold (between (pos 0) (pos longest) at.h) (between (pos 0) (pos longest) at.v) drawable in
+    let both = and_parts (between (pos 0) (pos longest) at.h) (between (pos 0) (pos longest) at.v) drawable in
     area-rect_of at.h (at.h +ℤ pos 2) at.v (at.v +ℤ pos 2) (here at.h both.0) (beyond at.h both.0) (here at.v both.1) (beyond at.v both.1)
   where
     here : (x : ℤ) → between (pos 0) (pos longest) x ≡ true → IsFigureEdge x

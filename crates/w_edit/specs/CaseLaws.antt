@@ -6,7 +6,7 @@ use Rattle.std.specs.Prelude.{nat_lt, nat_le, unsigned_abs}
 use Rattle.std.specs.List.{range_with_len}
 use Rattle.std.proofs.lemmas.Int.{ints}
 use Rattle.std.proofs.lemmas.Bool.Decides.{nat_tests}
-use Rattle.std.proofs.lemmas.Bool.{eqb-false}
+use Rattle.std.proofs.lemmas.Bool.{eqb-false, and_parts}
 use Rattle.std.proofs.lemmas.List.{length-take}
 use borrow.Author.Tests.{ltb-true, leb-true}
 use Rattle.tr_base.specs.declared.Point.{Point}
@@ -23,7 +23,6 @@ use Rattle.tr_paint.specs.Patches.{IsPatch}
 use Rattle.tr_paint.proofs.RunLemmas.{run_one, run, run-append, patch_by_run}
 use Rattle.tr_client.specs.Plain.{colour_of}
 use Rattle.tr_client.specs.Texts.{room, strip_of, begin_of, in_cells, line_colour, colour_in, upwards, downwards}
-use Rattle.tr_client.proofs.KeepingLemmas.{both_hold}
 use Rattle.tr_client.proofs.StripLemmas.{rows-from, scroll-left, below-strip, above-strip, above-inside, below-inside}
 use Rattle.tr_client.proofs.LineLemmas.{colour-beyond, colour-below, colour-above}
 use Rattle.w_edit.specs.Contents.{Contents}
@@ -289,7 +288,7 @@ one_put look size x y scroll i q here = put-run look size y i _ q here
 below-window : (size : Size) (q : Point) → IsIn size q → strip_of q + 1 < room size →
     has_point (whole_of size) (before_shift q upwards) ≡ true
 below-window size q here shows =
-    let both = both_hold _ _ (sym (has_point-rect_of (pos 0) (pos size.wide) (pos 0) (pos size.high) q) ∙ here) in
+    let both = and_parts _ _ (sym (has_point-rect_of (pos 0) (pos size.wide) (pos 0) (pos size.high) q) ∙ here) in
     has_point-rect_of (pos 0) (pos size.wide) (pos 0) (pos size.high) (before_shift q upwards)
     ∙ rw (across size.wide q.h both.0, down size.high q.v both.1 shows) refl
   where
@@ -302,7 +301,7 @@ below-window size q here shows =
 
 above-window : (size : Size) (q : Point) → IsIn size q → 0 < strip_of q → has_point (whole_of size) (before_shift q downwards) ≡ true
 above-window size q here some =
-    let both = both_hold _ _ (sym (has_point-rect_of (pos 0) (pos size.wide) (pos 0) (pos size.high) q) ∙ here) in
+    let both = and_parts _ _ (sym (has_point-rect_of (pos 0) (pos size.wide) (pos 0) (pos size.high) q) ∙ here) in
     has_point-rect_of (pos 0) (pos size.wide) (pos 0) (pos size.high) (before_shift q downwards)
     ∙ rw (across size.wide q.h both.0, down size.high q.v both.1 some) refl
   where

@@ -2,7 +2,7 @@
 -- These are proofs, which stand here since an impl cites nothing else of its crate; no contract cites them.
 use Rattle.std.proofs.Common.{◌≡◌, ℕ, ◌+◌, ◌-◌, ◌<◌, ◌≤◌, ◌==◌, Bool, true, false, cond, List, [], ◌∷◌, ◌++◌, length, take, drop, Some, None, refl, sym, ap, subst, ◌∙◌, arith, append_assoc}
 use Rattle.std.specs.Prelude.{All, nat_lt, nat_le, IfSome}
-use Rattle.std.proofs.lemmas.Bool.{eqb-false}
+use Rattle.std.proofs.lemmas.Bool.{eqb-false, and_parts}
 use Rattle.std.proofs.lemmas.List.{length-append, length-take, length-drop, take-append-drop, drop_more, get_or_at}
 use Rattle.std.proofs.lemmas.List.Elements.{All-nil, All-cons, All-push, All-append, All-take, All-drop, All-get_or}
 use borrow.Author.Tests.{ltb-true, leb-true}
@@ -10,7 +10,6 @@ use Rattle.tr_base.specs.declared.Event.{Event}
 use Rattle.tr_base.specs.declared.Event.TheVariants.{Key}
 use Rattle.tr_base.specs.Lines.{IsLine, is_printable}
 use Rattle.tr_client.specs.Laws.{IsEvent}
-use Rattle.tr_client.proofs.KeepingLemmas.{both_hold}
 use Rattle.tr_client.proofs.TextLemmas.{line_in_a_row}
 use Rattle.w_edit.specs.declared.commands.EditorCmd.{EditorCmd}
 use Rattle.w_edit.specs.declared.commands.EditorCmd.TheVariants.{Insert, Erase, Split, Goto, Copy, Paste}
@@ -129,7 +128,7 @@ inserted_is x text is line fit =
 
     room : length (line_of x) + length text ≤ 80
     room = leb-true (length (line_of x) + length text) 80
-        (both_hold (nat_lt 0 (length text)) (nat_le (length (line_of x) + length text) most_bytes) fit).1
+        (and_parts (nat_lt 0 (length text)) (nat_le (length (line_of x) + length text) most_bytes) fit).1
 
     halves : length (before x) + length (behind x) ≡ length (line_of x)
     halves = let c = is.column in omega (arith, before-length x is, length-drop x.column (line_of x))
@@ -176,7 +175,7 @@ joined_is x is can =
 
     room : length (line_at x (x.row - 1)) + length (line_of x) ≤ 80
     room = leb-true (length (line_at x (x.row - 1)) + length (line_of x)) 80
-        (both_hold (nat_lt 0 x.row) (nat_le (length (line_at x (x.row - 1)) + length (line_of x)) most_bytes) can).1
+        (and_parts (nat_lt 0 x.row) (nat_le (length (line_at x (x.row - 1)) + length (line_of x)) most_bytes) can).1
 
 pub broken_is : (x : Contents) → IsContents x → nat_lt (length x.lines) most_lines ≡ true → IsContents (broken x)
 broken_is x is can =

@@ -4,7 +4,7 @@ use Rattle.std.proofs.Common.{◌≡◌, ℕ, ◌+◌, ◌-◌, ◌<◌, ◌≤�
 use Rattle.std.specs.Prelude.{nat_lt, nat_le, ◌↔◌}
 use Rattle.std.specs.List.{range_with_len}
 use Rattle.std.proofs.lemmas.Bool.Decides.{nat_tests}
-use Rattle.std.proofs.lemmas.Bool.{eqb-false}
+use Rattle.std.proofs.lemmas.Bool.{eqb-false, and_parts}
 use Rattle.std.proofs.lemmas.Grind.{flat_map-append}
 use Rattle.std.proofs.lemmas.List.{length-take, length-drop, get_or_append_left, get_or-append_right, get_or-take, get_or-drop, take_min}
 use borrow.Author.Tests.{ltb-true}
@@ -27,7 +27,7 @@ use Rattle.tr_paint.specs.Paintings.{IsPainting}
 use Rattle.tr_paint.proofs.PatchLemmas.{no_patch}
 use Rattle.tr_paint.proofs.PaintingLemmas.{Makes, painting_more, painting_along}
 use Rattle.tr_client.specs.Laws.{IsWindowSize, is_flat, Survives}
-use Rattle.tr_client.proofs.KeepingLemmas.{both_hold, survives-meet, survives-nothing}
+use Rattle.tr_client.proofs.KeepingLemmas.{survives-meet, survives-nothing}
 use Rattle.tr_client.proofs.FlatLemmas.{flat-whole, meet-nothing}
 use Rattle.tr_client.proofs.PlainLemmas.{meet-inside}
 use Rattle.tr_client.specs.Texts.{room, strip_of, begin_of, colour_in, strips_between, upwards, downwards}
@@ -201,7 +201,7 @@ leads look size x Erase is some does other = by_column (x.column == 0) refl does
         (let y = cond b (joined_above x) (erased x) in LeadsByCommand look size x y (cond b (lines_joined size x y) (rewritten size y)))
     by_column true first can =
         leads-joined look size x is some
-        (ltb-true 0 x.row (both_hold (nat_lt 0 x.row) (nat_le (length (line_at x (x.row - 1)) + length (line_of x)) 80) can).0)
+        (ltb-true 0 x.row (and_parts (nat_lt 0 x.row) (nat_le (length (line_at x (x.row - 1)) + length (line_of x)) 80) can).0)
     by_column false later can =
         leads-rewritten look size x (erased x) some refl
         (λ k apart. line_changed size x (take (x.column - 1) (line_of x) ++ behind x) k is apart)
@@ -440,7 +440,7 @@ changes x (Insert text) does other same = put_changes text does same
     put_changes text does same =
         let column : x.column + length text ≡ x.column = ap (λ (y : Contents). y.column) same in
         let some : 0 < length text =
-        ltb-true 0 (length text) (both_hold (nat_lt 0 (length text)) (nat_le (length (line_of x) + length text) 80) does).0 in
+        ltb-true 0 (length text) (and_parts (nat_lt 0 (length text)) (nat_le (length (line_of x) + length text) 80) does).0 in
         omega arith
 changes x Erase does other same = by_column (x.column == 0) refl does same
   where
@@ -448,7 +448,7 @@ changes x Erase does other same = by_column (x.column == 0) refl does same
     by_column true first can same =
         let row : x.row - 1 ≡ x.row = ap (λ (y : Contents). y.row) same in
         let some : 0 < x.row =
-        ltb-true 0 x.row (both_hold (nat_lt 0 x.row) (nat_le (length (line_at x (x.row - 1)) + length (line_of x)) 80) can).0 in
+        ltb-true 0 x.row (and_parts (nat_lt 0 x.row) (nat_le (length (line_at x (x.row - 1)) + length (line_of x)) 80) can).0 in
         omega arith
     by_column false later can same =
         let column : x.column - 1 ≡ x.column = ap (λ (y : Contents). y.column) same in
@@ -465,7 +465,7 @@ changes x (Copy from to) does other same = cc
 changes x Paste does other same =
     let column : x.column + length x.clip ≡ x.column = ap (λ (y : Contents). y.column) same in
     let some : 0 < length x.clip =
-    ltb-true 0 (length x.clip) (both_hold (nat_lt 0 (length x.clip)) (nat_le (length (line_of x) + length x.clip) 80) does).0 in
+    ltb-true 0 (length x.clip) (and_parts (nat_lt 0 (length x.clip)) (nat_le (length (line_of x) + length x.clip) 80) does).0 in
     omega arith
 
 -- a command that doesn't copy leaves all as it is just where it hasn't its effect

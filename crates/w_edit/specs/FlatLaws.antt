@@ -4,7 +4,7 @@ use Rattle.std.proofs.Common.{◌≡◌, ℕ, ◌+◌, ◌-◌, ◌<◌, ◌==�
 use Rattle.std.specs.Prelude.{All, nat_lt, nat_le, flat_map}
 use Rattle.std.specs.List.{join_with_byte, AllByRecursion}
 use Rattle.std.proofs.lemmas.Bool.Decides.{nat_tests}
-use Rattle.std.proofs.lemmas.Bool.{eqb-false}
+use Rattle.std.proofs.lemmas.Bool.{eqb-false, and_parts}
 use Rattle.std.proofs.lemmas.List.{append-nil, length-append, take_at, drop_at, take_more, get_or_at}
 use Rattle.std.proofs.Math.Seq.{take-length}
 use Rattle.std.proofs.lemmas.List.Splits.{slice_split_none, slice_split_at}
@@ -12,7 +12,6 @@ use Rattle.std.proofs.lemmas.List.Concat.{flat_map-append}
 use Rattle.std.proofs.lemmas.List.Elements.{All-take, All-get_or, All-head, All-tail, All-weaker}
 use borrow.Author.Tests.{ltb-true}
 use Rattle.tr_base.specs.Lines.{IsLine, is_printable}
-use Rattle.tr_client.proofs.KeepingLemmas.{both_hold}
 use Rattle.w_edit.specs.declared.commands.EditorCmd.{EditorCmd}
 use Rattle.w_edit.specs.declared.commands.EditorCmd.TheVariants.{Insert, Erase, Split, Goto, Copy, Paste}
 use Rattle.w_edit.specs.Numbers.{most_bytes}
@@ -254,7 +253,7 @@ flat-effect x Erase is does = by_column (x.column == 0) refl does
         let start : x.column ≡ 0 = eqb-true x.column 0 first in
         let some : 0 < x.row =
         ltb-true 0 x.row
-        (both_hold (nat_lt 0 x.row) (nat_le (length (line_at x (x.row - 1)) + length (line_of x)) most_bytes) can).0 in
+        (and_parts (nat_lt 0 x.row) (nat_le (length (line_at x (x.row - 1)) + length (line_of x)) most_bytes) can).0 in
         let loses = joined-loses x is start some in
         same_text _ _ (flat-lost x (joined_above x) _ _ is loses) (place-lost x (joined_above x) _ _ is loses) refl
     by_column false later can =

@@ -5,7 +5,7 @@ use Rattle.std.specs.Prelude.{nat_lt, int_le, slice_index, slice_set, unsigned_a
 use Rattle.std.specs.Int.{int_max}
 use Rattle.std.proofs.lemmas.Int.{ints, clamps}
 use Rattle.std.proofs.lemmas.Bool.Decides.{nat_tests}
-use Rattle.std.proofs.lemmas.Bool.{eqb-false}
+use Rattle.std.proofs.lemmas.Bool.{eqb-false, and_parts}
 use Rattle.std.proofs.lemmas.List.{get_or-set_same, get_or-set_other, length-set, length-take, get_or-take}
 use borrow.Author.Tests.{ltb-true}
 use Rattle.tr_base.specs.declared.Point.{Point}
@@ -28,7 +28,7 @@ use Rattle.tr_paint.proofs.PaintingLemmas.{Makes, painting_first, painting_more}
 use Rattle.tr_client.proofs.PlainLemmas.{meet-inside, pixel-colour_of}
 use Rattle.tr_client.specs.Laws.{IsWindowSize, is_flat, IsEvent, Survives}
 use Rattle.tr_client.specs.Plain.{colour_of}
-use Rattle.tr_client.proofs.KeepingLemmas.{both_hold, survives-nothing}
+use Rattle.tr_client.proofs.KeepingLemmas.{survives-nothing}
 use Rattle.tr_client.proofs.FlatLemmas.{flat-whole, meet-nothing}
 use Rattle.w_meter.specs.declared.meters.MeterCmd.{MeterCmd}
 use Rattle.w_meter.specs.declared.meters.MeterCmd.TheVariants.{Bar}
@@ -57,7 +57,7 @@ lies-between low high x h = record { first = grind (arith, ints); last = grind (
 pub lies-whole : (size : Size) (q : Point) → has_point (whole_of size) q ≡ true →
     Lies (pos 0) (pos size.wide) q.h × Lies (pos 0) (pos size.high) q.v
 lies-whole size q here =
-    let both = both_hold _ _ (sym (has_point-rect_of (pos 0) (pos size.wide) (pos 0) (pos size.high) q) ∙ here) in
+    let both = and_parts _ _ (sym (has_point-rect_of (pos 0) (pos size.wide) (pos 0) (pos size.high) q) ∙ here) in
     (lies-between _ _ _ both.0, lies-between _ _ _ both.1)
 
 -- within the window the rows from a bar's top on are those from its height on, and the others lie above

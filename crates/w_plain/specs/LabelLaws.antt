@@ -4,6 +4,7 @@ use Rattle.std.proofs.Common.{◌≡◌, ◌<◌, ◌&&◌, Bool, true, false, c
 use Rattle.std.specs.Prelude.{nat_lt, IfSome}
 use Rattle.std.proofs.lemmas.List.{length-append}
 use Rattle.std.proofs.lemmas.List.Elements.{All-push}
+use Rattle.std.proofs.lemmas.Bool.{and_parts}
 use borrow.Author.Tests.{ltb-true}
 use Rattle.tr_base.specs.declared.Point.{Point}
 use Rattle.tr_base.specs.declared.Size.{Size}
@@ -21,7 +22,7 @@ use Rattle.tr_paint.specs.Paintings.{IsPainting}
 use Rattle.tr_paint.proofs.PaintingLemmas.{painting_alone, painting_pushed, painting_is_patch}
 use Rattle.tr_client.specs.Laws.{IsWindowSize, is_flat, IsEvent, Survives}
 use Rattle.tr_client.specs.Plain.{plain, origin}
-use Rattle.tr_client.proofs.KeepingLemmas.{both_hold, survives-meet}
+use Rattle.tr_client.proofs.KeepingLemmas.{survives-meet}
 use Rattle.tr_client.proofs.FlatLemmas.{flat-whole, meet-nothing}
 use Rattle.tr_client.proofs.PlainLemmas.{text-makes, meet-inside, pixel-text}
 use Rattle.w_plain.specs.declared.labels.Label.{Label}
@@ -46,7 +47,7 @@ label_answers x (Key time code) valid known = by_test (is_printable code && nat_
     by_test : (b : Bool) → (is_printable code && nat_lt (length x.text) 80) ≡ b →
         IfSome (cond b (Some (Text (x.text ++ code ∷ []))) None) (λ cmd. IsLabelCmd cmd)
     by_test true fits =
-        let both = both_hold (is_printable code) (nat_lt (length x.text) 80) fits in
+        let both = and_parts (is_printable code) (nat_lt (length x.text) 80) fits in
         let room : length x.text < 80 = ltb-true (length x.text) 80 both.1 in
         record {
           short = omega (arith, room, length-append x.text (code ∷ []));

@@ -1,5 +1,6 @@
 use Rattle.std.proofs.Common.{refl, arith}
-use Rattle.tr_chunks.proofs.ChunkLemmas.{none_added, still_at_steps, next_playable, chunk_added, all_added, no_length}
+use Rattle.std.proofs.lemmas.List.{nil_from_length}
+use Rattle.tr_chunks.proofs.ChunkLemmas.{none_added, still_at_steps, next_playable, chunk_added, all_added}
 use Rattle.tr_chunks.proofs.chunks.add_chunks.Goals as goal
 
 pub loop-chunk-init : goal.loop-chunk-init
@@ -26,4 +27,4 @@ pub returns : goal.returns
 returns c =
     all_added c.args.reader.now c.loop-chunk.reader c.args.chunks.items c.loop-chunk.yielded c.loop-chunk.chunk-iterator.rest.items
     c.loop-chunk.invariant
-    (no_length c.loop-chunk.chunk-iterator.rest.items (omega (arith, c.loop-chunk.chunk-iterator.rest.ok, c.in-None.ensures.steps.0)))
+    (nil_from_length c.loop-chunk.chunk-iterator.rest.items (omega (arith, c.loop-chunk.chunk-iterator.rest.ok, c.in-None.ensures.steps.0)))

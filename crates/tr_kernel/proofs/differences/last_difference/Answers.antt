@@ -1,7 +1,7 @@
 use Rattle.std.proofs.Common.{◌-◌, ◌*◌, arith, sym, ◌∙◌}
+use Rattle.std.proofs.lemmas.Grind.{same_number_lists}
 use Rattle.tr_kernel.proofs.AgreeLemmas.{agree_earlier, highest}
 use Rattle.tr_kernel.proofs.PairLemmas.{none_differs}
-use Rattle.tr_kernel.proofs.DoneLemmas.{same_list}
 use Rattle.tr_kernel.proofs.differences.last_difference.Goals as goal
 
 pub returns-then-differ_from-clause-found : goal.returns-then-differ_from-clause-found
@@ -17,4 +17,4 @@ loop-chunk-preserved c =
     (omega arith) c.loop-chunk.invariant
 
 pub returns-clause-equal : goal.returns-clause-equal
-returns-clause-equal c = same_list c.args.a.now c.args.b.now c.requires (λ k lt. c.loop-chunk.invariant.same k (omega arith) lt)
+returns-clause-equal c = same_number_lists c.args.a.now c.args.b.now c.requires (λ k lt. c.loop-chunk.invariant.same k (omega arith) lt)

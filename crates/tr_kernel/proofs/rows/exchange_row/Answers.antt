@@ -1,7 +1,8 @@
 use Rattle.std.proofs.Common.{map, get_or, ap, ◌∙◌, sym, arith}
 use Rattle.std.proofs.lemmas.List.{length-map, get_or-map}
+use Rattle.std.proofs.lemmas.Grind.{same_number_lists}
 use Rattle.tr_base.specs.Ops.{exchanged}
-use Rattle.tr_kernel.proofs.DoneLemmas.{one_done, same_list}
+use Rattle.tr_kernel.proofs.DoneLemmas.{one_done}
 use Rattle.tr_kernel.proofs.rows.exchange_row.Goals as goal
 
 pub loop-pixel-preserved : goal.loop-pixel-preserved
@@ -16,5 +17,5 @@ pub returns-clause-whole : goal.returns-clause-whole
 returns-clause-whole c =
     let f = exchanged c.args.x c.args.y in
     let old = c.args.row.now in
-    same_list c.loop-pixel.row (map f old) (omega (arith, length-map old f)) (λ k lt. c.loop-pixel.invariant.done k (omega arith)
+    same_number_lists c.loop-pixel.row (map f old) (omega (arith, length-map old f)) (λ k lt. c.loop-pixel.invariant.done k (omega arith)
     ∙ sym (get_or-map f old k 0 0 (omega arith)))

@@ -1,6 +1,7 @@
-use Rattle.std.proofs.Common.{◌≡◌, ℕ, ◌<◌, ◌↔◌, List, [], ◌∷◌, ◌++◌, length, drop, Option, Some, None, refl, sym, ◌∙◌, ap, arith, append-nil, append_assoc}
+use Rattle.std.proofs.Common.{◌≡◌, ℕ, ◌<◌, ◌↔◌, List, [], ◌∷◌, ◌++◌, length, drop, Option, Some, None, sym, ◌∙◌, ap, arith, append-nil, append_assoc}
 use Rattle.std.specs.Prelude.{IsSome}
 use Rattle.std.specs.Option.{option_to_list}
+use Rattle.std.proofs.lemmas.List.{nil_from_length}
 use Rattle.trestle.proofs.runs.after_name.Goals as goal
 
 -- what is left after the first element, if there is one
@@ -9,15 +10,11 @@ after_first None [] ys n e h len = sym e
 after_first {X = X} None (x ∷ xs) ys n e h len = let some : IsSome {T = X} None = h.1 (omega arith) in cc
 after_first (Some x) xs ys n e h len = ap (drop 1) (sym e)
 
-none_left : {X : Type 0} (xs : List X) → length xs ≡ 0 → xs ≡ []
-none_left [] e = refl
-none_left (x ∷ xs) e = absurd (omega arith)
-
 one_taken : {X : Type 0} (taken rest rest_new all : List X) (x : X) → taken ++ rest ≡ all → rest ≡ x ∷ rest_new → (taken ++ x ∷ []) ++ rest_new ≡ all
 one_taken {X = X} taken rest rest_new all x h e = append_assoc taken (x ∷ []) rest_new ∙ ap (λ (l : List X). taken ++ l) (sym e) ∙ h
 
 all_taken : {X : Type 0} (taken rest all : List X) → taken ++ rest ≡ all → length rest ≡ 0 → taken ≡ all
-all_taken {X = X} taken rest all h e = sym (append-nil taken) ∙ ap (λ (l : List X). taken ++ l) (sym (none_left rest e)) ∙ h
+all_taken {X = X} taken rest all h e = sym (append-nil taken) ∙ ap (λ (l : List X). taken ++ l) (sym (nil_from_length rest e)) ∙ h
 
 pub loop-argument-init : goal.loop-argument-init
 loop-argument-init c =

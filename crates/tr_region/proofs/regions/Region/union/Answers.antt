@@ -1,7 +1,8 @@
 use Rattle.std.proofs.Common.{◌||◌, ◌++◌, ◌∙◌}
+use Rattle.tr_base.proofs.BoolLemmas.{or_swap}
 use Rattle.tr_region.specs.Points.{holds}
 use Rattle.tr_region.proofs.BandLemmas.{holds-append}
-use Rattle.tr_region.proofs.RegionLemmas.{holds-answer, or_swap}
+use Rattle.tr_region.proofs.RegionLemmas.{holds-answer}
 use Rattle.tr_region.proofs.regions.Region.union.Goals as goal
 
 pub returns-then-is_north_of : goal.returns-then-is_north_of

@@ -1,12 +1,12 @@
 use Rattle.std.proofs.Common.{◌≡◌, ℤ, ◌-ℤ◌, true, refl, sym, ap, ◌∙◌, arith}
 use Rattle.std.proofs.lemmas.Int.{ints}
 use Rattle.std.specs.Prelude.{neg_ℤ}
+use Rattle.std.proofs.lemmas.Bool.{and_parts}
 use Rattle.tr_base.specs.declared.Point.{Point}
 use Rattle.tr_base.specs.Rects.{before_shift, has_point}
 use Rattle.tr_region.specs.Points.{holds}
 use Rattle.tr_region.proofs.ExtentsLemmas.{extents_least}
 use Rattle.tr_region.proofs.OrderLemmas.{AreInOrder-canonical}
-use Rattle.tr_client.proofs.KeepingLemmas.{both_hold}
 use Rattle.tr_spot.specs.Spots.{spot, is_in_leaf}
 use Rattle.tr_spot.specs.Leaves.{leaf_corner}
 use Rattle.tr_surface.specs.Surfaces.{Shown, back_from, is_bad}
@@ -31,7 +31,7 @@ back_and_there q corner =
 pub shifted-bad-requires-clause-points : goal.shifted-bad-requires-clause-points
 shifted-bad-requires-clause-points c p h =
     let t = c.args.self.now.tree in
-    let bad = (both_hold (is_bad c.args.self.now p) (is_in_leaf c.args.leaf (spot t p)) (sym (c.in_ok-here.ensures p) ∙ h)).0 in
+    let bad = (and_parts (is_bad c.args.self.now p) (is_in_leaf c.args.leaf (spot t p)) (sym (c.in_ok-here.ensures p) ∙ h)).0 in
     let is = c.count.ensures.size in
     let size = rw c.tree.ensures.value at is in
     around_whole t.size (omega (arith, size.wide)) (omega (arith, size.high)) p (bad_on c.args.self.now p bad)
@@ -56,7 +56,7 @@ returns-clause-least c outer all =
     let bad = c.in_ok-bad.bad in
     let within : (q : Point) → holds bad q ≡ true → has_point outer q ≡ true = λ q h.
     let p : Point = before_shift q c.opposite.result in
-    let both = both_hold (is_bad s p) (is_in_leaf c.args.leaf (spot s.tree p))
+    let both = and_parts (is_bad s p) (is_in_leaf c.args.leaf (spot s.tree p))
     (sym (c.in_ok-here.ensures p) ∙ sym (c.in_ok-bad.ensures q) ∙ h) in
     let back : before_shift p corner ≡ q = ap (λ (d : Point). before_shift (before_shift q d) corner) way ∙ back_and_there q corner in
     sym (ap (has_point outer) back) ∙ all p both.1 both.0 in

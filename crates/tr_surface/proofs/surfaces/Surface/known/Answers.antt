@@ -3,6 +3,7 @@ use Rattle.tr_base.specs.declared.Point.{Point}
 use Rattle.tr_base.specs.declared.NodeId.{NodeId}
 use Rattle.tr_base.specs.declared.Kind.{Kind}
 use Rattle.tr_base.specs.Rects.{Edges}
+use Rattle.tr_base.proofs.BoolLemmas.{and_false}
 use Rattle.tr_region.specs.Points.{holds}
 use Rattle.tr_forest.specs.Forests.{IsForest}
 use Rattle.tr_tree.specs.Trees.{Seen, edited_tree}
@@ -12,7 +13,7 @@ use Rattle.tr_surface.specs.Surfaces.{AreOwn, IsShown, Shown, any_holds, is_bad,
 use Rattle.tr_surface.specs.TreeSteps.{moved_child}
 use Rattle.tr_surface.specs.Survivors.{AreGoodAfter, AreSides, IsLike, change_to, follows_by, good_at, good_by, is_below_moved}
 use Rattle.tr_surface.proofs.GoodLemmas.{any_none}
-use Rattle.tr_surface.proofs.KnownLemmas.{none_good, and_false}
+use Rattle.tr_surface.proofs.KnownLemmas.{none_good}
 use Rattle.tr_surface.proofs.EditLemmas.{like_edited, rooted}
 use Rattle.tr_surface.proofs.TreeChangeLemmas.{AreFound, AreKin, good_found, follows_found}
 use Rattle.tr_surface.proofs.surfaces.Surface.known.Goals as goal

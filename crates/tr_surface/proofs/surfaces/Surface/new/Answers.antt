@@ -1,14 +1,11 @@
-use Rattle.std.proofs.Common.{Bool, true, false, ◌≡◌, ◌&&◌, not, List, refl, ap, ◌∙◌}
+use Rattle.std.proofs.Common.{◌&&◌, not, List, ap, ◌∙◌}
 use Rattle.tr_base.specs.declared.NodeId.{NodeId}
 use Rattle.tr_base.specs.Rects.{Edges}
+use Rattle.tr_base.proofs.BoolLemmas.{and_true}
 use Rattle.tr_region.specs.Points.{holds}
 use Rattle.tr_surface.specs.Surfaces.{is_on}
 use Rattle.tr_surface.proofs.GoodLemmas.{any_none, bad_is}
 use Rattle.tr_surface.proofs.surfaces.Surface.new.Goals as goal
-
-and_true : (b : Bool) → (b && true) ≡ b
-and_true true = refl
-and_true false = refl
 
 pub returns-clause-bad_all : goal.returns-clause-bad_all
 returns-clause-bad_all c = λ p.

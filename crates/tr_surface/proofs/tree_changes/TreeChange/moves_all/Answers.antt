@@ -1,10 +1,10 @@
 use Rattle.std.proofs.Common.{◌≡◌, inl, inr, sym, subst, arith}
+use Rattle.tr_forest.proofs.FamilyLemmas.{same_id}
 use Rattle.std.proofs.lemmas.Bool.{cases_lt}
 use Rattle.tr_base.specs.declared.Point.{Point}
 use Rattle.tr_base.specs.declared.NodeId.{NodeId}
 use Rattle.tr_base.specs.Rects.{before_shift, has_point}
 use Rattle.tr_tree.specs.Places.{domain}
-use Rattle.tr_spot.proofs.NodeLemmas.{by_number}
 use Rattle.tr_surface.specs.Survivors.{way_from}
 use Rattle.tr_surface.proofs.tree_changes.TreeChange.moves_all.Goals as goal
 
@@ -17,7 +17,7 @@ loop-i-preserved c = λ m p lt.
       | inr not_before ↦
           let same : m.0 ≡ c.loop-i.i = omega (arith, lt, not_before) in
           subst (λ (n : NodeId). has_point (domain s.is.now n) p ≡ has_point (domain s.was.now n) (before_shift p (way_from s.was.now s.is.now s.moved n)))
-          (sym (by_number m here same)) (c.moves.ensures c.if-not-moves.false p)
+          (sym (same_id m here same)) (c.moves.ensures c.if-not-moves.false p)
     ]
 
 pub returns : goal.returns

@@ -1,6 +1,7 @@
-use Rattle.std.proofs.Common.{◌≡◌, Bool, true, false, ◌&&◌, ◌||◌, List, refl, sym, ap, ◌∙◌, arith}
+use Rattle.std.proofs.Common.{◌≡◌, true, false, ◌&&◌, ◌||◌, List, sym, ap, ◌∙◌, arith}
 use Rattle.std.proofs.lemmas.Result.{IfOk-weaker}
 use Rattle.tr_base.specs.Rects.{Edges}
+use Rattle.tr_base.proofs.BoolLemmas.{or_false}
 use Rattle.tr_region.specs.Points.{holds}
 use Rattle.tr_forest.specs.Families.{is_under}
 use Rattle.tr_spot.specs.Spots.{region_of}
@@ -8,10 +9,6 @@ use Rattle.tr_spot.proofs.GainLemmas.{read_region}
 use Rattle.tr_surface.specs.Survivors.{in_moved}
 use Rattle.tr_surface.proofs.TreeChangeLemmas.{moved_more}
 use Rattle.tr_surface.proofs.tree_changes.TreeChange.with_node.Goals as goal
-
-or_none : (b : Bool) → (b || false) ≡ b
-or_none true = refl
-or_none false = refl
 
 pub returns-then-is_under : goal.returns-then-is_under
 returns-then-is_under c = IfOk-weaker c.union-more.result _ _ (λ r h p.
@@ -36,4 +33,4 @@ returns-else-is_under c = λ p.
     let before = in_moved n.0 t child c.args.good.now p in
     let under : is_under t child n ≡ false = sym c.is_under.ensures ∙ c.if-is_under.false in
     c.requires.points p
-    ∙ sym (moved_more n t child c.args.good.now p ∙ ap (λ b. before || (b && holds (region_of c.args.good.now n) p)) under ∙ or_none before)
+    ∙ sym (moved_more n t child c.args.good.now p ∙ ap (λ b. before || (b && holds (region_of c.args.good.now n) p)) under ∙ or_false before)
