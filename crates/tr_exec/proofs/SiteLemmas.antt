@@ -3,10 +3,9 @@ use Rattle.std.proofs.Common.{◌≡◌, ℕ, ◌≤◌, ℤ, pos, neg_ℤ, ◌+
 use Rattle.std.specs.List.{AllByRecursion}
 use Rattle.std.proofs.lemmas.Int.{ints}
 use Rattle.tr_base.specs.declared.Point.{Point}
-use Rattle.tr_base.specs.Rects.{Edges, InReach, AreInReach, between, has_point, shifted, whole_of}
+use Rattle.tr_base.specs.Rects.{Edges, InReach, AreInReach, between, has_point, shifted, whole_of, IsScreenSize}
 use Rattle.tr_base.proofs.RectLemmas.{has_point-rect_of}
 use Rattle.tr_base.specs.declared.Size.{Size}
-use Rattle.tr_screen.specs.Pictures.{IsScreenSize}
 use Rattle.std.proofs.lemmas.Bool.{and_parts}
 use Rattle.tr_region.specs.Points.{holds}
 use Rattle.tr_region.specs.Bands.{IsCanonical}

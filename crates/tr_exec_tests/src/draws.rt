@@ -1,6 +1,6 @@
 //! Batches, regions and screens that are drawn at random.
 ghost use Rattle.std.specs.Prelude.{◌≡◌};
-ghost use Rattle.tr_screen.specs.Pictures.{IsScreenSize};
+ghost use Rattle.tr_base.specs.Rects.{IsScreenSize};
 ghost use Rattle.tr_paint.specs.Paints.{IsNearZero, IsNearPaint, IsNearPoint, IsNearRect};
 ghost use Rattle.tr_exec.specs.Executions.{IsOrigin, RegionLiesOn};
 

@@ -1,11 +1,11 @@
 -- What an edit makes of the nodes, and where it is refused.
-use Rattle.std.specs.Prelude.{◌≡◌, ℕ, ◌+◌, ◌≤◌, ⊤, Bool, true, false, not, ◌&&◌, ◌||◌, ◌==◌, nat_lt, if◌then◌else◌, List, [], ◌∷◌, ◌++◌, Option, Some, None, is_some, set, length}
+use Rattle.std.specs.Prelude.{◌≡◌, ℕ, ◌+◌, ⊤, Bool, true, false, not, ◌&&◌, ◌||◌, ◌==◌, nat_lt, if◌then◌else◌, List, [], ◌∷◌, ◌++◌, Option, Some, None, is_some, set, length}
 use Rattle.std.specs.List.{filter}
 use Rattle.tr_base.specs.declared.Point.{Point}
 use Rattle.tr_base.specs.declared.NodeId.{NodeId}
 use Rattle.tr_base.specs.declared.Shapes.{Shapes}
-use Rattle.tr_base.specs.declared.Size.{Size}
 use Rattle.tr_base.specs.Layouts.{farthest, IsOffset}
+use Rattle.tr_base.specs.Rects.{IsScreenSize}
 use Rattle.tr_forest.specs.declared.kinds.NodeKind.{NodeKind}
 use Rattle.tr_forest.specs.declared.kinds.NodeKind.TheVariants as kinds
 use Rattle.tr_forest.specs.declared.edits.Edit.{Edit}
@@ -16,13 +16,6 @@ use Rattle.tr_forest.specs.declared.edits.EditRefused.{EditRefused}
 use Rattle.tr_forest.specs.declared.edits.EditRefused.TheVariants as refused
 use Rattle.tr_forest.specs.Nodes.{Entry, Nodes, IsNode, IsSize, node, is_leaf, is_z, is_t, is_page, is_border, is_rigid, is_translate, is_filter}
 use Rattle.tr_forest.specs.Families.{levels, depth, height, is_among, is_under, of_parent}
-
--- the screen of a tree has 1 to 1024 points each way
-pub record IsScreenSize (size : Size) : Type 0 where
-  pub some_wide : 1 ≤ size.wide
-  pub wide : size.wide ≤ 1024
-  pub some_high : 1 ≤ size.high
-  pub high : size.high ≤ 1024
 
 -- the numbers of an edit are those of nodes, and its values are within their ranges
 abbrev pub IsEdit : Nodes → Edit → Type 0

@@ -4,6 +4,7 @@ use Rattle.std.specs.List.{filter_map}
 use Rattle.tr_base.specs.declared.NodeId.{NodeId}
 use Rattle.tr_base.specs.declared.Kind.TheVariants.{Mono}
 use Rattle.tr_base.specs.Fonts.{empty_font}
+use Rattle.tr_base.specs.Rects.{IsScreenSize}
 use Rattle.tr_forest.specs.declared.NodeKind.{NodeKind}
 use Rattle.tr_forest.specs.declared.NodeKind.TheVariants as kinds
 use Rattle.tr_forest.specs.declared.Edit.TheVariants as edits
@@ -11,7 +12,7 @@ use Rattle.tr_forest.specs.declared.NodeFault.{NodeFault}
 use Rattle.tr_forest.specs.declared.NodeFault.TheVariants as faults
 use Rattle.tr_forest.specs.Nodes.{Nodes, new_entry, leaf_count}
 use Rattle.tr_forest.specs.Forests.{IsForest}
-use Rattle.tr_forest.specs.Edits.{IsScreenSize, hangs}
+use Rattle.tr_forest.specs.Edits.{hangs}
 use Rattle.tr_tree.specs.Trees.{Seen, edited_tree}
 use Rattle.tr_client.specs.declared.clients.Client.{Ghosts}
 use Rattle.tr_journal.specs.declared.items.Item.{Item}

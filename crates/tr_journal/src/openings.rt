@@ -1,6 +1,7 @@
 ghost use Rattle.std.specs.Prelude.{◌≡◌, ◌↔◌, ◌+◌, ◌<◌, ◌≤◌, ◌++◌, ◌∷◌, [], false, Some, None, IsTrue, IsNone, IsSome, IfOk, IfErr, IfSome, OnOk, OnErr, length, slice_get, vec_len, vec_capacity};
+ghost use Rattle.tr_base.specs.Rects.{IsScreenSize};
 ghost use Rattle.tr_forest.specs.Nodes.{IsNode, IsNodeKind, is_leaf, leaf_count, shown_by};
-ghost use Rattle.tr_forest.specs.Edits.{IsScreenSize, IsEdit, IsCause, refusal};
+ghost use Rattle.tr_forest.specs.Edits.{IsEdit, IsCause, refusal};
 ghost use Rattle.tr_journal.specs.Openings.{tree_of, font_of, content_in, contents_of, root_refusal, IsOpened, DifferAt};
 
 use crate::items::Item;

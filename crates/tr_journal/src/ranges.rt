@@ -2,8 +2,9 @@
 //! ranges. Calls that take steps or edits require this.
 ghost use Rattle.std.specs.Prelude.{◌↔◌, IsTrue, IfSome};
 ghost use Rattle.tr_base.specs.Layouts.{farthest, IsOffset};
+ghost use Rattle.tr_base.specs.Rects.{IsScreenSize};
 ghost use Rattle.tr_forest.specs.Nodes.{IsNode, IsSize};
-ghost use Rattle.tr_forest.specs.Edits.{IsEdit, IsScreenSize};
+ghost use Rattle.tr_forest.specs.Edits.{IsEdit};
 ghost use Rattle.tr_journal.specs.Steps.{AreLevels, IsButton, IsCage, IsClip, IsEdge, IsLeaf, IsPlace, IsPosition, IsQuery, IsStep, IsTime};
 
 use crate::steps::{Query, Step};

@@ -12,7 +12,7 @@ use Rattle.tr_base.specs.declared.NodeId.{NodeId}
 use Rattle.tr_base.specs.declared.Spot.{Spot}
 use Rattle.tr_base.specs.declared.Spot.TheVariants as spots
 use Rattle.tr_base.specs.declared.Op.TheVariants.{Set}
-use Rattle.tr_base.specs.Ops.{eff}
+use Rattle.tr_base.specs.Ops.{eff, same_kind}
 use Rattle.tr_base.specs.Layouts.{IsDomain}
 use Rattle.tr_base.specs.Rects.{has_point}
 use Rattle.tr_base.proofs.RectLemmas.{false-true}
@@ -28,7 +28,7 @@ use Rattle.tr_forest.specs.Forests.{IsForest}
 use Rattle.tr_tree.specs.Trees.{Seen, edited_tree}
 use Rattle.tr_tree.specs.Places.{domain}
 use Rattle.tr_spot.specs.Spots.{spot, is_in_leaf}
-use Rattle.tr_spot.specs.Leaves.{in_leaf, leaf_size, same_kind, same_size}
+use Rattle.tr_spot.specs.Leaves.{in_leaf, leaf_size, same_size}
 use Rattle.tr_spot.proofs.LeafLemmas.{IsPartOf, part_of}
 use Rattle.tr_spot.proofs.WayLemmas.{and_left, and_right, equal_numbers, equal_test}
 use Rattle.tr_spot.proofs.SpotLemmas.{leaf_by_number}

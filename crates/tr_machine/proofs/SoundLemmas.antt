@@ -11,6 +11,7 @@ use Rattle.tr_base.specs.declared.Kind.{Kind}
 use Rattle.tr_base.specs.declared.LeafId.{LeafId}
 use Rattle.tr_base.specs.declared.Event.{Event}
 use Rattle.tr_base.specs.Rects.{Edges}
+use Rattle.tr_base.specs.Ops.{same_kind}
 use Rattle.tr_paint.specs.Traces.{look_of, after}
 use Rattle.tr_paint.specs.Patches.{IsPatch}
 use Rattle.tr_exec.specs.Executions.{colour_after}
@@ -23,7 +24,7 @@ use Rattle.tr_forest.specs.Edits.{IsEdit, refusal}
 use Rattle.tr_forest.proofs.Editing.{follows_edited}
 use Rattle.tr_tree.specs.Trees.{Seen, edited_tree}
 use Rattle.tr_spot.specs.Spots.{spot}
-use Rattle.tr_spot.specs.Leaves.{leaf_corner, leaf_size, same_size, same_kind}
+use Rattle.tr_spot.specs.Leaves.{leaf_corner, leaf_size, same_size}
 use Rattle.tr_spot.proofs.WayLemmas.{and_left, and_right}
 use Rattle.tr_surface.specs.Surfaces.{is_on, is_frame}
 use Rattle.tr_surface.specs.TreeSteps.{good_after}

@@ -5,13 +5,14 @@ use Rattle.tr_base.specs.declared.LeafId.{LeafId}
 use Rattle.tr_base.specs.declared.Selection.{Selection}
 use Rattle.tr_base.specs.declared.Event.{Event}
 use Rattle.tr_base.specs.declared.Event.TheVariants as events
+use Rattle.tr_base.specs.Ops.{same_kind}
 use Rattle.tr_cage.specs.declared.Cage.{Cage}
 use Rattle.tr_cage.specs.declared.Cage.TheVariants.{Everywhere}
 use Rattle.tr_cage.specs.Cages.{cage_holds}
 use Rattle.tr_desk.specs.Desks.{Devices, state_of, with_state, click, receiver, after_mouse, selection_owner, owned_by, other_than}
 use Rattle.tr_tree.specs.Trees.{Seen}
 use Rattle.tr_spot.specs.Spots.{spot, is_in_leaf}
-use Rattle.tr_spot.specs.Leaves.{leaf_size, in_leaf, same_size, same_kind}
+use Rattle.tr_spot.specs.Leaves.{leaf_size, in_leaf, same_size}
 use Rattle.tr_mail.specs.Mails.{Mails, Sending, unsent, send, send_input, inbox_of, with_inbox}
 
 -- a button goes down or up: its leaf is told where the cursor is

@@ -3,6 +3,7 @@ ghost use Rattle.tr_base.specs.Rects.{InReach};
 ghost use Rattle.tr_base.specs.Layouts.{IsDomain};
 ghost use Rattle.tr_forest.specs.Nodes.{leaf_count};
 ghost use Rattle.tr_spot.specs.Spots as spots;
+ghost use Rattle.tr_base.specs.Ops as ops;
 ghost use Rattle.tr_spot.specs.Leaves as leaves;
 ghost use Rattle.tr_desk.specs.Faults.{time_fault};
 ghost use Rattle.tr_mail.specs.Deliveries as spec;
@@ -219,7 +220,7 @@ fn is_as_large(a: Rect, b: Rect) -> bool
 }
 
 fn same_kind(a: Kind, b: Kind) -> bool
-    ensures { result ≡ leaves.same_kind a b }
+    ensures { result ≡ ops.same_kind a b }
 {
     a == b
 }

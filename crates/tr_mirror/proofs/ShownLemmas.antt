@@ -2,7 +2,8 @@
 use Rattle.std.proofs.Common.{◌≡◌, ℕ, ◌+◌, ◌*◌, ◌<◌, ◌≤◌, ◌==◌, ◌||◌, ◌⊎◌, Bool, true, false, List, [], ◌∷◌, ◌++◌, length, drop, Option, Some, None, refl, sym, ap, subst, ◌∙◌, arith, inl, inr, if◌then◌else◌, append_assoc, length-append, is_some, is_none, not, nat_lt, nat_le, ◌&&◌, ◌≢◌, IsSome}
 use Rattle.std.proofs.lemmas.Bool.{true≢false, ne_eqb, eq-eqb, cases_eq, ltb-false, ltb-true, not-false, and_parts, or_parts, leb-true}
 use Rattle.std.proofs.lemmas.List.{append-nil}
-use Rattle.tr_screen.specs.Pictures.{Picture, IsScreenSize}
+use Rattle.tr_base.specs.Rects.{IsScreenSize}
+use Rattle.tr_screen.specs.Pictures.{Picture}
 use Rattle.tr_mirror.specs.declared.headers.Segment.{Segment}
 use Rattle.tr_mirror.specs.declared.headers.Header.{Header}
 use Rattle.tr_mirror.specs.declared.headers.Header.TheVariants.{Screen, Run, Fill, Cut}

@@ -3,7 +3,8 @@
 ghost use Rattle.std.specs.Prelude.{◌≡◌, ◌+◌, ◌≤◌, ◌<◌, length, true, false, None, replicate, IfOk, OnOk};
 ghost use Rattle.std.specs.List.{list_all};
 ghost use Rattle.tr_base.specs.Ops.{values_of};
-ghost use Rattle.tr_screen.specs.Pictures.{IsScreenSize, written_at};
+ghost use Rattle.tr_base.specs.Rects.{IsScreenSize};
+ghost use Rattle.tr_screen.specs.Pictures.{written_at};
 ghost use Rattle.tr_mirror.specs.Headers.{pixel_count};
 ghost use Rattle.tr_mirror.specs.Standings as spec;
 ghost use Rattle.tr_mirror.specs.Standings.{stream_start, begun, with_pixels, cut_off, pixels_written, after_record};

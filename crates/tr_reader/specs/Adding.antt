@@ -1,9 +1,10 @@
 -- Which lines can come behind those so far, and what comes of them.
 use Rattle.std.specs.Prelude.{◌≡◌, ◌≤◌, ℕ, ⊤, Bool, true, false, List, ◌++◌, Option, Some, None, is_some, Result, Ok, Err}
+use Rattle.tr_base.specs.Rects.{IsScreenSize}
 use Rattle.tr_forest.specs.declared.Edit.TheVariants as edits
 use Rattle.tr_forest.specs.declared.NodeFault.{NodeFault}
 use Rattle.tr_forest.specs.Nodes.{IsNode, IsNodeKind, is_leaf, shown_by}
-use Rattle.tr_forest.specs.Edits.{IsEdit, IsScreenSize}
+use Rattle.tr_forest.specs.Edits.{IsEdit}
 use Rattle.tr_journal.specs.declared.Item.{Item}
 use Rattle.tr_journal.specs.declared.Item.TheVariants as items
 use Rattle.tr_journal.specs.declared.Actor.{Actor}

@@ -1,8 +1,9 @@
 //! The items of an opening.
 ghost use Rattle.std.specs.Prelude.{◌≡◌, ◌<◌, ◌≤◌, ◌++◌, ◌∷◌, [], true, false, None, Option, IfErr, OnOk, OnErr, length};
+ghost use Rattle.tr_base.specs.Rects.{IsScreenSize};
 ghost use Rattle.tr_forest.specs.declared.NodeFault.{NodeFault};
 ghost use Rattle.tr_forest.specs.Nodes.{IsNode, IsNodeKind, is_leaf, leaf_count, shown_by};
-ghost use Rattle.tr_forest.specs.Edits.{IsCause, IsEdit, IsScreenSize, refusal};
+ghost use Rattle.tr_forest.specs.Edits.{IsCause, IsEdit, refusal};
 ghost use Rattle.tr_journal.specs.Openings.{root_refusal, tree_of};
 ghost use Rattle.tr_grammar.specs.Names.{number_of};
 ghost use Rattle.tr_grammar.specs.Faults.{screen_line, opening_line, allows, nodes_so_far, is_one_too_many};

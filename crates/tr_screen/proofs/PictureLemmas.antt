@@ -8,9 +8,9 @@ use Rattle.std.specs.Simd.{first_chunks}
 use Rattle.tr_base.specs.declared.ops.Kind.{Kind}
 use Rattle.tr_base.specs.declared.points.Point.{Point}
 use Rattle.tr_base.specs.declared.sizes.Size.{Size}
-use Rattle.tr_base.specs.Rects.{has_point, whole_of}
+use Rattle.tr_base.specs.Rects.{has_point, whole_of, IsScreenSize}
 use Rattle.tr_base.proofs.PlaceLemmas.{row_fits, in_whole}
-use Rattle.tr_screen.specs.Pictures.{IsScreenSize, IsPicture, filled_of, row_of, pixel_of, with_row, picture_of, written_at, overwritten}
+use Rattle.tr_screen.specs.Pictures.{IsPicture, filled_of, row_of, pixel_of, with_row, picture_of, written_at, overwritten}
 
 pub length-first_chunks : {X : Type 0} (n k : ℕ) (xs : List X) → length (first_chunks n k xs) ≡ k
 length-first_chunks n zero xs = refl

@@ -1,17 +1,10 @@
 -- What a screen keeps where it gets another size, or another kind.
-use Rattle.std.specs.Prelude.{ℕ, Bool, true, false, ◌&&◌, if◌then◌else◌}
+use Rattle.std.specs.Prelude.{ℕ, ◌&&◌, if◌then◌else◌}
 use Rattle.tr_base.specs.declared.points.Point.{Point}
 use Rattle.tr_base.specs.declared.ops.Kind.{Kind}
-use Rattle.tr_base.specs.declared.ops.Kind.TheVariants.{Mono, Map4, Map8}
 use Rattle.tr_base.specs.Rects.{has_point, whole_of}
+use Rattle.tr_base.specs.Ops.{same_kind}
 use Rattle.tr_screen.specs.Pictures.{Picture, pixel_of}
-
--- the two kinds are one
-abbrev pub same_kind : Kind → Kind → Bool
-same_kind Mono Mono = true
-same_kind Map4 Map4 = true
-same_kind Map8 Map8 = true
-same_kind first second = false
 
 -- the pixel at a point of what is made of a picture, in this kind: where the picture has the same kind and the point, its pixel,
 -- and else 0

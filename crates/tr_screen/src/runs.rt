@@ -1,6 +1,5 @@
 ghost use Rattle.std.specs.Prelude.{◌≡◌, ◌+◌, ◌*◌, ◌<◌, ◌≤◌, pos, ◌-ℤ◌, ◌≤ℤ◌};
-ghost use Rattle.tr_base.specs.Rects.{sides_of};
-ghost use Rattle.tr_screen.specs.Pictures.{IsScreenSize};
+ghost use Rattle.tr_base.specs.Rects.{sides_of, IsScreenSize};
 ghost use Rattle.tr_screen.specs.Readings.{row_in};
 ghost use Rattle.tr_screen.specs.Runs as spec;
 

@@ -1,8 +1,8 @@
 ghost use Rattle.std.specs.Prelude.{◌≡◌, ◌<◌, ◌≤◌, ◌++◌, ℕ, List, length, All, pos, ◌-ℤ◌, ◌≤ℤ◌, slice_index, true, IsTrue, IfOk, OnOk};
 ghost use Rattle.std.specs.Borrow.{sem};
 ghost use Rattle.tr_base.specs.declared.points.Point.{Point};
-ghost use Rattle.tr_base.specs.Rects.{before_shift, has_point, whole_of};
-ghost use Rattle.tr_screen.specs.Pictures.{IsScreenSize, IsPicture, blank_of, filled_of, row_of, pixel_of, with_row, overwritten};
+ghost use Rattle.tr_base.specs.Rects.{before_shift, has_point, whole_of, IsScreenSize};
+ghost use Rattle.tr_screen.specs.Pictures.{IsPicture, blank_of, filled_of, row_of, pixel_of, with_row, overwritten};
 ghost use Rattle.tr_screen.specs.Lending.{LendsRow};
 ghost use Rattle.tr_screen.specs.RunLending.{LendsRun, run_overwritten};
 ghost use Rattle.tr_screen.specs.Runs.{in_run, in_rows, run_before, width_of, column_in, IsOn, IsRun, Repaints};
@@ -27,7 +27,8 @@ pub struct Screen {
 
 impl Model for Screen {
     ghost use Rattle.std.specs.Prelude.{◌≡◌, ◌*◌, vec_len};
-    ghost use Rattle.tr_screen.specs.Pictures.{Picture, IsScreenSize, picture_of};
+    ghost use Rattle.tr_screen.specs.Pictures.{Picture, picture_of};
+    ghost use Rattle.tr_base.specs.Rects.{IsScreenSize};
 
     ghost Value = { Picture };
 

@@ -6,8 +6,9 @@ use Rattle.tr_base.specs.declared.Size.{Size}
 use Rattle.tr_base.specs.declared.Kind.{Kind}
 use Rattle.tr_base.specs.declared.Kind.TheVariants.{Mono, Map4, Map8}
 use Rattle.tr_base.specs.Rects.{has_point, whole_of}
+use Rattle.tr_base.specs.Ops.{same_kind}
 use Rattle.tr_screen.specs.Pictures.{IsPicture, Picture, picture_by, pixel_of}
-use Rattle.tr_screen.specs.Resizing.{kept_pixel, same_kind}
+use Rattle.tr_screen.specs.Resizing.{kept_pixel}
 use Rattle.tr_screen.specs.Runs.{IsOn}
 use Rattle.tr_machine.proofs.RenderLemmas.{picture_is}
 use Rattle.tr_client.specs.declared.Client.{Ghosts}

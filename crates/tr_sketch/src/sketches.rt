@@ -1,9 +1,8 @@
 ghost use Rattle.std.specs.Prelude.{◌≡◌, true, length, slice_index, IsTrue, IfOk};
 ghost use Rattle.tr_base.specs.declared.Point.{Point};
-ghost use Rattle.tr_base.specs.Rects.{has_point, meet_of, whole_of};
+ghost use Rattle.tr_base.specs.Rects.{has_point, meet_of, whole_of, IsScreenSize};
 ghost use Rattle.tr_region.specs.Areas.{area_of};
 ghost use Rattle.tr_region.specs.Places.{place_within};
-ghost use Rattle.tr_screen.specs.Pictures.{IsScreenSize};
 ghost use Rattle.tr_paint.specs.Paints.{IsNearRect};
 ghost use Rattle.tr_paint.specs.Traces.{look_of};
 ghost use Rattle.tr_client.specs.Laws.{IsWindowSize};

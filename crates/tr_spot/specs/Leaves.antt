@@ -1,9 +1,7 @@
 -- Where a leaf lies on the screen, and how large its window is.
-use Rattle.std.specs.Prelude.{Bool, true, false, ◌&&◌, ◌==◌}
+use Rattle.std.specs.Prelude.{Bool, ◌&&◌, ◌==◌}
 use Rattle.tr_base.specs.declared.Point.{Point}
 use Rattle.tr_base.specs.declared.Size.{Size}
-use Rattle.tr_base.specs.declared.Kind.{Kind}
-use Rattle.tr_base.specs.declared.Kind.TheVariants.{Mono, Map4, Map8}
 use Rattle.tr_base.specs.declared.LeafId.{LeafId}
 use Rattle.tr_base.specs.Rects.{Edges}
 use Rattle.tr_forest.specs.Nodes.{node_of}
@@ -30,10 +28,3 @@ in_leaf t leaf p = from_corner (leaf_domain t leaf) p
 -- the two sizes are equal
 abbrev pub same_size : Size → Size → Bool
 same_size a b = (a.wide == b.wide) && (a.high == b.high)
-
--- the two kinds are equal
-abbrev pub same_kind : Kind → Kind → Bool
-same_kind Mono Mono = true
-same_kind Map4 Map4 = true
-same_kind Map8 Map8 = true
-same_kind a b = false

@@ -1,9 +1,8 @@
 ghost use Rattle.std.specs.Prelude.{◌≡◌, ◌-ℤ◌, true};
-ghost use Rattle.tr_base.specs.Rects.{InReach, has_point, whole_of};
+ghost use Rattle.tr_base.specs.Rects.{InReach, has_point, whole_of, IsScreenSize};
 ghost use Rattle.tr_base.specs.Layouts.{IsDomain};
 ghost use Rattle.tr_forest.specs.Nodes.{node, leaf_count, IsNode};
 ghost use Rattle.tr_forest.specs.Forests.{IsForest};
-ghost use Rattle.tr_forest.specs.Edits.{IsScreenSize};
 ghost use Rattle.tr_spot.specs.Spots.{HasRoot, IsLeafBelow, from_corner, size_of, spot_on, spot};
 
 use crate::owners::owner_of;

@@ -8,7 +8,7 @@ use Rattle.tr_base.specs.declared.Point.{Point}
 use Rattle.tr_base.specs.declared.Size.{Size}
 use Rattle.tr_base.specs.declared.LeafId.{LeafId}
 use Rattle.tr_base.specs.Layouts.{IsBetween, IsDomain}
-use Rattle.tr_base.specs.Rects.{Edges, IsRect, before_shift, between, empty_rect, has_point, shifted, sides_of, whole_of}
+use Rattle.tr_base.specs.Rects.{Edges, IsRect, before_shift, between, empty_rect, has_point, shifted, sides_of, whole_of, IsScreenSize}
 use Rattle.tr_base.proofs.RectLemmas.{has_point-rect_of}
 use Rattle.tr_region.specs.Areas.{area_of, total_area}
 use Rattle.tr_region.specs.Bands.{IsCanonical}
@@ -19,7 +19,6 @@ use Rattle.tr_region.proofs.ExtentsLemmas.{IsFull-some, extents_least, no_extent
 use Rattle.tr_region.proofs.OrderLemmas.{AreInOrder, AreInOrder-canonical, IsFull}
 use Rattle.tr_region.proofs.PlaceLemmas.{abs_is}
 use Rattle.tr_region.proofs.ShiftLemmas.{holds-shifted}
-use Rattle.tr_screen.specs.Pictures.{IsScreenSize}
 use Rattle.tr_paint.specs.Paints.{IsNearPoint}
 use Rattle.tr_exec.specs.Executions.{IsOrigin, RegionLiesOn, greatest_screen, screen_point}
 use Rattle.tr_exec.proofs.PlacedLemmas.{points}

@@ -10,7 +10,7 @@ use Rattle.std.proofs.lemmas.List.Recursion.{is_count_by}
 use Rattle.std.proofs.lemmas.Slice.Zip.{get_or-zip, length-zip}
 use Rattle.tr_base.specs.declared.Point.{Point}
 use Rattle.tr_base.specs.declared.Size.{Size}
-use Rattle.tr_base.specs.Rects.{Edges, between}
+use Rattle.tr_base.specs.Rects.{Edges, between, IsScreenSize}
 use Rattle.tr_base.proofs.RectFacts.{between-before, between-beyond, between-within}
 use Rattle.tr_kernel.specs.Differences.{differ}
 use Rattle.tr_region.specs.Bands.{AreApart, in_spans, spans_of}
@@ -19,7 +19,7 @@ use Rattle.tr_region.specs.Rows.{HoldsRow, IsNearest}
 use Rattle.tr_region.proofs.BandRows.{cut_rows}
 use Rattle.tr_region.proofs.ColumnLemmas.{in_spans-push, none_west}
 use Rattle.tr_region.proofs.CountLemmas.{count_below-le, sum_below-add, sum_below-le, sum_below-same, sum_below-zero}
-use Rattle.tr_screen.specs.Pictures.{IsScreenSize, Picture, row_of}
+use Rattle.tr_screen.specs.Pictures.{Picture, row_of}
 use Rattle.tr_surface.specs.Counts.{count_on}
 use Rattle.tr_stage.specs.Stages.{is_different}
 

@@ -9,9 +9,9 @@ use Rattle.tr_base.specs.declared.Size.{Size}
 use Rattle.tr_base.specs.declared.LeafId.{LeafId}
 use Rattle.tr_base.specs.declared.Spot.{Spot}
 use Rattle.tr_base.specs.declared.Spot.TheVariants as spots
-use Rattle.tr_base.specs.Rects.{Edges, has_point, meet_of, whole_of}
+use Rattle.tr_base.specs.Rects.{Edges, has_point, meet_of, whole_of, IsScreenSize}
 use Rattle.tr_base.proofs.RectLemmas.{false-true, has_point-meet_of}
-use Rattle.tr_screen.specs.Pictures.{IsScreenSize, Picture, pixel_of}
+use Rattle.tr_screen.specs.Pictures.{Picture, pixel_of}
 use Rattle.tr_paint.specs.declared.paints.Paint.{Paint}
 use Rattle.tr_paint.specs.Batches.{touches}
 use Rattle.tr_paint.specs.Paintings.{IsPainting}

@@ -7,12 +7,13 @@ use Rattle.tr_base.specs.declared.NodeId.{NodeId}
 use Rattle.tr_base.specs.declared.Spot.{Spot}
 use Rattle.tr_base.specs.declared.Spot.TheVariants as spots
 use Rattle.tr_base.proofs.BoolLemmas.{from_false-true}
+use Rattle.tr_base.specs.Ops.{same_kind}
 use Rattle.tr_forest.specs.declared.NodeKind.{NodeKind}
 use Rattle.tr_forest.specs.declared.NodeKind.TheVariants as kinds
 use Rattle.tr_forest.specs.Nodes.{node}
 use Rattle.tr_tree.specs.Trees.{Seen}
 use Rattle.tr_spot.specs.Spots.{HasRoot, owner, spot, spot_on, spot_below}
-use Rattle.tr_spot.specs.Leaves.{same_kind, same_size}
+use Rattle.tr_spot.specs.Leaves.{same_size}
 use Rattle.tr_surface.specs.Surfaces.{is_on}
 use Rattle.tr_surface.specs.TreeSteps.{Keeping, is_kept, same_point, source_by, survives}
 use Rattle.tr_surface.specs.Survivors.{change, good_by}

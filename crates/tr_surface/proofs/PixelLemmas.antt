@@ -5,12 +5,12 @@ use Rattle.tr_base.specs.declared.Size.{Size}
 use Rattle.tr_base.specs.declared.NodeId.{NodeId}
 use Rattle.tr_base.specs.Rects.{before_shift, has_point, whole_of}
 use Rattle.tr_base.proofs.BoolLemmas.{from_false-true}
+use Rattle.tr_base.specs.Ops.{same_kind}
 use Rattle.tr_screen.specs.Pictures.{Picture, pixel_of}
 use Rattle.tr_screen.specs.Runs.{Repaints}
 use Rattle.tr_repair.specs.Moves.{MovesOn}
 use Rattle.tr_tree.specs.Trees.{Seen}
 use Rattle.tr_spot.specs.Spots.{HasRoot, spot}
-use Rattle.tr_spot.specs.Leaves.{same_kind}
 use Rattle.tr_surface.specs.Surfaces.{is_on}
 use Rattle.tr_surface.specs.TreeSteps.{Keeping, is_below, source_by, way_of}
 use Rattle.tr_surface.specs.Survivors.{IsFitted, change, follows_by, good_by, is_below_moved, way_of_moved}

@@ -14,6 +14,7 @@ use Rattle.tr_base.specs.declared.Spot.{Spot}
 use Rattle.tr_base.specs.declared.Spot.TheVariants as spots
 use Rattle.tr_base.specs.Rects.{before_shift, has_point, whole_of}
 use Rattle.tr_base.proofs.BoolLemmas.{same_number, from_false-true}
+use Rattle.tr_base.specs.Ops.{same_kind}
 use Rattle.tr_forest.specs.declared.NodeKind.{NodeKind}
 use Rattle.tr_forest.specs.declared.NodeKind.TheVariants as kinds
 use Rattle.tr_forest.specs.Nodes.{node, leaf_of, is_leaf}
@@ -22,7 +23,7 @@ use Rattle.tr_tree.specs.Trees.{Seen}
 use Rattle.tr_tree.specs.Places.{domain}
 use Rattle.tr_spot.specs.Spots.{spot, spot_on, spot_below, is_in_leaf, is_on_frame, is_spot_of, from_corner}
 use Rattle.tr_spot.specs.Ways.{ends_at, owns}
-use Rattle.tr_spot.specs.Leaves.{same_size, same_kind}
+use Rattle.tr_spot.specs.Leaves.{same_size}
 use Rattle.tr_spot.proofs.WayLemmas.{and_left, and_right, equal_numbers, it_is}
 use Rattle.tr_spot.proofs.SpotLemmas.{spot_is, leaf_spot, frame_spot}
 use Rattle.tr_surface.specs.declared.survivors.Survivors.TheVariants as variants

@@ -6,6 +6,7 @@ use Rattle.tr_base.specs.declared.Size.{Size}
 use Rattle.tr_base.specs.declared.NodeId.{NodeId}
 use Rattle.tr_base.specs.declared.LeafId.{LeafId}
 use Rattle.tr_base.specs.Rects.{Edges, before_shift, has_point, whole_of}
+use Rattle.tr_base.specs.Ops.{same_kind}
 use Rattle.tr_screen.specs.Pictures.{Picture, pixel_of}
 use Rattle.tr_region.specs.Points.{holds}
 use Rattle.tr_client.specs.Laws.{IsWindowSize}
@@ -16,7 +17,7 @@ use Rattle.tr_forest.specs.Families.{is_under}
 use Rattle.tr_tree.specs.Trees.{Seen}
 use Rattle.tr_tree.specs.Places.{domain}
 use Rattle.tr_spot.specs.Spots.{spot, from_corner, is_spot_of, region_of, size_of}
-use Rattle.tr_spot.specs.Leaves.{same_kind, same_size}
+use Rattle.tr_spot.specs.Leaves.{same_size}
 use Rattle.tr_surface.specs.declared.survivors.Survivors.{Survivors}
 use Rattle.tr_surface.specs.declared.survivors.Survivors.TheVariants as variants
 use Rattle.tr_surface.specs.Surfaces.{AreOwn, Shown, any_holds, is_bad, is_on}

@@ -10,6 +10,7 @@ use Rattle.tr_base.specs.declared.Spot.{Spot}
 use Rattle.tr_base.specs.declared.Spot.TheVariants as spots
 use Rattle.tr_base.specs.Rects.{Edges, has_point, before_shift}
 use Rattle.tr_base.specs.Layouts.{has_points}
+use Rattle.tr_base.specs.Ops.{same_kind}
 use Rattle.tr_paint.specs.declared.Paint.{Paint}
 use Rattle.tr_paint.specs.Batches.{touches}
 use Rattle.tr_forest.specs.declared.Edit.{Edit}
@@ -19,7 +20,7 @@ use Rattle.tr_forest.specs.Families.{is_under}
 use Rattle.tr_tree.specs.Trees.{Seen}
 use Rattle.tr_tree.specs.Places.{domain}
 use Rattle.tr_spot.specs.Spots.{spot}
-use Rattle.tr_spot.specs.Leaves.{same_size, same_kind}
+use Rattle.tr_spot.specs.Leaves.{same_size}
 use Rattle.tr_surface.specs.Surfaces.{is_on}
 
 -- what an edit of the tree must know of the windows: the points that a leaf keeps when its size changes, and the commands that wait for

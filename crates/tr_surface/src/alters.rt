@@ -1,11 +1,11 @@
 ghost use Rattle.std.specs.Prelude.{◌≡◌, true, false, None, IfOk, IfErr, IfSome, IsTrue, OnOk, OnErr};
 ghost use Rattle.tr_base.specs.declared.Point.{Point};
+ghost use Rattle.tr_base.specs.Ops.{same_kind};
 ghost use Rattle.tr_region.specs.Points.{holds};
 ghost use Rattle.tr_screen.specs.Pictures.{pixel_of};
 ghost use Rattle.tr_forest.specs.Nodes.{IsNode, leaf_count, node};
 ghost use Rattle.tr_forest.specs.Edits.{IsCause, IsEdit, refusal};
 ghost use Rattle.tr_tree.specs.Trees.{edited_tree};
-ghost use Rattle.tr_spot.specs.Leaves.{same_kind};
 ghost use Rattle.tr_surface.specs.Surfaces.{is_bad};
 ghost use Rattle.tr_surface.specs.TreeSteps.{bad_after_edit, child_of as spec_child, first_node, good_after, moved_child as spec_moved, source};
 ghost use Rattle.tr_surface.specs.TreeChanges.{IsCover};

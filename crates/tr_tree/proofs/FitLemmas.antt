@@ -8,7 +8,7 @@ use Rattle.std.proofs.Math.ListN.{get_or-eq_default}
 use Rattle.tr_base.specs.declared.NodeId.{NodeId}
 use Rattle.tr_base.specs.declared.Point.{Point}
 use Rattle.tr_base.specs.declared.Shapes.{Shapes}
-use Rattle.tr_base.specs.Rects.{Edges, IsRect, InReach, empty_rect, rect_of, sides_of, whole_of}
+use Rattle.tr_base.specs.Rects.{Edges, IsRect, InReach, empty_rect, rect_of, sides_of, whole_of, IsScreenSize}
 use Rattle.tr_base.specs.declared.Size.{Size}
 use Rattle.tr_base.specs.Shapes.{Lengths}
 use Rattle.tr_base.specs.Layouts.{longest, farthest, turned, placed, places_by, preferred_place, has_points, along, IsDomain, IsPartOf, IsNear}
@@ -28,7 +28,6 @@ use Rattle.tr_pack.proofs.ApartLemmas.{all_of_places, pack_part, pack_empty}
 use Rattle.tr_forest.specs.declared.NodeKind.{NodeKind}
 use Rattle.tr_forest.specs.declared.NodeKind.TheVariants as kinds
 use Rattle.tr_forest.specs.Nodes.{IsNodeKind}
-use Rattle.tr_forest.specs.Edits.{IsScreenSize}
 use Rattle.tr_tree.specs.Places.{places_of, shown_index}
 use Rattle.tr_tree.specs.Laying.{IsRectangle, StandsInNode, IsAt}
 

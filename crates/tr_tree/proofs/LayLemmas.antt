@@ -3,10 +3,9 @@ use Rattle.std.proofs.Common.{◌≡◌, ◌≢◌, ℕ, ◌+◌, ◌-◌, ◌<�
 use Rattle.std.proofs.lemmas.Bool.Decides.{nat_tests}
 use Rattle.std.proofs.lemmas.List.{get_or-set_same, get_or-set_other, get_or-take, get_or_default, get_or_read, drop_more, drop_all}
 use Rattle.tr_base.specs.declared.NodeId.{NodeId}
-use Rattle.tr_base.specs.Rects.{Edges, empty_rect, whole_of}
+use Rattle.tr_base.specs.Rects.{Edges, empty_rect, whole_of, IsScreenSize}
 use Rattle.tr_forest.specs.Nodes.{node}
 use Rattle.tr_forest.specs.Families.{is_among, depth, is_under}
-use Rattle.tr_forest.specs.Edits.{IsScreenSize}
 use Rattle.tr_forest.specs.Forests.{IsForest}
 use Rattle.tr_tree.specs.Trees.{Seen}
 use Rattle.tr_tree.specs.Places.{child_places, domain}

@@ -7,12 +7,11 @@ use Rattle.tr_base.specs.declared.Point.{Point}
 use Rattle.tr_base.specs.declared.Size.{Size}
 use Rattle.tr_base.specs.declared.Kind.{Kind}
 use Rattle.tr_base.specs.declared.Kind.TheVariants.{Mono}
-use Rattle.tr_base.specs.Rects.{Edges, empty_rect, rect_of, sides_of}
+use Rattle.tr_base.specs.Rects.{Edges, empty_rect, rect_of, sides_of, IsScreenSize}
 use Rattle.tr_base.specs.Layouts.{longest, IsDomain, IsNear}
 use Rattle.tr_forest.specs.Nodes.{Nodes, IsNode, node}
 use Rattle.tr_forest.specs.Forests.{IsForest}
 use Rattle.tr_forest.specs.Families.{depth, is_among, is_under}
-use Rattle.tr_forest.specs.Edits.{IsScreenSize}
 use Rattle.tr_tree.specs.declared.rooms.Room.{Room}
 use Rattle.tr_tree.specs.Trees.{Seen}
 use Rattle.tr_tree.specs.Wishes.{shape}

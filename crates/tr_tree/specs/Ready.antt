@@ -5,10 +5,10 @@ use Rattle.tr_base.specs.declared.NodeId.{NodeId}
 use Rattle.tr_base.specs.declared.Kind.{Kind}
 use Rattle.tr_base.specs.declared.Size.{Size}
 use Rattle.tr_base.specs.Layouts.{IsDomain}
+use Rattle.tr_base.specs.Rects.{IsScreenSize}
 use Rattle.tr_forest.specs.declared.Edit.{Edit}
 use Rattle.tr_forest.specs.declared.Edit.TheVariants as edits
 use Rattle.tr_forest.specs.Nodes.{Nodes}
-use Rattle.tr_forest.specs.Edits.{IsScreenSize}
 use Rattle.tr_tree.specs.declared.layouts.Layout.{Layout}
 use Rattle.tr_tree.specs.Wishes.{shape}
 use Rattle.tr_tree.specs.Places.{domain}

@@ -1,5 +1,5 @@
 ghost use Rattle.std.specs.Prelude.{◌≡◌, ◌+◌, ℕ, IfOk, OnOk, length};
-ghost use Rattle.tr_forest.specs.Edits.{IsScreenSize};
+ghost use Rattle.tr_base.specs.Rects.{IsScreenSize};
 
 use crate::domains::{Plan, lay_out};
 use crate::rooms::Room;

@@ -1,11 +1,11 @@
 ghost use Rattle.std.specs.Prelude.{◌≡◌, ◌<◌, ◌++◌, ◌∷◌, [], false, IsOk, IfOk, IfErr, OnOk, OnErr, Some, None, map, length, if◌then◌else◌};
 ghost use Rattle.tr_base.specs.declared.NodeId.{NodeId};
-ghost use Rattle.tr_base.specs.Rects.{whole_of};
+ghost use Rattle.tr_base.specs.Rects.{whole_of, IsScreenSize};
 ghost use Rattle.tr_base.specs.Layouts.{IsDomain};
 ghost use Rattle.tr_forest.specs.Nodes.{node, new_entry, IsNode, IsNodeKind, IsNextLeaf, shown_by, leaf_of, leaf_count, node_of};
 ghost use Rattle.tr_forest.specs.Families.{is_under};
 ghost use Rattle.tr_forest.specs.Forests.{IsForest};
-ghost use Rattle.tr_forest.specs.Edits.{IsEdit, IsCause, IsScreenSize, refusal, wants_memory, is_root};
+ghost use Rattle.tr_forest.specs.Edits.{IsEdit, IsCause, refusal, wants_memory, is_root};
 ghost use Rattle.tr_tree.specs.Trees.{size_after, kind_after, edited_tree};
 ghost use Rattle.tr_tree.specs.Wishes.{shape, shape_of};
 ghost use Rattle.tr_tree.specs.Places.{domain, place_below};

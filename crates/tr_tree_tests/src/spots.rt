@@ -1,8 +1,9 @@
 //! Whose each point is, by its spot and by the points of each node.
 ghost use Rattle.std.specs.Prelude.{◌≡◌, ◌<◌, ◌≤◌, false, length, None, IfOk, OnOk};
 ghost use Rattle.tr_base.specs.Layouts.{IsOffset, farthest};
+ghost use Rattle.tr_base.specs.Rects.{IsScreenSize};
 ghost use Rattle.tr_forest.specs.Nodes.{IsNode, IsNodeKind, shown_by, is_leaf};
-ghost use Rattle.tr_forest.specs.Edits.{IsEdit, IsScreenSize};
+ghost use Rattle.tr_forest.specs.Edits.{IsEdit};
 ghost use Rattle.tr_spot.specs.Spots.{HasRoot};
 
 use std::process::Abort;

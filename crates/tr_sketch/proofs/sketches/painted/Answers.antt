@@ -3,10 +3,9 @@ use Rattle.std.specs.Prelude.{IfOk, slice_index}
 use Rattle.std.proofs.lemmas.Bool.{and_from}
 use Rattle.std.proofs.lemmas.Result.{IfOk-weaker}
 use Rattle.tr_base.specs.declared.Point.{Point}
-use Rattle.tr_base.specs.Rects.{has_point, meet_of, whole_of}
+use Rattle.tr_base.specs.Rects.{has_point, meet_of, whole_of, IsScreenSize}
 use Rattle.tr_base.proofs.RectLemmas.{has_point-meet_of}
 use Rattle.tr_region.specs.Points.{holds}
-use Rattle.tr_screen.specs.Pictures.{IsScreenSize}
 use Rattle.tr_paint.specs.Traces.{after, look_of}
 use Rattle.tr_exec.specs.Executions.{IsOrigin, base_of, screen_point}
 use Rattle.tr_exec.proofs.PlacedLemmas.{before-placed}

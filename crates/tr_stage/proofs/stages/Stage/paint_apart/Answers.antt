@@ -3,13 +3,12 @@ use Rattle.std.specs.Prelude.{IfOk, slice_index}
 use Rattle.std.specs.List.{AllByRecursion}
 use Rattle.std.proofs.lemmas.Result.{IfOk-weaker}
 use Rattle.tr_base.specs.declared.Point.{Point}
-use Rattle.tr_base.specs.Rects.{AreInReach, before_shift, shifted}
+use Rattle.tr_base.specs.Rects.{AreInReach, before_shift, shifted, IsScreenSize}
 use Rattle.tr_base.proofs.RectLemmas.{false-true}
 use Rattle.tr_region.specs.Areas.{total_area}
 use Rattle.tr_region.specs.Places.{place_in}
 use Rattle.tr_region.specs.Points.{holds}
 use Rattle.tr_region.proofs.OrderLemmas.{AreInOrder-canonical}
-use Rattle.tr_screen.specs.Pictures.{IsScreenSize}
 use Rattle.tr_exec.specs.Executions.{IsOrigin, screen_point}
 use Rattle.tr_exec.proofs.SiteLemmas.{region_in_reach}
 use Rattle.tr_spot.specs.Leaves.{in_leaf, leaf_corner, leaf_domain}
