@@ -48,3 +48,6 @@ same_edges a b = Decides-like _ joined parted
 
     parted : a ≡ b → (a.west ≡ b.west) × ((a.east ≡ b.east) × ((a.north ≡ b.north) × (a.south ≡ b.south)))
     parted h = (ap (λ (r : Edges). r.west) h, (ap (λ (r : Edges). r.east) h, (ap (λ (r : Edges). r.north) h, ap (λ (r : Edges). r.south) h)))
+
+pub between_parts : (low high x : ℤ) → between low high x ≡ true → (low ≤ℤ x) × (x <ℤ high)
+between_parts low high x h = (grind (arith, ints), grind (arith, ints))

@@ -6,7 +6,6 @@ use Rattle.std.proofs.lemmas.Bool.Decides.{nat_tests}
 use Rattle.tr_base.specs.declared.Point.{Point}
 use Rattle.tr_base.specs.declared.Size.{Size}
 use Rattle.tr_base.specs.declared.Kind.{Kind}
-use Rattle.tr_base.specs.declared.Kind.TheVariants.{Mono, Map4, Map8}
 use Rattle.tr_base.specs.declared.LeafId.{LeafId}
 use Rattle.tr_base.specs.declared.NodeId.{NodeId}
 use Rattle.tr_base.specs.declared.Spot.{Spot}
@@ -16,6 +15,7 @@ use Rattle.tr_base.specs.Ops.{eff, same_kind}
 use Rattle.tr_base.specs.Layouts.{IsDomain}
 use Rattle.tr_base.specs.Rects.{has_point}
 use Rattle.tr_base.proofs.RectLemmas.{false-true}
+use Rattle.tr_base.proofs.KindLemmas.{kinds_equal}
 use Rattle.tr_screen.specs.Pictures.{pixel_of}
 use Rattle.tr_paint.specs.Batches.{touches}
 use Rattle.tr_paint.specs.Traces.{look_of}
@@ -47,14 +47,7 @@ use Rattle.tr_machine.proofs.ShownLemmas.{IsShowing, colour_look, untouched_colo
 
 -- ---- tests that tell equal things
 
--- kinds that pass the test are equal
-pub kinds_equal : (a b : Kind) → same_kind a b ≡ true → a ≡ b
-kinds_equal Mono Mono h = refl
-kinds_equal Map4 Map4 h = refl
-kinds_equal Map8 Map8 h = refl
-kinds_equal a b h = absurd (false-true h)
-
--- and sizes
+-- sizes that pass the test are equal
 pub sizes_equal : (a b : Size) → same_size a b ≡ true → a ≡ b
 sizes_equal a b h =
     ap (λ n. record { wide = n; high = a.high }) (equal_numbers a.wide b.wide (and_left (a.wide == b.wide) (a.high == b.high) h))

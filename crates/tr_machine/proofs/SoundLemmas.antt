@@ -12,6 +12,7 @@ use Rattle.tr_base.specs.declared.LeafId.{LeafId}
 use Rattle.tr_base.specs.declared.Event.{Event}
 use Rattle.tr_base.specs.Rects.{Edges}
 use Rattle.tr_base.specs.Ops.{same_kind}
+use Rattle.tr_base.proofs.KindLemmas.{kinds_equal}
 use Rattle.tr_paint.specs.Traces.{look_of, after}
 use Rattle.tr_paint.specs.Patches.{IsPatch}
 use Rattle.tr_exec.specs.Executions.{colour_after}
@@ -50,7 +51,7 @@ use Rattle.tr_machine.specs.Promises.{Fits, IsSound, Leads}
 use Rattle.tr_machine.proofs.ListLemmas.{fresh-length, fresh_window, refitted_from-length, refitted_window, with_window-length, window_here, window_there}
 use Rattle.tr_machine.proofs.BaseLemmas.{base-lies, base-nothing, base-shows}
 use Rattle.tr_machine.proofs.LeadLemmas.{IsLed, led_command, led_fresh, led_mark, led_updated}
-use Rattle.tr_machine.proofs.AlterLemmas.{kinds_equal, sizes_equal}
+use Rattle.tr_machine.proofs.AlterLemmas.{sizes_equal}
 
 -- ---- small facts
 

@@ -13,6 +13,7 @@ use Rattle.tr_base.specs.Rects.{Edges, IsRect, has_point, between, empty_rect, m
 use Rattle.tr_base.specs.Layouts.{greatest_by, turned, placed, IsPartOf, ShareNoPoint}
 use Rattle.tr_base.proofs.RectLemmas.{has_point-rect_of, has_point-meet_of}
 use Rattle.tr_base.proofs.LayoutLemmas.{ordered, turned_is_rect, turned_apart, turned-meet_of, part-meet_of, part_of_empty, all_pairs_cons, all_pairs_append}
+use Rattle.tr_base.proofs.RectFacts.{between_parts}
 use Rattle.tr_pack.specs.Cuts.{Extent, extents, joined, cut}
 use Rattle.tr_pack.specs.Packs.{PlaceOf, room_of, pack_places, depth_of, start_of_row, start_in_row, place_in_row_across, place_in_row, row_places, all_places}
 use Rattle.tr_pack.proofs.PackLemmas.{length-extents}
@@ -64,16 +65,13 @@ place_has e x y size p h =
     ∙ ap (λ b. has_point e p && b) (has_point-rect_of (e.west +ℤ pos x) (e.west +ℤ pos x +ℤ pos size.0) (e.north +ℤ pos y)
     (e.north +ℤ pos y +ℤ pos size.1) p)) ∙ h
 
-from_low : (low high x : ℤ) → between low high x ≡ true → (low ≤ℤ x) × (x <ℤ high)
-from_low low high x h = (grind (arith, ints), grind (arith, ints))
-
 place_after : (e : Edges) (gap : ℕ) (rows : List (List Extent)) (row : List Extent) (x : Extent) →
     IsAfter e (start_in_row gap row) (place_in_row_across e gap rows row x)
 place_after e gap rows row x = record {
   points = λ p on.
       let all = place_has e (start_in_row gap row) (start_of_row gap (sides_of e).1 rows) (x.long, x.deep) p on in
       let mine = (and_parts _ _ all).1 in
-      (from_low _ _ _ (and_parts _ _ mine).0).0;
+      (between_parts _ _ _ (and_parts _ _ mine).0).0;
 }
 
 place_before : (e : Edges) (gap : ℕ) (rows : List (List Extent)) (row : List Extent) (x : Extent) →
@@ -82,7 +80,7 @@ place_before e gap rows row x = record {
   points = λ p on.
       let all = place_has e (start_in_row gap row) (start_of_row gap (sides_of e).1 rows) (x.long, x.deep) p on in
       let mine = (and_parts _ _ all).1 in
-      as_one e.west p.h (start_in_row gap row) x.long (from_low _ _ _ (and_parts _ _ mine).0).1;
+      as_one e.west p.h (start_in_row gap row) x.long (between_parts _ _ _ (and_parts _ _ mine).0).1;
 }
   where
     as_one : (w h : ℤ) (m n : ℕ) → h <ℤ (w +ℤ pos m +ℤ pos n) → h <ℤ (w +ℤ pos (m + n))
@@ -94,7 +92,7 @@ place_under e gap rows row x = record {
   points = λ p on.
       let all = place_has e (start_in_row gap row) (start_of_row gap (sides_of e).1 rows) (x.long, x.deep) p on in
       let mine = (and_parts _ _ all).1 in
-      (from_low _ _ _ (and_parts _ _ mine).1).0;
+      (between_parts _ _ _ (and_parts _ _ mine).1).0;
 }
 
 place_over : (e : Edges) (gap : ℕ) (rows : List (List Extent)) (row : List Extent) (x : Extent) → IsRect e →
@@ -102,8 +100,8 @@ place_over : (e : Edges) (gap : ℕ) (rows : List (List Extent)) (row : List Ext
 place_over e gap rows row x is = record {
   points = λ p on.
       let all = and_parts _ _ (place_has e (start_in_row gap row) (start_of_row gap (sides_of e).1 rows) (x.long, x.deep) p on) in
-      let node = (from_low _ _ _ (and_parts _ _ all.0).1).1 in
-      let mine = (from_low _ _ _ (and_parts _ _ all.1).1).1 in
+      let node = (between_parts _ _ _ (and_parts _ _ all.0).1).1 in
+      let mine = (between_parts _ _ _ (and_parts _ _ all.1).1).1 in
       within e.north e.south p.v (start_of_row gap (sides_of e).1 rows) x.deep (ordered e is).1 node mine;
 }
   where

@@ -1,5 +1,5 @@
 -- The places of the points of rectangles: each below the number of points, and where they are when one rectangle more stands at the end.
-use Rattle.std.proofs.Common.{◌≡◌, ℕ, zero, suc, ◌+◌, ◌<◌, ◌≤◌, ℤ, pos, ◌-ℤ◌, ◌≤ℤ◌, ◌<ℤ◌, Bool, true, false, ◌||◌, cond, List, [], ◌∷◌, ◌++◌, length, get_or, take, refl, sym, ap, ◌∙◌, arith}
+use Rattle.std.proofs.Common.{◌≡◌, ℕ, zero, suc, ◌+◌, ◌<◌, ◌≤◌, ℤ, pos, ◌-ℤ◌, ◌≤ℤ◌, Bool, true, false, ◌||◌, cond, List, [], ◌∷◌, ◌++◌, length, get_or, take, refl, sym, ap, ◌∙◌, arith}
 use Rattle.std.specs.Prelude.{unsigned_abs}
 use Rattle.std.proofs.lemmas.Int.{ints}
 use Rattle.std.proofs.lemmas.Nat.{mul-add-lt}
@@ -10,6 +10,7 @@ use Rattle.tr_base.specs.declared.Point.{Point}
 use Rattle.tr_base.specs.Rects.{Edges, between, has_point, sides_of}
 use Rattle.tr_base.proofs.RectLemmas.{false-true}
 use Rattle.tr_base.proofs.BoolLemmas.{or_true}
+use Rattle.tr_base.proofs.RectFacts.{between_parts}
 use Rattle.tr_region.specs.Areas.{area_of, total_area}
 use Rattle.tr_region.specs.Places.{place_in, place_within}
 use Rattle.tr_region.specs.Points.{holds}
@@ -20,10 +21,6 @@ use Rattle.tr_region.proofs.BandLemmas.{holds-append, or-false}
 -- a number that isn't negative
 pub abs_is : (z : ℤ) → pos 0 ≤ℤ z → pos (unsigned_abs z) ≡ z
 abs_is z h = grind (arith, ints)
-
--- what lies between two edges
-pub between_parts : (low high x : ℤ) → between low high x ≡ true → (low ≤ℤ x) × (x <ℤ high)
-between_parts low high x h = (grind (arith, ints), grind (arith, ints))
 
 -- how far a coordinate is from the first edge
 far_within : (low high x : ℤ) → between low high x ≡ true → unsigned_abs (x -ℤ low) < unsigned_abs (high -ℤ low)

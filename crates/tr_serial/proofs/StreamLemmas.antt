@@ -4,9 +4,8 @@ use Rattle.std.proofs.lemmas.List.{append-nil}
 use Rattle.tr_base.specs.declared.Point.{Point}
 use Rattle.tr_base.specs.declared.Size.{Size}
 use Rattle.tr_base.specs.declared.Kind.{Kind}
-use Rattle.tr_base.specs.declared.Kind.TheVariants.{Mono, Map4, Map8}
 use Rattle.tr_base.specs.Rects.{has_point, whole_of}
-use Rattle.tr_base.specs.Ops.{same_kind}
+use Rattle.tr_base.proofs.KindLemmas.{same_kind_itself}
 use Rattle.tr_screen.specs.Pictures.{IsPicture, Picture, picture_by, pixel_of}
 use Rattle.tr_screen.specs.Resizing.{kept_pixel}
 use Rattle.tr_screen.specs.Runs.{IsOn}
@@ -33,11 +32,6 @@ use Rattle.tr_serial.proofs.ScreenLemmas.{screens_from-append}
 
 -- ---- the screen that is kept
 
-same_is : (k : Kind) → same_kind k k ≡ true
-same_is Mono = refl
-same_is Map4 = refl
-same_is Map8 = refl
-
 -- a screen that is made again in its own size and kind is the same
 pub made_again : (old new : Picture) (size : Size) (kind : Kind) → IsPicture old → IsPicture new → size ≡ old.size → kind ≡ old.kind → new.size ≡ size →
     new.kind ≡ kind → ((p : Point) → IsOn size p → pixel_of new p ≡ kept_pixel old kind p) → new ≡ old
@@ -52,7 +46,7 @@ made_again old new size kind was is old_size old_kind new_size new_kind points =
         let on_size : has_point (whole_of size) p ≡ true = subst (λ (s : Size). has_point (whole_of s) p ≡ true) new_size on in
         let on_old : has_point (whole_of old.size) p ≡ true = subst (λ (s : Size). has_point (whole_of s) p ≡ true) old_size on_size in
         points p on_size ∙ ap (λ (k : Kind). kept_pixel old k p) old_kind
-        ∙ rw (same_is old.kind, on_old) refl
+        ∙ rw (same_kind_itself old.kind, on_old) refl
 
 -- ---- one screen more
 

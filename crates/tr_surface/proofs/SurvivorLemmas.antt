@@ -7,14 +7,13 @@ use Rattle.std.proofs.lemmas.Option.{none-some, same_Some}
 use Rattle.tr_base.specs.declared.Point.{Point}
 use Rattle.tr_base.specs.declared.Size.{Size}
 use Rattle.tr_base.specs.declared.Kind.{Kind}
-use Rattle.tr_base.specs.declared.Kind.TheVariants.{Mono, Map4, Map8}
 use Rattle.tr_base.specs.declared.NodeId.{NodeId}
 use Rattle.tr_base.specs.declared.LeafId.{LeafId}
 use Rattle.tr_base.specs.declared.Spot.{Spot}
 use Rattle.tr_base.specs.declared.Spot.TheVariants as spots
 use Rattle.tr_base.specs.Rects.{before_shift, has_point, whole_of}
 use Rattle.tr_base.proofs.BoolLemmas.{same_number, from_false-true}
-use Rattle.tr_base.specs.Ops.{same_kind}
+use Rattle.tr_base.proofs.KindLemmas.{same_kind_itself}
 use Rattle.tr_forest.specs.declared.NodeKind.{NodeKind}
 use Rattle.tr_forest.specs.declared.NodeKind.TheVariants as kinds
 use Rattle.tr_forest.specs.Nodes.{node, leaf_of, is_leaf}
@@ -32,11 +31,6 @@ use Rattle.tr_surface.specs.TreeSteps.{Keeping, is_kept, same_point, survives}
 use Rattle.tr_surface.specs.Survivors.{corner, domain_size, leaf_survivors, survivors_by, has_survivor}
 
 -- ---- tests
-
-same_kind_itself : (kind : Kind) → same_kind kind kind ≡ true
-same_kind_itself Mono = refl
-same_kind_itself Map4 = refl
-same_kind_itself Map8 = refl
 
 -- a coordinate less one origin is that less the other where the origins differ by as much as the coordinates
 along : (x by o n : ℤ) → int_eq ((x -ℤ by) -ℤ o) (x -ℤ n) ≡ int_eq (n -ℤ by) o

@@ -1,8 +1,9 @@
 -- What is the same of a window that isn't reshaped, and a walk that clears those that are.
 use Rattle.std.proofs.Common.{◌≡◌, ℕ, zero, suc, ◌+◌, Bool, true, false, not, ◌&&◌, List, [], ◌∷◌, length, refl, ap, ◌∙◌, add-zero, arith}
-use Rattle.tr_machine.proofs.AlterLemmas.{kinds_equal, sizes_equal}
+use Rattle.tr_machine.proofs.AlterLemmas.{sizes_equal}
 use Rattle.tr_base.specs.declared.LeafId.{LeafId}
 use Rattle.tr_base.specs.Ops.{same_kind}
+use Rattle.tr_base.proofs.KindLemmas.{kinds_equal}
 use Rattle.tr_spot.specs.Leaves.{leaf_size, same_size}
 use Rattle.tr_tree.specs.Trees.{Seen}
 use Rattle.tr_mail.specs.Deliveries.{is_reshaped}
