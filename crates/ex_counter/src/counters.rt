@@ -39,7 +39,14 @@ impl Counter {
         Counter { count: 0, tint }
     }
 
-    /// The number. It tells, too, that any value of this type is a content.
+    /// Tells what each counter keeps. Nothing runs.
+    pub fn invariant(&self)
+        ensures { spec.IsCounter self.now }
+    {
+        let _count = self.count();
+    }
+
+    /// The number.
     pub fn count(&self) -> u8
         ensures value { result ≡ self.now.count }
         ensures invariant { spec.IsCounter self.now }
@@ -189,12 +196,13 @@ impl Client for Counter {
     }
 
     fn same(&self, other: &Counter) -> bool {
-        let (_count, _other) = (self.count(), other.count());
+        self.invariant();
+        other.invariant();
         self == other
     }
 
     fn paint(&self, alloc: Global, _env: &Env, size: Size, clip: Rect) -> Result<Batch, NoMemory> {
-        let _count = self.count();
+        self.invariant();
         let batch = self.paints(alloc, part_of_window(size, &clip))?;
         Ok(batch)
     }
@@ -206,7 +214,7 @@ impl Client for Counter {
         size: Size,
         cmd: &CounterCmd,
     ) -> Result<(Counter, Batch), NoMemory> {
-        let _count = self.count();
+        self.invariant();
         cmd.known();
         let next = self.after(cmd);
         let patch = self.growth(alloc, size, &next)?;
@@ -214,7 +222,7 @@ impl Client for Counter {
     }
 
     fn react(&self, _alloc: Global, event: &Event) -> Result<Option<CounterCmd>, NoMemory> {
-        let _count = self.count();
+        self.invariant();
         match *event {
             Event::Mouse { click, .. } => Ok(asked_by_click(click)),
             Event::Key { code, .. } => Ok(asked_by_key(code)),
@@ -227,7 +235,7 @@ impl Client for Counter {
     }
 
     fn keeps(&self, from: Size, to: Size) -> Rect {
-        let _count = self.count();
+        self.invariant();
         kept_part(from, to)
     }
 

@@ -29,27 +29,13 @@ impl Widget {
         ensures { spec.IsWidget self.now }
     {
         match self {
-            Widget::Solid(x) => {
-                let _tint = x.tint();
-            }
-            Widget::Board(x) => {
-                let _shift = x.shift();
-            }
-            Widget::Label(x) => {
-                let _text = x.text();
-            }
-            Widget::Lines(x) => {
-                let _lines = x.lines();
-            }
-            Widget::Canvas(x) => {
-                let _figures = x.figures();
-            }
-            Widget::Meter(x) => {
-                let _heights = x.heights();
-            }
-            Widget::Editor(x) => {
-                let _lines = x.lines();
-            }
+            Widget::Solid(x) => x.invariant(),
+            Widget::Board(x) => x.invariant(),
+            Widget::Label(x) => x.invariant(),
+            Widget::Lines(x) => x.invariant(),
+            Widget::Canvas(x) => x.invariant(),
+            Widget::Meter(x) => x.invariant(),
+            Widget::Editor(x) => x.invariant(),
         }
     }
 }

@@ -38,6 +38,13 @@ impl Area {
         }
     }
 
+    /// Tells what each area keeps. Nothing runs.
+    pub fn invariant(&self)
+        ensures { IsArea self.now }
+    {
+        let _rect = self.rect();
+    }
+
     /// The rectangle.
     pub fn rect(&self) -> Rect
         ensures value { result ≡ self.now }

@@ -99,6 +99,13 @@ impl Canvas {
         })
     }
 
+    /// Tells what each canvas keeps. Nothing runs.
+    pub fn invariant(&self)
+        ensures { spec.IsCanvas self.now }
+    {
+        let _figures = self.figures();
+    }
+
     /// Its figures, the lowest one first.
     pub fn figures(&self) -> &[Figure]
         ensures value { result.now ≡ self.now }
@@ -290,7 +297,7 @@ fn square_at(at: Point) -> Area
 {
     let (east, south) = (moved(at.h, SIDE), moved(at.v, SIDE));
     let square = Area::edges(at.h, east, at.v, south);
-    let _rect = square.rect();
+    square.invariant();
     square
 }
 
@@ -363,7 +370,7 @@ impl Client for Canvas {
         size: Size,
         cmd: &CanvasCmd,
     ) -> Result<(Canvas, Batch), NoMemory> {
-        let _figures = self.figures();
+        self.invariant();
         cmd.known();
         let next = self.after(alloc, cmd)?;
         let mut patch = Batch::new(alloc);
@@ -379,7 +386,7 @@ impl Client for Canvas {
         cmd: &CanvasCmd,
         batch: &mut Batch,
     ) -> Result<(), NoMemory> {
-        let _figures = self.figures();
+        self.invariant();
         cmd.known();
         let before = batch.len();
         self.put_patch(alloc, size, cmd, batch)?;
@@ -391,7 +398,7 @@ impl Client for Canvas {
     }
 
     fn react(&self, _alloc: Global, event: &Event) -> Result<Option<CanvasCmd>, NoMemory> {
-        let _figures = self.figures();
+        self.invariant();
         match *event {
             Event::Mouse { click, at, .. } => Ok(drawn_by(click, at)),
             Event::Key { code, .. } => Ok(undone_by(code)),
@@ -404,7 +411,7 @@ impl Client for Canvas {
     }
 
     fn keeps(&self, from: Size, to: Size) -> Rect {
-        let _figures = self.figures();
+        self.invariant();
         kept_part(from, to)
     }
 

@@ -35,18 +35,19 @@ impl Client for Editor {
     ghost keeps = { editor_keeps };
 
     fn copy(&self, alloc: Global) -> Result<Editor, NoMemory> {
-        let _lines = self.lines();
+        self.invariant();
         let copy = self.copy_of(alloc)?;
         Ok(copy)
     }
 
     fn same(&self, other: &Editor) -> bool {
-        let (_lines, _others) = (self.lines(), other.lines());
+        self.invariant();
+        other.invariant();
         self.is(other)
     }
 
     fn paint(&self, alloc: Global, _env: &Env, size: Size, clip: Rect) -> Result<Batch, NoMemory> {
-        let _lines = self.lines();
+        self.invariant();
         let batch = self.paints(alloc, size, &part_of_window(size, &clip))?;
         Ok(batch)
     }
@@ -66,14 +67,14 @@ impl Client for Editor {
             IfOk result (λ r. r.1 ≡ editor_patch look size self.now cmd.now) }
         ensures flat { IfOk result (λ r. flat_text r.0 ≡ flat_next (flat_text self.now) cmd.now) }
     {
-        let _lines = self.lines();
+        self.invariant();
         cmd.known();
         let change = self.changed(alloc, size, cmd)?;
         Ok(change)
     }
 
     fn react(&self, alloc: Global, event: &Event) -> Result<Option<EditorCmd>, NoMemory> {
-        let _lines = self.lines();
+        self.invariant();
         match *event {
             Event::Key { code, .. } if is_printable(code) => {
                 let cmd = EditorCmd::Insert(Line::of(alloc, &[code])?);
@@ -87,12 +88,12 @@ impl Client for Editor {
     }
 
     fn value(&self, _alloc: Global) -> Result<Line, NoMemory> {
-        let _lines = self.lines();
+        self.invariant();
         self.clip().copy()
     }
 
     fn keeps(&self, from: Size, to: Size) -> Rect {
-        let _lines = self.lines();
+        self.invariant();
         if self.top(from) == self.top(to) && self.shown(from).len() == self.shown(to).len() {
             kept_part(from, to)
         } else {

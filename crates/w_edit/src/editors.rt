@@ -51,6 +51,13 @@ impl Editor {
         })
     }
 
+    /// Tells what each editor keeps. Nothing runs.
+    pub fn invariant(&self)
+        ensures { spec.IsContents self.now }
+    {
+        let _lines = self.lines();
+    }
+
     /// Its lines, from north to south.
     pub fn lines(&self) -> &[Line]
         ensures value { result.now ≡ self.now.lines }
@@ -90,7 +97,7 @@ impl Editor {
         ensures commands { (cmds : List EditorCmd) → AllByRecursion spec.IsEditorCmd cmds →
             flat_text (editor_after self.now cmds) ≡ flat_after (flat_text self.now) cmds }
     {
-        let _lines = self.lines();
+        self.invariant();
     }
 
     /// Law of the effects: a command that doesn't copy leaves all as it is just where it hasn't its

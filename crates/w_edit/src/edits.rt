@@ -27,7 +27,7 @@ impl Editor {
         ensures flat { IfOk result (λ r. flat_text r.0 ≡ flat_next (flat_text self.now) cmd.now) }
         ensures patch { (look : Look) → IfOk result (λ r. r.1 ≡ editor_patch look size self.now cmd.now) }
     {
-        let _lines = self.lines();
+        self.invariant();
         if !self.acts(cmd) {
             return Ok((self.copy_of(alloc)?, Batch::new(alloc)));
         }

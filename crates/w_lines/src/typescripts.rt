@@ -54,6 +54,13 @@ impl Lines {
         })
     }
 
+    /// Tells what each typescript keeps. Nothing runs.
+    pub fn invariant(&self)
+        ensures { spec.IsLines self.now }
+    {
+        let _lines = self.lines();
+    }
+
     /// Its lines, the oldest first.
     pub fn lines(&self) -> &[Line]
         ensures value { result.now ≡ self.now }
@@ -241,7 +248,7 @@ impl Client for Lines {
     }
 
     fn paint(&self, alloc: Global, _env: &Env, size: Size, clip: Rect) -> Result<Batch, NoMemory> {
-        let _lines = self.lines();
+        self.invariant();
         let batch = self.paints(alloc, size, &part_of_window(size, &clip))?;
         Ok(batch)
     }
@@ -253,7 +260,7 @@ impl Client for Lines {
         size: Size,
         cmd: &LinesCmd,
     ) -> Result<(Lines, Batch), NoMemory> {
-        let _lines = self.lines();
+        self.invariant();
         cmd.known();
         let mut next = self.copy(alloc)?;
         next.take(cmd)?;
@@ -270,7 +277,7 @@ impl Client for Lines {
         cmd: &LinesCmd,
         batch: &mut Batch,
     ) -> Result<(), NoMemory> {
-        let _lines = self.lines();
+        self.invariant();
         cmd.known();
         let before = batch.len();
         if let Err(error) = self.put_patch(size, cmd, batch) {
@@ -285,7 +292,7 @@ impl Client for Lines {
     }
 
     fn react(&self, alloc: Global, event: &Event) -> Result<Option<LinesCmd>, NoMemory> {
-        let _lines = self.lines();
+        self.invariant();
         match *event {
             Event::Key { code, .. } if is_printable(code) => {
                 let cmd = LinesCmd::Line(Line::of(alloc, &[code])?);

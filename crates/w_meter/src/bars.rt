@@ -34,6 +34,13 @@ impl BarNumber {
         BarNumber { number }
     }
 
+    /// Tells what each bar number keeps. Nothing runs.
+    pub fn invariant(&self)
+        ensures { self.now < 32 }
+    {
+        let _number = self.number();
+    }
+
     /// The number.
     pub fn number(&self) -> u8
         ensures value { result ≡ self.now }

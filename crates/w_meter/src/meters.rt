@@ -51,6 +51,13 @@ impl Meter {
         })
     }
 
+    /// Tells what each meter keeps. Nothing runs.
+    pub fn invariant(&self)
+        ensures { spec.IsMeter self.now }
+    {
+        let _heights = self.heights();
+    }
+
     /// The heights of its bars.
     pub fn heights(&self) -> &[u8]
         ensures value { result.now ≡ self.now }
@@ -124,7 +131,7 @@ fn parts_of(cmd: &MeterCmd) -> (BarNumber, u8)
 {
     match cmd {
         MeterCmd::Bar { bar, height } => {
-            let _number = bar.number();
+            bar.invariant();
             (*bar, *height)
         }
     }
@@ -191,7 +198,7 @@ impl Client for Meter {
     }
 
     fn paint(&self, alloc: Global, _env: &Env, size: Size, clip: Rect) -> Result<Batch, NoMemory> {
-        let _heights = self.heights();
+        self.invariant();
         let batch = self.paints(alloc, size, &part_of_window(size, &clip))?;
         Ok(batch)
     }
@@ -203,7 +210,7 @@ impl Client for Meter {
         size: Size,
         cmd: &MeterCmd,
     ) -> Result<(Meter, Batch), NoMemory> {
-        let _heights = self.heights();
+        self.invariant();
         cmd.known();
         let next = self.after(alloc, cmd)?;
         let patch = self.patch(alloc, size, cmd)?;
@@ -211,7 +218,7 @@ impl Client for Meter {
     }
 
     fn react(&self, _alloc: Global, event: &Event) -> Result<Option<MeterCmd>, NoMemory> {
-        let _heights = self.heights();
+        self.invariant();
         match *event {
             Event::Key { code, .. } => {
                 let cmd = MeterCmd::Bar {
@@ -230,7 +237,7 @@ impl Client for Meter {
     }
 
     fn keeps(&self, _from: Size, _to: Size) -> Rect {
-        let _heights = self.heights();
+        self.invariant();
         keeps_nothing()
     }
 

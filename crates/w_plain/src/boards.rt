@@ -41,6 +41,13 @@ impl Board {
         }
     }
 
+    /// Tells what each board keeps. Nothing runs.
+    pub fn invariant(&self)
+        ensures { spec.IsBoard self.now }
+    {
+        let _shift = self.shift();
+    }
+
     /// Where its tile begins.
     pub fn shift(&self) -> Point
         ensures value { result ≡ self.now.shift }
@@ -111,7 +118,7 @@ impl Command for BoardCmd {
 
     fn known(&self) {
         if let BoardCmd::Shift(shift) = self {
-            let _point = shift.point();
+            shift.invariant();
         }
     }
 
@@ -165,7 +172,7 @@ impl Client for Board {
     ghost keeps = { board_keeps };
 
     fn copy(&self, _alloc: Global) -> Result<Board, NoMemory> {
-        let _shift = self.shift();
+        self.invariant();
         Ok(Board {
             tile: self.tile,
             shift: self.shift,
@@ -173,12 +180,13 @@ impl Client for Board {
     }
 
     fn same(&self, other: &Board) -> bool {
-        let (_shift, _other) = (self.shift(), other.shift());
+        self.invariant();
+        other.invariant();
         self.tile == other.tile && self.shift.same(&other.shift)
     }
 
     fn paint(&self, alloc: Global, _env: &Env, size: Size, clip: Rect) -> Result<Batch, NoMemory> {
-        let _shift = self.shift();
+        self.invariant();
         let batch = self.paints(alloc, part_of_window(size, &clip))?;
         Ok(batch)
     }
@@ -190,7 +198,7 @@ impl Client for Board {
         size: Size,
         cmd: &BoardCmd,
     ) -> Result<(Board, Batch), NoMemory> {
-        let _shift = self.shift();
+        self.invariant();
         cmd.known();
         let next = self.after(cmd);
         let patch = next.paints(alloc, window(size))?;
@@ -198,17 +206,17 @@ impl Client for Board {
     }
 
     fn react(&self, _alloc: Global, _event: &Event) -> Result<Option<BoardCmd>, NoMemory> {
-        let _shift = self.shift();
+        self.invariant();
         Ok(None)
     }
 
     fn value(&self, alloc: Global) -> Result<Line, NoMemory> {
-        let _shift = self.shift();
+        self.invariant();
         Line::of(alloc, &digits_of(&self.tile))
     }
 
     fn keeps(&self, from: Size, to: Size) -> Rect {
-        let _shift = self.shift();
+        self.invariant();
         kept_part(from, to)
     }
 

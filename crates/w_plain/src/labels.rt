@@ -30,6 +30,13 @@ impl Label {
         Ok(Label { text })
     }
 
+    /// Tells what each label keeps. Nothing runs.
+    pub fn invariant(&self)
+        ensures { spec.IsLabel self.now }
+    {
+        let _text = self.text();
+    }
+
     /// The bytes of its text.
     pub fn text(&self) -> &[u8]
         ensures value { result.now ≡ self.now.text }
@@ -137,19 +144,20 @@ impl Client for Label {
     ghost keeps = { label_keeps };
 
     fn copy(&self, _alloc: Global) -> Result<Label, NoMemory> {
-        let _text = self.text();
+        self.invariant();
         Ok(Label {
             text: self.text.copy()?,
         })
     }
 
     fn same(&self, other: &Label) -> bool {
-        let (_text, _other) = (self.text(), other.text());
+        self.invariant();
+        other.invariant();
         self.text.same(&other.text)
     }
 
     fn paint(&self, alloc: Global, _env: &Env, size: Size, clip: Rect) -> Result<Batch, NoMemory> {
-        let _text = self.text();
+        self.invariant();
         let batch = self.paints(alloc, part_of_window(size, &clip))?;
         Ok(batch)
     }
@@ -161,7 +169,7 @@ impl Client for Label {
         size: Size,
         cmd: &LabelCmd,
     ) -> Result<(Label, Batch), NoMemory> {
-        let _text = self.text();
+        self.invariant();
         let next = Label {
             text: text_of(cmd).copy()?,
         };
@@ -175,19 +183,19 @@ impl Client for Label {
                 Ok(Some(LabelCmd::Text(with_byte(alloc, &self.text, code)?)))
             }
             _ => {
-                let _text = self.text();
+                self.invariant();
                 Ok(None)
             }
         }
     }
 
     fn value(&self, _alloc: Global) -> Result<Line, NoMemory> {
-        let _text = self.text();
+        self.invariant();
         self.text.copy()
     }
 
     fn keeps(&self, from: Size, to: Size) -> Rect {
-        let _text = self.text();
+        self.invariant();
         kept_part(from, to)
     }
 

@@ -37,6 +37,13 @@ impl Shift {
         }
     }
 
+    /// Tells what each shift keeps. Nothing runs.
+    pub fn invariant(&self)
+        ensures { IsShift self.now }
+    {
+        let _point = self.point();
+    }
+
     /// The point.
     pub fn point(&self) -> Point
         ensures value { result ≡ self.now }

@@ -29,6 +29,13 @@ impl Solid {
         Solid { tint }
     }
 
+    /// Tells what each solid keeps. Nothing runs.
+    pub fn invariant(&self)
+        ensures { spec.IsSolid self.now }
+    {
+        let _tint = self.tint();
+    }
+
     /// Its colour.
     pub fn tint(&self) -> u8
         ensures value { result ≡ self.now.tint }
@@ -108,17 +115,18 @@ impl Client for Solid {
     ghost keeps = { solid_keeps };
 
     fn copy(&self, _alloc: Global) -> Result<Solid, NoMemory> {
-        let _tint = self.tint();
+        self.invariant();
         Ok(*self)
     }
 
     fn same(&self, other: &Solid) -> bool {
-        let (_tint, _other) = (self.tint(), other.tint());
+        self.invariant();
+        other.invariant();
         self == other
     }
 
     fn paint(&self, alloc: Global, _env: &Env, size: Size, clip: Rect) -> Result<Batch, NoMemory> {
-        let _tint = self.tint();
+        self.invariant();
         let batch = self.paints(alloc, part_of_window(size, &clip))?;
         Ok(batch)
     }
@@ -130,14 +138,14 @@ impl Client for Solid {
         size: Size,
         cmd: &SolidCmd,
     ) -> Result<(Solid, Batch), NoMemory> {
-        let _tint = self.tint();
+        self.invariant();
         let next = Solid::new(tint_of(cmd));
         let patch = next.paints(alloc, window(size))?;
         Ok((next, patch))
     }
 
     fn react(&self, _alloc: Global, event: &Event) -> Result<Option<SolidCmd>, NoMemory> {
-        let _tint = self.tint();
+        self.invariant();
         match *event {
             Event::Key { code, .. } => {
                 let cmd = SolidCmd::Tint(code);
@@ -153,7 +161,7 @@ impl Client for Solid {
     }
 
     fn keeps(&self, from: Size, to: Size) -> Rect {
-        let _tint = self.tint();
+        self.invariant();
         kept_part(from, to)
     }
 
