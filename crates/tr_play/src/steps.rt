@@ -185,9 +185,9 @@ impl<C: Client, L: Session, R: Wait, G: Gate> Context<'_, C, L, R, G> {
         }
     }
 
-    /// Before a flush of many commands, while others have the tree's lock, the worker draws what the commands
-    /// leave: under the lock the flush then only puts pixels onto the screen. Few commands take less time than
-    /// a picture, and if the lock is free, painting under it takes less time in all.
+    /// Before a flush of many commands, while others have the tree's lock, the worker draws what they leave:
+    /// under the lock the flush then only puts pixels onto the screen. Few commands take less time than a
+    /// picture, and if the lock is free, painting under it takes less time in all.
     fn draw_for(&self, window: &Window<C, L>, pass: &Pass<C, L>, step: &Step<C::Cmd>) {
         let is_flush = matches!(step, Step::Flush { .. });
         if is_flush && pass.posted() >= MANY_POSTED && self.server.is_busy() {

@@ -136,8 +136,7 @@ impl<C: Client, L: Session> Server<C, L> {
         }
     }
 
-    /// Whether somebody has the tree's lock. It is a hint, and promises nothing: the lock may be free a moment
-    /// later.
+    /// Whether somebody has the tree's lock. It promises nothing: a moment later the lock may be free.
     pub fn is_busy(&self) -> bool {
         self.is_taken.load(Ordering::SeqCst)
     }
