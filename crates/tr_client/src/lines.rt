@@ -1,4 +1,4 @@
-ghost use Rattle.std.specs.Prelude.{◌≡◌, ◌≤◌, ◌*◌, ◌++◌, ◌↔◌, pos, length, IfOk, IsTrue, OnOk};
+ghost use Rattle.std.specs.Prelude.{◌≡◌, ◌≤◌, ◌*◌, ◌++◌, ◌↔◌, pos, length, IfOk, IsTrue, OnOk, OnErr, take};
 ghost use Rattle.tr_base.specs.Rects.{InReach};
 ghost use Rattle.tr_base.specs.Layouts.{longest};
 ghost use Rattle.tr_paint.specs.Paints.{IsNearPoint, IsNearRect};
@@ -92,9 +92,10 @@ pub fn paint_lines(alloc: Global, part: Rect, lines: &[Line]) -> Result<Batch, N
     Ok(batch)
 }
 
-/// Puts copies of lines at the end of others.
+/// Puts copies of lines at the end of others. For want of memory it may put a part of them.
 pub fn append_lines(all: &mut Vec<Line>, lines: &[Line]) -> Result<(), NoMemory>
-    ensures { OnOk result (all.new.items ≡ all.old.items ++ lines.now) }
+    ensures ok { OnOk result (all.new.items ≡ all.old.items ++ lines.now) }
+    ensures err { OnErr result (take (length all.old.items) all.new.items ≡ all.old.items) }
 {
     all.reserve(lines.len())?;
     for line in lines {
