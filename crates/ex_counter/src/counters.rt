@@ -167,7 +167,7 @@ impl Command for CounterCmd {
     }
 }
 
-/// Each call tells that its content is valid: so it calls `count`, even where it wants no number.
+/// Each call tells that its content is valid: so it calls `invariant`, or `count` if it needs the number.
 impl Client for Counter {
     ghost use Rattle.ex_counter.specs.Counters.{IsCounter, counter_pic, counter_next, counter_patch, counter_answer, counter_value, counter_keeps};
     ghost use Rattle.ex_counter.specs.CounterLaws.{counter_contents, counter_answers, counter_patches, counter_empty_patches, counter_keeping, counter_kinds};
