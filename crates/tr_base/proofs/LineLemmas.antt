@@ -1,6 +1,6 @@
 -- How a line keeps its text.
-use Rattle.std.proofs.Common.{◌≡◌, ℕ, ◌-◌, ◌≤◌, List, ◌++◌, length, take, drop, replicate, refl, sym, ap, ◌∙◌, arith}
-use Rattle.std.proofs.lemmas.List.{length-append, length-replicate, take_at, drop-replicate}
+use Rattle.std.proofs.Common.{◌≡◌, ℕ, ◌-◌, List, ◌++◌, length, take, drop, replicate, refl, sym, ap, ◌∙◌}
+use Rattle.std.proofs.lemmas.List.{take_at, drop-replicate}
 use Rattle.tr_base.specs.Lines.{IsLine, KeepsLine, padded}
 
 -- a text and zeros behind it keep the text

@@ -1,5 +1,5 @@
 -- Fonts: the glyphs of the bytes 32 to 126, each with its 8 rows from north to south.
-use Rattle.std.specs.Prelude.{ℕ, ◌-◌, nat_le, Bool, if◌then◌else◌, List, [], ◌∷◌, replicate, slice_index, slice_index_or}
+use Rattle.std.specs.Prelude.{◌≡◌, ℕ, ◌+◌, ◌-◌, ◌*◌, ◌<◌, nat_le, Bool, if◌then◌else◌, List, [], ◌∷◌, replicate, length, slice_index, slice_index_or}
 use Rattle.tr_base.specs.Tiles.{is_set}
 
 -- the glyph of a byte that was never set: a box
@@ -17,3 +17,14 @@ glyph_of font byte = if nat_le 32 byte then slice_index_or font (byte - 32) box_
 -- the bit of a byte's glyph in column h and row v of its cell
 abbrev pub glyph_bit : List (List ℕ) → ℕ → ℕ → ℕ → Bool
 glyph_bit font byte h v = is_set (slice_index (glyph_of font byte) v) h
+
+-- the pixel of a bit: 255 where it is set
+abbrev pub pixel_of : Bool → ℕ
+pixel_of bit = if bit then 255 else 0
+
+-- row after row each of the 95 glyphs has its eight pixels
+pub record HasPixels (glyphs : List (List ℕ)) (pixels : List ℕ) : Type 0 where
+  pub count : length glyphs ≡ 95
+  pub size : length pixels ≡ 6080
+  pub each : (v place h : ℕ) → v < 8 → place < 95 → h < 8 → slice_index pixels (760 * v + (8 * place + h))
+      ≡ pixel_of (is_set (slice_index (slice_index_or glyphs place box_glyph) v) h)

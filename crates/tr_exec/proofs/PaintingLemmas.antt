@@ -1,10 +1,15 @@
 -- What is painted by brushes is what the commands do.
-use Rattle.std.proofs.Common.{◌≡◌, ℕ, ◌*◌, ◌<◌, ℤ, pos, ◌+ℤ◌, ◌-ℤ◌, Bool, true, ◌&&◌, cond, List, [], ◌∷◌, length, get_or, zero, suc, sym, ap, ◌∙◌, arith}
+use Rattle.std.proofs.Common.{◌≡◌, ℕ, ◌*◌, ◌<◌, ℤ, pos, ◌+ℤ◌, ◌-ℤ◌, Bool, true, false, ◌&&◌, cond, List, [], ◌∷◌, length, get_or, zero, suc, refl, sym, ap, ◌∙◌, arith}
 use Rattle.std.specs.List.{AllZip}
 use Rattle.std.proofs.lemmas.Int.{ints}
 use Rattle.std.proofs.lemmas.Bool.{and_parts}
 use Rattle.tr_base.specs.declared.Point.{Point}
 use Rattle.tr_base.specs.declared.Size.{Size}
+use Rattle.tr_base.specs.declared.Kind.{Kind}
+use Rattle.tr_base.specs.declared.Pair.{Pair}
+use Rattle.tr_base.specs.declared.Op.{Op}
+use Rattle.tr_base.specs.declared.Op.TheVariants.{Bg, Fg, Transparent, Set, Exchange}
+use Rattle.tr_base.specs.Ops.{eff, opaque}
 use Rattle.tr_base.specs.Rects.{Edges, between, before_shift, has_point, meet_of, rect_of, shifted, whole_of}
 use Rattle.tr_base.proofs.RectLemmas.{has_point-meet_of, has_point-rect_of, has_point-shifted}
 use Rattle.tr_screen.specs.Pictures.{Picture, pixel_of}
@@ -55,3 +60,17 @@ zip_at R [] ys i x y all below is_x is_y = absurd (omega arith)
 zip_at R (a ∷ xs) [] i x y all below is_x is_y = absurd all
 zip_at R (a ∷ xs) (b ∷ ys) zero x y all below is_x is_y = rw (is_x, is_y) all.0
 zip_at R (a ∷ xs) (b ∷ ys) (suc i) x y all below is_x is_y = zip_at R xs ys i x y all.1 (omega (arith, below)) is_x is_y
+
+-- where an operation is opaque, what it leaves doesn't depend on the old pixel
+opaque-eff : (kind : Kind) (op : Op) (old : ℕ) → opaque op ≡ true → eff kind op old ≡ eff kind op 0
+opaque-eff kind Bg old h = refl
+opaque-eff kind Fg old h = refl
+opaque-eff kind Transparent old h = absurd cc
+opaque-eff kind (Set n) old h = refl
+opaque-eff kind (Exchange a b) old h = absurd cc
+
+-- two opaque operations write two colours
+pub two_colours : (kind : Kind) (ops : Pair) (bit : Bool) (old : ℕ) → opaque ops.one ≡ true → opaque ops.zero ≡ true →
+    eff kind (cond bit ops.one ops.zero) old ≡ cond bit (eff kind ops.one 0) (eff kind ops.zero 0)
+two_colours kind ops true old one other = opaque-eff kind ops.one old one
+two_colours kind ops false old one other = opaque-eff kind ops.zero old other

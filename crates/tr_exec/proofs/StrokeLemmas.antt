@@ -1,5 +1,5 @@
 -- Bits along a run.
-use Rattle.std.proofs.Common.{◌≡◌, ℕ, ◌+◌, ◌-◌, ◌*◌, ◌/◌, ◌%◌, ◌==◌, ◌<◌, ◌≤◌, ℤ, pos, ◌+ℤ◌, ◌≤ℤ◌, List, take, drop, length, refl, sym, ap, ◌∙◌, arith}
+use Rattle.std.proofs.Common.{◌≡◌, ℕ, ◌+◌, ◌-◌, ◌*◌, ◌/◌, ◌%◌, ◌==◌, ◌<◌, ◌≤◌, ℤ, pos, ◌+ℤ◌, ◌≤ℤ◌, List, take, drop, length, refl, sym, ap, ap₂, ◌∙◌, arith}
 use Rattle.tr_screen.proofs.RunLemmas.{abs_is}
 use Rattle.std.specs.Prelude.{negsuc, unsigned_abs, slice_index}
 use Rattle.std.specs.Int.{bit_at}
@@ -7,6 +7,7 @@ use Rattle.std.proofs.lemmas.List.{get_or-take, get_or-drop}
 use Rattle.tr_base.specs.declared.Point.{Point}
 use Rattle.tr_base.specs.Pixmaps.{PixmapView, pixmap_at}
 use Rattle.tr_base.specs.Fonts.{glyph_of, glyph_bit}
+use Rattle.tr_kernel.specs.Letters.{bit_in_letters}
 use Rattle.std.specs.Int.{int_rem_euclid}
 use Rattle.std.proofs.lemmas.Int.{ints, int_rem_euclid_is}
 use Rattle.tr_base.specs.Tiles.{is_set, tile_index}
@@ -70,3 +71,16 @@ bit_of_text font text bits cells h v n rows row short part fits k below =
     ap (λ (l : List ℕ). slice_index l cell) part ∙ get_or-take count (drop from bits) cell 0 within ∙ get_or-drop from bits cell 0
     ∙ ap (λ i. slice_index bits i) further ∙ rows v ((h + k) / 8) row (omega (arith, fits)) in
     ap (λ b. bit_at b (7 - (k + h % 8) % 8) == 1) byte ∙ ap (λ p. bit_at (slice_index (glyph_of font (slice_index text ((h + k) / 8))) v) (7 - p) == 1) place
+
+-- the bit of a text along a run that begins in column h of its cells, from the letters from that column on
+pub bit_of_letters : (font : List (List ℕ)) (text letters : List ℕ) (h v n : ℕ) → letters ≡ take (length text - h / 8) (drop (h / 8) text) →
+    h + n ≤ 8 * length text → (k : ℕ) → k < n → bit_in_letters font letters v (k + h % 8) ≡ glyph_bit font (slice_index text ((h + k) / 8)) (h + k) v
+bit_of_letters font text letters h v n part fits k below =
+    let letter = (k + h % 8) / 8 in
+    let count = length text - h / 8 in
+    let place : (k + h % 8) % 8 ≡ (h + k) % 8 = omega arith in
+    let further : h / 8 + letter ≡ (h + k) / 8 = omega arith in
+    let byte : slice_index letters letter ≡ slice_index text ((h + k) / 8) =
+    ap (λ (l : List ℕ). slice_index l letter) part ∙ get_or-take count (drop (h / 8) text) letter 0 (omega (arith, fits))
+    ∙ get_or-drop (h / 8) text letter 0 ∙ ap (λ i. slice_index text i) further in
+    ap₂ (λ b p. bit_at (slice_index (glyph_of font b) v) (7 - p) == 1) byte place

@@ -1,5 +1,5 @@
 //! The painting commands as brushes. Each knows where on the screen its picture begins.
-ghost use Rattle.std.specs.Prelude.{◌≡◌, ◌*◌, ℕ, ◌-ℤ◌, ◌<ℤ◌, ◌≤ℤ◌, pos, neg_ℤ, true, length, slice_index, unsigned_abs};
+ghost use Rattle.std.specs.Prelude.{◌≡◌, ◌*◌, ℕ, if◌then◌else◌, ◌-ℤ◌, ◌<ℤ◌, ◌≤ℤ◌, pos, neg_ℤ, true, length, slice_index, unsigned_abs};
 ghost use Rattle.tr_base.specs.declared.Point.{Point};
 ghost use Rattle.tr_base.specs.Rects.{InReach, has_point, whole_of, rect_of, before_shift};
 ghost use Rattle.tr_base.specs.Ops.{eff};
@@ -11,7 +11,9 @@ ghost use Rattle.tr_kernel.specs.Masks.{painted};
 ghost use Rattle.tr_screen.specs.Runs.{in_run, point_in};
 ghost use Rattle.tr_exec.specs.Strokes.{IsCorner};
 
-use crate::strokes::{GlyphRows, pixels_run, text_run, texture_run, tint_run};
+use crate::strokes::{
+    GlyphRows, Lettering, letters_run, pixels_run, text_run, texture_run, tint_run,
+};
 use crate::walks::Brush;
 use tr_base::{Kind, Op, Pixmap, Point, Rect, Tile};
 use tr_kernel::Mask;
@@ -58,6 +60,18 @@ pub(crate) struct TextBrush<'a> {
     pub ghost corner: { IsCorner at },
     pub ghost within: { (p : Point) → has_point area p ≡ true →
         has_point (rect_of (pos 0) (pos (8 * length glyphs.now.text.now)) (pos 0) (pos 8))
+        (before_shift p at) ≡ true },
+}
+
+/// Writes a text whose cells begin at `at` and have all points of the area.
+#[derive(Drop)]
+pub(crate) struct LettersBrush<'a> {
+    pub area: Rect,
+    pub lettering: &'a Lettering<'a>,
+    pub at: Point,
+    pub ghost corner: { IsCorner at },
+    pub ghost within: { (p : Point) → has_point area p ≡ true →
+        has_point (rect_of (pos 0) (pos (8 * length lettering.now.text.now)) (pos 0) (pos 8))
         (before_shift p at) ≡ true },
 }
 
@@ -130,6 +144,21 @@ impl Brush for TextBrush<'_> {
             start_in(self.at, &self.area, run),
             pixels,
         );
+    }
+}
+
+impl Brush for LettersBrush<'_> {
+    ghost area = { λ b. b.area };
+
+    ghost pixel = { λ b p old. if text_bit b.lettering.now.font.now b.at b.lettering.now.text.now p
+        then b.lettering.now.one else b.lettering.now.zero };
+
+    fn area(&self) -> Rect {
+        self.area
+    }
+
+    fn paint(&self, run: Run, pixels: &mut [u8]) {
+        letters_run(self.lettering, start_in(self.at, &self.area, run), pixels);
     }
 }
 

@@ -8,6 +8,7 @@ mod paintings;
 mod plans;
 mod sites;
 mod strokes;
+mod texts;
 mod walks;
 
 pub use execs::{execute, execute_known};

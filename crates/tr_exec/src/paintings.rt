@@ -14,9 +14,9 @@ ghost use Rattle.tr_exec.specs.Strokes.{IsCorner};
 ghost use Rattle.tr_exec.specs.Unknown.{IsMovedBy};
 ghost use Rattle.tr_exec.specs.Painted.{IsPainted, ShowsBatch};
 
-use crate::brushes::{PixelsBrush, TextBrush, TextureBrush, TintBrush};
+use crate::brushes::{PixelsBrush, TextureBrush, TintBrush};
 use crate::sites::Site;
-use crate::strokes::GlyphRows;
+use crate::texts::{PlacedText, paint_text};
 use crate::walks::paint_within;
 use tr_base::{Env, Point, moved};
 use tr_kernel::Mask;
@@ -88,13 +88,13 @@ impl Site<'_> {
                 paint_within(screen, self.visible, &brush);
             }
             Paint::Text { at, ops, text, .. } => {
-                let brush = TextBrush {
+                let placed = PlacedText {
                     area,
-                    mask: &Mask::of(*ops, env.kind),
-                    glyphs: &GlyphRows::of(env.font, text),
                     at: self.place(*at),
+                    ops: *ops,
+                    text,
                 };
-                paint_within(screen, self.visible, &brush);
+                paint_text(screen, self.visible, env, &placed);
             }
             Paint::Scroll { delta, .. } => move_pixels(screen, moved, *delta),
             Paint::Spoil { .. } => {}

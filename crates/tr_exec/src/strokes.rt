@@ -1,5 +1,7 @@
-ghost use Rattle.std.specs.Prelude.{◌≡◌, ◌<◌, ◌≤◌, ◌+◌, ◌/◌, ◌*◌, ◌≤ℤ◌, ◌<ℤ◌, ℕ, pos, ◌+ℤ◌, List, ◌++◌, length, slice_index, unsigned_abs};
+ghost use Rattle.std.specs.Prelude.{◌≡◌, ◌<◌, ◌≤◌, ◌+◌, ◌/◌, ◌*◌, ◌≤ℤ◌, ◌<ℤ◌, ◌-◌, ℕ, pos, ◌+ℤ◌, if◌then◌else◌, List, ◌++◌, length, take, drop, slice_index, unsigned_abs};
+ghost use Rattle.std.specs.List.{AllPass};
 ghost use Rattle.std.specs.Simd.Lanes.{chunk, put_chunk};
+ghost use Rattle.tr_base.specs.Lines.{is_printable};
 ghost use Rattle.tr_base.specs.Ops.{eff, resolved as resolved_of};
 ghost use Rattle.tr_base.specs.Tiles.{tile_bit, tile_index as place_in_tile};
 ghost use Rattle.tr_base.specs.Fonts.{glyph_of, glyph_bit};
@@ -9,7 +11,7 @@ ghost use Rattle.tr_exec.specs.Strokes.{IsWithin, IsInCells, AreGlyphRows, east_
 
 use std::simd::prelude::*;
 use tr_base::{Font, Kind, LINE, Line, Op, Pixmap, Point, Tile, eff, place_of, resolved};
-use tr_kernel::{Mask, copy_row, exchange_row, fill_row};
+use tr_kernel::{Letters, Mask, copy_row, exchange_row, fill_row, letter_row};
 
 /// How many bytes the glyphs of the longest text have.
 const BITS: usize = 8 * LINE;
@@ -114,6 +116,43 @@ pub(crate) fn text_run(mask: &Mask, glyphs: &GlyphRows<'_>, at: Point, pixels: &
     // Called for what it tells the prover: that the text isn't longer than a row.
     let _ = glyphs.text.bytes();
     mask.cells(pixels, &glyphs.bits[row + h / 8..row + LINE], (h % 8) as u8);
+}
+
+/// A text that is written in two colours: one where a glyph's bit is set, and one where it isn't.
+#[derive(Clone, Copy)]
+pub(crate) struct Lettering<'a> {
+    pub font: &'a Font,
+    pub text: &'a Line,
+    pub one: u8,
+    pub zero: u8,
+}
+
+/// Writes a run of a text. The run begins at the point `at` of the text's cells.
+pub(crate) fn letters_run(lettering: &Lettering<'_>, at: Point, pixels: &mut [u8])
+    requires { IsInCells (length lettering.now.text.now) at (length pixels.old) }
+    ensures { (k : ℕ) → k < length pixels.old →
+        let column = unsigned_abs at.h + k in
+        let byte = slice_index lettering.now.text.now (column / 8) in
+        slice_index pixels.new k ≡ (if glyph_bit lettering.now.font.now byte column (unsigned_abs at.v)
+        then lettering.now.one else lettering.now.zero) }
+{
+    let h = at.h.unsigned_abs() as usize;
+    let letters = Letters {
+        font: lettering.font,
+        text: letters_from(lettering.text, h / 8),
+        v: at.v.unsigned_abs() as usize,
+        phase: h % 8,
+    };
+    letter_row(pixels, &letters, lettering.one, lettering.zero);
+}
+
+/// The letters of a text from a place on.
+fn letters_from(text: &Line, first: usize) -> &[u8]
+    requires { first ≤ length text.now }
+    ensures letters { result.now ≡ take (length text.now - first) (drop first text.now) }
+    ensures printable { AllPass is_printable result.now }
+{
+    &text.bytes()[first..]
 }
 
 /// The rows of the glyphs of these bytes.

@@ -5,3 +5,4 @@ pub mod DoneLemmas
 pub mod MaskLemmas
 pub mod PairLemmas
 pub mod AgreeLemmas
+pub mod LetterLemmas

@@ -2,3 +2,4 @@ pub mod Rows
 pub mod Differences
 pub mod Masks
 pub mod Steps
+pub mod Letters

@@ -4,10 +4,12 @@
 
 mod differences;
 mod lanes;
+mod letters;
 mod masks;
 mod patterns;
 mod rows;
 
 pub use differences::{count_row, first_difference, last_difference};
+pub use letters::{Letters, letter_row};
 pub use masks::{Mask, mask_row};
 pub use rows::{copy_row, copy_rows_within, exchange_row, fill_row};

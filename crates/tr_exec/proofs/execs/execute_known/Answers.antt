@@ -1,10 +1,8 @@
-use Rattle.std.proofs.Common.{◌≡◌, ◌&&◌, not, cond, ap, sym, ◌∙◌, List}
-use Rattle.std.proofs.lemmas.Result.{IfOk-weaker}
-use Rattle.tr_base.specs.declared.Point.{Point}
+use Rattle.std.proofs.Common.{◌&&◌, not, ap, ◌∙◌}
 use Rattle.tr_region.specs.Points.{holds}
 use Rattle.std.specs.Prelude.{is_none}
 use Rattle.tr_paint.specs.Traces.{Look, look_of}
-use Rattle.tr_exec.specs.Executions.{base_of, colour_after, known_base}
+use Rattle.tr_exec.specs.Executions.{base_of, colour_after}
 use Rattle.tr_exec.proofs.BaseLemmas.{colour_known, known_after}
 use Rattle.tr_exec.proofs.SiteLemmas.{on_greatest}
 use Rattle.tr_exec.proofs.execs.execute_known.Goals as goal

@@ -25,15 +25,15 @@ invariant_of-brush-in-Pixels c = record {
 pub paint_within-requires-in-Pixels : goal.paint_within-requires-in-Pixels
 paint_within-requires-in-Pixels c = λ p on. c.requires.visible p (and_parts _ _ on).0
 
-pub invariant_of-brush-in-Text : goal.invariant_of-brush-in-Text
-invariant_of-brush-in-Text c = record {
+pub invariant_of-placed : goal.invariant_of-placed
+invariant_of-placed c = record {
   corner = c.place-in-Text.ensures.corner;
-  within = rw (c.place-in-Text.ensures.value, c.of-in-Text-2.ensures.text)
+  within = rw c.place-in-Text.ensures.value
       (text_within c.area-area.result c.in-Text.clip (length c.in-Text.text) c.args.self.now.origin c.in-Text.at (rw c.in-Text.is at c.area-area.ensures));
 }
 
-pub paint_within-requires-in-Text : goal.paint_within-requires-in-Text
-paint_within-requires-in-Text c = λ p on. c.requires.visible p (and_parts _ _ on).0
+pub paint_text-requires : goal.paint_text-requires
+paint_text-requires c = λ p on. c.requires.visible p (and_parts _ _ on).0
 
 pub move_pixels-requires : goal.move_pixels-requires
 move_pixels-requires c = λ p moves.
@@ -73,8 +73,7 @@ returns-in-Text c =
     let kind = c.args.env.now.kind in
     let font = c.args.env.now.font.now in
     let area = rw c.in-Text.is at c.area-area.ensures in
-    rw c.in-Text.is (repaints_as _ _ _ _ old c.paint_within-in-Text.new.screen
-    (rw (c.of-in-Text.ensures, c.of-in-Text-2.ensures.font, c.of-in-Text-2.ensures.text, c.place-in-Text.ensures.value) at c.paint_within-in-Text.ensures)
+    rw c.in-Text.is (repaints_as _ _ _ _ old c.paint_text.new.screen (rw c.place-in-Text.ensures.value at c.paint_text.ensures)
     (λ p. ap (λ b. holds visible p && b) (sym (area p)))
     (λ p. ap (λ (r : Point). eff kind
     (chosen c.in-Text.ops (glyph_bit font (slice_index c.in-Text.text (unsigned_abs r.h / 8)) (unsigned_abs r.h) (unsigned_abs r.v))) (pixel_of old p))

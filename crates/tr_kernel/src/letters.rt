@@ -1,0 +1,128 @@
+//! Rows of the glyphs of letters side by side, written in two colours, eight pixels at a time.
+ghost use Rattle.std.specs.Prelude.{◌≡◌, ◌<◌, ◌≤◌, ◌+◌, ◌-◌, ◌*◌, ◌/◌, ◌%◌, ℕ, if◌then◌else◌, length, slice_index, bit_xor};
+ghost use Rattle.std.specs.List.{AllPass};
+ghost use Rattle.tr_base.specs.Lines.{is_printable};
+ghost use Rattle.tr_kernel.specs.Letters.{bit_in_letters, inked, pixel_in};
+
+use std::simd::prelude::*;
+use tr_base::Font;
+
+/// One row of the glyphs of letters side by side. The first pixel has column `phase` of the first letter.
+#[derive(Clone, Copy)]
+pub struct Letters<'a> {
+    pub font: &'a Font,
+    pub text: &'a [u8],
+    pub v: usize,
+    pub phase: usize,
+}
+
+/// The colour of a bit that isn't set, and the bits in which that of one that is set differs from it.
+#[derive(Clone, Copy)]
+pub(crate) struct Inks {
+    pub zero: u8,
+    pub change: u8,
+}
+
+/// Writes a row of letters: each pixel becomes `one` where its bit is set, and else `zero`.
+pub fn letter_row(row: &mut [u8], letters: &Letters<'_>, one: u8, zero: u8)
+    requires printable { AllPass is_printable letters.now.text.now }
+    requires v { letters.now.v < 8 }
+    requires phase { letters.now.phase < 8 }
+    requires enough { length row.old + letters.now.phase ≤ 8 * length letters.now.text.now }
+    ensures { (k : ℕ) → k < length row.old → slice_index row.new k
+        ≡ (if bit_in_letters letters.now.font.now letters.now.text.now letters.now.v (k + letters.now.phase)
+        then one else zero) }
+{
+    let inks = Inks {
+        zero,
+        change: one ^ zero,
+    };
+    write_letters(
+        row,
+        letters.font.row(letters.v),
+        letters.text,
+        letters.phase,
+        inks,
+    );
+}
+
+/// Writes letters from a row of all glyphs: what there is of the first one, and then from its edge on.
+fn write_letters(row: &mut [u8], source: &[u8], text: &[u8], phase: usize, inks: Inks)
+    requires source { length source.now ≡ 760 }
+    requires printable { AllPass is_printable text.now }
+    requires phase { phase < 8 }
+    requires enough { length row.old + phase ≤ 8 * length text.now }
+    ensures { (k : ℕ) → k < length row.old →
+        slice_index row.new k ≡ inked inks (pixel_in source.now text.now (k + phase)) }
+{
+    if phase == 0 || row.is_empty() {
+        write_from_edge(row, source, text, inks);
+        return;
+    }
+    let n = row.len().min(8 - phase);
+    let (first, rest) = row.split_at_mut(n);
+    write_part(first, &source[place_of(text[0]) + phase..], inks);
+    write_from_edge(rest, source, &text[1..], inks);
+}
+
+/// The same, where the first pixel has the first column: whole letters, and what there is of the last one.
+fn write_from_edge(row: &mut [u8], source: &[u8], text: &[u8], inks: Inks)
+    requires source { length source.now ≡ 760 }
+    requires printable { AllPass is_printable text.now }
+    requires enough { length row.old ≤ 8 * length text.now }
+    ensures { (k : ℕ) → k < length row.old →
+        slice_index row.new k ≡ inked inks (pixel_in source.now text.now k) }
+{
+    let count = row.len() / 8;
+    let (whole, rest) = row.split_at_mut(8 * count);
+    write_whole(whole, source, &text[..count], inks);
+    if !rest.is_empty() {
+        write_part(rest, &source[place_of(text[count])..], inks);
+    }
+}
+
+/// Writes whole letters.
+#[inline(always)]
+fn write_whole(row: &mut [u8], source: &[u8], text: &[u8], inks: Inks)
+    requires source { length source.now ≡ 760 }
+    requires printable { AllPass is_printable text.now }
+    requires whole { length row.old ≡ 8 * length text.now }
+    ensures { (k : ℕ) → k < length row.old →
+        slice_index row.new k ≡ inked inks (pixel_in source.now text.now k) }
+{
+    for (i, byte) in text.iter().enumerate() {
+        letter_pixels(source, place_of(*byte), inks).copy_to_slice(&mut row[8 * i..]);
+    }
+}
+
+/// Eight pixels of a row of all glyphs, in two colours.
+#[inline(always)]
+fn letter_pixels(source: &[u8], place: usize, inks: Inks) -> u8x8
+    requires { place + 8 ≤ length source.now }
+    ensures lanes { length result ≡ 8 }
+    ensures each { (h : ℕ) → h < 8 →
+        slice_index result h ≡ inked inks (slice_index source.now (place + h)) }
+{
+    (u8x8::from_slice(&source[place..]) & u8x8::splat(inks.change)) ^ u8x8::splat(inks.zero)
+}
+
+/// Writes the first pixels, of which there are enough.
+fn write_part(row: &mut [u8], pixels: &[u8], inks: Inks)
+    requires { length row.old ≤ length pixels.now }
+    ensures { (k : ℕ) → k < length row.old →
+        slice_index row.new k ≡ inked inks (slice_index pixels.now k) }
+{
+    for k in 0..row.len() {
+        row[k] = (pixels[k] & inks.change) ^ inks.zero;
+    }
+}
+
+/// Where the pixels of a letter lie in a row of all glyphs.
+#[inline(always)]
+fn place_of(byte: u8) -> usize
+    requires first { 32 ≤ byte }
+    requires last { byte ≤ 126 }
+    ensures { result ≡ 8 * (byte - 32) }
+{
+    8 * (usize::from(byte) - 32)
+}
