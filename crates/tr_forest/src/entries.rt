@@ -133,4 +133,17 @@ impl Node {
             children,
         })
     }
+
+    /// Is the same as another, in the memory that it has.
+    pub(crate) fn copy_from(&mut self, other: &Node) -> Result<(), NoMemory>
+        ensures { OnOk result (self.new ≡ other.now) }
+    {
+        self.children.clear();
+        self.children.extend_from_slice(&other.children)?;
+        self.kind = other.kind;
+        self.tint = other.tint;
+        self.at = other.at;
+        self.parent = other.parent;
+        Ok(())
+    }
 }

@@ -177,6 +177,14 @@ impl Family {
             root: self.root,
         })
     }
+
+    /// Is the same as another, in the memory that it has.
+    pub(crate) fn copy_from(&mut self, other: &Family) -> Result<(), NoMemory>
+        ensures { OnOk result (self.new ≡ other.now) }
+    {
+        self.root = other.root;
+        copy_nodes_from(&mut self.nodes, &other.nodes)
+    }
 }
 
 fn copy_nodes(alloc: Global, nodes: &[Node]) -> Result<Vec<Node>, NoMemory>
@@ -187,4 +195,19 @@ fn copy_nodes(alloc: Global, nodes: &[Node]) -> Result<Vec<Node>, NoMemory>
         copy.push(node.copy()?)?;
     }
     Ok(copy)
+}
+
+/// The nodes are the same as others, each in the memory that it has if there are as many.
+fn copy_nodes_from(nodes: &mut Vec<Node>, others: &[Node]) -> Result<(), NoMemory>
+    ensures { OnOk result (nodes.new.items ≡ others.now) }
+{
+    if nodes.len() != others.len() {
+        *nodes = copy_nodes(*nodes.allocator(), others)?;
+        return Ok(());
+    }
+    for (i, other) in others.iter().enumerate() {
+        let node = &mut nodes[i];
+        node.copy_from(other)?;
+    }
+    Ok(())
 }

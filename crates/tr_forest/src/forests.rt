@@ -180,6 +180,21 @@ impl Forest {
         Ok(Forest { family, leaves })
     }
 
+    /// The same nodes, in the memory of another forest. Where that has as many nodes, each with as many
+    /// children, nothing is allocated.
+    pub fn copy_into(&self, spare: Forest) -> Result<Forest, NoMemory>
+        ensures { IfOk result (λ f. f ≡ self.now) }
+    {
+        let Forest {
+            mut family,
+            mut leaves,
+        } = spare;
+        family.copy_from(&self.family)?;
+        leaves.clear();
+        leaves.extend_from_slice(&self.leaves)?;
+        Ok(Forest { family, leaves })
+    }
+
     /// Sixteen steps are enough, so depths, heights and who lies below whom are those of trees of any
     /// depth. It does nothing.
     pub fn levels_suffice(&self)

@@ -19,7 +19,6 @@ use Rattle.tr_tree.specs.Trees.{Seen}
 use Rattle.tr_spot.specs.Spots.{spot, is_in_leaf}
 use Rattle.tr_spot.specs.Leaves.{leaf_corner, leaf_size, in_leaf}
 use Rattle.tr_spot.proofs.LeafLemmas.{part_of}
-use Rattle.tr_surface.proofs.ShownLemmas.{in_leaf_on}
 use Rattle.tr_machine.specs.Windows.{Window}
 use Rattle.tr_machine.specs.States.{State, base, look, shown_at, window_of}
 use Rattle.tr_machine.specs.Paintings.{is_visible}

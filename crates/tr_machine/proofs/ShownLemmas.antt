@@ -9,7 +9,6 @@ use Rattle.tr_base.specs.declared.Spot.{Spot}
 use Rattle.tr_base.specs.declared.Spot.TheVariants as spots
 use Rattle.tr_base.specs.Rects.{has_point}
 use Rattle.tr_base.proofs.RectLemmas.{false-true}
-use Rattle.tr_region.specs.Points.{holds}
 use Rattle.tr_screen.specs.Pictures.{pixel_of}
 use Rattle.tr_paint.specs.declared.Paint.{Paint}
 use Rattle.tr_paint.specs.Paints.{area}

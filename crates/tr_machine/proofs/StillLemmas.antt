@@ -6,7 +6,6 @@ use Rattle.tr_base.specs.declared.Point.{Point}
 use Rattle.tr_base.specs.declared.LeafId.{LeafId}
 use Rattle.tr_base.specs.Rects.{Edges}
 use Rattle.tr_base.proofs.RectLemmas.{false-true}
-use Rattle.tr_region.specs.Points.{holds}
 use Rattle.tr_client.specs.declared.clients.Client.{Ghosts}
 use Rattle.tr_tree.specs.Trees.{Seen}
 use Rattle.tr_spot.specs.Spots.{spot}

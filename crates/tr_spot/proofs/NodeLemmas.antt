@@ -10,7 +10,7 @@ use Rattle.tr_forest.specs.declared.NodeKind.TheVariants as kinds
 use Rattle.tr_forest.specs.Nodes.{Entry, Nodes, IsNode, node, new_entry}
 use Rattle.tr_forest.specs.Families.{levels, is_among, depth, depth_within, deeper}
 use Rattle.tr_forest.specs.Forests.{IsForest}
-use Rattle.tr_forest.proofs.FamilyLemmas.{same_id, among_at, hanger_is_node, depth_enough, deeper_enough}
+use Rattle.tr_forest.proofs.FamilyLemmas.{among_at, hanger_is_node, depth_enough}
 
 -- what has a child is a node
 pub has_child_is_node : (t : Nodes) → IsForest t → (parent n : NodeId) → (node t n).parent ≡ Some parent → IsNode t parent

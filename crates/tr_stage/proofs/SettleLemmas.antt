@@ -8,7 +8,6 @@ use Rattle.tr_base.specs.declared.Size.{Size}
 use Rattle.tr_base.specs.declared.LeafId.{LeafId}
 use Rattle.tr_base.specs.Rects.{has_point, whole_of}
 use Rattle.tr_base.proofs.RectLemmas.{false-true}
-use Rattle.tr_region.specs.Points.{holds}
 use Rattle.tr_screen.specs.Pictures.{IsPicture}
 use Rattle.tr_paint.specs.declared.paints.Paint.{Paint}
 use Rattle.tr_client.specs.declared.clients.Client.{Ghosts}

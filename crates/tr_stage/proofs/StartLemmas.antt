@@ -2,7 +2,6 @@
 use Rattle.std.proofs.Common.{◌≡◌, List, [], map, refl, sym, ap, ◌∙◌}
 use Rattle.std.proofs.Math.ListN.{length-replicate}
 use Rattle.tr_base.specs.declared.Point.{Point}
-use Rattle.tr_region.specs.Points.{holds}
 use Rattle.tr_client.specs.declared.clients.Client.{Ghosts}
 use Rattle.tr_forest.specs.Nodes.{leaf_count}
 use Rattle.tr_tree.specs.Trees.{Seen}

@@ -29,14 +29,15 @@ impl<C: Client> Stage<C> {
         self.windows.obeys_keeping();
         // An edit may send two deliveries to each leaf, in place of one.
         self.journal.reserve(2)?;
-        match self.surface.alter(&edit, &self.windows) {
+        let former = self.former.take();
+        match self.surface.alter(&edit, &self.windows, former) {
             Ok(was) => {
                 let is = self.surface.tree();
                 was.domains_are_small();
                 is.domains_are_small();
                 self.windows.refit(&was, is);
                 self.mail.edited(&was, is, &mut self.sent);
-                drop(was);
+                self.former = Some(was);
                 let entry = by.entry(Step::Alter { edit }, Answer::Done, self.sent.len());
                 Ok(write(&mut self.journal, entry, Answer::Done, self.sent.as_slice()))
             }

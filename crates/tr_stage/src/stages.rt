@@ -18,6 +18,7 @@ use tr_journal::{Actor, Journal, Opening, Reply, Step};
 use tr_levels::Held;
 use tr_mail::{Mail, Outbox};
 use tr_surface::Surface;
+use tr_tree::Tree;
 use tr_windows::Windows;
 
 /// A tree of windows with their contents, the screen that shows them, and the input devices, together
@@ -31,6 +32,9 @@ pub struct Stage<C: Client> {
     pub(crate) alloc: Global,
     pub(crate) opening: Opening<C>,
     pub(crate) surface: Surface,
+    /// The tree before the last edit, in whose memory the next edit makes its tree. There is none before the
+    /// first edit, and behind one that failed.
+    pub(crate) former: Option<Tree>,
     pub(crate) windows: Windows<C>,
     pub(crate) mail: Mail,
     /// What the last step of the input devices, or the last edit, sent. The list is kept, so that no step
@@ -91,6 +95,7 @@ impl<C: Client> Stage<C> {
             alloc,
             opening,
             surface,
+            former: None,
             windows,
             mail,
             sent,

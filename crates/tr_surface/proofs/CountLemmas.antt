@@ -17,7 +17,7 @@ use Rattle.tr_tree.specs.Trees.{Seen}
 use Rattle.tr_surface.specs.Counts.{count_on}
 use Rattle.tr_surface.specs.Surfaces.{AreOwn, Shown, any_holds, is_bad, is_on}
 use Rattle.tr_surface.proofs.SurvivorLemmas.{owns_point}
-use Rattle.tr_surface.proofs.GoodLemmas.{any_none, bad_is, own_region, one_owner}
+use Rattle.tr_surface.proofs.GoodLemmas.{any_none, bad_is, one_owner}
 
 -- ---- counts
 

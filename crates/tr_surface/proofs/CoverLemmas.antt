@@ -1,16 +1,15 @@
 -- What a child covers: it tells which points of the nodes are still their own.
-use Rattle.std.proofs.Common.{◌≡◌, ◌⊎◌, Bool, true, false, cond, not, ◌&&◌, List, Option, Some, None, inl, inr, refl, sym, ap, ◌∙◌}
+use Rattle.std.proofs.Common.{◌≡◌, ◌⊎◌, Bool, true, false, cond, not, ◌&&◌, Option, Some, None, inl, inr, refl, sym, ap, ◌∙◌}
 use Rattle.tr_base.specs.declared.Point.{Point}
 use Rattle.tr_base.specs.declared.NodeId.{NodeId}
-use Rattle.tr_base.specs.Rects.{Edges, before_shift, has_point}
+use Rattle.tr_base.specs.Rects.{before_shift, has_point}
 use Rattle.tr_region.specs.Points.{holds}
 use Rattle.tr_forest.specs.Nodes.{IsNode}
-use Rattle.tr_forest.specs.Families.{is_under}
 use Rattle.tr_tree.specs.Trees.{Seen}
 use Rattle.tr_tree.specs.Places.{domain}
 use Rattle.tr_spot.specs.Ways.{owns}
 use Rattle.tr_spot.specs.Changes.{AreAlikeBut}
-use Rattle.tr_spot.specs.Covers.{IsCarried, comes_upon, lies_under}
+use Rattle.tr_spot.specs.Covers.{comes_upon, lies_under}
 use Rattle.tr_spot.proofs.CoverLemmas.{owns_apart, owns_under}
 use Rattle.tr_spot.proofs.SpotLemmas.{spot_is}
 use Rattle.tr_surface.specs.declared.covers.Cover.{Cover}

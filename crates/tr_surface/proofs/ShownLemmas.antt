@@ -1,5 +1,5 @@
 -- What lies on the screen, and what executing a batch makes of a surface.
-use Rattle.std.proofs.Common.{◌≡◌, ℕ, Bool, true, false, cond, not, ◌&&◌, ◌||◌, List, Option, Some, None, set, refl, sym, ap, ◌∙◌}
+use Rattle.std.proofs.Common.{◌≡◌, ℕ, Bool, true, false, cond, not, ◌&&◌, ◌||◌, List, Some, None, set, refl, sym, ap, ◌∙◌}
 use mathlib.Core.List.{reverse}
 use Rattle.std.specs.Prelude.{is_none}
 use Rattle.tr_base.specs.declared.Point.{Point}

@@ -27,8 +27,13 @@ impl Surface {
     /// Changes the tree by the edit, and returns the tree as it was. A point of the screen stays good if
     /// it shows what it showed before, in its place or moved along with a child, or if its window keeps
     /// it. It then gets the pixel of the point that it comes from. All other points are bad. An `Err`
-    /// changes nothing.
-    pub fn alter<K: Keeper>(&mut self, edit: &Edit, keeper: &K) -> Result<Tree, EditRefused>
+    /// changes nothing. The new tree is made in the memory of `former`, if there is one.
+    pub fn alter<K: Keeper>(
+        &mut self,
+        edit: &Edit,
+        keeper: &K,
+        former: Option<Tree>,
+    ) -> Result<Tree, EditRefused>
         requires edit { IsEdit self.old.tree.nodes edit.now }
         requires leaves { K.leaves keeper.now ≡ leaf_count self.old.tree.nodes }
         ensures was { IfOk result (λ tree. tree ≡ self.old.tree) }
@@ -46,7 +51,7 @@ impl Surface {
     {
         // Called for what it tells the prover: that the nodes are a forest.
         let _ = self.tree.count();
-        let is = self.edited(edit)?;
+        let is = self.edited(edit, former)?;
         let Ok(known) = self.known(&is, edit, keeper) else {
             drop(is);
             return Err(EditRefused::NoMemory);
@@ -61,17 +66,18 @@ impl Surface {
         Ok(mem::replace(&mut self.tree, is))
     }
 
-    /// The tree as the edit makes it.
-    fn edited(&self, edit: &Edit) -> Result<Tree, EditRefused>
+    /// The tree as the edit makes it, in the memory of `former`, if there is one.
+    fn edited(&self, edit: &Edit, former: Option<Tree>) -> Result<Tree, EditRefused>
         requires { IsEdit self.now.tree.nodes edit.now }
         ensures tree { IfOk result (λ is. is ≡ edited_tree self.now.tree edit.now) }
         ensures allowed { OnOk result (refusal self.now.tree.nodes edit.now ≡ None) }
         ensures cause { IfErr result (λ e. IsCause (refusal self.now.tree.nodes edit.now) e) }
     {
         if let Some(fault) = self.tree.refusal(edit) {
+            drop(former);
             return Err(EditRefused::Fault(fault));
         }
-        let mut is = self.tree.copy()?;
+        let mut is = copy_into(&self.tree, former)?;
         match is.edit(edit) {
             Ok(()) => Ok(is),
             Err(e) => {
@@ -113,6 +119,16 @@ impl Surface {
         drop(cover);
         let known = known?;
         Ok(known)
+    }
+}
+
+/// A copy of a tree, in the memory of another, if there is one.
+fn copy_into(tree: &Tree, former: Option<Tree>) -> Result<Tree, NoMemory>
+    ensures { IfOk result (λ t. t ≡ tree.now) }
+{
+    match former {
+        Some(former) => tree.copy_into(former),
+        None => tree.copy(),
     }
 }
 

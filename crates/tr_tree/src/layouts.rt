@@ -99,4 +99,15 @@ impl Layout {
             room,
         })
     }
+
+    /// Is the same as another, in the memory that it has.
+    pub(crate) fn copy_from(&mut self, other: &Layout) -> Result<(), NoMemory>
+        ensures { OnOk result (HaveSamePlaces other.now self.new) }
+    {
+        self.shapes.clear();
+        self.shapes.extend_from_slice(&other.shapes)?;
+        self.domains.clear();
+        self.domains.extend_from_slice(&other.domains)?;
+        self.room.copy_from(&other.room)
+    }
 }

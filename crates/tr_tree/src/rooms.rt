@@ -1,4 +1,4 @@
-ghost use Rattle.std.specs.Prelude.{◌≡◌, IfOk};
+ghost use Rattle.std.specs.Prelude.{◌≡◌, IfOk, OnOk};
 
 use tr_base::{NoMemory, Rect, Shapes};
 
@@ -21,5 +21,17 @@ impl Room {
             return Err(NoMemory);
         };
         Ok(Room { shapes, places })
+    }
+
+    /// Is the same as another, in the memory that it has.
+    pub(crate) fn copy_from(&mut self, other: &Room) -> Result<(), NoMemory>
+        ensures shapes { OnOk result (self.new.shapes.items ≡ other.now.shapes.items) }
+        ensures places { OnOk result (self.new.places.items ≡ other.now.places.items) }
+    {
+        self.shapes.clear();
+        self.shapes.extend_from_slice(&other.shapes)?;
+        self.places.clear();
+        self.places.extend_from_slice(&other.places)?;
+        Ok(())
     }
 }

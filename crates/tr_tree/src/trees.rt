@@ -256,6 +256,32 @@ impl Tree {
         })
     }
 
+    /// The same tree, in the memory of another. Where that has as many nodes, each with as many children,
+    /// nothing is allocated.
+    pub fn copy_into(&self, spare: Tree) -> Result<Tree, NoMemory>
+        ensures { IfOk result (λ t. t ≡ self.now) }
+    {
+        let Tree {
+            forest,
+            mut layout,
+            ..
+        } = spare;
+        let Ok(()) = layout.copy_from(&self.layout) else {
+            drop((forest, layout));
+            return Err(NoMemory);
+        };
+        let Ok(forest) = self.forest.copy_into(forest) else {
+            drop(layout);
+            return Err(NoMemory);
+        };
+        Ok(Tree {
+            forest,
+            size: self.size,
+            kind: self.kind,
+            layout,
+        })
+    }
+
     /// No domain lies far from the screen, and none is large. It does nothing.
     pub fn domains_are_small(&self)
         ensures { (n : NodeId) → IsDomain (domain self.now n) }

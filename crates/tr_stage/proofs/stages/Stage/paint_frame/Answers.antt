@@ -1,6 +1,5 @@
 use Rattle.std.proofs.Common.{ap, refl}
 use Rattle.std.proofs.lemmas.Bool.{and_right}
-use Rattle.tr_region.specs.Points.{holds}
 use Rattle.tr_spot.specs.Spots.{spot}
 use Rattle.tr_surface.specs.Surfaces.{is_frame, is_bad}
 use Rattle.tr_journal.specs.declared.steps.Step.TheVariants.{PaintFrame}

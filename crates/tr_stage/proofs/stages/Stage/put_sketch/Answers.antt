@@ -1,4 +1,4 @@
-use Rattle.std.proofs.Common.{◌≡◌, true, sym, subst, ap, refl, ◌∙◌}
+use Rattle.std.proofs.Common.{sym, subst, ap, refl, ◌∙◌}
 use Rattle.tr_tree.specs.Trees.{Seen}
 use Rattle.tr_spot.specs.Spots.{is_in_leaf, spot}
 use Rattle.tr_journal.specs.declared.steps.Step.TheVariants.{Flush}

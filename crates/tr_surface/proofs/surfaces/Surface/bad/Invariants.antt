@@ -1,4 +1,4 @@
-use Rattle.std.proofs.Common.{◌≡◌, take}
+use Rattle.std.proofs.Common.{◌≡◌}
 use Rattle.tr_base.specs.declared.Point.{Point}
 use Rattle.tr_region.specs.Points.{holds}
 use Rattle.tr_surface.proofs.CountLemmas.{left_after}

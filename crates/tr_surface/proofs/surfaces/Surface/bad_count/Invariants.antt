@@ -1,4 +1,4 @@
-use Rattle.std.proofs.Common.{◌≡◌, take}
+use Rattle.std.proofs.Common.{◌≡◌}
 use Rattle.tr_surface.specs.Counts.{count_on}
 use Rattle.tr_surface.proofs.CountLemmas.{left_after}
 use Rattle.tr_surface.proofs.surfaces.Surface.bad_count.Given as goal

@@ -3,7 +3,7 @@ use Rattle.std.proofs.lemmas.Result.{IfOk-weaker}
 use Rattle.tr_base.specs.Rects.{Edges}
 use Rattle.tr_region.specs.Points.{holds}
 use Rattle.tr_tree.specs.Trees.{Seen}
-use Rattle.tr_spot.specs.Spots.{is_on_frame, region_of, spot}
+use Rattle.tr_spot.specs.Spots.{is_on_frame, spot}
 use Rattle.tr_surface.proofs.FrameLemmas.{frame_bad}
 use Rattle.tr_surface.proofs.surfaces.Surface.bad_frame.Goals as goal
 

@@ -1,14 +1,10 @@
-use Rattle.std.proofs.Common.{◌≡◌, ◌&&◌, not, true, ℕ, List, set, refl, sym, ap, subst, ◌∙◌, arith}
+use Rattle.std.proofs.Common.{◌≡◌, ◌&&◌, not, ℕ, List, set, refl, sym, ap, subst, ◌∙◌, arith}
 use Rattle.std.specs.Prelude.{is_none}
 use Rattle.tr_base.specs.declared.Point.{Point}
 use Rattle.tr_base.specs.declared.Kind.{Kind}
 use Rattle.tr_base.specs.declared.Size.{Size}
-use Rattle.tr_base.specs.declared.LeafId.{LeafId}
-use Rattle.tr_base.specs.declared.NodeId.{NodeId}
 use Rattle.tr_base.specs.Rects.{Edges, before_shift, has_point, whole_of}
 use Rattle.tr_region.specs.Points.{holds}
-use Rattle.tr_screen.specs.Pictures.{Picture}
-use Rattle.tr_paint.specs.declared.Paint.{Paint}
 use Rattle.tr_paint.specs.Batches.{touches}
 use Rattle.tr_paint.specs.Traces.{look_of}
 use Rattle.tr_exec.specs.Executions.{colour_after, known_base}

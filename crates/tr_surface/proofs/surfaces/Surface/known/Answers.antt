@@ -1,4 +1,4 @@
-use Rattle.std.proofs.Common.{◌≡◌, ℕ, ◌<◌, Bool, true, false, ◌&&◌, List, [], Option, None, length, get_or, refl, sym, ap, subst, ◌∙◌, arith}
+use Rattle.std.proofs.Common.{◌≡◌, true, false, ◌&&◌, List, [], Option, length, sym, ap, subst, ◌∙◌}
 use Rattle.tr_base.specs.declared.Point.{Point}
 use Rattle.tr_base.specs.declared.NodeId.{NodeId}
 use Rattle.tr_base.specs.declared.Kind.{Kind}
@@ -7,9 +7,9 @@ use Rattle.tr_base.proofs.BoolLemmas.{and_false}
 use Rattle.tr_base.specs.Ops.{same_kind}
 use Rattle.tr_region.specs.Points.{holds}
 use Rattle.tr_forest.specs.Forests.{IsForest}
-use Rattle.tr_tree.specs.Trees.{Seen, edited_tree}
+use Rattle.tr_tree.specs.Trees.{Seen}
 use Rattle.tr_spot.specs.Spots.{HasRoot, region_of}
-use Rattle.tr_surface.specs.Surfaces.{AreOwn, IsShown, Shown, any_holds, is_bad, is_on}
+use Rattle.tr_surface.specs.Surfaces.{AreOwn, Shown, any_holds, is_bad}
 use Rattle.tr_surface.specs.TreeSteps.{moved_child}
 use Rattle.tr_surface.specs.Survivors.{AreGoodAfter, AreSides, IsLike, change_to, follows_by, good_at, good_by, is_below_moved}
 use Rattle.tr_surface.proofs.GoodLemmas.{any_none}

@@ -1,5 +1,4 @@
 use Rattle.std.proofs.Common.{◌&&◌, not, List, ap, ◌∙◌}
-use Rattle.tr_base.specs.declared.NodeId.{NodeId}
 use Rattle.tr_base.specs.Rects.{Edges}
 use Rattle.tr_base.proofs.BoolLemmas.{and_true}
 use Rattle.tr_region.specs.Points.{holds}

@@ -1,4 +1,4 @@
-use Rattle.std.proofs.Common.{◌≡◌, List, refl, sym, ap, subst}
+use Rattle.std.proofs.Common.{List, refl, sym, subst}
 use Rattle.tr_base.specs.Rects.{Edges}
 use Rattle.tr_screen.specs.Runs.{Repaints}
 use Rattle.tr_spot.specs.Spots.{spot}

@@ -1,4 +1,3 @@
-use Rattle.std.proofs.Common.{arith}
 use Rattle.tr_base.specs.declared.Point.{Point}
 use Rattle.tr_base.specs.declared.NodeId.{NodeId}
 use Rattle.tr_surface.specs.Survivors.{good_at}

@@ -1,7 +1,6 @@
 use Rattle.std.proofs.Common.{◌≡◌, inl, inr, sym, subst, arith}
 use Rattle.tr_forest.proofs.FamilyLemmas.{same_id}
 use Rattle.std.proofs.lemmas.Bool.{cases_lt}
-use Rattle.tr_base.specs.declared.Point.{Point}
 use Rattle.tr_base.specs.declared.NodeId.{NodeId}
 use Rattle.tr_base.specs.Rects.{before_shift, has_point}
 use Rattle.tr_tree.specs.Places.{domain}

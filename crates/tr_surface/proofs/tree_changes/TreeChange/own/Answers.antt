@@ -1,4 +1,4 @@
-use Rattle.std.proofs.Common.{◌&&◌, not, cond, Option, ap, subst, ◌∙◌}
+use Rattle.std.proofs.Common.{not, cond, Option, subst, ◌∙◌}
 use Rattle.std.specs.Prelude.{IfSome}
 use Rattle.std.proofs.lemmas.Result.{IfOk-weaker}
 use Rattle.tr_region.specs.Points.{holds}
