@@ -1,5 +1,6 @@
 pub mod Numbers
 pub mod Contents
+pub mod Edits
 pub mod Flat
 pub mod Pictures
 pub mod ContentsLaws

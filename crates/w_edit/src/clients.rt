@@ -1,4 +1,4 @@
-ghost use Rattle.std.specs.Prelude.{◌≡◌, IfOk};
+ghost use Rattle.std.specs.Prelude.{◌≡◌, ◌++◌, IfOk, OnOk, OnErr};
 ghost use Rattle.tr_paint.specs.Traces.{look_of};
 ghost use Rattle.tr_client.specs.Laws.{IsWindowSize};
 ghost use Rattle.w_edit.specs.Contents as spec;
@@ -71,6 +71,34 @@ impl Client for Editor {
         cmd.known();
         let change = self.changed(alloc, size, cmd)?;
         Ok(change)
+    }
+
+    fn apply(
+        &mut self,
+        alloc: Global,
+        _env: &Env,
+        size: Size,
+        cmd: &EditorCmd,
+        batch: &mut Batch,
+    ) -> Result<(), NoMemory>
+        requires { IsWindowSize size }
+        ensures valid { spec.IsContents self.old }
+        ensures command { spec.IsEditorCmd cmd.now }
+        ensures content_ok { OnOk result (self.new ≡ spec.editor_next self.old cmd.now) }
+        ensures batch_ok { let look = look_of _env.now.kind _env.now.font.now in
+            OnOk result (batch.new ≡ batch.old ++ editor_patch look size self.old cmd.now) }
+        ensures content_err { OnErr result (self.new ≡ self.old) }
+        ensures batch_err { OnErr result (batch.new ≡ batch.old) }
+        ensures flat { OnOk result (flat_text self.new ≡ flat_next (flat_text self.old) cmd.now) }
+    {
+        self.invariant();
+        cmd.known();
+        let before = batch.len();
+        if let Err(error) = self.take(alloc, size, cmd, batch) {
+            batch.truncate(before);
+            return Err(error);
+        }
+        Ok(())
     }
 
     fn react(&self, alloc: Global, event: &Event) -> Result<Option<EditorCmd>, NoMemory> {

@@ -112,21 +112,14 @@ impl Editor {
     pub(crate) fn copy_of(&self, alloc: Global) -> Result<Editor, NoMemory>
         ensures { IfOk result (λ y. y ≡ self.now) }
     {
+        let mut lines = Vec::new(alloc);
+        append_lines(&mut lines, &self.lines)?;
         Ok(Editor {
-            lines: self.copies(alloc)?,
+            lines,
             row: self.row,
             column: self.column,
             clip: self.clip.copy()?,
         })
-    }
-
-    /// The same lines.
-    pub(crate) fn copies(&self, alloc: Global) -> Result<Vec<Line>, NoMemory>
-        ensures { IfOk result (λ lines. lines.items ≡ self.now.lines) }
-    {
-        let mut lines = Vec::new(alloc);
-        append_lines(&mut lines, &self.lines)?;
-        Ok(lines)
     }
 
     /// Whether both are the same content.
@@ -137,16 +130,6 @@ impl Editor {
             && self.column == other.column
             && self.clip.same(&other.clip)
             && same_lines(&self.lines, &other.lines)
-    }
-
-    /// The line of a row, which has no byte where there is none.
-    pub(crate) fn line_at(&self, row: usize) -> Result<Line, NoMemory>
-        ensures { IfOk result (λ line. line ≡ spec.line_at self.now row) }
-    {
-        match self.lines.get(row) {
-            Some(line) => line.copy(),
-            None => Line::of(*self.lines.allocator(), &[]),
-        }
     }
 
     /// The caret's line.

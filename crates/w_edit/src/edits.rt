@@ -1,17 +1,19 @@
-ghost use Rattle.std.specs.Prelude.{◌≡◌, ◌≤◌, ◌<◌, ◌++◌, length, take, drop, IfOk, true};
+ghost use Rattle.std.specs.Prelude.{◌≡◌, ◌<◌, ◌++◌, length, take, drop, IfOk, OnOk, OnErr, true};
 ghost use Rattle.tr_base.specs.Lines.{IsLine};
 ghost use Rattle.tr_paint.specs.Traces.{Look};
 ghost use Rattle.tr_client.specs.Laws.{IsWindowSize};
 ghost use Rattle.w_edit.specs.Contents as spec;
+ghost use Rattle.w_edit.specs.Edits.{IsEditOf, Makes, edited};
 ghost use Rattle.w_edit.specs.Flat.{flat_text, flat_next};
 ghost use Rattle.w_edit.specs.Pictures.{editor_patch};
 
+use crate::changes::Edit;
 use crate::commands::EditorCmd;
 use crate::editors::{Editor, MOST_LINES};
 use crate::rows::{ColumnNumber, RowNumber};
 use std::alloc::Global;
-use tr_base::{LINE, Line, NoMemory, Size};
-use tr_client::{append_lines, line_in_a_row};
+use tr_base::{Command, LINE, Line, NoMemory, Size};
+use tr_client::line_in_a_row;
 use tr_paint::Batch;
 
 impl Editor {
@@ -28,15 +30,39 @@ impl Editor {
         ensures patch { (look : Look) → IfOk result (λ r. r.1 ≡ editor_patch look size self.now cmd.now) }
     {
         self.invariant();
-        if !self.acts(cmd) {
-            return Ok((self.copy_of(alloc)?, Batch::new(alloc)));
-        }
-        let next = self.effect(alloc, cmd)?;
-        let patch = self.patch(alloc, size, &next, cmd)?;
+        let mut next = self.copy_of(alloc)?;
+        let mut patch = Batch::new(alloc);
+        next.take(alloc, size, cmd, &mut patch)?;
         Ok((next, patch))
     }
 
-    /// Whether a command has its effect.
+    /// Changes the content by a command, and puts the command's patch behind the commands of a batch. For
+    /// want of memory the content stays, and some of the patch may stay in the batch.
+    pub(crate) fn take(
+        &mut self,
+        alloc: Global,
+        size: Size,
+        cmd: &EditorCmd,
+        batch: &mut Batch,
+    ) -> Result<(), NoMemory>
+        requires { IsWindowSize size }
+        ensures next { OnOk result (self.new ≡ spec.editor_next self.old cmd.now) }
+        ensures patch { (look : Look) →
+            OnOk result (batch.new ≡ batch.old ++ editor_patch look size self.old cmd.now) }
+        ensures content_err { OnErr result (self.new ≡ self.old) }
+        ensures batch_err { OnErr result (take (length batch.old) batch.new ≡ batch.old) }
+    {
+        if !self.acts(cmd) {
+            return Ok(());
+        }
+        let edit = self.edit(alloc, cmd)?;
+        self.view()
+            .put_patch(size, &self.view_after(&edit), cmd, batch)?;
+        self.make(edit)?;
+        Ok(())
+    }
+
+    /// Whether a command is effective.
     fn acts(&self, cmd: &EditorCmd) -> bool
         ensures { result ≡ spec.acts self.now cmd.now }
     {
@@ -68,149 +94,125 @@ impl Editor {
         0 < self.row && self.upper().bytes().len() + self.line().bytes().len() <= LINE
     }
 
-    /// The content after a command that has its effect.
-    fn effect(&self, alloc: Global, cmd: &EditorCmd) -> Result<Editor, NoMemory>
+    /// The change that an effective command makes.
+    fn edit(&self, alloc: Global, cmd: &EditorCmd) -> Result<Edit, NoMemory>
         requires { spec.acts self.now cmd.now ≡ true }
-        ensures { IfOk result (λ y. y ≡ spec.effect self.now cmd.now) }
+        ensures made { IfOk result (λ edit. Makes self.now edit (spec.effect self.now cmd.now)) }
+        ensures contents { IfOk result (λ edit. spec.IsContents (edited self.now edit)) }
     {
+        self.invariant();
+        cmd.known();
         match cmd {
             EditorCmd::Insert(text) => self.inserted(alloc, text),
             EditorCmd::Erase if self.column == 0 => self.joined(alloc),
             EditorCmd::Erase => self.erased(alloc),
             EditorCmd::Split => self.broken(alloc),
-            EditorCmd::Goto { row, column } => self.moved(alloc, row, column),
+            EditorCmd::Goto { row, column } => Ok(self.moved(row, column)),
             EditorCmd::Copy { from, to } => self.copied(alloc, from, to),
             EditorCmd::Paste => self.inserted(alloc, &self.clip),
         }
     }
 
-    /// The lines with others in place of those from one row to before another. Those that stay are
-    /// copied as two blocks.
-    fn lines_with(
-        &self,
-        alloc: Global,
-        from: usize,
-        new: &[Line],
-        to: usize,
-    ) -> Result<Vec<Line>, NoMemory>
-        requires from { from ≤ length self.now.lines }
-        requires to { to ≤ length self.now.lines }
-        ensures { IfOk result (λ all.
-            all.items ≡ take from self.now.lines ++ (new.now ++ drop to self.now.lines)) }
-    {
-        let mut lines = Vec::with_capacity(alloc, self.lines.len() + new.len())?;
-        append_lines(&mut lines, &self.lines[..from])?;
-        append_lines(&mut lines, new)?;
-        append_lines(&mut lines, &self.lines[to..])?;
-        Ok(lines)
-    }
-
-    /// The content with bytes put at the caret.
-    fn inserted(&self, alloc: Global, text: &Line) -> Result<Editor, NoMemory>
+    /// Puts bytes at the caret.
+    fn inserted(&self, alloc: Global, text: &Line) -> Result<Edit, NoMemory>
         requires { spec.fits self.now text.now ≡ true }
-        ensures { IfOk result (λ y. y ≡ spec.inserted self.now text.now) }
+        ensures { IfOk result (λ edit. Makes self.now edit (spec.inserted self.now text.now)) }
     {
         let bytes = text.bytes();
         let front = line_in_a_row(alloc, self.before(), bytes)?;
-        let line = line_in_a_row(alloc, front.bytes(), self.behind())?;
-        let lines = self.lines_with(alloc, self.row, &[line], self.row + 1)?;
-        Ok(Editor {
-            lines,
-            row: self.row,
+        Ok(Edit::Line {
+            line: line_in_a_row(alloc, front.bytes(), self.behind())?,
             column: self.column + bytes.len(),
-            clip: self.clip.copy()?,
         })
     }
 
-    /// The content without the byte before the caret.
-    fn erased(&self, alloc: Global) -> Result<Editor, NoMemory>
+    /// Removes the byte before the caret.
+    fn erased(&self, alloc: Global) -> Result<Edit, NoMemory>
         requires { 0 < self.now.column }
-        ensures { IfOk result (λ y. y ≡ spec.erased self.now) }
+        ensures { IfOk result (λ edit. Makes self.now edit (spec.erased self.now)) }
     {
         let column = self.column - 1;
-        let line = line_in_a_row(alloc, &self.line().bytes()[..column], self.behind())?;
-        let lines = self.lines_with(alloc, self.row, &[line], self.row + 1)?;
-        Ok(Editor {
-            lines,
-            row: self.row,
+        Ok(Edit::Line {
+            line: line_in_a_row(alloc, &self.line().bytes()[..column], self.behind())?,
             column,
-            clip: self.clip.copy()?,
         })
     }
 
-    /// The content with the caret's line joined to the one above it.
-    fn joined(&self, alloc: Global) -> Result<Editor, NoMemory>
+    /// Joins the caret's line to the one above it.
+    fn joined(&self, alloc: Global) -> Result<Edit, NoMemory>
         requires { spec.can_join self.now ≡ true }
-        ensures { IfOk result (λ y. y ≡ spec.joined_above self.now) }
+        ensures { IfOk result (λ edit. Makes self.now edit (spec.joined_above self.now)) }
     {
-        let row = self.row - 1;
         let upper = self.upper().bytes();
-        let line = line_in_a_row(alloc, upper, self.line().bytes())?;
-        let lines = self.lines_with(alloc, row, &[line], self.row + 1)?;
-        Ok(Editor {
-            lines,
-            row,
+        Ok(Edit::Joined {
+            line: line_in_a_row(alloc, upper, self.line().bytes())?,
             column: upper.len(),
-            clip: self.clip.copy()?,
         })
     }
 
-    /// The content with the line broken at the caret.
-    fn broken(&self, alloc: Global) -> Result<Editor, NoMemory>
-        requires { length self.now.lines < MOST_LINES }
-        ensures { IfOk result (λ y. y ≡ spec.broken self.now) }
+    /// Breaks the line at the caret.
+    fn broken(&self, alloc: Global) -> Result<Edit, NoMemory>
+        ensures { IfOk result (λ edit. Makes self.now edit (spec.broken self.now)) }
     {
-        let new = [
-            Line::of(alloc, self.before())?,
-            Line::of(alloc, self.behind())?,
-        ];
-        let lines = self.lines_with(alloc, self.row, &new, self.row + 1)?;
-        Ok(Editor {
-            lines,
-            row: self.row + 1,
-            column: 0,
-            clip: self.clip.copy()?,
+        Ok(Edit::Broken {
+            front: Line::of(alloc, self.before())?,
+            back: Line::of(alloc, self.behind())?,
         })
     }
 
-    /// The content with the caret elsewhere.
-    #[tactic(auto, using(crate::specs::ContentsLaws::moved_is))]
-    fn moved(
-        &self,
-        alloc: Global,
-        row: &RowNumber,
-        column: &ColumnNumber,
-    ) -> Result<Editor, NoMemory>
-        ensures { IfOk result (λ y. y ≡ spec.caret_to self.now row.now column.now) }
+    /// Moves the caret.
+    fn moved(&self, row: &RowNumber, column: &ColumnNumber) -> Edit
+        ensures { Makes self.now result (spec.caret_to self.now row.now column.now) }
     {
         let (row, column) = self.nearest(row, column);
-        let lines = self.copies(alloc)?;
-        Ok(Editor {
-            lines,
-            row,
-            column,
-            clip: self.clip.copy()?,
-        })
+        Edit::Caret { row, column }
     }
 
-    /// The content with bytes of the caret's line in the clip.
-    #[tactic(auto, using(crate::specs::ContentsLaws::copied_is))]
+    /// Copies bytes of the caret's line.
     fn copied(
         &self,
         alloc: Global,
         from: &ColumnNumber,
         to: &ColumnNumber,
-    ) -> Result<Editor, NoMemory>
-        ensures { IfOk result (λ y. y ≡ spec.copied self.now from.now to.now) }
+    ) -> Result<Edit, NoMemory>
+        ensures { IfOk result (λ edit. Makes self.now edit (spec.copied self.now from.now to.now)) }
     {
-        let lines = self.copies(alloc)?;
         let (from, to) = (usize::from(from.number()), usize::from(to.number()));
-        Ok(Editor {
-            lines,
-            row: self.row,
-            column: self.column,
-            clip: part(alloc, self.line().bytes(), from, to)?,
-        })
+        Ok(Edit::Clip(part(alloc, self.line().bytes(), from, to)?))
+    }
+
+    /// Makes an edit. For want of memory nothing changes.
+    fn make(&mut self, edit: Edit) -> Result<(), NoMemory>
+        requires edit { IsEditOf self.old edit }
+        requires contents { spec.IsContents (edited self.old edit) }
+        ensures ok { OnOk result (self.new ≡ edited self.old edit) }
+        ensures err { OnErr result (self.new ≡ self.old) }
+    {
+        let row = self.row;
+        match edit {
+            Edit::Line { line, column } => {
+                self.lines[row] = line;
+                self.column = column;
+            }
+            Edit::Joined { line, column } => {
+                let _lower = self.lines.remove(row);
+                self.lines[row - 1] = line;
+                self.row = row - 1;
+                self.column = column;
+            }
+            Edit::Broken { front, back } => {
+                self.lines.insert(row + 1, back)?;
+                self.lines[row] = front;
+                self.row = row + 1;
+                self.column = 0;
+            }
+            Edit::Caret { row, column } => {
+                self.row = row;
+                self.column = column;
+            }
+            Edit::Clip(clip) => self.clip = clip,
+        }
+        Ok(())
     }
 }
 

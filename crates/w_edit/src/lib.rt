@@ -3,6 +3,7 @@
 //! elsewhere.
 #![tactic(auto)]
 
+mod changes;
 mod clients;
 mod commands;
 mod editors;
@@ -10,6 +11,7 @@ mod edits;
 mod patches;
 mod places;
 mod rows;
+mod views;
 
 pub use commands::EditorCmd;
 pub use editors::Editor;

@@ -1,4 +1,4 @@
-ghost use Rattle.std.specs.Prelude.{◌≡◌, ◌≤◌, ◌<◌, ◌+◌, ◌*◌, ◌++◌, ◌∷◌, [], IfOk, OnOk, true, false};
+ghost use Rattle.std.specs.Prelude.{◌≡◌, ◌≤◌, ◌<◌, ◌+◌, ◌*◌, ◌++◌, ◌∷◌, [], length, take, IfOk, OnOk, OnErr, true, false};
 ghost use Rattle.tr_base.specs.declared.points.Point.{Point};
 ghost use Rattle.tr_base.specs.Lines.{IsLine};
 ghost use Rattle.tr_base.specs.Rects.{has_point, whole_of};
@@ -15,14 +15,15 @@ ghost use Rattle.w_edit.specs.Pictures as spec;
 use crate::commands::EditorCmd;
 use crate::editors::{Editor, MOST_LINES};
 use crate::places::{cell, lowered, raised, strip};
+use crate::views::View;
 use std::alloc::Global;
 use tr_base::{Line, NoMemory, Op, Rect, Size};
-use tr_client::{PLAIN, begin_of, cleared, paint_lines, part_of_window, room, window};
+use tr_client::{PLAIN, begin_of, paint_lines, part_of_window, room, window};
 use tr_paint::{Batch, Paint};
 
-impl Editor {
+impl<'a> View<'a> {
     /// The row at the top of a window.
-    pub(crate) fn top(&self, size: Size) -> usize
+    fn top(&self, size: Size) -> usize
         ensures value { result ≡ spec.top size self.now }
         ensures row { result ≤ self.now.row }
         ensures limit { result < MOST_LINES }
@@ -77,10 +78,11 @@ impl Editor {
     }
 
     /// A strip becomes background, and its line is written.
-    fn put(&self, batch: &mut Batch, size: Size, above: usize) -> Result<(), NoMemory>
+    fn put(&self, size: Size, above: usize, batch: &mut Batch) -> Result<(), NoMemory>
         requires size { IsWindowSize size }
         requires above { above < room size }
-        ensures { OnOk result (batch.new ≡ batch.old ++ batch_of (spec.put size self.now above)) }
+        ensures ok { OnOk result (batch.new ≡ batch.old ++ batch_of (spec.put size self.now above)) }
+        ensures err { OnErr result (take (length batch.old) batch.new ≡ batch.old) }
     {
         batch.push(Paint::Tint {
             clip: strip(size, above),
@@ -90,149 +92,175 @@ impl Editor {
         Ok(())
     }
 
+    /// How many lines a window shows.
+    fn count_shown(&self, size: Size) -> usize
+        ensures value { result ≡ length (spec.shown_lines size self.now) }
+        ensures room { result ≤ room size }
+    {
+        room(size).min(self.len() - self.top(size))
+    }
+
+    /// All becomes background, and each line that is shown is written.
+    fn repaint(&self, size: Size, batch: &mut Batch) -> Result<(), NoMemory>
+        requires { IsWindowSize size }
+        ensures ok { OnOk result (batch.new ≡ batch.old ++ batch_of (spec.whole_painting size self.now)) }
+        ensures err { OnErr result (take (length batch.old) batch.new ≡ batch.old) }
+    {
+        let count = self.count_shown(size);
+        // (one more for the background and one for the caret's mark)
+        batch.reserve(count.saturating_add(2))?;
+        batch.push(Paint::Tint {
+            clip: window(size),
+            op: Op::Bg,
+        })?;
+        for above in 0..count {
+            batch.push(self.written(size, above)?)?;
+        }
+        Ok(())
+    }
+
+    /// The caret's strip is painted anew.
+    fn rewrite(&self, size: Size, batch: &mut Batch) -> Result<(), NoMemory>
+        requires size { IsWindowSize size }
+        requires some { 0 < room size }
+        ensures ok { OnOk result (batch.new ≡ batch.old ++ batch_of (spec.rewritten size self.now)) }
+        ensures err { OnErr result (take (length batch.old) batch.new ≡ batch.old) }
+    {
+        self.put(size, self.caret_strip(size), batch)
+    }
+
+    /// What is painted where the caret goes to where the next content has it.
+    fn move_caret(&self, size: Size, next: &View, batch: &mut Batch) -> Result<(), NoMemory>
+        requires size { IsWindowSize size }
+        requires some { 0 < room size }
+        ensures ok { OnOk result
+            (batch.new ≡ batch.old ++ batch_of (spec.caret_moved size self.now next.now)) }
+        ensures err { OnErr result (take (length batch.old) batch.new ≡ batch.old) }
+    {
+        let last = room(size) - 1;
+        let mark = self.mark(size);
+        if next.top(size) == self.top(size) {
+            batch.push(mark)?;
+            Ok(())
+        } else if next.top(size) == self.top(size) + 1 {
+            batch.push(mark)?;
+            batch.push(raised(size, 0, last))?;
+            next.put(size, last, batch)?;
+            Ok(())
+        } else if self.top(size) == next.top(size) + 1 {
+            batch.push(mark)?;
+            batch.push(lowered(size, 1, room(size)))?;
+            next.put(size, 0, batch)?;
+            Ok(())
+        } else {
+            next.repaint(size, batch)
+        }
+    }
+
+    /// What is painted where the caret's line is broken.
+    fn break_line(&self, size: Size, next: &View, batch: &mut Batch) -> Result<(), NoMemory>
+        requires size { IsWindowSize size }
+        requires some { 0 < room size }
+        requires next { next.now.row ≡ self.now.row + 1 }
+        ensures ok { OnOk result
+            (batch.new ≡ batch.old ++ batch_of (spec.line_broken size self.now next.now)) }
+        ensures err { OnErr result (take (length batch.old) batch.new ≡ batch.old) }
+    {
+        if next.top(size) != self.top(size) {
+            return next.repaint(size, batch);
+        }
+        let i = next.caret_strip(size);
+        batch.push(lowered(size, i + 1, room(size)))?;
+        next.put(size, i - 1, batch)?;
+        next.put(size, i, batch)?;
+        Ok(())
+    }
+
+    /// What is painted where the caret's line is joined to the one above it.
+    fn join_lines(&self, size: Size, next: &View, batch: &mut Batch) -> Result<(), NoMemory>
+        requires size { IsWindowSize size }
+        requires some { 0 < room size }
+        ensures ok { OnOk result
+            (batch.new ≡ batch.old ++ batch_of (spec.lines_joined size self.now next.now)) }
+        ensures err { OnErr result (take (length batch.old) batch.new ≡ batch.old) }
+    {
+        if next.top(size) != self.top(size) {
+            return next.repaint(size, batch);
+        }
+        let i = next.caret_strip(size);
+        let lowest = room(size) - 1;
+        batch.push(raised(size, i + 1, lowest))?;
+        next.put(size, lowest, batch)?;
+        next.put(size, i, batch)?;
+        Ok(())
+    }
+
+    /// What is painted before the mark, from a content to the next.
+    fn put_changes(
+        &self,
+        size: Size,
+        next: &View,
+        cmd: &EditorCmd,
+        batch: &mut Batch,
+    ) -> Result<(), NoMemory>
+        requires size { IsWindowSize size }
+        requires some { 0 < room size }
+        requires next { next.now ≡ contents.effect self.now cmd.now }
+        ensures ok { OnOk result
+            (batch.new ≡ batch.old ++ batch_of (spec.patch_without_mark size self.now next.now cmd.now)) }
+        ensures err { OnErr result (take (length batch.old) batch.new ≡ batch.old) }
+    {
+        match cmd {
+            EditorCmd::Insert(_) | EditorCmd::Paste => next.rewrite(size, batch),
+            EditorCmd::Erase if self.column() == 0 => self.join_lines(size, next, batch),
+            EditorCmd::Erase => next.rewrite(size, batch),
+            EditorCmd::Split => self.break_line(size, next, batch),
+            EditorCmd::Goto { .. } => self.move_caret(size, next, batch),
+            EditorCmd::Copy { .. } => Ok(()),
+        }
+    }
+
+    /// Puts the patch of a command that has its effect behind the commands of a batch. Where memory runs
+    /// out, some of it may stay there.
+    pub(crate) fn put_patch(
+        &self,
+        size: Size,
+        next: &View,
+        cmd: &EditorCmd,
+        batch: &mut Batch,
+    ) -> Result<(), NoMemory>
+        requires size { IsWindowSize size }
+        requires acts { contents.acts self.now cmd.now ≡ true }
+        requires next { next.now ≡ contents.effect self.now cmd.now }
+        ensures ok { (look : Look) →
+            OnOk result (batch.new ≡ batch.old ++ spec.editor_patch look size self.now cmd.now) }
+        ensures err { OnErr result (take (length batch.old) batch.new ≡ batch.old) }
+    {
+        if room(size) == 0 || is_copy(cmd) {
+            return Ok(());
+        }
+        self.put_changes(size, next, cmd, batch)?;
+        batch.push(next.mark(size))?;
+        Ok(())
+    }
+}
+
+impl Editor {
+    /// The row at the top of a window.
+    pub(crate) fn top(&self, size: Size) -> usize
+        ensures value { result ≡ spec.top size self.now }
+        ensures row { result ≤ self.now.row }
+        ensures limit { result < MOST_LINES }
+    {
+        self.view().top(size)
+    }
+
     /// The lines that a window shows.
     pub(crate) fn shown(&self, size: Size) -> &[Line]
         ensures { result.now ≡ spec.shown_lines size self.now }
     {
         let below = &self.lines()[self.top(size)..];
         &below[..room(size).min(below.len())]
-    }
-
-    /// All becomes background, and each line that is shown is written.
-    fn repainted(&self, alloc: Global, size: Size) -> Result<Batch, NoMemory>
-        requires { IsWindowSize size }
-        ensures { IfOk result (λ batch. batch ≡ batch_of (spec.whole_painting size self.now)) }
-    {
-        let mut batch = cleared(alloc, window(size))?;
-        let shown = self.shown(size);
-        // (one more for the caret's mark)
-        batch.reserve(shown.len().saturating_add(1))?;
-        for (above, line) in shown.iter().enumerate() {
-            batch.push(Paint::Text {
-                clip: strip(size, above),
-                at: begin_of(above),
-                ops: PLAIN,
-                text: line.copy()?,
-            })?;
-        }
-        Ok(batch)
-    }
-
-    /// The caret's strip is painted anew.
-    fn rewritten(&self, alloc: Global, size: Size) -> Result<Batch, NoMemory>
-        requires size { IsWindowSize size }
-        requires some { 0 < room size }
-        ensures { IfOk result (λ batch. batch ≡ batch_of (spec.rewritten size self.now)) }
-    {
-        let mut batch = Batch::new(alloc);
-        self.put(&mut batch, size, self.caret_strip(size))?;
-        Ok(batch)
-    }
-
-    /// What is painted where the caret goes to where the next content has it.
-    fn caret_moved(&self, alloc: Global, size: Size, next: &Editor) -> Result<Batch, NoMemory>
-        requires size { IsWindowSize size }
-        requires some { 0 < room size }
-        ensures { IfOk result (λ batch. batch ≡ batch_of (spec.caret_moved size self.now next.now)) }
-    {
-        let last = room(size) - 1;
-        let mut batch = Batch::new(alloc);
-        batch.push(self.mark(size))?;
-        if next.top(size) == self.top(size) {
-            Ok(batch)
-        } else if next.top(size) == self.top(size) + 1 {
-            batch.push(raised(size, 0, last))?;
-            next.put(&mut batch, size, last)?;
-            Ok(batch)
-        } else if self.top(size) == next.top(size) + 1 {
-            batch.push(lowered(size, 1, room(size)))?;
-            next.put(&mut batch, size, 0)?;
-            Ok(batch)
-        } else {
-            next.repainted(alloc, size)
-        }
-    }
-
-    /// What is painted where the caret's line is broken.
-    fn line_broken(&self, alloc: Global, size: Size, next: &Editor) -> Result<Batch, NoMemory>
-        requires size { IsWindowSize size }
-        requires some { 0 < room size }
-        requires next { next.now.row ≡ self.now.row + 1 }
-        ensures { IfOk result (λ batch. batch ≡ batch_of (spec.line_broken size self.now next.now)) }
-    {
-        if next.top(size) != self.top(size) {
-            return next.repainted(alloc, size);
-        }
-        let i = next.caret_strip(size);
-        let mut batch = Batch::new(alloc);
-        batch.push(lowered(size, i + 1, room(size)))?;
-        next.put(&mut batch, size, i - 1)?;
-        next.put(&mut batch, size, i)?;
-        Ok(batch)
-    }
-
-    /// What is painted where the caret's line is joined to the one above it.
-    fn lines_joined(&self, alloc: Global, size: Size, next: &Editor) -> Result<Batch, NoMemory>
-        requires size { IsWindowSize size }
-        requires some { 0 < room size }
-        ensures { IfOk result (λ batch. batch ≡ batch_of (spec.lines_joined size self.now next.now)) }
-    {
-        if next.top(size) != self.top(size) {
-            return next.repainted(alloc, size);
-        }
-        let i = next.caret_strip(size);
-        let lowest = room(size) - 1;
-        let mut batch = Batch::new(alloc);
-        batch.push(raised(size, i + 1, lowest))?;
-        next.put(&mut batch, size, lowest)?;
-        next.put(&mut batch, size, i)?;
-        Ok(batch)
-    }
-
-    /// What is painted before the mark, from a content to the next.
-    fn painted(
-        &self,
-        alloc: Global,
-        size: Size,
-        next: &Editor,
-        cmd: &EditorCmd,
-    ) -> Result<Batch, NoMemory>
-        requires size { IsWindowSize size }
-        requires some { 0 < room size }
-        requires next { next.now ≡ contents.effect self.now cmd.now }
-        ensures { IfOk result
-            (λ batch. batch ≡ batch_of (spec.patch_without_mark size self.now next.now cmd.now)) }
-    {
-        match cmd {
-            EditorCmd::Insert(_) | EditorCmd::Paste => next.rewritten(alloc, size),
-            EditorCmd::Erase if self.column() == 0 => self.lines_joined(alloc, size, next),
-            EditorCmd::Erase => next.rewritten(alloc, size),
-            EditorCmd::Split => self.line_broken(alloc, size, next),
-            EditorCmd::Goto { .. } => self.caret_moved(alloc, size, next),
-            EditorCmd::Copy { .. } => Ok(Batch::new(alloc)),
-        }
-    }
-
-    /// The patch of a command that has its effect.
-    pub(crate) fn patch(
-        &self,
-        alloc: Global,
-        size: Size,
-        next: &Editor,
-        cmd: &EditorCmd,
-    ) -> Result<Batch, NoMemory>
-        requires size { IsWindowSize size }
-        requires acts { contents.acts self.now cmd.now ≡ true }
-        requires next { next.now ≡ contents.effect self.now cmd.now }
-        ensures { (look : Look) →
-            IfOk result (λ batch. batch ≡ spec.editor_patch look size self.now cmd.now) }
-    {
-        if room(size) == 0 || is_copy(cmd) {
-            return Ok(Batch::new(alloc));
-        }
-        let mut batch = self.painted(alloc, size, next, cmd)?;
-        batch.push(next.mark(size))?;
-        Ok(batch)
     }
 
     /// Commands that paint a part of the picture.
@@ -247,7 +275,7 @@ impl Editor {
             return Ok(batch);
         }
         batch.push(Paint::Tint {
-            clip: part.meet(&self.caret(size)),
+            clip: part.meet(&self.view().caret(size)),
             op: Op::Exchange(0, 1),
         })?;
         Ok(batch)

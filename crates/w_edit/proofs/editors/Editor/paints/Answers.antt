@@ -17,5 +17,5 @@ pub returns : goal.returns
 returns c = λ look.
     let some : room c.args.size ≡ 0 → ⊥ = λ none. absurd (omega arith) in
     let painted = rw c.shown.ensures at (c.in_ok-batch.ensures look) in
-    rw (c.in_ok-push.ensures.ok, c.meet.ensures.edges, c.caret.ensures)
+    rw (c.in_ok-push.ensures.ok, c.meet.ensures.edges, c.caret.ensures, c.view.ensures)
     (caret_is_painting look c.args.size c.args.self.now c.args.part.now c.in_ok-batch.batch some painted)
