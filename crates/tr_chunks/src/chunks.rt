@@ -28,11 +28,12 @@ fn read_chunk(
     ensures { IsChunk reader.now first (texts chunk.now) result }
 {
     let mut steps = Steps::new(alloc);
+    let mut words = Vec::new(alloc);
     if steps.reserve(chunk.len()).is_err() {
         return None;
     }
     for (index, line) in chunk.iter().enumerate() {
-        let Ok(true) = take_step(alloc, reader, &mut steps, first + index, line) else {
+        let Ok(true) = take_step(alloc, reader, &mut steps, &mut words, first + index, line) else {
             return None;
         };
     }

@@ -85,10 +85,11 @@ fn read_lines<R: Threads + Sync>(
     ensures cause { IfErr result (λ e. IsReadCause (first_bad_line nothing_yet 1 (texts lines.now)) e) }
 {
     let mut reader = Reader::new(alloc);
+    let mut words = Vec::new(alloc);
     let mut index = 0;
     let mut tried = 0;
     while index < lines.len() {
-        match take_line(alloc, &mut reader, index + 1, lines[index]) {
+        match take_line(alloc, &mut reader, &mut words, index + 1, lines[index]) {
             Ok(()) => {}
             Err(LineRefused::NoMemory) => {
                 drop(reader);

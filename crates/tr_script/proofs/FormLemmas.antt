@@ -204,6 +204,11 @@ pub by_first : (c : SoFar) (fs gs : List Form) (w t : List ℕ) (ws : List (List
     among c.version fs (t ∷ ws) ≡ among c.version gs (t ∷ ws) → Reads c gs (t ∷ ws) r → Reads c fs (w ∷ ws) r
 by_first c fs gs w t ws r is e h = by_word c fs gs (λ (x : List ℕ). x ∷ ws) w t r is e h
 
+-- the same, where all forms of the first word are among others
+pub by_others : (c : SoFar) (fs gs : List Form) (w t : List ℕ) (ws : List (List ℕ)) (r : Result Meaning LineRefused) → w ≡ t →
+    among c.version fs (t ∷ ws) ≡ among c.version gs (t ∷ ws) → Reads c gs (w ∷ ws) r → Reads c fs (w ∷ ws) r
+by_others c fs gs w t ws r is e h = by_first c fs gs w t ws r is e (subst (λ (x : List ℕ). Reads c gs (x ∷ ws) r) is h)
+
 -- the same, by what a leaf's actor does
 pub by_act : (c : SoFar) (fs : List Form) (f : Form) (h : ActLine) (t : List ℕ) (r : Result Meaning LineRefused) → h.act.now ≡ t →
     among c.version fs ((64 ∷ h.leaf.now) ∷ t ∷ texts h.values.now) ≡ among c.version (f ∷ []) ((64 ∷ h.leaf.now) ∷ t ∷ texts h.values.now) →

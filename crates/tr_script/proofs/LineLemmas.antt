@@ -1,5 +1,5 @@
 -- What a line says and its first fault, and the lines that are read so far.
-use Rattle.std.proofs.Common.{◌≡◌, ℕ, ◌+◌, ◌-◌, ◌≤◌, Bool, true, false, List, [], ◌∷◌, ◌++◌, Option, Some, None, Err}
+use Rattle.std.proofs.Common.{◌≡◌, ℕ, ◌+◌, ◌-◌, ◌<◌, ◌≤◌, Bool, true, false, List, [], ◌∷◌, ◌++◌, Option, Some, None, Err}
 use Rattle.std.proofs.Common.{cond, length, take, drop, refl, sym, ap, ◌∙◌, arith}
 use Rattle.std.proofs.lemmas.List.{length-take}
 use Rattle.std.proofs.lemmas.List.Splits.{length-slice_split}
@@ -8,7 +8,7 @@ use Rattle.std.proofs.lemmas.Option.{none-some}
 use Rattle.std.specs.Prelude.{◌==◌}
 use Rattle.std.specs.List.{slice_split}
 use Rattle.tr_grammar.specs.declared.Code.{Code}
-use Rattle.tr_grammar.specs.declared.Code.TheVariants.{B1}
+use Rattle.tr_grammar.specs.declared.Code.TheVariants.{B1, B8}
 use Rattle.tr_grammar.specs.declared.LineRefused.{LineRefused}
 use Rattle.tr_grammar.specs.declared.LineRefused.TheVariants as refused
 use Rattle.tr_grammar.specs.declared.Meaning.{Meaning}
@@ -18,7 +18,7 @@ use Rattle.tr_grammar.specs.Forms.{Form, form_of}
 use Rattle.tr_grammar.specs.Meanings.{meaning_of}
 use Rattle.tr_grammar.specs.States.{SoFar, nothing_yet}
 use Rattle.tr_grammar.specs.Faults.{first_of, word_faults, line_faults, fault_as, fault_of, has_ended}
-use Rattle.tr_grammar.specs.Scripts.{after_meaning, after_as, after_line, first_bad_line, after_all_lines, refused_at}
+use Rattle.tr_grammar.specs.Scripts.{Refusal, after_meaning, after_as, after_line, first_bad_line, after_all_lines, refused_at}
 use Rattle.tr_reader.specs.Adding.{IsFault}
 use Rattle.tr_script.specs.Reading.{word_fault, meaning_as, ReadsAs}
 
@@ -107,6 +107,39 @@ one_read all i c t so_far at none = record {
 pub is_refused_at : (all : List (List ℕ)) (i : ℕ) (c : SoFar) (t : List ℕ) (e : Code) → IsRead all i c → drop i all ≡ t ∷ drop (i + 1) all →
     fault_of c (i + 1) t ≡ Some e → first_bad_line nothing_yet 1 all ≡ Some (refused_at (i + 1) e)
 is_refused_at all i c t e so_far at fault = so_far.fault ∙ rw (at, fault) refl
+
+-- the lines of a text are read up to those of its rest, of which the first has this number, and the script behind them is c
+pub record IsReadTo (bytes rest : List ℕ) (number : ℕ) (c : SoFar) : Type 0 where
+  pub fault : first_bad_line nothing_yet 1 (lines_of bytes) ≡ first_bad_line c number (lines_of rest)
+  pub script : after_all_lines nothing_yet (lines_of bytes) ≡ after_all_lines c (lines_of rest)
+  pub few : number + length rest ≤ length bytes + 1
+
+pub next_read : (bytes rest behind line : List ℕ) (number : ℕ) (c : SoFar) → IsReadTo bytes rest number c → lines_of rest ≡ line ∷ lines_of behind →
+    length behind < length rest → fault_of c number line ≡ None → IsReadTo bytes behind (number + 1) (after_line c line)
+next_read bytes rest behind line number c so_far at shorter none = record {
+  fault = so_far.fault ∙ rw (at, none) refl;
+  script = so_far.script ∙ rw at refl;
+  few = omega (arith, so_far.few, shorter);
+}
+
+pub next_refused : (bytes rest behind line : List ℕ) (number : ℕ) (c : SoFar) (e : Code) → IsReadTo bytes rest number c →
+    lines_of rest ≡ line ∷ lines_of behind → fault_of c number line ≡ Some e →
+    first_bad_line nothing_yet 1 (lines_of bytes) ≡ Some (refused_at number e)
+next_refused bytes rest behind line number c e so_far at fault = so_far.fault ∙ rw (at, fault) refl
+
+-- where no byte is left, all lines are read
+pub all_read : (bytes rest : List ℕ) (number : ℕ) (c : SoFar) → IsReadTo bytes rest number c → length rest ≡ 0 →
+    after_all_lines nothing_yet (lines_of bytes) ≡ c
+unfolding lines_of
+all_read bytes [] number c so_far none = so_far.script
+all_read bytes (b ∷ rest) number c so_far none = absurd (omega (arith, none))
+
+pub last_fault : (bytes rest : List ℕ) (number : ℕ) (c : SoFar) → IsReadTo bytes rest number c → length rest ≡ 0 →
+    (ended : Bool) → has_ended c.place ≡ ended → first_bad_line nothing_yet 1 (lines_of bytes) ≡ cond ended None (Some (refused_at number B8))
+unfolding lines_of
+last_fault bytes [] number c so_far none ended is =
+    so_far.fault ∙ ap (λ (b : Bool). cond {A = Option Refusal} b None (Some (refused_at number B8))) is
+last_fault bytes (b ∷ rest) number c so_far none ended is = absurd (omega (arith, none))
 
 -- there is at most one line more than there are bytes
 pub few_lines : (bytes : List ℕ) → length (lines_of bytes) ≤ length bytes + 1

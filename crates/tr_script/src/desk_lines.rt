@@ -117,17 +117,17 @@ pub fn read_desk(reader: &Reader, first: &str, words: &[&str]) -> Result<Meaning
     ensures { Reads reader.now desk_forms (first.now ∷ texts words.now) result }
 {
     match first {
-        "mouse" => read_mouse(reader, words),
         "motion" => read_motion(reader, words),
+        "mouse" => read_mouse(reader, words),
         "key" => read_key(reader, words),
+        "move" => read_move(reader, words),
+        "lift" => read_lift(reader, words),
         "attach" => read_attach(reader, words),
         "detach" => read_detach(reader, words),
         "tint" => read_tint(reader, words),
         "border" => read_widen(reader, words),
         "offset" => read_offset(reader, words),
         "fix" => read_fix(reader, words),
-        "move" => read_move(reader, words),
-        "lift" => read_lift(reader, words),
         "show" => read_show(reader, words),
         "turn" => read_turn(reader, words),
         "shapes" => read_reshape(reader, words),

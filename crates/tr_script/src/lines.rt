@@ -26,7 +26,7 @@ use tr_base::NoMemory;
 use tr_grammar::{Code, LineRefused, Meaning};
 use tr_reader::{Reader, Steps};
 use tr_widget::WidgetCmd;
-use tr_words::{is_silent, plain_text, words_of};
+use tr_words::{is_silent, plain_text, words_into};
 use w_canvas::CanvasCmd;
 use w_edit::EditorCmd;
 use w_lines::LinesCmd;
@@ -72,21 +72,27 @@ fn read_first(
     requires printable { AllPass is_printable line.now }
     ensures { Reads reader.now forms (first.now ∷ texts words.now) result }
 {
-    match first {
-        "node" => read_node(reader, words),
-        "leaf" => read_leaf(alloc, reader, words, line),
-        _ => match first.strip_prefix('@') {
-            Some(leaf) => read_at(reader, leaf, words, line),
-            None => read_plain(reader, first, words),
+    match first.strip_prefix('@') {
+        Some(leaf) => read_at(reader, leaf, words, line),
+        None => match first {
+            "node" => read_node(reader, words),
+            "leaf" => read_leaf(alloc, reader, words, line),
+            _ => read_plain(reader, first, words),
         },
     }
 }
 
-/// The same, of a line that neither declares a node or a leaf nor begins with an @.
+/// The same, of a line that neither declares a node or a leaf nor begins with an @. The desk's most
+/// common steps come first.
 fn read_plain(reader: &Reader, first: &str, words: &[&str]) -> Result<Meaning, LineRefused>
     ensures { Reads reader.now plain_forms (first.now ∷ texts words.now) result }
 {
     match first {
+        "motion" => read_desk(reader, first, words),
+        "mouse" => read_desk(reader, first, words),
+        "key" => read_desk(reader, first, words),
+        "move" => read_desk(reader, first, words),
+        "lift" => read_desk(reader, first, words),
         "trestle" => read_version(reader, words),
         "screen" => read_screen(reader, words),
         "glyph" => read_glyph(reader, words),
@@ -140,13 +146,14 @@ fn take_said(
 /// Reads the line of this number apart from those before it: the reader knows what they declare, and which
 /// steps the others made doesn't matter. Answers whether the line has no fault and is silent or makes a step;
 /// its step, if it makes one, comes behind `steps`. Else these are as before: the line has a fault, or is a
-/// sync.
-pub fn take_step(
+/// sync. The line's words come by way of `words`.
+pub fn take_step<'a>(
     alloc: Global,
     reader: &Reader,
     steps: &mut Steps<WidgetCmd>,
+    words: &mut Vec<&'a str>,
     number: usize,
-    bytes: &[u8],
+    bytes: &'a [u8],
 ) -> Result<bool, NoMemory>
     requires { is_at_steps reader.now.place ≡ true }
     ensures answer { IfOk result (λ taken. taken ≡ stays_at_steps reader.now number bytes.now) }
@@ -164,8 +171,8 @@ pub fn take_step(
     if is_silent(line) {
         return Ok(true);
     }
-    let words = words_of(alloc, line)?;
-    match read_words(alloc, reader, &words, line) {
+    words_into(line, words)?;
+    match read_words(alloc, reader, words, line) {
         Ok(meaning) => take_said(reader, steps, meaning),
         Err(LineRefused::NoMemory) => Err(NoMemory),
         Err(LineRefused::Fault(_)) => Ok(false),
@@ -202,11 +209,12 @@ fn take_meaning<'a>(
 }
 
 /// Reads the line of this number. After an `Err` the reader is as before; but behind the 100,000th line it
-/// may know the line that was refused.
+/// may know the line that was refused. The line's words come by way of `words`.
 #[tactic(auto, unfolding(tr_grammar::specs::Faults::fault_of, tr_grammar::specs::Scripts::after_line))]
 pub fn take_line<'a>(
     alloc: Global,
     reader: &mut Reader<'a>,
+    words: &mut Vec<&'a str>,
     number: usize,
     bytes: &'a [u8],
 ) -> Result<(), LineRefused>
@@ -228,7 +236,7 @@ pub fn take_line<'a>(
     if reader.has_ended() {
         return Err(LineRefused::Fault(Code::B8));
     }
-    let words = words_of(alloc, line)?;
-    let meaning = read_words(alloc, reader, &words, line)?;
-    take_meaning(reader, number, second(&words), meaning)
+    words_into(line, words)?;
+    let meaning = read_words(alloc, reader, words, line)?;
+    take_meaning(reader, number, second(words), meaning)
 }

@@ -4,13 +4,13 @@ ghost use Rattle.tr_grammar.specs.Scripts.{refusal_of, script_of, first_bad_line
 ghost use Rattle.tr_grammar.specs.Scripts.{IsReadCause, IsPlayableScript};
 ghost use Rattle.tr_grammar.specs.Codes.{number_of_code};
 ghost use Rattle.tr_grammar.specs.States.{nothing_yet};
-ghost use Rattle.tr_words.specs.Answers.{texts};
+ghost use Rattle.tr_grammar.specs.Texts.{lines_of};
 
 use crate::lines::take_line;
 use std::alloc::Global;
 use tr_grammar::{Code, LONGEST_SCRIPT, LineRefused, ReadRefused};
 use tr_reader::{Reader, Script};
-use tr_words::lines_of;
+use tr_words::first_line;
 
 /// The refusal of a line; line 0 stands for the whole text.
 pub fn refused_at(line: usize, code: Code) -> ReadRefused
@@ -23,17 +23,21 @@ pub fn refused_at(line: usize, code: Code) -> ReadRefused
     }
 }
 
-/// Reads the lines, of which the first is line 1.
-fn read_lines(alloc: Global, lines: &[&[u8]]) -> Result<Script, ReadRefused>
-    requires { length lines.now + 1 < 2 ^ 32 }
-    ensures valid { IfOk result (λ s. first_bad_line nothing_yet 1 (texts lines.now) ≡ None) }
-    ensures script { IfOk result (λ s. s ≡ whole (after_all_lines nothing_yet (texts lines.now))) }
+/// Reads the lines of a text, of which the first is line 1.
+fn read_lines(alloc: Global, bytes: &[u8]) -> Result<Script, ReadRefused>
+    requires { length bytes.now + 1 < 2 ^ 32 }
+    ensures valid { IfOk result (λ s. first_bad_line nothing_yet 1 (lines_of bytes.now) ≡ None) }
+    ensures script { IfOk result (λ s. s ≡ whole (after_all_lines nothing_yet (lines_of bytes.now))) }
     ensures playable { IfOk result (λ s. IsPlayableScript s) }
-    ensures cause { IfErr result (λ e. IsReadCause (first_bad_line nothing_yet 1 (texts lines.now)) e) }
+    ensures cause { IfErr result (λ e. IsReadCause (first_bad_line nothing_yet 1 (lines_of bytes.now)) e) }
 {
     let mut reader = Reader::new(alloc);
-    for (index, line) in lines.iter().enumerate() {
-        match take_line(alloc, &mut reader, index + 1, line) {
+    let mut words = Vec::new(alloc);
+    let mut number = 1;
+    let mut rest = bytes;
+    while !rest.is_empty() {
+        let (line, behind) = first_line(rest);
+        match take_line(alloc, &mut reader, &mut words, number, line) {
             Ok(()) => {}
             Err(LineRefused::NoMemory) => {
                 drop(reader);
@@ -41,13 +45,15 @@ fn read_lines(alloc: Global, lines: &[&[u8]]) -> Result<Script, ReadRefused>
             }
             Err(LineRefused::Fault(code)) => {
                 drop(reader);
-                return Err(refused_at(index + 1, code));
+                return Err(refused_at(number, code));
             }
         }
+        number += 1;
+        rest = behind;
     }
     match reader.finish()? {
         Some(script) => Ok(script),
-        None => Err(refused_at(lines.len() + 1, Code::B8)),
+        None => Err(refused_at(number, Code::B8)),
     }
 }
 
@@ -63,6 +69,5 @@ pub fn read_script(alloc: Global, bytes: &[u8]) -> Result<Script, ReadRefused>
     if bytes.len() > LONGEST_SCRIPT {
         return Err(refused_at(0, Code::B7));
     }
-    let lines = lines_of(alloc, bytes)?;
-    read_lines(alloc, &lines)
+    read_lines(alloc, bytes)
 }

@@ -18,7 +18,13 @@ fn reader_of(rt: &(impl Abort + AllocGlobal)) -> Reader<'static> {
     for (index, line) in BEFORE.lines().enumerate() {
         made(
             rt,
-            take_line(rt.alloc(), &mut reader, index + 1, line.as_bytes()),
+            take_line(
+                rt.alloc(),
+                &mut reader,
+                &mut Vec::new(rt.alloc()),
+                index + 1,
+                line.as_bytes(),
+            ),
         );
     }
     reader
@@ -38,11 +44,25 @@ fn answers(
     let mut steps = Steps::new(rt.alloc());
     let first = made(
         rt,
-        take_step(rt.alloc(), reader, &mut steps, 7, "@a tint 5".as_bytes()),
+        take_step(
+            rt.alloc(),
+            reader,
+            &mut steps,
+            &mut Vec::new(rt.alloc()),
+            7,
+            "@a tint 5".as_bytes(),
+        ),
     );
     let second = made(
         rt,
-        take_step(rt.alloc(), reader, &mut steps, number, line.as_bytes()),
+        take_step(
+            rt.alloc(),
+            reader,
+            &mut steps,
+            &mut Vec::new(rt.alloc()),
+            number,
+            line.as_bytes(),
+        ),
     );
     first && second == taken && steps.len() == count
 }

@@ -6,7 +6,7 @@ mod texts;
 mod values;
 mod words;
 
-pub use texts::{is_silent, lines_of, plain_text, rest_after, words_of};
+pub use texts::{first_line, is_silent, lines_of, plain_text, rest_after, words_into};
 pub use values::{
     byte, edge, extent, glyph_byte, name, number, offset, place, rows, shape, shift, short, side,
     signed, small, text, time,

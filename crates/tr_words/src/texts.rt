@@ -1,13 +1,14 @@
 //! How a text is cut into lines, and a line into words.
-ghost use Rattle.std.specs.Prelude.{◌≡◌, ◌==◌, true, false, IfOk, MatchOption, IfSome, drop, List, ℕ};
+ghost use Rattle.std.specs.Prelude.{◌≡◌, ◌<◌, ◌∷◌, ◌==◌, true, false, IfOk, OnOk, MatchOption, IfSome, drop, length, List, ℕ};
 ghost use Rattle.std.specs.List.{list_all, slice_split, AllPass};
 ghost use Rattle.tr_base.specs.Lines.{is_printable};
 ghost use Rattle.tr_grammar.specs.Words.{words_of, rest_after};
 ghost use Rattle.tr_grammar.specs.Texts.{is_plain, is_silent, ends_empty, without_empty_end, lines_of};
 ghost use Rattle.tr_words.specs.Answers.{AreWordsOf, texts};
 
+use memchr::memchr;
 use std::alloc::{AllocError, Global};
-use tr_base::is_printable;
+use tr_base::{NoMemory, is_printable};
 
 /// How many bytes a line may have.
 const MOST_BYTES: usize = 1024;
@@ -51,11 +52,16 @@ pub fn is_silent(line: &str) -> bool
     }
 }
 
-/// What stands between single spaces.
-pub fn words_of<'a>(alloc: Global, line: &'a str) -> Result<Vec<&'a str>, AllocError>
-    ensures { IfOk result (λ ws. texts ws.items ≡ words_of line.now) }
+/// Puts the parts between single spaces into the list, in place of the words that were there. For want of
+/// memory it has only the first of them.
+pub fn words_into<'a>(line: &'a str, words: &mut Vec<&'a str>) -> Result<(), NoMemory>
+    ensures { OnOk result (texts words.new.items ≡ words_of line.now) }
 {
-    line.split(' ').collect(alloc)
+    words.clear();
+    for word in line.split(' ') {
+        words.push(word)?;
+    }
+    Ok(())
 }
 
 /// What stands behind the first space.
@@ -80,6 +86,18 @@ pub fn rest_after(line: &str, words: usize) -> &str
         rest = after_word(rest);
     }
     rest
+}
+
+/// The first line of some bytes, and the bytes behind it.
+pub fn first_line(bytes: &[u8]) -> (&[u8], &[u8])
+    requires { 0 < length bytes.now }
+    ensures lines { lines_of bytes.now ≡ result.0.now ∷ lines_of result.1.now }
+    ensures shorter { length result.1.now < length bytes.now }
+{
+    match memchr(b'\n', bytes) {
+        Some(at) => (&bytes[..at], &bytes[at + 1..]),
+        None => (bytes, &bytes[bytes.len()..]),
+    }
 }
 
 fn pieces_of<'a>(alloc: Global, bytes: &'a [u8]) -> Result<Vec<&'a [u8]>, AllocError>

@@ -28,8 +28,8 @@ returns-in-Some c =
     (reads_by c.args.reader.now forms act_forms ((64 ∷ c.in-Some.leaf.now) ∷ words) c.read_at.result
     (at_act c.args.reader.now.version c.in-Some.leaf.now words) c.read_at.ensures)
 
-pub returns-in-None : goal.returns-in-None
-returns-in-None c =
+pub returns-in_default : goal.returns-in_default
+returns-in_default c =
     let first = c.args.first.now in
     let words = texts c.args.words.now in
     let stripped = strip_prefix_char 64 first c.strip_prefix.result c.strip_prefix.ensures.cases (lit< tt) in

@@ -3,7 +3,7 @@ use Rattle.tr_words.specs.Answers.{texts}
 use Rattle.tr_script.specs.Reading.{plain_forms, desk_forms}
 use Rattle.std.specs.Prelude.{codes}
 use Rattle.tr_grammar.specs.Forms.{Version, Screen, Glyph, Put, PutAt, Root, Begin, Sync, Dump, Peek, Journal, Where, Inbox, End}
-use Rattle.tr_script.proofs.FormLemmas.{differs, reads_by, by_first}
+use Rattle.tr_script.proofs.FormLemmas.{differs, reads_by, by_first, by_others}
 use Rattle.tr_script.proofs.lines.read_plain.Goals as goal
 
 pub returns-in_default : goal.returns-in_default
@@ -22,7 +22,7 @@ returns-in_default c =
     let no_where = differs first _ c.in_default.not-where₀ in
     let no_inbox = differs first _ c.in_default.not-inbox in
     let no_end = differs first _ c.in_default.not-end in
-    reads_by c.args.reader.now plain_forms desk_forms (first ∷ texts c.args.words.now) c.read_desk.result
+    reads_by c.args.reader.now plain_forms desk_forms (first ∷ texts c.args.words.now) c.read_desk-in_default.result
     (rw (
       no_trestle,
       no_screen,
@@ -37,7 +37,32 @@ returns-in_default c =
       no_where,
       no_inbox,
       no_end,
-    ) refl) c.read_desk.ensures
+    ) refl) c.read_desk-in_default.ensures
+
+pub returns-in-motion : goal.returns-in-motion
+returns-in-motion c =
+    by_others c.args.reader.now plain_forms desk_forms c.args.first.now (codes "motion") (texts c.args.words.now) c.read_desk.result c.in-motion.is refl
+    c.read_desk.ensures
+
+pub returns-in-mouse : goal.returns-in-mouse
+returns-in-mouse c =
+    by_others c.args.reader.now plain_forms desk_forms c.args.first.now (codes "mouse") (texts c.args.words.now) c.read_desk-in-mouse.result c.in-mouse.is refl
+    c.read_desk-in-mouse.ensures
+
+pub returns-in-key : goal.returns-in-key
+returns-in-key c =
+    by_others c.args.reader.now plain_forms desk_forms c.args.first.now (codes "key") (texts c.args.words.now) c.read_desk-in-key.result c.in-key.is refl
+    c.read_desk-in-key.ensures
+
+pub returns-in-move : goal.returns-in-move
+returns-in-move c =
+    by_others c.args.reader.now plain_forms desk_forms c.args.first.now (codes "move") (texts c.args.words.now) c.read_desk-in-move.result c.in-move.is refl
+    c.read_desk-in-move.ensures
+
+pub returns-in-lift : goal.returns-in-lift
+returns-in-lift c =
+    by_others c.args.reader.now plain_forms desk_forms c.args.first.now (codes "lift") (texts c.args.words.now) c.read_desk-in-lift.result c.in-lift.is refl
+    c.read_desk-in-lift.ensures
 
 pub returns-in-trestle : goal.returns-in-trestle
 returns-in-trestle c =

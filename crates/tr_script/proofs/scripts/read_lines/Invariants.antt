@@ -1,6 +1,9 @@
-use Rattle.tr_words.specs.Answers.{texts}
-use Rattle.tr_script.proofs.LineLemmas.{IsRead}
+use Rattle.std.proofs.Common.{length}
+use Rattle.tr_script.proofs.LineLemmas.{IsReadTo}
 use Rattle.tr_script.proofs.scripts.read_lines.Given as goal
 
-abbrev pub invariant-loop-index : goal.invariant-loop-index
-invariant-loop-index l = IsRead (texts l.lines) l.index l.reader
+abbrev pub invariant-loop-rest : goal.invariant-loop-rest
+invariant-loop-rest l = IsReadTo l.bytes l.rest l.number l.reader
+
+abbrev pub decreases-loop-rest : goal.decreases-loop-rest
+decreases-loop-rest l = length l.rest
