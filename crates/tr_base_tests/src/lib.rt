@@ -1,10 +1,13 @@
-//! Tests of the values, streams, kernels, regions and screens at the bottom. Nothing but tests is in here.
+//! Tests of the values, streams, kernels, regions and screens at the bottom, and of texts that are kept until
+//! they are written. Nothing but tests is in here.
 #![tactic(auto)]
 
 #[cfg(test)]
 mod ends;
 #[cfg(test)]
 mod kernels;
+#[cfg(test)]
+mod outputs;
 #[cfg(test)]
 mod regions;
 #[cfg(test)]

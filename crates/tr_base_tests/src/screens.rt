@@ -26,7 +26,8 @@ pub fn shows(screen: &Screen, wide: u16, high: u16, want: &[u8]) -> bool {
     rest.is_empty()
 }
 
-fn blank(rt: &(impl Abort + AllocGlobal), wide: u16, high: u16) -> Screen
+/// A blank screen of 256 colours.
+pub fn blank(rt: &(impl Abort + AllocGlobal), wide: u16, high: u16) -> Screen
     requires wide { 1 ≤ wide × (wide ≤ 1024) }
     requires high { 1 ≤ high × (high ≤ 1024) }
     ensures { result.size ≡ record { wide = wide; high = high } }

@@ -1,0 +1,3 @@
+pub mod SendingLemmas
+pub mod PieceLemmas
+pub mod PutLemmas
