@@ -20,7 +20,9 @@ use std::io::ErrorKind;
 use tr_base::{Kind, LeafId, NoMemory, NodeId, Point, Selection, Shape, Shapes, Size};
 use tr_client::Client;
 use tr_forest::{Edit, EditRefused, NodeKind};
+use tr_io::StdSink;
 use tr_journal::{Actor, Opening, Query, Step, is_edit, is_step, may};
+use tr_output::{Output, WriteRefused};
 use tr_run::{Finished, Mode, Run};
 
 const SCREEN: Size = Size { wide: 24, high: 8 };
@@ -71,17 +73,22 @@ impl From<Stopped> for io::Error {
 
 fn main(rt: HostRuntime) -> io::Result<()> {
     let text = text(rt.alloc(), Counter::new(5), Counter::new(7))?;
-    rt.write_all(&text)
+    let mut sink = StdSink::new(rt.stdout());
+    match text.write_to(&mut sink) {
+        Ok(()) => Ok(()),
+        Err(WriteRefused::NoMemory) => Err(io::Error::from(ErrorKind::OutOfMemory)),
+        Err(WriteRefused::Failed) => Err(io::Error::from(ErrorKind::Other)),
+    }
 }
 
 /// What the program prints.
-fn text<C: Client>(alloc: Global, west: C, east: C) -> Result<Vec<u8>, Stopped> {
+fn text<C: Client>(alloc: Global, west: C, east: C) -> Result<Output, Stopped> {
     let run = start(alloc, opening(alloc, west, east)?)?;
     play(run)
 }
 
 /// Plays a run to its end. It answers what was printed meanwhile.
-fn play<C: Client>(mut run: Run<'static, C, Names>) -> Result<Vec<u8>, Stopped> {
+fn play<C: Client>(mut run: Run<'static, C, Names>) -> Result<Output, Stopped> {
     let made = make_all(&mut run);
     let text = text_of(run);
     made?;
@@ -102,7 +109,7 @@ fn make_all<C: Client>(run: &mut Run<C, Names>) -> Result<(), Stopped> {
 
 /// What was printed. For the prover a function of its own, in which alone a run vanishes: `play` is slow to
 /// prove where it takes one apart, or may return before.
-fn text_of<C: Client>(run: Run<'static, C, Names>) -> Vec<u8> {
+fn text_of<C: Client>(run: Run<'static, C, Names>) -> Output {
     let Finished { stage, text, .. } = run.finish();
     drop(stage);
     text

@@ -1,13 +1,13 @@
 -- The texts of reports.
 use Rattle.std.specs.Prelude.{ℕ, Bool, true, false, List, [], ◌∷◌, ◌++◌, length, codes, decimal}
 use Rattle.std.specs.List.{enumerate_from, flat_map}
-use Rattle.hex.specs.Hex.{encode_lower}
 use Rattle.tr_base.specs.declared.ids.LeafId.{LeafId}
 use Rattle.tr_base.specs.declared.points.Point.{Point}
 use Rattle.tr_base.specs.declared.events.Event.{Event}
 use Rattle.tr_base.specs.declared.spots.Spot.{Spot}
 use Rattle.tr_base.specs.declared.spots.Spot.TheVariants as spots
 use Rattle.tr_screen.specs.Pictures.{Picture}
+use Rattle.tr_output.specs.Texts.{row_text}
 use Rattle.tr_inbox.specs.declared.deliveries.Delivery.{Delivery}
 use Rattle.tr_inbox.specs.Inboxes.{InboxView}
 use Rattle.tr_journal.specs.Journals.{JournalLine}
@@ -16,13 +16,13 @@ use Rattle.tr_dump.specs.Values.{spaced, line_text, kind_word, point_words, size
 use Rattle.tr_journal.specs.Names.{Names, node_name, leaf_name}
 use Rattle.tr_dump.specs.Steps.{entry_text}
 
--- a row of pixels: two hex digits for each
-abbrev pub row_text : List ℕ → List ℕ
-row_text row = encode_lower row ++ codes "\n"
+-- the first line of a dump: the screen's size and kind
+abbrev pub dump_head : Picture → List ℕ
+dump_head p = line_text (codes "dump" ∷ size_words p.size ++ kind_word p.kind ∷ [])
 
 -- a screen: its size and kind, and its rows from north to south
 abbrev pub dump_text : Picture → List ℕ
-dump_text p = line_text (codes "dump" ∷ size_words p.size ++ kind_word p.kind ∷ []) ++ flat_map row_text p.rows
+dump_text p = dump_head p ++ flat_map row_text p.rows
 
 -- how many points are bad, how many commands wait, and how many good points show an older content
 abbrev pub peek_text : Peek3 → List ℕ

@@ -76,11 +76,11 @@ fn report<C: Client, N: NameOf>(run: &mut Run<C, N>, query: Query) -> Result<(),
 /// The end of a run in which all parts were played by threads: the text gets the line that says so.
 pub fn finish<C: Client, N: NameOf>(run: Run<'_, C, N>) -> Result<Finished<C>, NoMemory>
     ensures stage { IfOk result (λ end. end.stage ≡ run.entry.stage) }
-    ensures text { IfOk result (λ end. end.text.items ≡ run.entry.text ++ played_threads) }
+    ensures text { IfOk result (λ end. end.text ≡ run.entry.text ++ played_threads) }
     ensures sum { IfOk result (λ end. end.sum ≡ run.entry.sum) }
 {
     let mut end = run.finish();
-    end.text.extend_from_slice(b"played threads\n")?;
+    end.text.append_bytes(b"played threads\n")?;
     Ok(end)
 }
 

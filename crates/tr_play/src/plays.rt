@@ -24,7 +24,7 @@ use tr_widget::WidgetCmd;
 /// Plays the parts of a script, at least one, in a run before its first step. For each part the player
 /// makes the reports, and then threads make the steps, in some order. The run's text gets the texts of the
 /// journal's reports, and then the line that says that threads played. `Differs` says that a session found
-/// its stage to differ from what its passes say. After an `Err` the run and its stage are gone.
+/// its stage to differ from what its passes say, and has that stage; after any other `Err` the stage is gone.
 pub fn play<'a, C: Client<Cmd = WidgetCmd>, N: NameOf, R: Threads + Wait + Sync, G: Gate + Sync>(
     workers: &Workers<'_, R, G>,
     run: Run<'a, C, N>,
@@ -35,7 +35,7 @@ pub fn play<'a, C: Client<Cmd = WidgetCmd>, N: NameOf, R: Threads + Wait + Sync,
     requires playable { All (IsPlayablePart (tree_of run.stage.opening).nodes) parts.now }
     ensures journal { IfOk result (λ end.
         HasInterleaved C.Client run.entry.stage.opening (parts_of parts.now) end.stage) }
-    ensures text { IfOk result (λ end. end.text.items ≡ journal_texts C.Client widget_words
+    ensures text { IfOk result (λ end. end.text ≡ journal_texts C.Client widget_words
         run.entry.names run.entry.stage.opening end.stage.journal ++ played_threads) }
     ensures sum { IfOk result (λ end. end.sum ≡ run.entry.sum) }
     ensures differs { IfErr result (λ e. IfDiffers e (λ d.

@@ -32,8 +32,8 @@ pub struct Workers<'a, R, G> {
 /// The painter may repaint once more for each so many steps of a part.
 pub(crate) const STEPS_A_REPAINT: usize = 16;
 
-/// Makes the steps of a part on a stage, each actor's in a thread of its own. Meanwhile the painter brings
-/// the screen up to date, once and at most once more for each 16 steps. If there is no step, and the
+/// Makes the steps of a part on a stage, by threads: no thread has steps of two actors. Meanwhile the painter
+/// brings the screen up to date, once and at most once more for each 16 steps. If there is no step, and the
 /// screen is up to date, it starts no thread.
 pub(crate) fn make_side_by_side<C: Client, R: Threads + Wait + Sync, G: Gate + Sync>(
     workers: &Workers<'_, R, G>,

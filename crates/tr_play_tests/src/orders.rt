@@ -87,7 +87,7 @@ fn before_mark(stage: &Stage<Widget>, leaf: LeafId) -> usize {
 /// journal is their own.
 fn is_second_first(end: &Finished<Widget>) -> bool {
     let second = before_mark(&end.stage, LeafId(1));
-    second < before_mark(&end.stage, LeafId(0)) && end.text.as_slice() == PLAYED
+    second < before_mark(&end.stage, LeafId(0)) && end.text.tail.as_slice() == PLAYED
 }
 
 /// Whether that is so once the script was played with this gate.
@@ -121,7 +121,7 @@ fn two_clients_meet_at_their_first_commands_where_the_gate_is_open(rt: HostRunti
         meeting: Meeting::new(1, 1),
     };
     let end = played(&rt, TINTS, &gate);
-    let is_by_threads = end.text.as_slice() == PLAYED;
+    let is_by_threads = end.text.tail.as_slice() == PLAYED;
     drop(end);
     assert!(rt; gate.meeting.is_met() && is_by_threads);
 }

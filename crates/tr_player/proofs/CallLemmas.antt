@@ -510,7 +510,7 @@ module _ (asked : Option Command) (from : SourceChange) (out : Outcome) (to : Si
       of_bytes (played s text) d is stage grew differs = absurd d.2
       of_bytes (threaded s end) d is stage grew differs =
           let here : HasInterleavedHere s end.stage =
-          by_threads s end.differs end.stage end.text.items d.2 grew
+          by_threads s end.differs end.stage end.text d.2 grew
           (subst (λ (o : Option (DiffersView Widget WidgetCmd)). IsNone o) differs none) in
           let P : Script → Type 0 = λ x. IsSomeAnd out.stage (λ stage. HasInterleavedHere x stage) in
           let some : P s = subst (λ (o : Option (StageView Widget WidgetCmd)). IsSomeAnd o (λ stage. HasInterleavedHere s stage)) (sym stage) here in
@@ -545,7 +545,7 @@ module _ (asked : Option Command) (from : SourceChange) (out : Outcome) (to : Si
       of_bytes (played s text) d is stage grew differs = absurd d.2
       of_bytes (threaded s end) d is stage grew differs =
           let here : IfSome end.differs (λ d. HasPlayedAgain s (Some end.stage) d) =
-          by_threads s end.differs end.stage end.text.items d.2 grew in
+          by_threads s end.differs end.stage end.text d.2 grew in
           let staged : IfSome end.differs (λ d. HasPlayedAgain s out.stage d) =
           subst (λ (o : Option (StageView Widget WidgetCmd)). IfSome end.differs (λ d. HasPlayedAgain s o d)) (sym stage) here in
           let P : Script → Type 0 = λ x. IfSome out.differs (λ d. HasPlayedAgain x out.stage d) in
@@ -562,11 +562,11 @@ module _ (asked : Option Command) (from : SourceChange) (out : Outcome) (to : Si
 
   -- in both cases what is written is what the script came to
   pub threads_written : out.status ≡ 0 →
-      OfThreads asked from.left (λ bytes. (end : Threaded) × IsThreaded (script_of bytes) end × Grew to.written to.written_new end.text.items)
+      OfThreads asked from.left (λ bytes. (end : Threaded) × IsThreaded (script_of bytes) end × Grew to.written to.written_new end.text)
   threads_written e = let g = given_at 0 e (omega arith) in by_command asked g.due g.is g.status g.written
     where
       P : Script → Type 0
-      P s = (end : Threaded) × IsThreaded s end × Grew to.written to.written_new end.text.items
+      P s = (end : Threaded) × IsThreaded s end × Grew to.written to.written_new end.text
 
       of_bytes : (due : Due) → IsDueOfBytes commands.Play from due → out.status ≡ code (status_of due) →
           Grew to.written to.written_new (due_text due) → OfBytesRead commands.Play from.left (λ bytes. P (script_of bytes))

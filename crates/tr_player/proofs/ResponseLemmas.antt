@@ -5,6 +5,8 @@ use Rattle.std.proofs.lemmas.List.{length_push}
 use Rattle.std.proofs.lemmas.Result.{IfOk-weaker}
 use mathlib.Core.List.{append_assoc}
 use Rattle.tr_base.specs.declared.NoMemory.{NoMemory}
+use Rattle.tr_io.specs.declared.streams.Sink.{Ghosts}
+use Rattle.tr_io.specs.Streams.{Grew, GrewByPrefix}
 use Rattle.tr_arguments.specs.declared.Command.{Command}
 use Rattle.tr_arguments.specs.declared.Command.TheVariants as commands
 use Rattle.tr_grammar.specs.States.{nothing_yet}
@@ -18,9 +20,11 @@ use Rattle.tr_dump.specs.Reports.{dump_text}
 use Rattle.tr_serial.specs.Screens.{dumped_screens, mirror_bytes}
 use Rattle.tr_serial.specs.Outputs.{check_text, gen_text, drawn}
 use Rattle.tr_player.specs.Checks.{check_refusal}
+use Rattle.tr_threads.specs.declared.plays.Threaded.{Threaded}
 use Rattle.tr_player.specs.declared.responses.Response.{Response}
-use Rattle.tr_player.specs.Responses.{IsDueOfShow, IsDueOfText, IsResponse, due_of_script, refused_or}
-use Rattle.tr_player.specs.Answers.{SourceChange, Due, usage, refused, faulty, played, IsUnread, IsDue, IsReadBack, refused_text, faulty_text}
+use Rattle.tr_player.specs.declared.responses.Response.TheVariants as responses
+use Rattle.tr_player.specs.Responses.{IsDueOfShow, IsDueOfText, IsResponse, due_of_script, refused_or, text_of}
+use Rattle.tr_player.specs.Answers.{SourceChange, Due, usage, read_fault, refused, faulty, played, threaded, shown, IsUnread, IsDue, IsReadBack, refused_text, faulty_text, due_text}
 
 -- ---- by the words
 
@@ -111,3 +115,28 @@ refusal_text r = sym (regroup (codes "refused: line ") (decimal r.line) (codes "
 
 pub fault_text : (f : MirrorFault) → codes "refused: byte " ++ (decimal f.place ++ (codes " M" ++ (decimal f.code ++ codes "\n"))) ≡ faulty_text f
 fault_text f = sym (regroup (codes "refused: byte ") (decimal f.place) (codes " M") (decimal f.code) (codes "\n"))
+
+-- ---- the text of a response
+
+-- it is the one that is due
+pub text_due : (due : Due) (response : Response) → IsResponse due response → text_of response ≡ due_text due
+text_due usage responses.Usage is = refl
+text_due read_fault responses.ReadFault is = refl
+text_due (refused r) (responses.Refused text) is = is
+text_due (faulty f) (responses.Refused text) is = is
+text_due (played s text) (responses.Played p) is = is.0
+text_due (threaded s end) (responses.Threaded made) is = ap (λ (x : Threaded). x.text) is
+text_due (shown text) (responses.Shown out) is = is
+text_due due response is = absurd is
+
+module _ {K : Type 0} (sink : Ghosts K) (before after : K) where
+  -- so what a sink took of it is what it took of the text that is due
+  pub due_grew : (due : Due) (response : Response) → IsResponse due response → Grew (sink.written before) (sink.written after) (text_of response) →
+      Grew (sink.written before) (sink.written after) (due_text due)
+  due_grew due response is grew = subst (λ (t : List ℕ). Grew (sink.written before) (sink.written after) t) (text_due due response is) grew
+
+  pub due_prefix : (due : Due) (response : Response) → IsResponse due response →
+      GrewByPrefix (sink.written before) (sink.written after) (text_of response) →
+      GrewByPrefix (sink.written before) (sink.written after) (due_text due)
+  due_prefix due response is grew =
+      subst (λ (t : List ℕ). GrewByPrefix (sink.written before) (sink.written after) t) (text_due due response is) grew

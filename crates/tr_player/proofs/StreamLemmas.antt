@@ -1,19 +1,11 @@
--- What is read in pieces, and what is written in pieces.
-use Rattle.std.proofs.Common.{◌≡◌, ℕ, ◌+◌, ◌<◌, ◌≤◌, List, [], ◌++◌, length, take, drop, refl, sym, ◌∙◌, ap, subst, arith, append-nil, Bool, true, false, nat_lt}
-use Rattle.std.proofs.Math.Seq.{take-add, take-append_seam, drop-append_seam}
+-- What is read in pieces.
+use Rattle.std.proofs.Common.{◌≡◌, ℕ, ◌+◌, ◌<◌, ◌≤◌, List, [], ◌++◌, length, take, drop, refl, sym, ap, subst, arith, append-nil, Bool, true, false, nat_lt}
+use Rattle.std.proofs.Math.Seq.{take-append_seam, drop-append_seam}
 use Rattle.std.proofs.lemmas.Bool.Decides.{nat_tests}
 use Rattle.std.specs.Prelude.{Option, Some, None, IfSome}
 use Rattle.std.proofs.lemmas.Grind.{common_steps}
-use mathlib.Core.List.{append_assoc}
 use Rattle.std.specs.Io.KnownBytes.{prepend_known}
-use Rattle.tr_io.specs.Streams.{Fell, Grew, IsReadUpTo, OfFirst}
-
--- text that a sink took in two parts
-pub grew_twice : (x y z : Option (List ℕ)) (text : List ℕ) (m n : ℕ) → Grew x y (take m text) → Grew y z (take n (drop m text)) → Grew x z (take (m + n) text)
-grew_twice None y z text m n e f = rw e at f
-grew_twice (Some bytes) y z text m n e f =
-    let k = rw e at f in
-    k ∙ ap Some (append_assoc bytes (take m text) (take n (drop m text)) ∙ ap (λ part. bytes ++ part) (sym (take-add m n text)))
+use Rattle.tr_io.specs.Streams.{Fell, IsReadUpTo, OfFirst}
 
 -- bytes that are as many as may be read, or all there are
 take_all : (most : ℕ) (bytes rest : List ℕ) → length bytes ≤ most → (length bytes < most → rest ≡ []) → take most (bytes ++ rest) ≡ bytes

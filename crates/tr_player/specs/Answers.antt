@@ -134,7 +134,7 @@ due_text read_fault = read_fault_text
 due_text (refused r) = refused_text r
 due_text (faulty f) = faulty_text f
 due_text (played s text) = text
-due_text (threaded s end) = end.text.items
+due_text (threaded s end) = end.text
 due_text (shown text) = text
 
 -- what became of a source in a call: the bytes that it had left and its count of faults, before and after

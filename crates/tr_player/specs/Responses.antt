@@ -11,7 +11,7 @@ use Rattle.tr_serial.specs.Screens.{mirror_bytes}
 use Rattle.tr_player.specs.declared.responses.Response.{Response}
 use Rattle.tr_player.specs.declared.responses.Response.TheVariants as responses
 use Rattle.tr_player.specs.Checks.{check_refusal}
-use Rattle.tr_player.specs.Answers.{Due, usage, read_fault, refused, faulty, played, threaded, shown, refusal_for, IsWritten, IsByThreads, refused_text, faulty_text, HasPlayed}
+use Rattle.tr_player.specs.Answers.{Due, usage, read_fault, refused, faulty, played, threaded, shown, refusal_for, IsWritten, IsByThreads, usage_text, read_fault_text, refused_text, faulty_text, HasPlayed}
 
 -- what is due for a text: its refusal, or what the script that it is comes to
 abbrev pub IsDueOfText : Command → List ℕ → Due → Type 0
@@ -39,13 +39,22 @@ due_of_script commands.Check s = refused_or (check_refusal s) (played s (check_t
 due_of_script commands.Mirror s = played s (mirror_bytes s)
 due_of_script command s = played s (out_text s)
 
+-- the text of a response
+abbrev pub text_of : Response → List ℕ
+text_of responses.Usage = usage_text
+text_of responses.ReadFault = read_fault_text
+text_of (responses.Refused text) = text.items
+text_of (responses.Played p) = p.text
+text_of (responses.Threaded made) = made.text
+text_of (responses.Shown out) = out
+
 -- a response is this answer: its text is the answer's, and a script's stage has played it
 abbrev pub IsResponse : Due → Response → Type 0
 IsResponse usage responses.Usage = ⊤
 IsResponse read_fault responses.ReadFault = ⊤
 IsResponse (refused r) (responses.Refused text) = text.items ≡ refused_text r
 IsResponse (faulty f) (responses.Refused text) = text.items ≡ faulty_text f
-IsResponse (played s text) (responses.Played p) = (p.text.items ≡ text) × HasPlayed s p.stage
+IsResponse (played s text) (responses.Played p) = (p.text ≡ text) × HasPlayed s p.stage
 IsResponse (threaded s end) (responses.Threaded made) = made ≡ end
-IsResponse (shown text) (responses.Shown out) = out.items ≡ text
+IsResponse (shown text) (responses.Shown out) = out ≡ text
 IsResponse due response = ⊥

@@ -1,5 +1,5 @@
 ghost use Rattle.std.specs.Prelude.{◌≡◌, ◌≢◌, ◌⊎◌, ◌↔◌, ◌≤◌, ◌++◌, [], List, ℕ, None, Some, take};
-ghost use Rattle.std.specs.Prelude.{IfErr, IfSome, IsNone, IsSome, IsSomeAnd, OnOk};
+ghost use Rattle.std.specs.Prelude.{IfSome, IsNone, IsSome, IsSomeAnd};
 ghost use Rattle.tr_io.specs.Faults.{HasFault};
 ghost use Rattle.tr_io.specs.Streams.{Grew, GrewByPrefix};
 ghost use Rattle.tr_grammar.specs.Scripts.{Script, script_of};
@@ -23,11 +23,11 @@ ghost use Rattle.tr_player.specs.Responses.{IsResponse};
 
 use crate::responses::{Response, response_by_threads, response_on_one_thread};
 use crate::statuses::Status;
-use crate::streams::write_all;
 use std::alloc::Global;
 use std::sync::Wait;
 use std::thread::Threads;
 use tr_io::{Sink, Source};
+use tr_output::WriteRefused;
 use tr_play::{Gate, Workers};
 use tr_server::Differs;
 use tr_stage::Stage;
@@ -125,7 +125,7 @@ pub fn serial_call<S: Source, K: Sink>(
     ensures never_refused { OfNumber (asked_by (texts_of words.now)) (λ number.
         result.status ≢ code Status.Refused) }
 
-    // The same of a stream, by the table of its faults.
+    // The same of a stream, by its reading byte by byte.
     ensures faulty { Yields result.status (result.status ≢ code Status.ReadFault →
         OfStreamRead (asked_by (texts_of words.now)) (S.left source.old) (λ bytes.
         (result.status ≡ code Status.Refused) ↔ IsSome (first_fault bytes))) }
@@ -243,7 +243,7 @@ pub fn trestle_call<R: Threads + Wait + Sync, S: Source, K: Sink, G: Gate + Sync
     ensures never_refused { OfNumber (command_of (texts_of words.now)) (λ number.
         result.status ≢ code Status.Refused) }
 
-    // The same of a stream, by the table of its faults.
+    // The same of a stream, by its reading byte by byte.
     ensures faulty { Yields result.status (result.status ≢ code Status.ReadFault →
         OfStreamRead (command_of (texts_of words.now)) (S.left source.old) (λ bytes.
         (result.status ≡ code Status.Refused) ↔ IsSome (first_fault bytes))) }
@@ -351,25 +351,11 @@ fn deliver<K: Sink>(sink: &mut K, response: Response) -> Outcome
         IsDelivered due result (sink_change K.Sink sink.old sink.new) }
     ensures rising { K.faults sink.old ≤ K.faults sink.new }
 {
-    match write_out(sink, response.text()) {
+    match response.write_to(sink) {
         Ok(()) => done(response),
-        Err(status) => undone(response, status),
+        Err(WriteRefused::NoMemory) => undone(response, Status::NoMemory),
+        Err(WriteRefused::Failed) => undone(response, Status::WriteFault),
     }
-}
-
-/// Writes a text.
-fn write_out<K: Sink>(sink: &mut K, text: &[u8]) -> Result<(), Status>
-    ensures ok { OnOk result (Grew (K.written sink.old) (K.written sink.new) text.now) }
-    ensures err { IfErr result (λ status.
-        ((status ≡ Status.WriteFault) × HasFault (K.faults sink.old) (K.faults sink.new)
-        × GrewByPrefix (K.written sink.old) (K.written sink.new) text.now)
-        ⊎ ((status ≡ Status.NoMemory) × (K.written sink.new ≡ K.written sink.old))) }
-    ensures rising { K.faults sink.old ≤ K.faults sink.new }
-{
-    if sink.reserve(text.len()).is_err() {
-        return Err(Status::NoMemory);
-    }
-    write_all(sink, text).or(Err(Status::WriteFault))
 }
 
 /// The answer once all is written.

@@ -1,17 +1,19 @@
-ghost use Rattle.std.specs.Prelude.{◌≡◌, ◌≢◌, ◌≤◌, IfOk, OnOk};
+ghost use Rattle.std.specs.Prelude.{◌≡◌, ◌≢◌, ◌≤◌, Err, IfOk, OnOk};
+ghost use Rattle.tr_io.specs.Faults.{HasFault};
+ghost use Rattle.tr_io.specs.Streams.{Grew, GrewByPrefix};
 ghost use Rattle.tr_grammar.specs.Scripts.{IsPlayableScript};
 ghost use Rattle.tr_arguments.specs.declared.Command.TheVariants.{Play};
 ghost use Rattle.tr_arguments.specs.Commands.{command_of as the_command_of, texts_of};
 ghost use Rattle.tr_serial.specs.Screens.{report_count};
 ghost use Rattle.tr_player.specs.Answers as spec;
 ghost use Rattle.tr_player.specs.Answers.{Due, IsDifferenceOf, IsDue, IsDueOfBytes, IsDueOfStream, IsReadBack, IsStageOf};
-ghost use Rattle.tr_player.specs.Answers.{ReadsNone, faulty, of_one_thread, refused, source_change, status_of, due_text};
-ghost use Rattle.tr_player.specs.Responses.{IsDueOfShow, IsDueOfText, IsResponse, due_of_script};
+ghost use Rattle.tr_player.specs.Answers.{ReadsNone, faulty, of_one_thread, refused, source_change, status_of};
+ghost use Rattle.tr_player.specs.Responses.{IsDueOfShow, IsDueOfText, IsResponse, due_of_script, text_of};
 
 use crate::checks::is_checkable;
 use crate::errors::ReadError;
 use crate::statuses::Status;
-use crate::streams::read_all;
+use crate::streams::{read_all, write_at_once};
 use std::alloc::Global;
 use std::sync::Wait;
 use std::thread::Threads;
@@ -19,8 +21,9 @@ use tr_arguments::{Command, command_of};
 use tr_base::NoMemory;
 use tr_chunks::read_script_in_chunks;
 use tr_grammar::{Code, LONGEST_SCRIPT, ReadRefused};
-use tr_io::Source;
+use tr_io::{Sink, Source};
 use tr_mirror::{LONGEST_STREAM, MirrorFault};
+use tr_output::{Output, WriteRefused};
 use tr_play::{Gate, Workers};
 use tr_reader::Script;
 use tr_script::read_script;
@@ -51,7 +54,7 @@ pub enum Response {
     /// Threads played a script.
     Threaded(Threaded),
     /// A stream was read: the dumps of its screens.
-    Shown(Vec<u8>),
+    Shown(Output),
 }
 
 impl Response {
@@ -67,16 +70,22 @@ impl Response {
         }
     }
 
-    /// The text that is due.
-    pub fn text(&self) -> &[u8]
-        ensures { (due : Due) → IsResponse due self.now → result.now ≡ due_text due }
+    /// Writes the text. For want of memory nothing is written.
+    pub fn write_to<K: Sink>(&self, sink: &mut K) -> Result<(), WriteRefused>
+        ensures ok { OnOk result (Grew (K.written sink.old) (K.written sink.new) (text_of self.now)) }
+        ensures no_memory { result ≡ Err WriteRefused.NoMemory → K.written sink.new ≡ K.written sink.old }
+        ensures failed { result ≡ Err WriteRefused.Failed →
+            HasFault (K.faults sink.old) (K.faults sink.new)
+            × GrewByPrefix (K.written sink.old) (K.written sink.new) (text_of self.now) }
+        ensures rising { K.faults sink.old ≤ K.faults sink.new }
     {
         match self {
-            Response::Usage => USAGE_TEXT,
-            Response::ReadFault => READ_FAULT_TEXT,
-            Response::Refused(text) | Response::Shown(text) => text,
-            Response::Played(played) => &played.text,
-            Response::Threaded(threaded) => &threaded.text,
+            Response::Usage => write_at_once(sink, USAGE_TEXT),
+            Response::ReadFault => write_at_once(sink, READ_FAULT_TEXT),
+            Response::Refused(text) => write_at_once(sink, text),
+            Response::Shown(text) => text.write_to(sink),
+            Response::Played(played) => played.text.write_to(sink),
+            Response::Threaded(threaded) => threaded.text.write_to(sink),
         }
     }
 

@@ -1,11 +1,12 @@
-ghost use Rattle.std.specs.Prelude.{◌≡◌, ◌+◌, ◌<◌, ◌≤◌, length, take, drop, vec_len, [], Err, IfOk, IfSome, OnOk, OnErr};
+ghost use Rattle.std.specs.Prelude.{◌≡◌, ◌+◌, ◌<◌, ◌≤◌, length, vec_len, [], Err, IfOk, IfSome, OnOk};
 ghost use Rattle.tr_io.specs.Faults.{HasFault};
 ghost use Rattle.std.specs.Io.KnownBytes.{prepend_known};
 ghost use Rattle.tr_io.specs.Streams.{Fell, Grew, GrewByPrefix, IsReadUpTo, OfFirst};
 
 use crate::errors::ReadError;
 use std::alloc::Global;
-use tr_io::{Failed, Sink, Source};
+use tr_io::{Sink, Source};
+use tr_output::{WriteRefused, write_all};
 
 /// How many bytes are asked for at once.
 const PIECE: usize = 64 * 1024;
@@ -66,33 +67,16 @@ fn append_piece<S: Source>(
     Ok(count)
 }
 
-/// Writes a whole text, for which the sink has room. It takes no memory.
-pub fn write_all<K: Sink>(sink: &mut K, text: &[u8]) -> Result<(), Failed>
-    requires { length text.now ≤ K.room sink.old }
+/// Writes a short text, for which room is made first.
+pub fn write_at_once<K: Sink>(sink: &mut K, text: &[u8]) -> Result<(), WriteRefused>
     ensures ok { OnOk result (Grew (K.written sink.old) (K.written sink.new) text.now) }
-    ensures err { OnErr result (GrewByPrefix (K.written sink.old) (K.written sink.new) text.now) }
-    ensures failed { OnErr result (HasFault (K.faults sink.old) (K.faults sink.new)) }
+    ensures no_memory { result ≡ Err WriteRefused.NoMemory → K.written sink.new ≡ K.written sink.old }
+    ensures failed { result ≡ Err WriteRefused.Failed →
+        HasFault (K.faults sink.old) (K.faults sink.new)
+        × GrewByPrefix (K.written sink.old) (K.written sink.new) text.now }
     ensures rising { K.faults sink.old ≤ K.faults sink.new }
 {
-    let mut written = 0;
-    while written < text.len() {
-        written += write_from(sink, text, written)?;
-    }
+    sink.reserve(text.len())?;
+    write_all(sink, text)?;
     Ok(())
-}
-
-/// Writes once, from the byte at `start` on, and answers how many bytes the sink took.
-fn write_from<K: Sink>(sink: &mut K, text: &[u8], start: usize) -> Result<usize, Failed>
-    requires start { start < length text.now }
-    requires room { length text.now ≤ K.room sink.old + start }
-    ensures count { IfOk result (λ n. (0 < n) × (start + n ≤ length text.now)) }
-    ensures grew { IfOk result (λ n.
-        Grew (K.written sink.old) (K.written sink.new) (take n (drop start text.now))) }
-    ensures room { IfOk result (λ n. K.room sink.old ≤ K.room sink.new + n) }
-    ensures failed { OnErr result (HasFault (K.faults sink.old) (K.faults sink.new)) }
-    ensures unchanged { OnErr result (K.written sink.new ≡ K.written sink.old) }
-    ensures rising { K.faults sink.old ≤ K.faults sink.new }
-{
-    let rest = &text[start..];
-    sink.write(rest)
 }

@@ -16,6 +16,7 @@ use tr_base::{NoMemory, Point};
 use tr_client::Client;
 use tr_dump::{dump, inbox, journal, peek_line, place_line};
 use tr_journal::{NameOf, Query};
+use tr_output::Output;
 use tr_spot::spot_at;
 use tr_stage::Stage;
 
@@ -24,21 +25,21 @@ pub(crate) fn append_report<C: Client, N: NameOf>(
     stage: &Stage<C>,
     names: &N,
     query: &Query,
-    out: &mut Vec<u8>,
+    out: &mut Output,
 ) -> Result<(), NoMemory>
     requires named { IsNamed C.Client (names_of N.NameOf names.now) stage.now }
     requires values { IsQuery (tree_of stage.now.opening).nodes query.now }
     requires settled { query.now ≡ Dump → stage.now.screen ≡ render C.Client (state C.Client stage.now) }
-    ensures ok { OnOk result (out.new.items ≡ out.old.items ++ report_text C.Client C.Cmd.words
+    ensures ok { OnOk result (out.new ≡ out.old ++ report_text C.Client C.Cmd.words
         (names_of N.NameOf names.now) stage.now.journal (state C.Client stage.now) query.now) }
-    ensures err { OnErr result (out.new.items ≡ out.old.items) }
+    ensures err { OnErr result (out.new ≡ out.old) }
 {
     match query {
         Query::Dump => dump(stage.screen(), out),
-        Query::Peek => append_peek(stage, out),
-        Query::Journal => append_journal(stage, names, out),
-        Query::Where(at) => append_place(stage, names, *at, out),
-        Query::Inbox(leaf) => inbox(*leaf, stage.inbox(*leaf), names, out),
+        Query::Peek => append_peek(stage, &mut out.tail),
+        Query::Journal => append_journal(stage, names, &mut out.tail),
+        Query::Where(at) => append_place(stage, names, *at, &mut out.tail),
+        Query::Inbox(leaf) => inbox(*leaf, stage.inbox(*leaf), names, &mut out.tail),
     }
 }
 
@@ -85,11 +86,11 @@ fn append_place<C: Client, N: NameOf>(
 pub(crate) fn append_lag<C: Client>(
     alloc: Global,
     stage: &Stage<C>,
-    out: &mut Vec<u8>,
+    out: &mut Output,
 ) -> Result<(), NoMemory>
-    ensures ok { OnOk result (out.new.items ≡ out.old.items ++
+    ensures ok { OnOk result (out.new ≡ out.old ++
         lag_line C.Client (length stage.now.journal) (state C.Client stage.now)) }
-    ensures err { OnErr result (out.new.items ≡ out.old.items) }
+    ensures err { OnErr result (out.new ≡ out.old) }
 {
     // Called for what it tells the prover: that what is stale waits to be painted.
     stage.stands();
@@ -99,6 +100,5 @@ pub(crate) fn append_lag<C: Client>(
     // No point that lags behind lies outside what waits: so it is with each stage.
     let outside: u32 = 0;
     let line = format!(in alloc; "step {number} bad {bad} stale {stale} outside {outside}\n")?;
-    out.extend_from_slice(line.as_bytes())?;
-    Ok(())
+    out.append_bytes(line.as_bytes())
 }

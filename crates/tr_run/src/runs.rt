@@ -35,6 +35,7 @@ use std::marker::Model;
 use tr_base::NoMemory;
 use tr_client::Client;
 use tr_journal::{Actor, NameOf, Opening, Query, Step, stated};
+use tr_output::Output;
 use tr_stage::Stage;
 
 /// A stage on which steps and reports are made one after another, and what was written meanwhile. Each
@@ -45,7 +46,7 @@ pub struct Run<'a, C: Client, N: NameOf> {
     stage: Stage<C>,
     names: &'a N,
     mode: Mode,
-    text: Vec<u8>,
+    text: Output,
     sum: u64,
 }
 
@@ -59,7 +60,7 @@ impl<'a, C: Client, N: NameOf> Model for Run<'a, C, N> {
       stage = r.stage;
       names = names_of N.NameOf r.names.now;
       mode = r.mode;
-      text = r.text.items;
+      text = r.text;
       sum = r.sum;
     } };
 
@@ -72,7 +73,7 @@ pub struct Finished<C: Client> {
     /// The stage after all steps.
     pub stage: Stage<C>,
     /// What was written.
-    pub text: Vec<u8>,
+    pub text: Output,
     /// The sum of the pixels of the last dump, where nothing was written.
     pub sum: u64,
 }
@@ -100,7 +101,7 @@ impl<'a, C: Client, N: NameOf> Run<'a, C, N> {
                 stage,
                 names,
                 mode,
-                text: Vec::new(alloc),
+                text: Output::new(alloc),
                 sum: 0,
             }),
             Err(opening) => {
@@ -178,7 +179,7 @@ impl<'a, C: Client, N: NameOf> Run<'a, C, N> {
     /// The end of the run.
     pub fn finish(self) -> Finished<C>
         ensures stage { result.stage ≡ self.entry.stage }
-        ensures text { result.text.items ≡ self.entry.text }
+        ensures text { result.text ≡ self.entry.text }
         ensures sum { result.sum ≡ self.entry.sum }
     {
         let Run {
@@ -299,7 +300,7 @@ pub struct Paused<'a, N: NameOf> {
     alloc: Global,
     names: &'a N,
     mode: Mode,
-    text: Vec<u8>,
+    text: Output,
     sum: u64,
 }
 
@@ -312,7 +313,7 @@ impl<'a, N: NameOf> Model for Paused<'a, N> {
     ghost view = { λ r. record {
       names = names_of N.NameOf r.names.now;
       mode = r.mode;
-      text = r.text.items;
+      text = r.text;
       sum = r.sum;
     } };
 }

@@ -5,3 +5,4 @@ pub mod ValueLemmas
 pub mod DumpLemmas
 pub mod ReportLemmas
 pub mod TextLemmas
+pub mod ListLemmas

@@ -8,6 +8,7 @@ use tr_base::NoMemory;
 use tr_gen::script_of;
 use tr_gen_valid::lines;
 use tr_grammar::ReadRefused;
+use tr_output::Output;
 use tr_reader::Script;
 use tr_run::{Finished, Mode};
 use tr_script::read_script;
@@ -56,7 +57,7 @@ impl Totals {
 /// Plays the script that is drawn from a number, and writes how many lines it has, how many entries its
 /// journal gets, and the sum of the pixels of its last dump.
 pub fn summary(alloc: Global, number: u32) -> Result<Played, NoMemory>
-    ensures text { IfOk result (λ played. played.text.items ≡ spec.gen_text number) }
+    ensures text { IfOk result (λ played. played.text ≡ spec.gen_text number) }
     ensures journal { IfOk result (λ played. played.stage.journal ≡ spec.serial_journal (spec.drawn number)) }
     ensures opening { IfOk result (λ played. played.stage.opening ≡ (spec.drawn number).opening) }
 {
@@ -72,5 +73,8 @@ pub fn summary(alloc: Global, number: u32) -> Result<Played, NoMemory>
         drop(stage);
         return Err(NoMemory);
     };
-    Ok(Played { text, stage })
+    Ok(Played {
+        text: Output::of(alloc, text),
+        stage,
+    })
 }

@@ -20,6 +20,7 @@ use std::alloc::Global;
 use tr_base::NoMemory;
 use tr_client::Client;
 use tr_journal::{NameOf, Query};
+use tr_output::Output;
 use tr_reader::{Part, Script};
 use tr_run::{Finished, Mode, Run};
 use tr_widget::WidgetCmd;
@@ -29,11 +30,11 @@ use tr_widget::WidgetCmd;
 pub fn mirror(alloc: Global, script: Script) -> Result<Played, NoMemory>
     requires playable { IsPlayableScript script }
     requires few { report_count script.parts ≤ 64 }
-    ensures text { IfOk result (λ played. played.text.items ≡ mirror_bytes script) }
+    ensures text { IfOk result (λ played. played.text ≡ mirror_bytes script) }
 
     // Whoever reads the stream has these screens at its cuts.
-    ensures stream { IfOk result (λ played. IsStream played.text.items) }
-    ensures shows { IfOk result (λ played. screens_shown played.text.items ≡ dumped_screens script) }
+    ensures stream { IfOk result (λ played. IsStream played.text) }
+    ensures shows { IfOk result (λ played. screens_shown played.text ≡ dumped_screens script) }
     ensures journal { IfOk result (λ played. played.stage.journal ≡ spec.serial_journal script) }
     ensures opening { IfOk result (λ played. played.stage.opening ≡ script.opening) }
 {
@@ -47,7 +48,7 @@ pub fn mirror(alloc: Global, script: Script) -> Result<Played, NoMemory>
     mirror_parts(&mut run, &mut stream, parts)?;
     let Finished { stage, .. } = run.finish();
     Ok(Played {
-        text: stream.into_bytes(),
+        text: Output::of(alloc, stream.into_bytes()),
         stage,
     })
 }

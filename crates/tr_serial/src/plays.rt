@@ -15,6 +15,7 @@ use std::alloc::Global;
 use tr_base::NoMemory;
 use tr_client::Client;
 use tr_journal::{Actor, NameOf, Query, Step};
+use tr_output::Output;
 use tr_reader::{Names, Part, Script};
 use tr_run::{Finished, Mode, Run};
 use tr_stage::Stage;
@@ -24,7 +25,7 @@ use tr_widget::{Widget, WidgetCmd};
 #[derive(Drop)]
 pub struct Played {
     /// What was written.
-    pub text: Vec<u8>,
+    pub text: Output,
     /// The stage after all steps.
     pub stage: Stage<Widget>,
 }
@@ -32,7 +33,7 @@ pub struct Played {
 /// Plays a script, and writes its reports.
 pub fn serial(alloc: Global, script: Script) -> Result<Played, NoMemory>
     requires playable { IsPlayableScript script }
-    ensures text { IfOk result (λ played. played.text.items ≡ spec.out_text script) }
+    ensures text { IfOk result (λ played. played.text ≡ spec.out_text script) }
     ensures journal { IfOk result (λ played. played.stage.journal ≡ spec.serial_journal script) }
     ensures opening { IfOk result (λ played. played.stage.opening ≡ script.opening) }
 {
@@ -44,7 +45,7 @@ pub fn serial(alloc: Global, script: Script) -> Result<Played, NoMemory>
 /// how many points lag behind what the windows are to show.
 pub fn check(alloc: Global, script: Script) -> Result<Played, NoMemory>
     requires playable { IsPlayableScript script }
-    ensures text { IfOk result (λ played. played.text.items ≡ spec.check_text script) }
+    ensures text { IfOk result (λ played. played.text ≡ spec.check_text script) }
     ensures journal { IfOk result (λ played. played.stage.journal ≡ spec.serial_journal script) }
     ensures opening { IfOk result (λ played. played.stage.opening ≡ script.opening) }
 {
@@ -55,7 +56,7 @@ pub fn check(alloc: Global, script: Script) -> Result<Played, NoMemory>
 /// Plays a script in one of the modes.
 pub(crate) fn play(alloc: Global, script: Script, mode: Mode) -> Result<Finished<Widget>, NoMemory>
     requires playable { IsPlayableScript script }
-    ensures text { IfOk result (λ end. end.text.items ≡ spec.played_text mode script) }
+    ensures text { IfOk result (λ end. end.text ≡ spec.played_text mode script) }
     ensures sum { IfOk result (λ end. end.sum ≡ spec.played_sum mode script) }
     ensures journal { IfOk result (λ end. end.stage.journal ≡ spec.serial_journal script) }
     ensures opening { IfOk result (λ end. end.stage.opening ≡ script.opening) }
@@ -131,7 +132,11 @@ fn report_all<C: Client, N: NameOf>(run: &mut Run<C, N>, reports: &[Query]) -> R
     Ok(())
 }
 
-/// Makes steps, one after another.
+/// How many steps are made before the memory of those that were made is given back.
+const GIVEN_BACK: usize = 4_096;
+
+/// Makes steps, one after another. Their memory is given back meanwhile, since the journal grows by as many
+/// entries.
 pub(crate) fn make_all<C: Client, N: NameOf>(
     run: &mut Run<C, N>,
     steps: Vec<(Actor, Step<C::Cmd>)>,
@@ -141,8 +146,21 @@ pub(crate) fn make_all<C: Client, N: NameOf>(
     ensures { OnOk result (Does C.Client C.Cmd.words run.old run.new
         (map (λ made. makes made.0 made.1) steps.items)) }
 {
-    for (actor, step) in steps {
+    // The next step is the last of these, so the others needn't move when it is taken out.
+    let mut left = steps;
+    left.reverse();
+    while let Some((actor, step)) = left.pop() {
+        give_back(&mut left);
         run.make(actor, step)?;
     }
     Ok(())
+}
+
+/// Gives back, from time to time, the memory of the steps that were taken out.
+fn give_back<S>(left: &mut Vec<S>)
+    ensures { left.new.items ≡ left.old.items }
+{
+    if left.len() % GIVEN_BACK == 0 {
+        left.shrink_to_fit();
+    }
 }

@@ -7,18 +7,19 @@ use crate::errors::ShowRefused;
 use std::alloc::Global;
 use tr_dump::dump;
 use tr_mirror::{LONGEST_STREAM, Mirror, MirrorFault};
+use tr_output::Output;
 
 /// The dumps of the screens at the cuts of a stream.
-pub fn show(alloc: Global, stream: &[u8]) -> Result<Vec<u8>, ShowRefused>
+pub fn show(alloc: Global, stream: &[u8]) -> Result<Output, ShowRefused>
     ensures valid { OnOk result (first_fault stream.now ≡ None) }
-    ensures text { IfOk result (λ text. text.items ≡ shown_text stream.now) }
+    ensures text { IfOk result (λ text. text ≡ shown_text stream.now) }
     ensures cause { IfErr result (λ e. IsShowCause (first_fault stream.now) e) }
 {
     if stream.len() as u64 > LONGEST_STREAM {
         return Err(ShowRefused::Fault(MirrorFault { place: 0, code: 5 }));
     }
     let mut mirror = Mirror::new(alloc)?;
-    let mut text = Vec::new(alloc);
+    let mut text = Output::new(alloc);
     let mut rest = stream;
     while !rest.is_empty() {
         rest = show_to_cut(&mut mirror, rest, &mut text)?;
@@ -35,12 +36,12 @@ pub fn show(alloc: Global, stream: &[u8]) -> Result<Vec<u8>, ShowRefused>
 fn show_to_cut<'a>(
     mirror: &mut Mirror,
     bytes: &'a [u8],
-    text: &mut Vec<u8>,
+    text: &mut Output,
 ) -> Result<&'a [u8], ShowRefused>
     requires some { 0 < length bytes.now }
     requires short { mirror.old.fed + length mirror.old.begun + length bytes.now ≤ longest_stream }
     ensures pass { IfOk result (λ rest.
-        IsPass mirror.old mirror.new bytes.now rest.now text.old.items text.new.items) }
+        IsPass mirror.old mirror.new bytes.now rest.now text.old text.new) }
     ensures cause { IfErr result (λ e. IsLate (after_bytes mirror.old bytes.now) e) }
 {
     let cuts = mirror.cuts();

@@ -44,4 +44,4 @@ IsPlayed s (Some d) stage text = IsPlayedAgain s d stage text
 
 -- so was one with this end
 abbrev pub IsThreaded : Script → Threaded → Type 0
-IsThreaded s end = IsPlayed s end.differs end.stage end.text.items
+IsThreaded s end = IsPlayed s end.differs end.stage end.text

@@ -9,6 +9,7 @@ use std::sync::Wait;
 use std::thread::Threads;
 use tr_base::NoMemory;
 use tr_dump::differs_line;
+use tr_output::Output;
 use tr_parts::stands;
 use tr_play::{Gate, Workers, play};
 use tr_reader::Script;
@@ -22,7 +23,7 @@ use tr_widget::Widget;
 #[derive(Drop)]
 pub struct Threaded {
     /// What was written.
-    pub text: Vec<u8>,
+    pub text: Output,
     /// The stage after all steps.
     pub stage: Stage<Widget>,
     /// What a session found that found its stage other than its passes say. Then the text and the stage are
@@ -90,7 +91,7 @@ fn play_side_by_side<R: Threads + Wait + Sync, G: Gate + Sync>(
 ) -> Result<Finished<Widget>, CloseRefused<Widget>>
     requires playable { IsPlayableScript script.now }
     requires some { 0 < length script.now.parts }
-    ensures ok { IfOk result (λ end. IsPlayedByThreads script.now end.stage end.text.items) }
+    ensures ok { IfOk result (λ end. IsPlayedByThreads script.now end.stage end.text) }
     ensures differs { IfErr result (λ e. IfDiffers e (λ d. HasDifferedIn script.now d)) }
 {
     let Ok(opening) = script.opening.copy() else {
@@ -138,12 +139,12 @@ fn ended(played: Result<Played, NoMemory>, differs: Differs<Widget>) -> Result<T
 /// Plays a script on one thread, and writes its reports and then these last lines.
 fn play_with(alloc: Global, script: Script, last: &[u8]) -> Result<Played, NoMemory>
     requires playable { IsPlayableScript script }
-    ensures text { IfOk result (λ played. played.text.items ≡ out_text script ++ last.now) }
+    ensures text { IfOk result (λ played. played.text ≡ out_text script ++ last.now) }
     ensures journal { IfOk result (λ played. played.stage.journal ≡ serial_journal script) }
     ensures opening { IfOk result (λ played. played.stage.opening ≡ script.opening) }
 {
     let mut played = serial(alloc, script)?;
-    let Ok(()) = played.text.extend_from_slice(last) else {
+    let Ok(()) = played.text.append_bytes(last) else {
         drop(played);
         return Err(NoMemory);
     };

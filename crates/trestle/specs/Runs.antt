@@ -14,4 +14,4 @@ IsEnd asked from status to = (out : Outcome) × (out.status ≡ status) × IsAns
 
 -- a script was played, by threads if nothing differed, and what is written of that was written; the stage ends with the process
 abbrev pub IsPrinted : Script → SinkChange → Type 0
-IsPrinted s to = (end : Threaded) × IsThreaded s end × Grew to.written to.written_new end.text.items
+IsPrinted s to = (end : Threaded) × IsThreaded s end × Grew to.written to.written_new end.text

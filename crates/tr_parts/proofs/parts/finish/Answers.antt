@@ -4,4 +4,4 @@ use Rattle.tr_parts.specs.Plays.{played_threads}
 use Rattle.tr_parts.proofs.parts.finish.Goals as goal
 
 pub returns-clause-text : goal.returns-clause-text
-returns-clause-text g c = c.in_ok-extend_from_slice.ensures.items ∙ ap (λ (text : List ℕ). text ++ played_threads) c.finish-end.ensures.text
+returns-clause-text g c = c.in_ok-append_bytes.ensures.ok ∙ ap (λ (text : List ℕ). text ++ played_threads) c.finish-end.ensures.text

@@ -4,7 +4,7 @@ use Rattle.tr_player.proofs.ResponseLemmas.{faulty_due}
 use Rattle.tr_player.proofs.responses.response_to_show.Goals as goal
 
 pub returns-in-Ok : goal.returns-in-Ok
-returns-in-Ok c = (shown c.in-Ok.text.items, refl, (c.in-Ok.ensures.valid, c.in-Ok.ensures.text))
+returns-in-Ok c = (shown c.in-Ok.text, refl, (c.in-Ok.ensures.valid, c.in-Ok.ensures.text))
 
 pub returns-in-Err-Fault : goal.returns-in-Err-Fault
 returns-in-Err-Fault c =

@@ -39,10 +39,11 @@ returns c =
     let all = mirrors_whole widgets widget_words c.in_ok-run.run' c.mirror_parts.new.run i.opening (cues i.parts.items) c.new-stream.result
     c.mirror_parts.new.stream c.in_ok-run.ensures.opening c.in_ok-run.ensures.journal mirrors c.new-stream.ensures in
     let whole = subst (λ (s : Script). IsStreamOf c.mirror_parts.new.stream (dumped_screens s)) c.script.view_is all in
+    let bytes = c.of.ensures ∙ c.into_bytes.ensures in
     record {
-      text = c.into_bytes.ensures ∙ whole.bytes;
-      stream = subst (λ (b : List ℕ). IsStream b) (sym c.into_bytes.ensures) whole.is_stream;
-      shows = ap (λ (b : List ℕ). screens_shown b) c.into_bytes.ensures ∙ whole.shows;
+      text = bytes ∙ whole.bytes;
+      stream = subst (λ (b : List ℕ). IsStream b) (sym bytes) whole.is_stream;
+      shows = ap (λ (b : List ℕ). screens_shown b) bytes ∙ whole.shows;
       journal = ap (λ (s : StageView Widget WidgetCmd). s.journal) c.finish-stage.ensures.stage ∙ ends.journal;
       opening = ap (λ (s : StageView Widget WidgetCmd). s.opening) c.finish-stage.ensures.stage ∙ ends.opening;
     }

@@ -6,7 +6,7 @@ use Rattle.tr_show.proofs.shows.show.Given as goal
 -- what was read is shown, and the stream isn't too long
 abbrev pub invariant-loop-rest : goal.invariant-loop-rest
 invariant-loop-rest l = record {
-  shown : HasShown l.stream l.rest l.text.items l.mirror;
+  shown : HasShown l.stream l.rest l.text l.mirror;
   short : length l.stream ≤ longest_stream;
 }
 

@@ -24,4 +24,4 @@ returns-clause-ok g c =
     cc (c.in-Ok-start.ensures.opening, c.in-Ok.ensures, ap (λ (x : Script). x.opening) c.script.view_is) in
     let parts : c.deref.result.now ≡ s.parts = cc (c.deref.ensures.value, ap (λ (x : Script). x.parts) c.script.view_is) in
     let names : c.in-Ok-start.run'.names ≡ s.names = cc (c.in-Ok-start.ensures.names, ap (λ (x : Script). x.names) c.script.view_is) in
-    played_by (λ end. end.stage) (λ end. end.text.items) s _ _ _ c.play.result opens names parts c.play.ensures.journal c.play.ensures.text
+    played_by (λ end. end.stage) (λ end. end.text) s _ _ _ c.play.result opens names parts c.play.ensures.journal c.play.ensures.text

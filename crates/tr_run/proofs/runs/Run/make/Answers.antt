@@ -8,7 +8,7 @@ use Rattle.tr_run.proofs.runs.Run.make.Goals as goal
 
 pub returns-in_ok-append_lag-clause-ok : goal.returns-in_ok-append_lag-clause-ok
 returns-in_ok-append_lag-clause-ok g c =
-    lagged g.C.Client c.append_lag.new.out.items
+    lagged g.C.Client c.append_lag.new.out
     (subst (λ (v : RunView _ _). HasAdded g.C.Client c.args.self.now v c.args.actor c.args.step) (sym c.self-2.view_is) (record {
       opening = c.add.ensures.made.opening;
       names = c.add.ensures.names;
@@ -35,7 +35,7 @@ returns-in_err-add-clause-err g c = on_err c.from_residual.result (inl (record {
 pub returns-in_err-append_lag-clause-err : goal.returns-in_err-append_lag-clause-err
 returns-in_err-append_lag-clause-err g c =
     on_err c.from_residual-in_err-append_lag.result
-    (untold g.C.Client c.append_lag.new.out.items
+    (untold g.C.Client c.append_lag.new.out
     (subst (λ (v : RunView _ _). HasAdded g.C.Client c.args.self.now v c.args.actor c.args.step) (sym c.self-2.view_is) (record {
       opening = c.add.ensures.made.opening;
       names = c.add.ensures.names;

@@ -11,7 +11,18 @@ count-requires-after_bounds g c κs within =
     let more = grown g.C.Client c.self.inside.stage c.args.leaf cmds c.deref.result.now c.take_all.new.self.journal c.in_default.ensures.ok same in
     let small : c.len.result < 2 ^ 64 = search rules in
     let many : c.len.result ≡ length c.take_all.new.self.journal = c.len.ensures.count ∙ ap length c.journal.ensures.value in
-    omega (arith, small, many, more, all, c.give-prepared.ensures.handed, c.waiting-more.ensures.waiting, c.basket.invariant.1, c.audit.ensures.bound, c.self.invariant.0)
+    omega (
+      arith,
+      small,
+      many,
+      more,
+      all,
+      c.give-prepared.ensures.handed,
+      c.waiting-more.ensures.waiting,
+      c.basket.invariant.1,
+      c.audit.ensures.bound,
+      c.self.invariant.0,
+    )
 
 pub invariant_of-self-2 : goal.invariant_of-self-2
 invariant_of-self-2 g c =
