@@ -5,7 +5,7 @@
 #     bench/against_plain.sh [ROUNDS] [PROGRAM]
 #
 # Each time is the best of ROUNDS (3 if left out), and each round plays both. PROGRAM is a built trestle; where it is left out,
-# the launcher proves and builds it. The scripts are those of bench/workloads.sh, and that of gen 1.
+# the launcher proves and builds it. It plays most scripts of bench/workloads.sh, and that of gen 1.
 #
 # The plain program stands in judges/plain: Rust as one writes it for speed, with std alone, no unsafe code, no threads and no
 # locks. It plays `serial`, `check` and `gen N` with all that they print and refuse. What is written goes out as it comes,
@@ -84,7 +84,7 @@ words='gen 1'
 : >"$folder/script"
 compare gen 1
 words=serial
-for workload in 'unseen 90000' 'repaints 80000' 'moves 20000' 'painted 20000' 'figures 60000' 'dumps 1' 'dumps 60' \
+for workload in 'unseen 90000' 'typescript 80000' 'repaints 80000' 'editor 40000' 'moves 20000' 'painted 20000' 'figures 60000' 'dumps 1' 'dumps 60' \
     'events 90000' 'desktop 2000'; do
     "$top/bench/workloads.sh" --write "${workload% *}" "${workload#* }" >"$folder/script"
     compare "${workload% *}" "${workload#* }"

@@ -156,7 +156,7 @@ def checked(count: int) -> List[str]:
 
 
 def parted(count: int) -> List[str]:
-    """Threads play 1,000 parts, and each of them looks through the journal so far; 32 clients have the lines in turn."""
+    """Threads play 991 parts at full size; each looks through the journal so far; 32 clients have the lines in turn."""
     leaves = [f"leaf l{number} 0 32 {SIDE} 0 1024 {SIDE} solid {number}" for number in range(32)]
     opening = [*HEAD, "node r h 3", *leaves, *(f"put l{number} r" for number in range(32)), "root r", "begin"]
     steps = max(1, count // 999)
