@@ -1,5 +1,5 @@
 -- Sixteen levels are enough, so domains follow from their parents' with no count of levels; and where there are none.
-use Rattle.std.proofs.Common.{◌≡◌, ℕ, zero, suc, ◌<◌, ◌≤◌, Bool, true, false, cond, not, ◌||◌, eqb, map, Option, Some, None, length, get_or, refl, sym, ap, subst, ◌∙◌, arith}
+use Rattle.std.proofs.Common.{◌≡◌, ℕ, zero, suc, ◌<◌, ◌≤◌, Bool, true, false, cond, not, ◌==◌, ◌||◌, eqb, map, Option, Some, None, length, get_or, refl, sym, ap, subst, ◌∙◌, arith}
 use Rattle.std.proofs.lemmas.Bool.Decides.{nat_tests}
 use Rattle.tr_base.specs.declared.NodeId.{NodeId}
 use Rattle.tr_base.specs.Rects.{Edges, empty_rect, whole_of}
@@ -115,23 +115,30 @@ no_root t none = record {
   parents = λ n parent h up. refl;
 }
 
+split_neither : (a b : Bool) → not (a || b) ≡ true → (a ≡ false) × (b ≡ false)
+split_neither true b h = absurd cc
+split_neither false true h = absurd cc
+split_neither false false h = (refl, refl)
+
+-- a node that isn't below another one is no such node, and nor is its parent
+off_parts : (t : Nodes) → IsForest t → (top n : NodeId) → not (is_under t top n) ≡ true →
+    (eqb n.0 top.0 ≡ false) × (of_parent (node t n).parent (is_under t top) ≡ false)
+off_parts t forest top n h =
+    split_neither (eqb n.0 top.0) (of_parent (node t n).parent (is_under t top)) (sym (ap not (under_law t top n forest)) ∙ h)
+
+pub off_apart : (t : Nodes) → IsForest t → (top n : NodeId) → not (is_under t top n) ≡ true → (n.0 == top.0) ≡ false
+off_apart t forest top n h = (off_parts t forest top n h).0
+
+pub off_parent : (t : Nodes) → IsForest t → (top n parent : NodeId) → not (is_under t top n) ≡ true → (node t n).parent ≡ Some parent →
+    not (is_under t top parent) ≡ true
+off_parent t forest top n parent h up = ap not (sym (ap (λ (o : Option NodeId). of_parent o (is_under t top)) up) ∙ (off_parts t forest top n h).1)
+
 -- nor does a node that isn't below the root
 pub off_root : (t : Nodes) → IsForest t → (root : NodeId) → t.root ≡ Some root → IsLoose t (λ n. not (is_under t root n))
-off_root t forest root is = record { root = λ n h. test n h; parents = λ n parent h up. rise n parent h up }
+off_root t forest root is = record { root = λ n h. test n h; parents = λ n parent h up. off_parent t forest root n parent h up }
   where
-    split : (a b : Bool) → not (a || b) ≡ true → (a ≡ false) × (b ≡ false)
-    split true b h = absurd cc
-    split false true h = absurd cc
-    split false false h = (refl, refl)
-
-    parts : (n : NodeId) → not (is_under t root n) ≡ true → (eqb n.0 root.0 ≡ false) × (of_parent (node t n).parent (is_under t root) ≡ false)
-    parts n h = split (eqb n.0 root.0) (of_parent (node t n).parent (is_under t root)) (sym (ap not (under_law t root n forest)) ∙ h)
-
     test : (n : NodeId) → not (is_under t root n) ≡ true → is_root t n ≡ false
     test n h =
-        let other : eqb n.0 root.0 ≡ false = (parts n h).0 in
+        let other : eqb n.0 root.0 ≡ false = off_apart t forest root n h in
         let back : eqb root.0 n.0 ≡ false = grind (arith, nat_tests) in
         ap (λ (o : Option NodeId). of_parent o (λ r. eqb r.0 n.0)) is ∙ back
-
-    rise : (n parent : NodeId) → not (is_under t root n) ≡ true → (node t n).parent ≡ Some parent → not (is_under t root parent) ≡ true
-    rise n parent h up = ap not (sym (ap (λ (o : Option NodeId). of_parent o (is_under t root)) up) ∙ (parts n h).1)

@@ -96,7 +96,7 @@ fits_part e c d own part = record { own = own; near = near_part c e (part_is_rec
 fits_itself : (e : Edges) → IsRectangle e → IsDomain e → StandsInNode e e
 fits_itself e own d = fits_part e e d own (part_itself e)
 
-own_preferred : (e : Edges) (by : Point) (s : Shapes) → IsRectangle (preferred_place e by s)
+pub own_preferred : (e : Edges) (by : Point) (s : Shapes) → IsRectangle (preferred_place e by s)
 own_preferred e by s = by_test (has_points e)
   where
     by_test : (b : Bool) → IsRectangle (cond b (placed e by.h by.v (s.across.pref, s.down.pref)) empty_rect)
@@ -104,7 +104,7 @@ own_preferred e by s = by_test (has_points e)
     by_test false = own_empty
 
 -- the greatest offset of a child is less than the greatest length
-fits_near : (e c : Edges) → IsRectangle c → IsNear farthest c e → StandsInNode e c
+pub fits_near : (e c : Edges) → IsRectangle c → IsNear farthest c e → StandsInNode e c
 fits_near e c own (inl h) = record { own = own; near = inl h }
 fits_near e c own (inr h) = record {
   own = own;

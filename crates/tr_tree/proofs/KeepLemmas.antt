@@ -93,7 +93,7 @@ single : (b : Bool) (x : NodeFault) → cond (not b) (Some x) None ≡ None → 
 single true x h = refl
 single false x h = cc
 
-first_passed : (b : Bool) (x : NodeFault) (o : Option NodeFault) → cond b (Some x) o ≡ None → b ≡ false
+pub first_passed : (b : Bool) (x : NodeFault) (o : Option NodeFault) → cond b (Some x) o ≡ None → b ≡ false
 first_passed true x o h = cc
 first_passed false x o h = refl
 

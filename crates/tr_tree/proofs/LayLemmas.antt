@@ -10,7 +10,7 @@ use Rattle.tr_forest.specs.Forests.{IsForest}
 use Rattle.tr_tree.specs.Trees.{Seen}
 use Rattle.tr_tree.specs.Places.{child_places, domain}
 use Rattle.tr_tree.specs.Tables.{domain_in}
-use Rattle.tr_tree.specs.Laying.{Spreads, StandsInNode, ArePlaced, IsAt, HasDomain, IsLaid, Lays}
+use Rattle.tr_tree.specs.Laying.{Spreads, StandsInNode, ArePlaced, IsAt, HasDomain, Lays}
 use Rattle.tr_forest.proofs.FamilyLemmas.{by_id, same_id, test_apart, among_at, among_split, depth_child, depth_some, under_itself, under_split}
 use Rattle.tr_tree.proofs.KinLemmas.{place_among}
 use Rattle.tr_tree.proofs.FitLemmas.{fits_empty, all_or, at_empty, at_more, at_child, root_at}
@@ -55,9 +55,6 @@ spread_all cs places old i now le s = record { placed = λ k d lt. s.placed k d 
 
 -- ---- going down
 
-pub stands_laid : (t : Seen) → IsForest t.nodes → (n : NodeId) (table : List Edges) → HasDomain t n table → IsLaid t table n
-stands_laid t forest n table s = record { right = s.right; at = at_more (depth t.nodes n - 1) 15 (domain t n) (omega (arith, forest.depths n)) s.at }
-
 -- the children have their places
 pub child_stands : (t : Seen) → IsForest t.nodes → (n : NodeId) (places old new : List Edges) (k : ℕ) (d : NodeId) → HasDomain t n old →
     ArePlaced t.nodes n (domain t n) (take (length (node t.nodes n).children) places) → Spreads (node t.nodes n).children places old new →
@@ -80,17 +77,17 @@ child_stands t forest n places old new k d s are spread lt =
 
 -- the walk below n has come so far: its children stand, and what lies below them is laid, or they are still to come
 pub record Laying (t : Seen) (n : NodeId) (old : List Edges) (cs rest : List NodeId) (now : List Edges) : Type 0 where
-  pub stays : (m : NodeId) → IsLaid t old m → IsLaid t now m
-  pub here : IsLaid t now n
+  pub stays : (m : NodeId) → HasDomain t m old → HasDomain t m now
+  pub here : HasDomain t n now
   pub children : (c : NodeId) → is_among c cs ≡ true → HasDomain t c now
-  pub done : (c m : NodeId) → is_among c cs ≡ true → is_under t.nodes c m ≡ true → IsLaid t now m ⊎ (is_among c rest ≡ true)
+  pub done : (c m : NodeId) → is_among c cs ≡ true → is_under t.nodes c m ≡ true → HasDomain t m now ⊎ (is_among c rest ≡ true)
 
 pub laying_first : (t : Seen) → IsForest t.nodes → (n : NodeId) (places old new : List Edges) → HasDomain t n old →
     ArePlaced t.nodes n (domain t n) (take (length (node t.nodes n).children) places) → Spreads (node t.nodes n).children places old new →
     Laying t n old (node t.nodes n).children (node t.nodes n).children new
 laying_first t forest n places old new s are spread = record {
   stays = λ m h. by_test m h (is_among m (node t.nodes n).children) refl;
-  here = by_test n (stands_laid t forest n old s) (is_among n (node t.nodes n).children) refl;
+  here = by_test n s (is_among n (node t.nodes n).children) refl;
   children = λ c h. child c h;
   done = λ c m h k. inr h;
 }
@@ -100,8 +97,8 @@ laying_first t forest n places old new s are spread = record {
         let at = place_among c (node t.nodes n).children h in
         subst (λ (m : NodeId). HasDomain t m new) at.is (child_stands t forest n places old new at.place c s are spread at.within)
 
-    by_test : (m : NodeId) → IsLaid t old m → (b : Bool) → is_among m (node t.nodes n).children ≡ b → IsLaid t new m
-    by_test m h true k = stands_laid t forest m new (child m k)
+    by_test : (m : NodeId) → HasDomain t m old → (b : Bool) → is_among m (node t.nodes n).children ≡ b → HasDomain t m new
+    by_test m h true k = child m k
     by_test m h false k = record { right = spread.others m k ∙ h.right; at = h.at }
 
 -- the same with the children and the rectangle as they were read
@@ -119,7 +116,7 @@ laying_next t forest n i old cs c now new lt is l lays =
     record {
       stays = λ m h. lays.stays m (l.stays m h);
       here = lays.stays n l.here;
-      children = λ m h. record { right = (lays.stays m (stands_laid t forest m now (l.children m h))).right; at = (l.children m h).at };
+      children = λ m h. lays.stays m (l.children m h);
       done = λ e m h k. elim (l.done e m h k) [
         | inl laid ↦ inl (lays.stays m laid)
         | inr later ↦ (elim (among_split e c (drop (i + 1) cs) (sym (ap (is_among e) next) ∙ later)) [
@@ -134,7 +131,7 @@ pub laying_last : (t : Seen) → IsForest t.nodes → (n : NodeId) (i : ℕ) (ol
 laying_last t forest n i old now le l = record {
   stays = l.stays;
   below = λ m h. elim (under_split t.nodes n m forest h) [
-    | inl same ↦ subst (λ (j : NodeId). IsLaid t now j) (sym same) l.here
+    | inl same ↦ subst (λ (j : NodeId). HasDomain t j now) (sym same) l.here
     | inr found ↦ elim (l.done found.child m found.among found.under) [
       | inl laid ↦ laid
       | inr later ↦ (let no : is_among found.child [] ≡ true = sym (ap (is_among found.child) (drop_all i (node t.nodes n).children le)) ∙ later in absurd cc)
@@ -154,7 +151,7 @@ pub laying_nothing : (t : Seen) → IsForest t.nodes → (n : NodeId) (cs : List
     (length cs == 0) ≡ true → HasDomain t n old → Lays t n old old
 laying_nothing t forest n [] old is none s =
     laying_end t forest n [] 0 old old is (omega arith)
-    (record { stays = λ m h. h; here = stands_laid t forest n old s; children = λ c h. cc; done = λ c m h k. cc })
+    (record { stays = λ m h. h; here = s; children = λ c h. cc; done = λ c m h k. cc })
 laying_nothing t forest n (c ∷ cs) old is none s = let no : length (c ∷ cs) ≡ 0 = grind (arith, nat_tests) in absurd (omega arith)
 
 -- the rectangle that was read from the table
@@ -164,12 +161,12 @@ domain_read t n table i r lt at is right = get_or_read table n.0 r lt (is ∙ ap
 
 -- ---- from an empty table
 
-empty_laid : (t : Seen) (table : List Edges) (n : NodeId) → domain_in table n ≡ empty_rect → domain t n ≡ empty_rect → IsLaid t table n
-empty_laid t table n none is = record { right = none ∙ sym is; at = subst (IsAt 15) (sym is) (at_empty 15) }
+empty_laid : (t : Seen) (table : List Edges) (n : NodeId) → domain_in table n ≡ empty_rect → domain t n ≡ empty_rect → HasDomain t n table
+empty_laid t table n none is = record { right = none ∙ sym is; at = subst (IsAt (depth t.nodes n - 1)) (sym is) (at_empty (depth t.nodes n - 1)) }
 
 -- without a root the empty table is right
 pub laid_none : (t : Seen) → IsForest t.nodes → (table : List Edges) → t.nodes.root ≡ None → ((n : NodeId) → domain_in table n ≡ empty_rect) →
-    (n : NodeId) → IsLaid t table n
+    (n : NodeId) → HasDomain t n table
 laid_none t forest table none empty n = empty_laid t table n (empty n) (loose_domain t forest (λ _. true) (no_root t.nodes none) n refl)
 
 pub root_stands : (t : Seen) → IsForest t.nodes → IsScreenSize t.size → (root : NodeId) (table : List Edges) (r : Edges) → t.nodes.root ≡ Some root →
@@ -183,10 +180,10 @@ root_stands t forest size root table r is lt whole =
 
 -- the walk from the root over an empty table gives all domains
 pub laid_all : (t : Seen) → IsForest t.nodes → (root : NodeId) (table new : List Edges) (r : Edges) → t.nodes.root ≡ Some root →
-    ((n : NodeId) → domain_in table n ≡ empty_rect) → Lays t root (set table root.0 r) new → (n : NodeId) → IsLaid t new n
+    ((n : NodeId) → domain_in table n ≡ empty_rect) → Lays t root (set table root.0 r) new → (n : NodeId) → HasDomain t n new
 laid_all t forest root table new r is empty lays n = by_test (is_under t.nodes root n) refl
   where
-    by_test : (b : Bool) → is_under t.nodes root n ≡ b → IsLaid t new n
+    by_test : (b : Bool) → is_under t.nodes root n ≡ b → HasDomain t n new
     by_test true h = lays.below n h
     by_test false h =
         let none : domain t n ≡ empty_rect = loose_domain t forest (λ m. not (is_under t.nodes root m)) (off_root t.nodes forest root is) n (ap not h) in

@@ -1,5 +1,5 @@
 -- What the tables of a tree keep, and which edits leave them right.
-use Rattle.std.proofs.Common.{◌≡◌, ℕ, zero, suc, ◌+◌, cond, [], ◌∷◌, ◌++◌, Option, Some, None, map, set, length, length-set, length-append, get_or, refl, sym, ap, subst, ◌∙◌}
+use Rattle.std.proofs.Common.{◌≡◌, ℕ, zero, suc, ◌+◌, ◌-◌, cond, [], ◌∷◌, ◌++◌, Option, Some, None, map, set, length, length-set, length-append, get_or, refl, sym, ap, subst, ◌∙◌}
 use Rattle.std.proofs.lemmas.List.{get_or-set_same, get_or-set_other}
 use Rattle.tr_base.specs.declared.NodeId.{NodeId}
 use Rattle.tr_base.specs.declared.Size.{Size}
@@ -13,11 +13,13 @@ use Rattle.tr_forest.specs.Nodes.{Nodes, Entry, IsNode, new_entry, node}
 use Rattle.tr_forest.specs.Edits.{IsEdit, edited, is_root}
 use Rattle.tr_forest.proofs.FamilyLemmas.{by_id}
 use Rattle.tr_forest.proofs.Editing.{count_edited}
+use Rattle.tr_forest.proofs.Keeping.{depth_equal}
 use Rattle.tr_tree.specs.declared.layouts.Layout.{Layout}
 use Rattle.tr_tree.specs.Trees.{Seen, size_after, kind_after, edited_tree}
 use Rattle.tr_tree.specs.Wishes.{shape}
 use Rattle.tr_tree.specs.Places.{index_of, places_of, child_places, place_below, domain, domain_within}
-use Rattle.tr_tree.specs.Laying.{on_screen, laid}
+use Rattle.tr_tree.specs.Tables.{domain_in}
+use Rattle.tr_tree.specs.Laying.{on_screen, laid, IsAt}
 use Rattle.tr_tree.specs.Ready.{HavePlaces, HasShapes, IsLaidOut, HaveSamePlaces}
 use Rattle.tr_tree.proofs.TopLemmas.{numbers_apart}
 use Rattle.tr_tree.proofs.ShapeLemmas.{map_among, shapes_same}
@@ -101,6 +103,7 @@ laid_out_alike t u size l alike laid = record {
         let after : Seen = record { nodes = u; size = size; kind = kind } in
         laid.domains.each kind n ∙ sym (domains_within_alike 16 before after alike refl n);
     small = laid.domains.small;
+    at = λ n. subst (λ k. IsAt (k - 1) (domain_in l.domains.items n)) (sym (depth_equal 16 t u alike.parents n)) (laid.domains.at n);
   };
 }
 

@@ -8,3 +8,4 @@ pub mod FitLemmas
 pub mod DomainLemmas
 pub mod LayLemmas
 pub mod PlaceLemmas
+pub mod StayLemmas

@@ -78,17 +78,12 @@ pub record IsAt (far : ℕ) (e : Edges) : Type 0 where
   pub wide : (sides_of e).0 ≤ longest
   pub high : (sides_of e).1 ≤ longest
 
--- the table has the domain of a node, which is at most one length further away than its parent's
+-- the table has the domain of a node, which is at most as many lengths away as nodes lie above it
 pub record HasDomain (t : Seen) (n : NodeId) (table : List Edges) : Type 0 where
   pub right : domain_in table n ≡ domain t n
   pub at : IsAt (depth t.nodes n - 1) (domain t n)
 
--- the table has the domain of a node, and that isn't far away: no node has more than 15 above it
-pub record IsLaid (t : Seen) (table : List Edges) (n : NodeId) : Type 0 where
-  pub right : domain_in table n ≡ domain t n
-  pub at : IsAt 15 (domain t n)
-
 -- what was right is right, and so are n and all below it
 pub record Lays (t : Seen) (n : NodeId) (old new : List Edges) : Type 0 where
-  pub stays : (m : NodeId) → IsLaid t old m → IsLaid t new m
-  pub below : (m : NodeId) → is_under t.nodes n m ≡ true → IsLaid t new m
+  pub stays : (m : NodeId) → HasDomain t m old → HasDomain t m new
+  pub below : (m : NodeId) → is_under t.nodes n m ≡ true → HasDomain t m new

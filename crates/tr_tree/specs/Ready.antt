@@ -1,6 +1,6 @@
 -- Private contracts alone cite this file.
 -- The tables of a tree.
-use Rattle.std.specs.Prelude.{◌≡◌, ℕ, ◌<◌, Bool, true, false, length, vec_len, vec_capacity}
+use Rattle.std.specs.Prelude.{◌≡◌, ℕ, ◌<◌, ◌-◌, Bool, true, false, Some, length, vec_len, vec_capacity}
 use Rattle.tr_base.specs.declared.NodeId.{NodeId}
 use Rattle.tr_base.specs.declared.Kind.{Kind}
 use Rattle.tr_base.specs.declared.Size.{Size}
@@ -8,12 +8,14 @@ use Rattle.tr_base.specs.Layouts.{IsDomain}
 use Rattle.tr_base.specs.Rects.{IsScreenSize}
 use Rattle.tr_forest.specs.declared.Edit.{Edit}
 use Rattle.tr_forest.specs.declared.Edit.TheVariants as edits
-use Rattle.tr_forest.specs.Nodes.{Nodes}
+use Rattle.tr_forest.specs.declared.NodeKind.TheVariants as kinds
+use Rattle.tr_forest.specs.Nodes.{Nodes, node}
 use Rattle.tr_tree.specs.declared.layouts.Layout.{Layout}
 use Rattle.tr_tree.specs.Wishes.{shape}
 use Rattle.tr_tree.specs.Places.{domain}
 use Rattle.tr_tree.specs.Tables.{shape_in, domain_in}
-use Rattle.tr_tree.specs.Laying.{on_screen}
+use Rattle.tr_forest.specs.Families.{depth, is_under}
+use Rattle.tr_tree.specs.Laying.{on_screen, laid, IsAt, HasDomain}
 
 -- the tables and the room have so many places
 pub record HavePlaces (count : ℕ) (l : Layout) : Type 0 where
@@ -30,6 +32,7 @@ pub record HasShapes (t : Nodes) (l : Layout) : Type 0 where
 pub record HasDomains (t : Nodes) (size : Size) (l : Layout) : Type 0 where
   pub each : (kind : Kind) (n : NodeId) → domain_in l.domains.items n ≡ domain (on_screen t size kind) n
   pub small : (n : NodeId) → IsDomain (domain_in l.domains.items n)
+  pub at : (n : NodeId) → IsAt (depth t n - 1) (domain_in l.domains.items n)
 
 -- the tables have the shapes and the domain of each node on a screen of this size
 pub record IsLaidOut (t : Nodes) (size : Size) (l : Layout) : Type 0 where
@@ -37,6 +40,14 @@ pub record IsLaidOut (t : Nodes) (size : Size) (l : Layout) : Type 0 where
   pub places : HavePlaces (length t.entries) l
   pub shapes : HasShapes t l
   pub domains : HasDomains t size l
+
+-- the table has the domain of each node that isn't below n, nor n itself
+pub record HasOtherDomains (t : Nodes) (size : Size) (n : NodeId) (l : Layout) : Type 0 where
+  pub each : (m : NodeId) → is_under t n m ≡ false → HasDomain (laid t size) m l.domains.items
+
+-- the parent of a node, if it has one, is a Z
+pub record IsInZ (t : Nodes) (n : NodeId) : Type 0 where
+  pub parent : (p : NodeId) → (node t n).parent ≡ Some p → (node t p).kind ≡ kinds.Z
 
 -- the tables and the room have the same places
 pub record HaveSamePlaces (a b : Layout) : Type 0 where

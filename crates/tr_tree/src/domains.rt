@@ -1,15 +1,16 @@
-ghost use Rattle.std.specs.Prelude.{◌≡◌, ◌≢◌, ◌≤◌, ◌<◌, ℕ, length, take, map, get_or, All, AllPairs};
+ghost use Rattle.std.specs.Prelude.{◌≡◌, ◌≢◌, ◌≤◌, ◌<◌, ◌-◌, ℕ, length, take, map, get_or, All, AllPairs};
 ghost use Rattle.tr_base.specs.declared.NodeId.{NodeId};
 ghost use Rattle.tr_base.specs.declared.Kind.{Kind};
 ghost use Rattle.tr_base.specs.Rects.{empty_rect};
 ghost use Rattle.tr_base.specs.Layouts.{farthest, preferred_place, IsDomain, IsNear, IsOffset};
 ghost use Rattle.tr_stack.specs.Stacks.{z_places, t_places, page_places};
 ghost use Rattle.tr_forest.specs.Nodes.{node, IsNode};
+ghost use Rattle.tr_forest.specs.Families.{depth};
 ghost use Rattle.tr_forest.specs.Forests.{IsForest};
 ghost use Rattle.tr_tree.specs.Wishes.{shape};
 ghost use Rattle.tr_tree.specs.Places.{index_of, shown_index, child_places, domain};
 ghost use Rattle.tr_tree.specs.Tables.{shape_in, domain_in};
-ghost use Rattle.tr_tree.specs.Laying.{on_screen, laid, offsets_of, IsPlan, HasRoom, Spreads, IsParent, ArePlaced, HasDomain, Lays};
+ghost use Rattle.tr_tree.specs.Laying.{on_screen, laid, offsets_of, IsPlan, HasRoom, Spreads, IsParent, ArePlaced, IsAt, HasDomain, Lays};
 
 use crate::rooms::Room;
 use tr_base::{NodeId, Point, Rect, Shapes, Size, empty_place, preferred_place, whole};
@@ -35,6 +36,7 @@ pub(crate) fn lay_out(plan: &Plan<'_>, room: &mut Room, domains: &mut Vec<Rect>)
     ensures domains { (kind : Kind) (n : NodeId) →
         domain_in domains.new.items n ≡ domain (on_screen plan.now.forest.now plan.now.size kind) n }
     ensures small { (n : NodeId) → IsDomain (domain_in domains.new.items n) }
+    ensures at { (n : NodeId) → IsAt (depth plan.now.forest.now n - 1) (domain_in domains.new.items n) }
     ensures room { HasRoom plan.now.forest.now room.new }
     ensures count { length domains.new.items ≡ length plan.now.forest.now.entries }
 {
@@ -57,7 +59,7 @@ fn clear(count: usize, domains: &mut Vec<Rect>)
 }
 
 /// Writes the domains of all that lies below a node, whose own is in the table.
-fn lay(plan: &Plan<'_>, n: NodeId, room: &mut Room, domains: &mut Vec<Rect>)
+pub(crate) fn lay(plan: &Plan<'_>, n: NodeId, room: &mut Room, domains: &mut Vec<Rect>)
     requires forest { IsForest plan.now.forest.now }
     requires plan { IsPlan plan.now.forest.now plan.now.size plan.now.shapes.now }
     requires node { IsNode plan.now.forest.now n }

@@ -1,11 +1,12 @@
 ghost use Rattle.std.specs.Prelude.{◌≡◌, ◌+◌, ℕ, IfOk, OnOk, length};
 ghost use Rattle.tr_base.specs.Rects.{IsScreenSize};
+ghost use Rattle.tr_forest.specs.Nodes.{IsNode};
 
-use crate::domains::{Plan, lay_out};
+use crate::domains::{Plan, lay, lay_out};
 use crate::rooms::Room;
 use crate::wishes::{fill_shapes, no_shapes};
 use std::alloc::Global;
-use tr_base::{NoMemory, Rect, Shapes, Size, empty_place};
+use tr_base::{NoMemory, NodeId, Rect, Shapes, Size, empty_place, preferred_place};
 use tr_forest::Forest;
 
 /// The shapes and the domain of each node, and the room in which they are found.
@@ -17,7 +18,7 @@ pub(crate) struct Layout {
 }
 
 impl Layout {
-    ghost use Rattle.tr_tree.specs.Ready.{HavePlaces, HasShapes, IsLaidOut, HaveSamePlaces, HasSpare};
+    ghost use Rattle.tr_tree.specs.Ready.{HavePlaces, HasShapes, IsLaidOut, IsInZ, HasOtherDomains, HaveSamePlaces, HasSpare};
 
     /// For no nodes.
     pub(crate) fn new(alloc: Global) -> Layout
@@ -69,6 +70,34 @@ impl Layout {
             shapes: &self.shapes,
         };
         lay_out(&plan, &mut self.room, &mut self.domains);
+    }
+
+    /// Finds the domains anew of a child that has another offset, and of all below it. It takes no memory.
+    pub(crate) fn place_moved(&mut self, forest: &Forest, size: Size, child: NodeId)
+        requires size { IsScreenSize size }
+        requires places { HavePlaces (length forest.now.entries) self.old }
+        requires shapes { HasShapes forest.now self.old }
+        requires child { IsNode forest.now child }
+        requires z { IsInZ forest.now child }
+        requires others { HasOtherDomains forest.now size child self.old }
+        ensures { IsLaidOut forest.now size self.new }
+    {
+        // Called for what it tells the prover: that the nodes are a forest.
+        let _ = forest.count();
+        let Some(parent) = forest.parent(child) else {
+            self.place(forest, size);
+            return;
+        };
+        let rect = self.domains[usize::from(parent.0)];
+        let shapes = self.shapes[usize::from(child.0)];
+        let place = preferred_place(&rect, forest.at_of(child), &shapes);
+        self.domains[usize::from(child.0)] = place;
+        let plan = Plan {
+            forest,
+            size,
+            shapes: &self.shapes,
+        };
+        lay(&plan, child, &mut self.room, &mut self.domains);
     }
 
     /// Finds the shapes and the domains anew. It takes no memory.

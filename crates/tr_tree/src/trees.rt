@@ -107,6 +107,9 @@ impl Tree {
         match edit {
             Edit::Tint { .. } => {}
             Edit::Rescreen { .. } => {}
+            // Each child of a Z has an offset of its own, so their order doesn't matter.
+            Edit::Lift { .. } => {}
+            Edit::Move { child, .. } => self.layout.place_moved(&self.forest, self.size, *child),
             _ => {
                 if keeps_shapes(edit) {
                     self.layout.place(&self.forest, self.size);
@@ -256,8 +259,8 @@ impl Tree {
         })
     }
 
-    /// The same tree, in the memory of another. Where that has as many nodes, each with as many children,
-    /// nothing is allocated.
+    /// The same tree, in the memory of another. Where that has as many nodes, and each has room for as many
+    /// children, nothing is allocated.
     pub fn copy_into(&self, spare: Tree) -> Result<Tree, NoMemory>
         ensures { IfOk result (λ t. t ≡ self.now) }
     {

@@ -1,4 +1,4 @@
-use Rattle.std.proofs.Common.{◌≡◌, ◌≢◌, AllPairs, ◌+◌, List, length, get_or, take, subst, sym, ap, ◌∙◌, true, arith}
+use Rattle.std.proofs.Common.{◌≡◌, ◌≢◌, AllPairs, ◌+◌, ◌-◌, List, length, get_or, take, subst, sym, ap, ◌∙◌, true, arith}
 use Rattle.std.proofs.lemmas.List.{get_or_default, length-map}
 use Rattle.tr_base.specs.declared.NodeId.{NodeId}
 use Rattle.tr_base.specs.declared.Shapes.{Shapes}
@@ -10,9 +10,9 @@ use Rattle.tr_tree.specs.Places.{domain}
 use Rattle.tr_tree.specs.Tables.{shape_in}
 use Rattle.tr_tree.specs.Laying.{laid, IsRectangle}
 use Rattle.tr_tree.proofs.KinLemmas.{few_children}
-use Rattle.tr_tree.proofs.FitLemmas.{at_is_domain}
+use Rattle.tr_tree.proofs.FitLemmas.{at_is_domain, at_more}
 use Rattle.tr_tree.proofs.PlaceLemmas.{child_read, shapes_read}
-use Rattle.tr_tree.proofs.LayLemmas.{stands_laid, laying_from, laying_next, laying_end, laying_nothing, domain_read}
+use Rattle.tr_tree.proofs.LayLemmas.{laying_from, laying_next, laying_end, laying_nothing, domain_read}
 use Rattle.tr_tree.proofs.domains.+lay.Goals as goal
 
 pub gather-requires-clause-within : goal.gather-requires-clause-within
@@ -32,14 +32,16 @@ gather-requires-clause-room t c =
 pub place_first-requires-clause-parent : goal.place_first-requires-clause-parent
 place_first-requires-clause-parent t c =
     let s = laid c.args.plan.now.forest.now c.args.plan.now.size in
-    let own = stands_laid s c.requires.forest c.args.n c.args.domains.now.items c.requires.own in
+    let own = c.requires.own in
+    let deep = c.requires.forest.depths c.args.n in
     let here : c.index.result.now ≡ domain s c.args.n = domain_read s c.args.n c.args.domains.now.items c.from.result c.index.result.now
     (omega (arith, c.requires.node.within, c.requires.count)) c.from.ensures c.index.ensures c.requires.own.right in
     record {
       forest = c.requires.forest;
       is_node = c.requires.node;
       own = subst IsRectangle (sym here) own.at.own;
-      small = subst IsDomain (sym here) (at_is_domain (domain s c.args.n) own.at);
+      small = subst IsDomain (sym here)
+          (at_is_domain (domain s c.args.n) (at_more (depth s.nodes c.args.n - 1) 15 (domain s c.args.n) (omega (arith, deep)) own.at));
       shapes_are = shapes_read c.args.plan.now.forest.now c.args.n c.args.plan.now.shapes.now _ c.children-children.result.now c.requires.plan.shapes_are
           c.children-children.ensures (rw c.deref.ensures.value c.gather.ensures.shapes);
     }

@@ -1,11 +1,12 @@
-use Rattle.std.proofs.Common.{subst, sym, ◌∙◌, arith}
+use Rattle.std.proofs.Common.{◌-◌, subst, sym, ◌∙◌, arith}
 use Rattle.std.proofs.Math.ListN.{length-set}
 use Rattle.tr_base.specs.Layouts.{IsDomain}
 use Rattle.tr_forest.specs.Nodes.{IsNode}
+use Rattle.tr_forest.specs.Families.{depth}
 use Rattle.tr_tree.specs.Places.{domain}
-use Rattle.tr_tree.specs.Laying.{laid}
+use Rattle.tr_tree.specs.Laying.{laid, IsAt}
 use Rattle.tr_tree.proofs.LayoutLemmas.{any_kind}
-use Rattle.tr_tree.proofs.FitLemmas.{at_is_domain}
+use Rattle.tr_tree.proofs.FitLemmas.{at_empty, at_is_domain, at_more}
 use Rattle.tr_tree.proofs.LayLemmas.{laid_none, laid_all, root_stands}
 use Rattle.tr_tree.proofs.domains.lay_out.Goals as goal
 
@@ -32,7 +33,21 @@ returns-in-Some-clause-small c = λ n.
     let is = sym c.root.ensures ∙ c.in-Some.is in
     let all = laid_all s c.count.ensures.invariant c.in-Some.root c.clear.new.domains.items c.lay.new.domains.items c.whole.result is c.clear.ensures.empty
     (rw c.from.ensures at c.lay.ensures.lays) n in
-    subst IsDomain (sym all.right) (at_is_domain (domain s n) all.at)
+    subst IsDomain (sym all.right)
+    (at_is_domain (domain s n) (at_more (depth s.nodes n - 1) 15 (domain s n) (omega (arith, c.count.ensures.invariant.depths n)) all.at))
+
+pub returns-in-Some-clause-at : goal.returns-in-Some-clause-at
+returns-in-Some-clause-at c = λ n.
+    let s = laid c.args.plan.now.forest.now c.args.plan.now.size in
+    let is = sym c.root.ensures ∙ c.in-Some.is in
+    let all = laid_all s c.count.ensures.invariant c.in-Some.root c.clear.new.domains.items c.lay.new.domains.items c.whole.result is c.clear.ensures.empty
+    (rw c.from.ensures at c.lay.ensures.lays) n in
+    subst (IsAt (depth s.nodes n - 1)) (sym all.right) all.at
+
+pub returns-in_default-clause-at : goal.returns-in_default-clause-at
+returns-in_default-clause-at c = λ n.
+    let deep = depth c.args.plan.now.forest.now n - 1 in
+    subst (IsAt deep) (sym (c.clear.ensures.empty n)) (at_empty deep)
 
 pub returns-in_default-clause-domains : goal.returns-in_default-clause-domains
 returns-in_default-clause-domains c = λ kind n.

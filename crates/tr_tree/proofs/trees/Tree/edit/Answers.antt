@@ -1,8 +1,10 @@
-use Rattle.std.proofs.Common.{subst, sym, ◌∙◌}
+use Rattle.std.proofs.Common.{subst, sym, ap, ◌∙◌}
 use Rattle.tr_forest.specs.Edits.{IsEdit}
 use Rattle.tr_tree.specs.Trees.{Seen}
+use Rattle.tr_tree.specs.Ready.{keeps_shapes}
 use Rattle.tr_tree.proofs.LayoutLemmas.{laid_out_tinted, laid_out_rescreened, places_edited, seen_edited}
 use Rattle.tr_tree.proofs.KeepLemmas.{shapes_kept}
+use Rattle.tr_tree.proofs.StayLemmas.{laid_out_lifted, moved_in_z, moved_others}
 use Rattle.tr_tree.proofs.trees.Tree.edit.Goals as goal
 
 pub invariant_of-self-in-Tint : goal.invariant_of-self-in-Tint
@@ -41,3 +43,36 @@ pub returns-in-Rescreen-clause-ok : goal.returns-in-Rescreen-clause-ok
 returns-in-Rescreen-clause-ok c =
     seen_edited _ c.args.self.now c.edit.new.self c.size_after-self-inside.result c.kind_after-self-inside.result c.args.edit.now
     c.self.view_is c.in_ok-edit.ensures.ok c.size_after-self-inside.ensures c.kind_after-self-inside.ensures
+
+pub invariant_of-self-in-Lift : goal.invariant_of-self-in-Lift
+invariant_of-self-in-Lift c =
+    let t = c.self.inside.forest in
+    let fits = subst (λ (t : Seen). IsEdit t.nodes c.args.edit.now) (sym c.self.view_is) c.requires in
+    laid_out_lifted t c.edit.new.self c.args.edit.now c.in-Lift.child
+    c.self.inside.size c.size_after-self-inside.result c.self.inside.layout
+    c.in-Lift.is c.count.ensures.invariant fits c.in_ok-edit.ensures.allowed c.in_ok-edit.ensures.ok c.size_after-self-inside.ensures
+    (shapes_kept t c.edit.new.self c.args.edit.now c.self.inside.layout c.count.ensures.invariant fits c.in_ok-edit.ensures.allowed
+    (ap keeps_shapes c.in-Lift.is) c.in_ok-edit.ensures.ok c.self.invariant.shapes)
+    c.self.invariant
+
+pub place_moved-requires-clause-shapes : goal.place_moved-requires-clause-shapes
+place_moved-requires-clause-shapes c =
+    shapes_kept c.self.inside.forest c.edit.new.self c.args.edit.now c.self.inside.layout c.count.ensures.invariant
+    (subst (λ (t : Seen). IsEdit t.nodes c.args.edit.now) (sym c.self.view_is) c.requires) c.in_ok-edit.ensures.allowed
+    (ap keeps_shapes c.in-Move.is) c.in_ok-edit.ensures.ok c.self.invariant.shapes
+
+pub place_moved-requires-clause-z : goal.place_moved-requires-clause-z
+place_moved-requires-clause-z c =
+    moved_in_z c.self.inside.forest c.edit.new.self c.args.edit.now c.in-Move.child c.in-Move.at c.in-Move.is
+    (subst (λ (t : Seen). IsEdit t.nodes c.args.edit.now) (sym c.self.view_is) c.requires) c.in_ok-edit.ensures.allowed c.in_ok-edit.ensures.ok
+
+pub place_moved-requires-clause-others : goal.place_moved-requires-clause-others
+place_moved-requires-clause-others c =
+    let t = c.self.inside.forest in
+    let fits = subst (λ (t : Seen). IsEdit t.nodes c.args.edit.now) (sym c.self.view_is) c.requires in
+    moved_others t c.edit.new.self c.args.edit.now c.in-Move.child c.in-Move.at
+    c.self.inside.size c.size_after-self-inside.result c.self.inside.layout
+    c.in-Move.is c.count.ensures.invariant fits c.in_ok-edit.ensures.allowed c.in_ok-edit.ensures.ok c.size_after-self-inside.ensures
+    (shapes_kept t c.edit.new.self c.args.edit.now c.self.inside.layout c.count.ensures.invariant fits c.in_ok-edit.ensures.allowed
+    (ap keeps_shapes c.in-Move.is) c.in_ok-edit.ensures.ok c.self.invariant.shapes)
+    c.self.invariant
