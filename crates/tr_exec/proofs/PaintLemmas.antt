@@ -1,5 +1,5 @@
 -- A walk that paints: a run more, and some rows more.
-use Rattle.std.proofs.Common.{◌≡◌, ℕ, ◌+◌, ◌<◌, ◌≤◌, ◌⊎◌, inl, inr, ℤ, pos, ◌≤ℤ◌, ◌<ℤ◌, Bool, true, false, ◌&&◌, ◌||◌, List, [], take, get_or, length, refl, sym, ◌∙◌, ap, subst, arith}
+use Rattle.std.proofs.Common.{◌≡◌, ℕ, ◌+◌, ◌<◌, ◌≤◌, ◌⊎◌, inl, inr, ℤ, pos, ◌≤ℤ◌, ◌<ℤ◌, Bool, true, false, ◌&&◌, ◌||◌, List, [], ◌∷◌, take, get_or, length, refl, sym, ◌∙◌, ap, subst, arith}
 use Rattle.std.specs.Ordering.{int_eq}
 use Rattle.std.specs.Int.{int_min, int_max}
 use Rattle.std.proofs.lemmas.Int.{ints, clamps}
@@ -189,3 +189,9 @@ rows_had area high n s across north south v from to = (first, last (int_cases ar
     last : (area.south ≤ℤ pos v) ⊎ (pos v <ℤ area.south) → pos v <ℤ area.south
     last (inr lt) = lt
     last (inl ge) = absurd (omega (arith, ints, (south.same (pos v) (omega (arith, ints)) (omega (arith, ints, south.to))).0 ge))
+
+-- a row of one rectangle is the list of that rectangle
+pub one_rect : (row : List Edges) (i : ℕ) (r : Edges) → length row ≡ 1 → i ≡ 0 → r ≡ get_or row i r → row ≡ r ∷ []
+one_rect [] i r one first is = absurd (omega (arith, one))
+one_rect (x ∷ []) i r one first is = ap (λ (e : Edges). e ∷ []) (sym (is ∙ ap (λ k. get_or (x ∷ []) k r) first))
+one_rect (x ∷ y ∷ rest) i r one first is = absurd (omega (arith, one))

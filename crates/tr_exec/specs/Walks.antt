@@ -1,9 +1,10 @@
 -- Which points a walk paints.
-use Rattle.std.specs.Prelude.{◌≡◌, ℕ, pos, ◌≤ℤ◌, ◌<ℤ◌, Bool, true, ◌&&◌}
+use Rattle.std.specs.Prelude.{◌≡◌, ℕ, ℤ, pos, ◌≤ℤ◌, ◌<ℤ◌, Bool, true, ◌&&◌, List, All}
 use Rattle.std.specs.Int.{int_min, int_max}
 use Rattle.tr_base.specs.declared.Point.{Point}
 use Rattle.tr_base.specs.declared.Size.{Size}
 use Rattle.tr_base.specs.Rects.{Edges, has_point}
+use Rattle.tr_region.specs.Bands.{AreApart, in_spans, spans_of}
 use Rattle.tr_screen.specs.Runs.{IsOn}
 
 -- the point passes the test, and lies in the area
@@ -25,3 +26,9 @@ in_columns_of area r = record { west = int_max r.west area.west; east = int_min 
 -- the rectangle has columns of the area
 abbrev pub Meets : Edges → Edges → Type 0
 Meets area r = (area.west <ℤ r.east) × (r.west <ℤ area.east)
+
+-- within the area's columns, a row of rectangles has the columns of a band's rectangles; each has columns of the area
+pub record IsRowOf (area : Edges) (rects row : List Edges) : Type 0 where
+  pub columns : (x : ℤ) → area.west ≤ℤ x → x <ℤ area.east → in_spans (spans_of row) x ≡ in_spans (spans_of rects) x
+  pub apart : AreApart (spans_of row)
+  pub meet : All (Meets area) row

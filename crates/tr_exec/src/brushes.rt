@@ -49,8 +49,8 @@ pub(crate) struct PixelsBrush<'a> {
         has_point (whole_of src.now.size) (before_shift p at) ≡ true },
 }
 
-/// Applies the operation for the glyph's bit of a text whose cells begin at `at` and have all points
-/// of the area.
+/// Applies the operation for the glyph's bit of a text whose cells begin at `at` and contain
+/// the area.
 #[derive(Drop)]
 pub(crate) struct TextBrush<'a> {
     pub area: Rect,
@@ -63,7 +63,7 @@ pub(crate) struct TextBrush<'a> {
         (before_shift p at) ≡ true },
 }
 
-/// Writes a text whose cells begin at `at` and have all points of the area.
+/// Writes a text whose cells begin at `at` and contain the area.
 #[derive(Drop)]
 pub(crate) struct LettersBrush<'a> {
     pub area: Rect,

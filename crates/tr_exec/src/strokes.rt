@@ -146,7 +146,7 @@ pub(crate) fn letters_run(lettering: &Lettering<'_>, at: Point, pixels: &mut [u8
     letter_row(pixels, &letters, lettering.one, lettering.zero);
 }
 
-/// The letters of a text from a place on.
+/// The letters of a text from this index on.
 fn letters_from(text: &Line, first: usize) -> &[u8]
     requires { first ≤ length text.now }
     ensures letters { result.now ≡ take (length text.now - first) (drop first text.now) }

@@ -1,4 +1,4 @@
-//! Texts: in two colours where both operations write one, and else through a mask.
+//! A text is written in two colours if both operations leave one, else it is painted through a mask.
 ghost use Rattle.std.specs.Prelude.{◌≡◌, ◌*◌, pos, true, length};
 ghost use Rattle.tr_base.specs.declared.Point.{Point};
 ghost use Rattle.tr_base.specs.Ops.{opaque as is_opaque};
@@ -19,7 +19,7 @@ use tr_kernel::Mask;
 use tr_region::Region;
 use tr_screen::Screen;
 
-/// A text whose cells begin at the point `at` of the screen and have all points of the area.
+/// A text whose cells begin at the point `at` of the screen and contain the area.
 #[derive(Drop)]
 pub(crate) struct PlacedText<'a> {
     pub area: Rect,
@@ -51,7 +51,7 @@ pub(crate) fn paint_text(
     }
 }
 
-/// The same of operations that leave one colour each, whatever was there.
+/// The same for operations that leave one colour each, whatever was there.
 fn write_text(screen: &mut Screen, visible: &Region, env: &Env<'_>, text: &PlacedText<'_>)
     requires one { is_opaque text.now.ops.one ≡ true }
     requires zero { is_opaque text.now.ops.zero ≡ true }
@@ -75,7 +75,7 @@ fn write_text(screen: &mut Screen, visible: &Region, env: &Env<'_>, text: &Place
     paint_within(screen, visible, &brush);
 }
 
-/// The same of any operations.
+/// The same for any operations.
 fn mask_text(screen: &mut Screen, visible: &Region, env: &Env<'_>, text: &PlacedText<'_>)
     requires { AreOn screen.old.size (in_area (holds visible.now) text.now.area) }
     ensures { Repaints (in_area (holds visible.now) text.now.area)

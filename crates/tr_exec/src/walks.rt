@@ -7,7 +7,7 @@ ghost use Rattle.tr_region.specs.Rows.{in_band};
 ghost use Rattle.tr_screen.specs.Pictures.{pixel_of};
 ghost use Rattle.tr_screen.specs.Runs.{IsRun, Repaints, in_run, point_in, width_of};
 ghost use Rattle.tr_repair.specs.Walks.{in_row, run_of};
-ghost use Rattle.tr_exec.specs.Walks.{AreOn, HasRow, Meets, in_area, in_columns_of};
+ghost use Rattle.tr_exec.specs.Walks.{AreOn, HasRow, IsRowOf, Meets, in_area, in_columns_of};
 
 use tr_base::{Rect, greater, lesser};
 use tr_region::{Band, Region, nearest_row};
@@ -67,6 +67,26 @@ fn paint_band<B: Brush>(screen: &mut Screen, band: &Band<'_>, brush: &B)
 {
     let area = brush.area();
     let row = band.between(area.west(), area.east());
+    // Most bands have one rectangle. The compiler computes the columns of a copy once, and not for each row.
+    if row.len() == 1 {
+        paint_rows(screen, band, &[row[0]], brush);
+    } else {
+        paint_rows(screen, band, row, brush);
+    }
+}
+
+/// The same, by the band's rectangles that have columns of the area.
+#[inline(always)]
+fn paint_rows<B: Brush>(screen: &mut Screen, band: &Band<'_>, row: &[Rect], brush: &B)
+    requires order { band.now.north ≤ band.now.south }
+    requires rows { (v : ℕ) → band.now.north ≤ v → v < band.now.south → HasRow (B.area brush.now) v }
+    requires row { IsRowOf (B.area brush.now) band.now.rects.now row.now }
+    requires on { let held = in_band band.now.north band.now.south band.now.rects.now in
+        AreOn screen.old.size (in_area held (B.area brush.now)) }
+    ensures { let held = in_band band.now.north band.now.south band.now.rects.now in
+        Repaints (in_area held (B.area brush.now))
+        (λ p. B.pixel brush.now p (pixel_of screen.old p)) screen.old screen.new }
+{
     for v in band.north..band.south {
         paint_row(screen, row, v, brush);
     }

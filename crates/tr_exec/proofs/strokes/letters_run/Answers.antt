@@ -1,6 +1,6 @@
-use Rattle.std.proofs.Common.{◌≡◌, length, cond, w32, SFits, ap, ◌∙◌, arith, rules}
+use Rattle.std.proofs.Common.{◌≡◌, length, cond, w32, SFits, ap, ◌∙◌, rules}
 use Rattle.std.specs.Prelude.{unsigned_abs}
-use Rattle.std.proofs.lemmas.Int.{ints, to_z-of_z}
+use Rattle.std.proofs.lemmas.Int.{to_z-of_z}
 use Rattle.tr_exec.proofs.StrokeLemmas.{columns_fit, bit_of_letters}
 use Rattle.tr_exec.proofs.strokes.letters_run.Goals as goal
 

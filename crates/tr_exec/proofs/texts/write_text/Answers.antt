@@ -1,4 +1,4 @@
-use Rattle.std.proofs.Common.{refl, ap₂, cond, ◌∙◌}
+use Rattle.std.proofs.Common.{refl}
 use Rattle.tr_paint.specs.Paints.{text_bit}
 use Rattle.tr_screen.specs.Pictures.{pixel_of}
 use Rattle.tr_exec.proofs.PaintingLemmas.{repaints_as, two_colours}
