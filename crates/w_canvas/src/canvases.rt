@@ -1,4 +1,4 @@
-ghost use Rattle.std.specs.Prelude.{◌≡◌, ◌↔◌, ◌++◌, [], true, pos, IsTrue, IfOk, IfSome, OnOk, OnErr};
+ghost use Rattle.std.specs.Prelude.{◌≡◌, ◌↔◌, ◌++◌, [], true, pos, length, take, IsTrue, IfOk, IfSome, OnOk, OnErr};
 ghost use Rattle.tr_base.specs.Layouts.{longest};
 ghost use Rattle.tr_base.specs.Rects.{between};
 ghost use Rattle.tr_paint.specs.Paints.{IsNearPaint, IsNearRect};
@@ -78,15 +78,44 @@ fn paints(alloc: Global, part: &Rect, figures: &[Figure]) -> Result<Batch, NoMem
     ensures { IfOk result (λ batch. batch ≡ spec.canvas_paints part.now figures.now) }
 {
     let mut batch = Batch::new(alloc);
+    put_paints(part, figures, &mut batch)?;
+    Ok(batch)
+}
+
+/// Puts these commands behind those of a batch.
+fn put_paints(part: &Rect, figures: &[Figure], batch: &mut Batch) -> Result<(), NoMemory>
+    requires { IsNearRect part.now }
+    ensures ok { OnOk result (batch.new ≡ batch.old ++ spec.canvas_paints part.now figures.now) }
+    ensures err { OnErr result (batch.new ≡ batch.old) }
+{
+    let before = batch.len();
+    if let Err(error) = push_paints(part, figures, batch) {
+        batch.truncate(before);
+        return Err(error);
+    }
+    Ok(())
+}
+
+/// The same, but for want of memory the first of them stay in the batch.
+fn push_paints(part: &Rect, figures: &[Figure], batch: &mut Batch) -> Result<(), NoMemory>
+    requires { IsNearRect part.now }
+    ensures ok { OnOk result (batch.new ≡ batch.old ++ spec.canvas_paints part.now figures.now) }
+    ensures err { OnErr result (take (length batch.old) batch.new ≡ batch.old) }
+{
     batch.push(Paint::Tint {
         clip: *part,
         op: Op::Bg,
     })?;
-    batch.reserve(figures.len())?;
     for figure in figures {
-        batch.push(figure.paint(part))?;
+        let clip = part.meet(&figure.area.rect());
+        if !clip.is_empty() {
+            batch.push(Paint::Tint {
+                clip,
+                op: figure.op,
+            })?;
+        }
     }
-    Ok(batch)
+    Ok(())
 }
 
 impl Canvas {
@@ -201,28 +230,23 @@ impl Canvas {
         Ok(())
     }
 
-    /// The patch for the last figure that goes away.
-    fn undo_patch(&self, alloc: Global, size: Size) -> Result<Batch, NoMemory>
+    /// Puts the patch for the last figure that goes away behind the commands of a batch.
+    fn put_undo(&self, size: Size, batch: &mut Batch) -> Result<(), NoMemory>
         requires { IsWindowSize size }
-        ensures { IfOk result (λ batch. batch ≡ spec.undo_patch size self.now) }
+        ensures ok { OnOk result (batch.new ≡ batch.old ++ spec.undo_patch size self.now) }
+        ensures err { OnErr result (batch.new ≡ batch.old) }
     {
         let figures = self.figures();
         if figures.is_empty() {
-            return Ok(Batch::new(alloc));
+            return Ok(());
         }
         let last = figures.len() - 1;
         let part = part_of_window(size, &figures[last].area.rect());
-        paints(alloc, &part, &figures[..last])
+        put_paints(&part, &figures[..last], batch)
     }
 
     /// Puts the patch of a command behind the commands of a batch.
-    fn put_patch(
-        &self,
-        alloc: Global,
-        size: Size,
-        cmd: &CanvasCmd,
-        batch: &mut Batch,
-    ) -> Result<(), NoMemory>
+    fn put_patch(&self, size: Size, cmd: &CanvasCmd, batch: &mut Batch) -> Result<(), NoMemory>
         requires { IsWindowSize size }
         ensures ok { (look : Look) →
             OnOk result (batch.new ≡ batch.old ++ spec.canvas_patch look size self.now cmd.now) }
@@ -233,10 +257,7 @@ impl Canvas {
             CanvasCmd::Exchange { area, a, b } => {
                 self.put_figure(size, &exchanging(area, a, b), batch)
             }
-            CanvasCmd::Undo => {
-                let patch = self.undo_patch(alloc, size)?;
-                batch.extend(patch)
-            }
+            CanvasCmd::Undo => self.put_undo(size, batch),
         }
     }
 }
@@ -374,7 +395,7 @@ impl Client for Canvas {
         cmd.known();
         let next = self.after(alloc, cmd)?;
         let mut patch = Batch::new(alloc);
-        self.put_patch(alloc, size, cmd, &mut patch)?;
+        self.put_patch(size, cmd, &mut patch)?;
         Ok((next, patch))
     }
 
@@ -389,7 +410,7 @@ impl Client for Canvas {
         self.invariant();
         cmd.known();
         let before = batch.len();
-        self.put_patch(alloc, size, cmd, batch)?;
+        self.put_patch(size, cmd, batch)?;
         if let Err(error) = self.take(cmd) {
             batch.truncate(before);
             return Err(error);
