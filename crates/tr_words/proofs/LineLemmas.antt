@@ -1,4 +1,4 @@
--- The first line of a text, and the lines behind it.
+-- Where a text is cut: its first piece, and the pieces behind it; its first line, and the lines behind it.
 use Rattle.std.proofs.Common.{◌≡◌, ◌≢◌, ℕ, ◌+◌, ◌-◌, ◌<◌, ◌≤◌, zero, suc, Bool, true, false, cond, eqb, List, [], ◌∷◌, ◌++◌, All, length, get_or, take, drop, refl, ap, ◌∙◌, sym, ne_eqb, arith}
 use Rattle.std.specs.Prelude.{slice_get, slice_index}
 use Rattle.std.specs.List.{slice_split}
@@ -6,9 +6,9 @@ use Rattle.std.proofs.lemmas.Grind.{common_steps}
 use Rattle.std.proofs.lemmas.List.Splits.{slice_split_at, slice_split_none, length-slice_split}
 use Rattle.tr_grammar.specs.Texts.{lines_of, is_empty_piece, without_empty_end}
 
--- a byte that ends a line
-abbrev pub is_feed : ℕ → Bool
-is_feed b = eqb b 10
+-- the test that a byte is e
+abbrev pub is_just : ℕ → ℕ → Bool
+is_just e b = eqb b e
 
 onto_both : (b : Bool) (piece : List ℕ) (xs ys : List (List ℕ)) → cond b (piece ∷ xs) (piece ∷ ys) ≡ piece ∷ cond b xs ys
 onto_both true piece xs ys = refl
@@ -37,31 +37,45 @@ is_false : (b : Bool) → b ≢ true → b ≡ false
 is_false true isnt = absurd (isnt refl)
 is_false false isnt = refl
 
-none_before : (bytes : List ℕ) (at : ℕ) → ((k : ℕ) → k < at → is_feed (slice_index bytes k) ≢ true) → All (λ b. is_feed b ≡ false) (take at bytes)
-none_before bytes at none k d within =
+none_before : (e : ℕ) (bytes : List ℕ) (at : ℕ) → ((k : ℕ) → k < at → is_just e (slice_index bytes k) ≢ true) →
+    All (λ b. is_just e b ≡ false) (take at bytes)
+none_before e bytes at none k d within =
     let most : length (take at bytes) ≤ at = grind (arith, common_steps) in
     let short : k < at = omega (arith, most, within) in
     let same : get_or (take at bytes) k d ≡ slice_index bytes k = grind (arith, common_steps) in
-    ap is_feed same ∙ is_false (is_feed (slice_index bytes k)) (none k short)
+    ap (is_just e) same ∙ is_false (is_just e (slice_index bytes k)) (none k short)
 
 same_byte : (bytes : List ℕ) (k d : ℕ) → k < length bytes → get_or bytes k d ≡ slice_index bytes k
 same_byte bytes k d within = grind (arith, common_steps)
 
+-- up to the first byte that cuts a text there is its first piece
+pub cut_at : (e : ℕ) (bytes : List ℕ) (at : ℕ) → at < length bytes → is_just e (slice_index bytes at) ≡ true →
+    ((k : ℕ) → k < at → is_just e (slice_index bytes k) ≢ true) →
+    slice_split (is_just e) bytes ≡ take at bytes ∷ slice_split (is_just e) (drop (at + 1) bytes)
+cut_at e bytes at within is none =
+    ap (slice_split (is_just e)) (split_at_place bytes at within)
+    ∙ slice_split_at (is_just e) (take at bytes) (slice_index bytes at) (drop (at + 1) bytes) (none_before e bytes at none) is
+
+-- without such a byte there is one piece
+pub uncut : (e : ℕ) (bytes : List ℕ) → ((k : ℕ) → k < length bytes → is_just e (slice_index bytes k) ≢ true) →
+    slice_split (is_just e) bytes ≡ bytes ∷ []
+uncut e bytes none =
+    slice_split_none (is_just e) bytes (λ k d within.
+    ap (is_just e) (same_byte bytes k d within) ∙ is_false (is_just e (slice_index bytes k)) (none k within))
+
 -- up to the first line feed there is the first line
-pub first_of_lines : (bytes : List ℕ) (at : ℕ) → at < length bytes → is_feed (slice_index bytes at) ≡ true →
-    ((k : ℕ) → k < at → is_feed (slice_index bytes k) ≢ true) → lines_of bytes ≡ take at bytes ∷ lines_of (drop (at + 1) bytes)
+pub first_of_lines : (bytes : List ℕ) (at : ℕ) → at < length bytes → is_just 10 (slice_index bytes at) ≡ true →
+    ((k : ℕ) → k < at → is_just 10 (slice_index bytes k) ≢ true) → lines_of bytes ≡ take at bytes ∷ lines_of (drop (at + 1) bytes)
 unfolding lines_of
 first_of_lines bytes at within is none =
-    ap (λ all. without_empty_end (slice_split is_feed all)) (split_at_place bytes at within)
-    ∙ ap without_empty_end (slice_split_at is_feed (take at bytes) (slice_index bytes at) (drop (at + 1) bytes) (none_before bytes at none) is)
-    ∙ behind_a_piece (take at bytes) (slice_split is_feed (drop (at + 1) bytes)) (omega (arith, length-slice_split is_feed (drop (at + 1) bytes)))
+    ap without_empty_end (cut_at 10 bytes at within is none)
+    ∙ behind_a_piece (take at bytes) (slice_split (is_just 10) (drop (at + 1) bytes))
+    (omega (arith, length-slice_split (is_just 10) (drop (at + 1) bytes)))
 
 -- without a line feed there is one line
-pub only_line : (bytes : List ℕ) → 0 < length bytes → ((k : ℕ) → k < length bytes → is_feed (slice_index bytes k) ≢ true) →
+pub only_line : (bytes : List ℕ) → 0 < length bytes → ((k : ℕ) → k < length bytes → is_just 10 (slice_index bytes k) ≢ true) →
     lines_of bytes ≡ bytes ∷ lines_of []
 unfolding lines_of
 only_line bytes some none =
-    let all : slice_split is_feed bytes ≡ bytes ∷ [] =
-    slice_split_none is_feed bytes (λ k d within. ap is_feed (same_byte bytes k d within) ∙ is_false (is_feed (slice_index bytes k)) (none k within)) in
     let full : eqb (length bytes) 0 ≡ false = ne_eqb (length bytes) 0 (λ same. omega (arith, same, some)) in
-    ap without_empty_end all ∙ ap (λ b. cond b [] (bytes ∷ [])) full
+    ap without_empty_end (uncut 10 bytes none) ∙ ap (λ b. cond b [] (bytes ∷ [])) full

@@ -1,14 +1,16 @@
 -- Numbers in words: a word passes the test of a range just where it is the decimal text of a number in it.
-use Rattle.std.proofs.Common.{◌≡◌, ℕ, ◌^◌, ◌<◌, ◌≤◌, true, false, leb, eqb, ◌&&◌, List, [], ◌∷◌, length, get_or, drop, Ok, Err, refl, sym, ap, subst, ◌∙◌, inl, inr, arith}
+use Rattle.std.proofs.Common.{◌≡◌, ℕ, ◌^◌, ◌<◌, ◌≤◌, ◌-◌, true, false, leb, eqb, ◌&&◌, List, [], ◌∷◌, length, get_or, take, drop, refl, sym, ap, subst, ◌∙◌, inl, inr, arith}
 use Prim.Native.Nat.{zero, suc}
-use Rattle.std.specs.Prelude.{ℤ, pos, negsuc, neg_ℤ, int_le, decimal, bytes_eq, cond, MatchOption, Result}
-use Rattle.std.specs.Result.{result_ok}
+use Rattle.std.specs.Prelude.{ℤ, pos, negsuc, neg_ℤ, int_le, decimal, bytes_eq, cond}
 use Rattle.std.specs.Fmt.{signed_decimal}
-use Rattle.std.specs.Str.Parse.{AllDigits, digits_value, ParsesUnsigned}
+use Rattle.std.specs.Str.Parse.{AllDigits, digits_value}
+use Rattle.std.specs.Char.{digit_value}
 use Rattle.std.proofs.lemmas.Bool.{and_parts, and_from, leb-true, le-leb, cases_lt, false_from_ne_true, false≢true, ne_eqb}
 use Rattle.std.proofs.lemmas.Slice.Eq.{bytes_eq-Decides}
-use Rattle.std.proofs.lemmas.Str.Parse.{IsNumeralModel, numerals_by_value, tells_digits, parse_plain, digit_at}
-use Rattle.std.proofs.lemmas.Fmt.{decimal_is_IsNumeral, decimal_digit, first_decimal, decimal_nonempty, decimal-digits_value}
+use Rattle.std.proofs.lemmas.Str.Parse.{IsNumeralModel, numerals_by_value, tells_digits, digits_value_short, digit_at}
+use Rattle.std.proofs.lemmas.Fmt.{decimal_is_IsNumeral, decimal_digit, first_decimal, decimal_nonempty, decimal-digits_value, length-decimal-le}
+use Rattle.std.proofs.lemmas.Bool.Decides.{nat_tests}
+use Rattle.std.proofs.lemmas.List.{length-take}
 use Rattle.tr_grammar.specs.Words.{nat_of, is_number, int_of, is_signed}
 use Rattle.tr_words.specs.Answers.{BeginsNumber}
 
@@ -208,21 +210,33 @@ minus_is_not low high ds small none = false_from_ne_true _ (λ t.
 
 pub ruleset minus_rules = (minus_is, minus_int, minus_is_not)
 
--- ---- what `parse` gives for a word that begins as a number does
+-- ---- words of digits
 
--- digits alone, of a number below 2 ^ 32
-abbrev SpellsU32 : List ℕ → Type 0
-SpellsU32 w = AllDigits 10 w × (0 < length w) × (digits_value 10 w < 2 ^ 32)
+pub digit_is : (b : ℕ) → 48 ≤ b → b ≤ 57 → digit_value b ≡ b - 48
+digit_is b low high = grind (arith, nat_tests)
 
-pub parsed : {E : Type 0} (w : List ℕ) (r : Result ℕ E) → BeginsNumber w → ParsesUnsigned 32 10 w r →
-    MatchOption (result_ok r) ((n : ℕ) → n < 2 ^ 32 → w ≡ decimal n → ⊥) (λ n. w ≡ decimal n)
-parsed {E = E} w (Ok x) begins h =
-    let p : SpellsU32 w × (x ≡ digits_value 10 w) =
-    parse_plain own {E = E} 32 w (Ok x) h (λ plus. omega (arith, begins))
-    in
-    let text : decimal (digits_value 10 w) ≡ w = decimal-digits_value own w p.0.0 p.0.1 begins.2 (omega (arith, p.0.2)) in
-    sym text ∙ ap decimal (sym p.1)
-parsed {E = E} w (Err x) begins h = λ n small text.
-    let p : SpellsU32 w → ⊥ = parse_plain own {E = E} 32 w (Err x) h (λ plus. omega (arith, begins)) in
-    let is_numeral = decimal_is_IsNumeral n (omega arith) in
-    p (rw text (is_numeral.0.1, is_numeral.0.0, omega (arith, is_numeral.1)))
+-- the number that the digits so far spell has nine digits at most
+pub few_digits : (w : List ℕ) (i : ℕ) → length w ≤ 10 → i < length w → AllDigits 10 (take i w) → digits_value 10 (take i w) < 10 ^ 9
+few_digits w i short within digits = digits_value_short own (take i w) 9 digits (omega (arith, length-take i w))
+
+-- a word of digits that begins as a number does is the text of the number that they spell
+pub spelled : (w : List ℕ) → BeginsNumber w → AllDigits 10 w → digits_value 10 w < 2 ^ 64 → w ≡ decimal (digits_value 10 w)
+spelled [] begins digits small = absurd (omega (arith, begins))
+spelled (b ∷ bs) begins digits small = sym (decimal-digits_value own (b ∷ bs) digits (omega arith) begins.2 small)
+
+-- the text of a number
+pub record IsDecimal (n : ℕ) (w : List ℕ) : Type 0 where
+  pub short : length w ≤ 10
+  pub begins : BeginsNumber w
+  pub digits : AllDigits 10 w
+  pub value : digits_value 10 w ≡ n
+
+pub decimal_parts : (n : ℕ) (w : List ℕ) → n < 2 ^ 32 → w ≡ decimal n → IsDecimal n w
+decimal_parts n w small e =
+    let numeral = decimal_is_IsNumeral n (omega arith) in
+    rw e (record {
+      short = length-decimal-le 10 n (omega arith) (omega arith) (omega arith);
+      begins = begins_with_digit n (omega arith);
+      digits = numeral.0.1;
+      value = numeral.1;
+    })

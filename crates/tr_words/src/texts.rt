@@ -1,5 +1,5 @@
 //! How a text is cut into lines, and a line into words.
-ghost use Rattle.std.specs.Prelude.{◌≡◌, ◌<◌, ◌∷◌, ◌==◌, true, false, IfOk, OnOk, MatchOption, IfSome, drop, length, List, ℕ};
+ghost use Rattle.std.specs.Prelude.{◌≡◌, ◌<◌, [], ◌∷◌, ◌++◌, ◌==◌, true, false, IfOk, OnOk, OnErr, MatchOption, IfSome, drop, length, List, ℕ};
 ghost use Rattle.std.specs.List.{list_all, slice_split, AllPass};
 ghost use Rattle.tr_base.specs.Lines.{is_printable};
 ghost use Rattle.tr_grammar.specs.Words.{words_of, rest_after};
@@ -52,15 +52,33 @@ pub fn is_silent(line: &str) -> bool
     }
 }
 
+/// The text before the first space, and the text behind it, if there is a space.
+fn at_space(text: &str) -> Option<(&str, &str)>
+    ensures words { MatchOption result (words_of text.now ≡ text.now ∷ [])
+        (λ p. words_of text.now ≡ p.0.now ∷ words_of p.1.now) }
+    ensures shorter { IfSome result (λ p. length p.1.now < length text.now) }
+    ensures printable { AllPass is_printable text.now → IfSome result (λ p. AllPass is_printable p.1.now) }
+{
+    match memchr(b' ', text.as_bytes()) {
+        Some(at) => Some((&text[..at], &text[at + 1..])),
+        None => None,
+    }
+}
+
 /// Puts the parts between single spaces into the list, in place of the words that were there. For want of
 /// memory it has only the first of them.
 pub fn words_into<'a>(line: &'a str, words: &mut Vec<&'a str>) -> Result<(), NoMemory>
-    ensures { OnOk result (texts words.new.items ≡ words_of line.now) }
+    ensures ok { OnOk result (texts words.new.items ≡ words_of line.now) }
+    ensures err { OnErr result ((rest : List (List ℕ)) ×
+        (words_of line.now ≡ texts words.new.items ++ rest)) }
 {
     words.clear();
-    for word in line.split(' ') {
+    let mut rest = line;
+    while let Some((word, behind)) = at_space(rest) {
         words.push(word)?;
+        rest = behind;
     }
+    words.push(rest)?;
     Ok(())
 }
 
@@ -69,7 +87,7 @@ fn after_word(line: &str) -> &str
     ensures follows { (ws : List (List ℕ)) → AreWordsOf ws line.now → AreWordsOf (drop 1 ws) result.now }
     ensures printable { AllPass is_printable line.now → AllPass is_printable result.now }
 {
-    match line.split_once(' ') {
+    match at_space(line) {
         Some((_, rest)) => rest,
         None => "",
     }

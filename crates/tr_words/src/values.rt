@@ -2,6 +2,7 @@
 //! one that is out of range.
 ghost use Rattle.std.specs.Prelude.{◌≡◌, ◌≤◌, ◌<◌, ◌≤ℤ◌, ◌↔◌, ◌^◌, ◌∷◌, ◌==◌, false, slice_index, ℕ, pos, neg_ℤ, not, ⊤, nat_le, length, IsTrue, IfOk, MatchOption, decimal};
 ghost use Rattle.std.specs.List.{list_all, AllPass};
+ghost use Rattle.std.specs.Str.Parse.{AllDigits, digits_value};
 ghost use Rattle.tr_base.specs.Lines.{is_printable};
 ghost use Rattle.tr_grammar.specs.declared.codes.Code.TheVariants.{B2};
 ghost use Rattle.tr_grammar.specs.Words.{nat_of, int_of, hex_of, byte_of, is_number, is_signed, is_shape, is_hex, is_glyph_byte, is_name_byte, is_name};
@@ -15,6 +16,9 @@ use tr_grammar::{Code, LineRefused};
 
 /// How many bytes a name may have.
 const LONGEST_NAME: usize = 16;
+
+/// How many digits a number has at most.
+const MOST_DIGITS: usize = 10;
 
 fn is_name_byte(byte: u8) -> bool
     ensures { result ≡ is_name_byte byte }
@@ -59,16 +63,41 @@ fn begins_number(word: &[u8]) -> bool
     matches!(word, [b'0'] | [b'1'..=b'9', ..])
 }
 
+/// The number that at most ten digits spell, if all bytes are digits.
+fn digits_number(digits: &[u8]) -> Option<u64>
+    requires { length digits.now ≤ 10 }
+    ensures { MatchOption result (AllDigits 10 digits.now → ⊥)
+        (λ n. AllDigits 10 digits.now × (n ≡ digits_value 10 digits.now)) }
+{
+    let mut number = 0;
+    for byte in digits {
+        if !byte.is_ascii_digit() {
+            return None;
+        }
+        number = number * 10 + u64::from(*byte - b'0');
+    }
+    Some(number)
+}
+
 /// The number of which the word is the decimal text.
 fn decimal_of(word: &str) -> Option<u32>
     ensures { MatchOption result ((n : ℕ) → n < 2 ^ 32 → word.now ≡ decimal n → ⊥)
         (λ n. word.now ≡ decimal n) }
 {
-    if begins_number(word.as_bytes()) {
-        word.parse().ok()
-    } else {
-        None
+    let digits = word.as_bytes();
+    if digits.len() > MOST_DIGITS {
+        return None;
     }
+    if !begins_number(digits) {
+        return None;
+    }
+    let Some(number) = digits_number(digits) else {
+        return None;
+    };
+    if number > u64::from(u32::MAX) {
+        return None;
+    }
+    Some(number as u32)
 }
 
 /// A number from `low` to `high`, in decimal digits without a zero in front.

@@ -18,7 +18,7 @@ loud c = record {
 }
 
 cut : (c : goal.After-take_meaning) → texts c.deref.result.now ≡ words_of c.args.bytes.now
-cut c = ap texts c.deref.ensures.value ∙ c.in_ok-words_into.ensures ∙ ap words_of c.in-Some.ensures.value.1
+cut c = ap texts c.deref.ensures.value ∙ c.in_ok-words_into.ensures.ok ∙ ap words_of c.in-Some.ensures.value.1
 
 fault_is : (c : goal.After-take_meaning) →
     fault_of c.args.reader.now c.args.number c.args.bytes.now ≡ first_of (line_faults c.args.reader.now c.args.number c.in_ok-meaning.meaning)
@@ -35,7 +35,7 @@ next_is c =
     let reader = c.args.reader.now in
     let words = words_of c.args.bytes.now in
     let read = rw (cut c) at c.in_ok-meaning.ensures in
-    let again : texts c.deref-2.result.now ≡ words = ap texts c.deref-2.ensures.value ∙ c.in_ok-words_into.ensures ∙ ap words_of c.in-Some.ensures.value.1 in
+    let again : texts c.deref-2.result.now ≡ words = ap texts c.deref-2.ensures.value ∙ c.in_ok-words_into.ensures.ok ∙ ap words_of c.in-Some.ensures.value.1 in
     let named : c.second.result.now ≡ word_at words 1 = c.second.ensures ∙ ap (λ (ws : List (List ℕ)). word_at ws 1) again in
     next_of_words reader c.args.bytes.now (loud c) ∙ after_said reader (form_of reader.version words) words c.in_ok-meaning.meaning read.1
     ∙ ap (λ (w : List ℕ). after_meaning reader w c.in_ok-meaning.meaning) (sym named)
@@ -62,7 +62,7 @@ returns-in_err-meaning-clause-fault c =
       loud = ap is_silent (sym c.in-Some.ensures.value.1) ∙ sym c.is_silent.ensures ∙ c.if-is_silent.false;
       early = sym c.has_ended-2.ensures ∙ c.if-has_ended.false;
     } in
-    let is_cut : texts c.deref.result.now ≡ words = ap texts c.deref.ensures.value ∙ c.in_ok-words_into.ensures ∙ ap words_of c.in-Some.ensures.value.1 in
+    let is_cut : texts c.deref.result.now ≡ words = ap texts c.deref.ensures.value ∙ c.in_ok-words_into.ensures.ok ∙ ap words_of c.in-Some.ensures.value.1 in
     let e = c.in_err-meaning.field-0.0 in
     let told : Reads reader forms (texts c.deref.result.now) (Err e) = c.in_err-meaning.ensures in
     let read : Reads reader forms words (Err e) = subst (λ (ws : List (List ℕ)). Reads reader forms ws (Err e)) is_cut told in

@@ -35,7 +35,8 @@ taken c =
     let bytes = c.args.bytes.now in
     let m = c.in-Ok.meaning in
     let few = not_beyond c.args.number (omega arith) in
-    let is_cut : texts c.deref.result.now ≡ words_of bytes = ap texts c.deref.ensures.value ∙ c.in_ok-words_into.ensures ∙ ap words_of c.in-Some.ensures.value.1 in
+    let is_cut : texts c.deref.result.now ≡ words_of bytes =
+    ap texts c.deref.ensures.value ∙ c.in_ok-words_into.ensures.ok ∙ ap words_of c.in-Some.ensures.value.1 in
     let told : Reads reader forms (texts c.deref.result.now) (Ok m) = c.in-Ok.ensures in
     let read : Reads reader forms (words_of bytes) (Ok m) = subst (λ (ws : List (List ℕ)). Reads reader forms ws (Ok m)) is_cut told in
     let loud : IsLoudStep reader bytes = record {
@@ -63,7 +64,8 @@ returns-in-Err-Fault-clause-answer c =
     let reader = c.args.reader.now in
     let bytes = c.args.bytes.now in
     let e = c.in-Err-Fault.field-0-0 in
-    let is_cut : texts c.deref.result.now ≡ words_of bytes = ap texts c.deref.ensures.value ∙ c.in_ok-words_into.ensures ∙ ap words_of c.in-Some.ensures.value.1 in
+    let is_cut : texts c.deref.result.now ≡ words_of bytes =
+    ap texts c.deref.ensures.value ∙ c.in_ok-words_into.ensures.ok ∙ ap words_of c.in-Some.ensures.value.1 in
     let answer = Err (refused.Fault e) in
     let told : Reads reader forms (texts c.deref.result.now) answer = rw c.in-Err-Fault.field-0-is at c.in-Err-Fault.ensures in
     let read : Reads reader forms (words_of bytes) answer = subst (λ (ws : List (List ℕ)). Reads reader forms ws answer) is_cut told in
