@@ -1,5 +1,4 @@
-ghost use Rattle.std.specs.Prelude.{◌≡◌, ◌+◌, ◌<◌, ◌≤◌, length};
-ghost use Rattle.tr_mirror.specs.Readings.{at_first, longest_stream};
+ghost use Rattle.std.specs.Prelude.{◌<◌};
 
 use crate::updates::PIXELS;
 use crate::{out_of_memory, print_speed};
@@ -97,9 +96,7 @@ fn feed_new<R: Clock>(rt: &R, alloc: Global, stream: &[u8], step: usize) -> io::
 }
 
 /// The nanoseconds that a mirror takes which was fed nothing.
-fn span<R: Clock>(rt: &R, mirror: &mut Mirror, stream: &[u8], step: usize) -> io::Result<u64>
-    requires { mirror.old ≡ at_first }
-{
+fn span<R: Clock>(rt: &R, mirror: &mut Mirror, stream: &[u8], step: usize) -> io::Result<u64> {
     let start = Instant::now(rt)?;
     if !is_fed(mirror, stream, step) {
         return Err(io::Error::from(ErrorKind::InvalidData));
@@ -110,9 +107,7 @@ fn span<R: Clock>(rt: &R, mirror: &mut Mirror, stream: &[u8], step: usize) -> io
 
 /// Feeds a stream to a mirror that was fed nothing. Whether it has no fault, and a cut.
 #[inline(never)]
-fn is_fed(mirror: &mut Mirror, stream: &[u8], step: usize) -> bool
-    requires { mirror.old ≡ at_first }
-{
+fn is_fed(mirror: &mut Mirror, stream: &[u8], step: usize) -> bool {
     if step == 0 || stream.len() > 2_000_000 {
         return false;
     }
@@ -122,7 +117,6 @@ fn is_fed(mirror: &mut Mirror, stream: &[u8], step: usize) -> bool
 /// Feeds a stream in pieces. Whether it has no fault.
 fn feed_all(mirror: &mut Mirror, stream: &[u8], step: usize) -> bool
     requires step { 0 < step }
-    requires short { mirror.old.fed + length mirror.old.begun + length stream.now ≤ longest_stream }
 {
     let mut rest = stream;
     while !rest.is_empty() {

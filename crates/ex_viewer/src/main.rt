@@ -1,23 +1,15 @@
 //! A program to copy from: it reads a stream of updates from standard input, piece by piece as it comes, and
-//! prints after each cut which part of the screen changed.
-//!
-//! `viewers.rt` reads, and knows the last screen; `changes.rt` compares two. What a change is stands in
-//! specs/Changes.antt. That the lines arrive on standard output is shown by the program's run alone.
+//! prints after each cut which part of the screen changed. A viewer that draws copies the rows of
+//! `mirror.screen()` within that part. That the lines arrive on standard output is shown by the program's run
+//! alone.
 #![tactic(auto)]
 
-mod changes;
-mod refusals;
-mod viewers;
+mod stops;
 
-ghost use Rattle.std.specs.Prelude.{◌≡◌, ◌+◌, ◌≤◌, length, OnOk};
-ghost use Rattle.tr_mirror.specs.Readings.{at_first, longest_stream};
-ghost use Rattle.ex_viewer.specs.Viewers.{bytes_of};
-
-use crate::refusals::Stopped;
-use crate::viewers::Viewer;
+use crate::stops::Stopped;
 use std::process::ExitCode;
 use tr_io::{Source, StdSource};
-use tr_mirror::LONGEST_STREAM;
+use tr_mirror::{Change, Mirror};
 
 /// How many bytes are asked for at once.
 const PIECE: usize = 4096;
@@ -36,49 +28,62 @@ fn main(rt: HostRuntime) -> ExitCode {
 /// Prints the changes of the stream that a source has, to its end.
 fn view<R: Print + AllocGlobal, S: Source>(rt: &R, source: &mut S) -> Result<(), Stopped> {
     let mut piece = vec![in rt.alloc(); 0u8; PIECE]?;
-    let mut viewer = Viewer::new(rt.alloc())?;
-    view_pieces(rt, source, &mut viewer, &mut piece)
+    let mut mirror = Mirror::new(rt.alloc())?;
+    view_pieces(rt, source, &mut mirror, &mut piece)
 }
 
 /// Prints the changes of what a source has, to its end. It comes by way of `piece`.
 fn view_pieces<R: Print + AllocGlobal, S: Source>(
     rt: &R,
     source: &mut S,
-    viewer: &mut Viewer,
+    mirror: &mut Mirror,
     piece: &mut [u8],
-) -> Result<(), Stopped>
-    requires { viewer.old.mirror ≡ at_first }
-{
-    let mut room = LONGEST_STREAM;
+) -> Result<(), Stopped> {
     'pieces: for _ in 0..u64::MAX {
         let count = source.read(piece)?;
         if count == 0 {
             break 'pieces;
         }
-        if count as u64 > room {
-            return Err(Stopped::TOO_LONG);
-        }
-        print_changes(rt, viewer, &piece[..count])?;
-        room -= count as u64;
+        view_piece(rt, mirror, &piece[..count])?;
     }
-    viewer.end()
+    mirror.end()?;
+    Ok(())
 }
 
 /// Prints a line for each cut that the piece ends.
-fn print_changes<R: Print + AllocGlobal>(
+fn view_piece<R: Print + AllocGlobal>(
     rt: &R,
-    viewer: &mut Viewer,
+    mirror: &mut Mirror,
     piece: &[u8],
-) -> Result<(), Stopped>
-    requires { bytes_of viewer.old.mirror + length piece.now ≤ longest_stream }
-    ensures { OnOk result (bytes_of viewer.new.mirror ≤ bytes_of viewer.old.mirror + length piece.now) }
-{
+) -> Result<(), Stopped> {
     let mut rest = piece;
     while !rest.is_empty() {
-        let (count, change) = viewer.read(rest)?;
+        let cuts = mirror.cuts();
+        let count = mirror.feed_to_cut(rest)?;
         rest = &rest[count..];
-        if let Some(change) = change {
-            println!(rt; "cut {} {change}", viewer.mirror.cuts())?;
+        if mirror.cuts() != cuts {
+            print_change(rt, mirror)?;
+        }
+    }
+    Ok(())
+}
+
+/// Prints what the last cut changed.
+fn print_change<R: Print + AllocGlobal>(rt: &R, mirror: &Mirror) -> Result<(), Stopped> {
+    let cut = mirror.cuts();
+    match mirror.changed() {
+        Change::Nothing => println!(rt; "cut {cut} unchanged")?,
+        Change::Within(bounds) => {
+            let (west, east) = (bounds.west, bounds.east);
+            let (north, south) = (bounds.north, bounds.south);
+            println!(rt; "cut {cut} changed {west} {east} {north} {south}")?;
+        }
+        Change::Screen => {
+            if let Some(screen) = mirror.screen() {
+                let size = screen.size();
+                let (wide, high) = (size.wide, size.high);
+                println!(rt; "cut {cut} screen {wide} {high}")?;
+            }
         }
     }
     Ok(())

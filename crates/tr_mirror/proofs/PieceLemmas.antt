@@ -1,14 +1,16 @@
 -- A piece is read front after front, up to its first cut.
-use Rattle.std.proofs.Common.{◌≡◌, ℕ, ◌+◌, ◌<◌, ◌-◌, ◌==◌, List, [], ◌++◌, length, take, drop, refl, sym, ap, ◌∙◌, arith, if◌then◌else◌, append_assoc, length-append, is_some, true, ◌≢◌, ◌⊎◌, inl, inr, None, IsSome}
+use Rattle.std.proofs.Common.{◌≡◌, ℕ, ◌+◌, ◌<◌, ◌-◌, ◌==◌, List, [], ◌++◌, length, take, drop, refl, sym, ap, ◌∙◌, arith, if◌then◌else◌, append_assoc, length-append, is_some, true, ◌≢◌, ◌⊎◌, inl, inr, None}
 use Rattle.std.proofs.lemmas.Bool.{cases_eq}
 use Rattle.std.proofs.Math.Seq.{take-append_seam}
 use Rattle.tr_mirror.specs.Headers.{header_len, header_of}
 use Rattle.tr_mirror.specs.Standings.{Standing}
-use Rattle.tr_mirror.specs.Readings.{Reading, after_bytes, record_taken, IsReading, list_of_option, cut_between, shown_from}
-use Rattle.tr_mirror.specs.Pieces.{TakesFront, IsFaultless}
-use Rattle.tr_mirror.proofs.ReadingLemmas.{read-append, read_failed, read_none, header_len_range, after_sized, nothing_begun}
-use Rattle.tr_mirror.proofs.ShownLemmas.{no_cut, shown_from-append, cut_screen}
+use Rattle.tr_mirror.specs.Readings.{Reading, reading_of, screens_shown, list_of_option, cut_between}
+use Rattle.tr_mirror.specs.Automata.{after_bytes, record_taken, IsReading, shown_from}
+use Rattle.tr_mirror.specs.Pieces.{EndsAtCut, TakesFront, IsFaultless}
+use Rattle.tr_mirror.proofs.ReadingLemmas.{read-append, read_failed, read_none, header_len_range, nothing_begun, IsBounded-taken}
+use Rattle.tr_mirror.proofs.ShownLemmas.{no_cut, shown_from-append, EndsAtCut-put}
 use Rattle.tr_mirror.proofs.RecordLemmas.{Reads, Reads-faultless}
+use Rattle.tr_mirror.proofs.RunLemmas.{reading_on, shown_on}
 
 -- some front of a piece was read, of which at most the last byte ended a cut, and the rest wasn't
 pub record HasRead (old new : Reading) (piece rest : List ℕ) : Type 0 where
@@ -16,7 +18,7 @@ pub record HasRead (old new : Reading) (piece rest : List ℕ) : Type 0 where
   pub parts : front ++ rest ≡ piece
   pub came : after_bytes old front ≡ new
   pub shown : shown_from old front ≡ cut_between old.standing new.standing
-  pub screen : new.standing.cuts ≢ old.standing.cuts → IsSome new.standing.screen
+  pub ends : EndsAtCut old new
 
 pub HasRead-none : (m : Reading) (piece : List ℕ) → HasRead m m piece piece
 HasRead-none m piece = record {
@@ -24,7 +26,7 @@ HasRead-none m piece = record {
   parts = refl;
   came = refl;
   shown = sym (no_cut m.standing m.standing refl);
-  screen = λ more. absurd (more refl);
+  ends = record { screen = λ more. absurd (more refl); between = λ more. absurd (more refl); fault = λ _. refl };
 }
 
 -- what came from a standing with as many cuts came from the other one, too
@@ -41,7 +43,11 @@ HasRead-more old m new piece rest after same h t = record {
   shown = shown_from-append old h.front t.front
       ∙ ap (λ l. l ++ shown_from (after_bytes old h.front) t.front) (h.shown ∙ no_cut old.standing m.standing (sym same))
       ∙ ap (λ r. shown_from r t.front) h.came ∙ t.shown ∙ cut_from m.standing old.standing new.standing same;
-  screen = λ more. t.screen (λ e. more (e ∙ same));
+  ends = record {
+    screen = λ more. t.ends.screen (λ e. more (e ∙ same));
+    between = λ more. t.ends.between (λ e. more (e ∙ same));
+    fault = λ failed. t.ends.fault failed ∙ same;
+  };
 }
 
 module _ (old new : Reading) (piece rest : List ℕ) (h : HasRead old new piece rest) where
@@ -55,17 +61,21 @@ module _ (old new : Reading) (piece rest : List ℕ) (h : HasRead old new piece 
   pub front_is : take (length piece - length rest) piece ≡ h.front
   front_is = ap (λ (n : ℕ). take n piece) count_read ∙ ap (λ l. take (length h.front) l) (sym h.parts) ∙ take-append_seam h.front rest
 
-  pub read_is : new ≡ after_bytes old (take (length piece - length rest) piece)
-  read_is = sym h.came ∙ ap (λ l. after_bytes old l) (sym front_is)
+  pub read_is : (stream : List ℕ) → old ≡ reading_of stream → new ≡ reading_of (stream ++ take (length piece - length rest) piece)
+  read_is stream is = sym h.came ∙ ap (λ l. after_bytes old l) (sym front_is) ∙ ap (λ m. after_bytes m (take (length piece - length rest) piece)) is
+      ∙ reading_on stream (take (length piece - length rest) piece)
 
-  pub shown_is : shown_from old (take (length piece - length rest) piece) ≡ cut_between old.standing new.standing
-  shown_is = ap (λ l. shown_from old l) front_is ∙ h.shown
+  pub shows_is : (stream : List ℕ) → old ≡ reading_of stream →
+      screens_shown (stream ++ take (length piece - length rest) piece) ≡ screens_shown stream ++ cut_between old.standing new.standing
+  shows_is stream is = shown_on stream (take (length piece - length rest) piece)
+      ∙ ap (λ m. screens_shown stream ++ shown_from m (take (length piece - length rest) piece)) (sym is)
+      ∙ ap (λ l. screens_shown stream ++ l) (ap (λ l. shown_from old l) front_is ∙ h.shown)
 
   -- after a fault the rest changes nothing
-  pub all_is : is_some new.fault ≡ true → new ≡ after_bytes old piece
-  all_is failed =
+  pub all_is : is_some new.fault ≡ true → (stream : List ℕ) → old ≡ reading_of stream → new ≡ reading_of (stream ++ piece)
+  all_is failed stream is =
       sym (read_failed new rest failed) ∙ ap (λ r. after_bytes r rest) (sym h.came) ∙ sym (read-append old h.front rest)
-      ∙ ap (λ l. after_bytes old l) h.parts
+      ∙ ap (λ l. after_bytes old l) h.parts ∙ ap (λ m. after_bytes m piece) is ∙ reading_on stream piece
 
   -- so far it was read, since none is left, or there was a fault or a cut
   abbrev pub Ends : Type 0
@@ -100,8 +110,15 @@ module _ (m : Reading) (front : List ℕ) (free : m.fault ≡ None) (none : m.be
     some = some_front;
     came = reads_front.read;
     shown = reads_front.shown;
-    screen = cut_screen m.standing (header_of front) (drop (header_len front) front) f.header;
+    ends = EndsAtCut-put m (record_taken m front) free (record {
+      header = header_of front;
+      pixels = drop (header_len front) front;
+      sound = f.header;
+      standing = refl;
+      begun = refl;
+      fault = refl;
+    });
   }
 
   pub IsReading-faultless : IsReading m → IsReading (record_taken m front)
-  IsReading-faultless w = nothing_begun (record_taken m front) refl (after_sized m.standing (header_of front) (drop (header_len front) front) f.header w.sized)
+  IsReading-faultless w = nothing_begun (record_taken m front) refl (IsBounded-taken m front w.bounded f.whole f.header)

@@ -1,20 +1,21 @@
 -- Records that are spelled are read, one after the other.
 use Rattle.std.proofs.Common.{◌≡◌, ◌≢◌, ℕ, ◌+◌, ◌<◌, ◌≤◌, ◌&&◌, false, not, nat_le, List, [], ◌∷◌, ◌++◌, length, take, drop, None, refl, sym, ap, subst, ◌∙◌, arith, inl, inr, append_assoc, length-append}
 use Rattle.std.proofs.lemmas.Bool.{ne_eqb, eq-eqb, cases_eq}
-use Rattle.std.proofs.lemmas.List.{append-nil, drop_at, take-append-drop, length-take-le, length-drop, nil_from_length}
+use Rattle.std.proofs.lemmas.List.{append-nil, take-append-drop, length-take-le, length-drop, nil_from_length}
 use Rattle.std.proofs.lemmas.Nat.{from_be_bytes-to_be_bytes_2, from_be_bytes-to_be_bytes_4}
-use Rattle.tr_screen.specs.Pictures.{Picture}
 use Rattle.tr_mirror.specs.declared.headers.Segment.{Segment}
 use Rattle.tr_mirror.specs.declared.headers.Header.{Header}
 use Rattle.tr_mirror.specs.declared.headers.Header.TheVariants.{Screen, Run, Fill, Cut}
 use Rattle.tr_mirror.specs.Headers.{tag_of, header_len, header_of, header_bytes, record_len, pixel_count, short_at, long_at}
 use Rattle.tr_mirror.specs.Standings.{Standing, after_record, header_fault, pixel_fault}
-use Rattle.tr_mirror.specs.Readings.{Reading, record_fault, is_unknown, record_taken, unfinished, tried, after_byte, after_bytes, try_len, cut_between, shown_from}
-use Rattle.tr_mirror.specs.Streams.{Record, record_bytes, spelled}
-use Rattle.tr_mirror.specs.Faults.{IsSpellable, IsSoundRecord, after_records, AreSound}
+use Rattle.tr_mirror.specs.Readings.{Reading, cut_between, screens_by}
+use Rattle.tr_mirror.specs.Automata.{record_fault, record_taken, unfinished, tried, after_byte, after_bytes, try_len, shown_from}
+use Rattle.tr_mirror.specs.Records.{Record, is_unknown, after_records}
+use Rattle.tr_mirror.specs.Faults.{IsSpellable, AreSound}
 use Rattle.tr_mirror.specs.Pieces.{IsFaultless}
 use Rattle.tr_mirror.proofs.ReadingLemmas.{tag_of-append, header_len_range, header_len-append, header_of-append, waits, gathers, next_free, read-append, IsQuiet, IsQuiet-append, try_first, try_header, try_record, tried_again}
-use Rattle.tr_mirror.proofs.ShownLemmas.{len_of, header_len-is, no_cut, shown_from-append}
+use Rattle.tr_mirror.proofs.BoundLemmas.{len_of}
+use Rattle.tr_mirror.proofs.ShownLemmas.{no_cut, shown_from-append}
 
 -- ---- a header is read as it was spelled
 
@@ -115,10 +116,6 @@ waits_for m bytes none part = rw (none, ne_eqb (length bytes) (record_len bytes)
 
 -- ---- a whole record
 
--- where a stream stands between its records
-abbrev pub ready : Standing → ℕ → Reading
-ready s fed = record { standing = s; begun = []; fed = fed; fault = None }
-
 -- the bytes of a record's header, and what they say
 record IsHeader (hb bytes : List ℕ) : Type 0 where
   len : length hb ≡ header_len bytes
@@ -205,52 +202,7 @@ module _ (m : Reading) (bytes : List ℕ) (free : m.fault ≡ None) (none : m.be
   pub Reads-faultless : Reads m bytes (record_taken m bytes)
   Reads-faultless = subst (λ x. Reads m bytes x) (takes m bytes to_end.clean f.whole) to_end.tried
 
--- a record that is spelled is put on
-pub Reads-record : (s : Standing) (fed : ℕ) (r : Record) → IsSoundRecord s r →
-    Reads (ready s fed) (record_bytes r) (ready (after_record s r.header r.pixels) (fed + length (record_bytes r)))
-Reads-record s fed r k =
-    let m : Reading = ready s fed in
-    let h : Header = r.header in
-    let px : List ℕ = r.pixels in
-    let hb : List ℕ = header_bytes h in
-    let all : List ℕ = hb ++ px in
-    let again : header_of all ≡ h = header_again h px k.fits in
-    let len : header_len all ≡ length hb = header_len-is all ∙ ap (λ x. len_of x) again ∙ sym (length-header_bytes h) in
-    let left : drop (header_len all) all ≡ px = drop_at hb px (header_len all) (sym len) in
-    let fine : IsFaultless s all = record {
-      known = known h px;
-      whole = omega (arith, length-append hb px, ap (λ x. pixel_count x) again, k.count);
-      header = ap (λ x. header_fault s x) again ∙ k.header;
-      pixels = ap (λ l. pixel_fault s l) left ∙ k.pixels;
-    } in
-    let is : record_taken m all ≡ ready (after_record s h px) (fed + length all) =
-    ap (λ x. ready (after_record s x (drop (header_len all) all)) (fed + length all)) again ∙ ap (λ l. ready (after_record s h l) (fed + length all)) left in
-    subst (λ x. Reads m all x) is (Reads-faultless m all refl refl fine)
-
 -- ---- records one after the other
-
--- the screens at their cuts
-abbrev pub shown_by : Standing → List Record → List Picture
-shown_by s [] = []
-shown_by s (r ∷ rs) = cut_between s (after_record s r.header r.pixels) ++ shown_by (after_record s r.header r.pixels) rs
-
-pub reads_all : (s : Standing) (fed : ℕ) (rs : List Record) → AreSound s rs →
-    after_bytes (ready s fed) (spelled rs) ≡ ready (after_records s rs) (fed + length (spelled rs))
-reads_all s fed [] k = ap (λ n. ready s n) (omega arith)
-reads_all s fed (r ∷ rs) k =
-    let t : Standing = after_record s r.header r.pixels in
-    let one : List ℕ = record_bytes r in
-    read-append (ready s fed) one (spelled rs) ∙ ap (λ m. after_bytes m (spelled rs)) (Reads-record s fed r k.0).read ∙ reads_all t (fed + length one) rs k.1
-    ∙ ap (λ n. ready (after_records t rs) n) (omega (arith, length-append one (spelled rs)))
-
-pub shown_all : (s : Standing) (fed : ℕ) (rs : List Record) → AreSound s rs → shown_from (ready s fed) (spelled rs) ≡ shown_by s rs
-shown_all s fed [] k = refl
-shown_all s fed (r ∷ rs) k =
-    let t : Standing = after_record s r.header r.pixels in
-    let one : List ℕ = record_bytes r in
-    let here = Reads-record s fed r k.0 in
-    shown_from-append (ready s fed) one (spelled rs) ∙ ap (λ l. l ++ shown_from (after_bytes (ready s fed) one) (spelled rs)) here.shown
-    ∙ ap (λ m. cut_between s t ++ shown_from m (spelled rs)) here.read ∙ ap (λ l. cut_between s t ++ l) (shown_all t (fed + length one) rs k.1)
 
 pub after_all-append : (s : Standing) (xs ys : List Record) → after_records s (xs ++ ys) ≡ after_records (after_records s xs) ys
 after_all-append s [] ys = refl
@@ -260,8 +212,8 @@ pub AreSound-append : (s : Standing) (xs ys : List Record) → AreSound s xs →
 AreSound-append s [] ys a b = b
 AreSound-append s (x ∷ xs) ys a b = (a.0, AreSound-append (after_record s x.header x.pixels) xs ys a.1 b)
 
-pub shown_by-append : (s : Standing) (xs ys : List Record) → shown_by s (xs ++ ys) ≡ shown_by s xs ++ shown_by (after_records s xs) ys
-shown_by-append s [] ys = refl
-shown_by-append s (x ∷ xs) ys =
+pub screens_by-append : (s : Standing) (xs ys : List Record) → screens_by s (xs ++ ys) ≡ screens_by s xs ++ screens_by (after_records s xs) ys
+screens_by-append s [] ys = refl
+screens_by-append s (x ∷ xs) ys =
     let t : Standing = after_record s x.header x.pixels in
-    ap (λ l. cut_between s t ++ l) (shown_by-append t xs ys) ∙ sym (append_assoc (cut_between s t) (shown_by t xs) (shown_by (after_records t xs) ys))
+    ap (λ l. cut_between s t ++ l) (screens_by-append t xs ys) ∙ sym (append_assoc (cut_between s t) (screens_by t xs) (screens_by (after_records t xs) ys))

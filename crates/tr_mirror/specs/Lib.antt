@@ -1,7 +1,11 @@
 pub mod Headers
 pub mod Standings
+pub mod Records
+pub mod Changes
 pub mod Readings
+pub mod Automata
 pub mod Streams
-pub mod Updates
 pub mod Faults
+pub mod Laws
+pub mod Updates
 pub mod Pieces

@@ -1,17 +1,19 @@
-ghost use Rattle.std.specs.Prelude.{◌≡◌, ◌≢◌, ◌+◌, ◌<◌, ◌≤◌, ◌++◌, ◌↔◌, List, ℕ, length, take};
-ghost use Rattle.std.specs.Prelude.{Some, None, IsSome, IsTrue, IfOk, IfErr, OnOk, OnErr};
-ghost use Rattle.tr_mirror.specs.declared.faults.MirrorFault.{MirrorFault};
-ghost use Rattle.tr_mirror.specs.Faults.{IsBytes, IsFirstFault, IsFailedAs, IsReadAs};
+ghost use Rattle.std.specs.Prelude.{◌≡◌, ◌≢◌, ◌+◌, ◌<◌, ◌≤◌, ◌++◌, ◌∷◌, [], List, ℕ, length, take};
+ghost use Rattle.std.specs.Prelude.{None, Some, IsSome, IsTrue, IfOk, IfErr, OnOk, OnErr, true, false};
+ghost use Rattle.std.specs.Option.{option_copied};
+ghost use Rattle.tr_screen.specs.Pictures.{Picture};
+ghost use Rattle.tr_mirror.specs.Records.{IsBytes};
 ghost use Rattle.tr_mirror.specs.Readings as spec;
-ghost use Rattle.tr_mirror.specs.Readings.{at_first, after_bytes, reading_of, cut_between, shown_from};
-ghost use Rattle.tr_mirror.specs.Readings.{screens_shown, last_of, outcome_of, longest_stream};
+ghost use Rattle.tr_mirror.specs.Readings.{reading_of, screens_shown, last_of, cut_between, fault_at_end, longest_stream, outcome_of};
+ghost use Rattle.tr_mirror.specs.Changes.{Covers};
 
+use crate::changes::Change;
 use crate::faults::MirrorFault;
+use crate::pixels::Pixels;
 use crate::readers::Reader;
 use std::alloc::Global;
 use std::marker::Model;
 use tr_base::NoMemory;
-use tr_screen::Screen;
 
 /// The greatest length of a stream, in bytes.
 pub const LONGEST_STREAM: u64 = 75_497_472;
@@ -23,7 +25,8 @@ pub struct Mirror {
 }
 
 impl Model for Mirror {
-    ghost use Rattle.tr_mirror.specs.Readings.{Reading, IsReading};
+    ghost use Rattle.tr_mirror.specs.Readings.{Reading};
+    ghost use Rattle.tr_mirror.specs.Automata.{IsReading};
 
     ghost Value = { Reading };
 
@@ -34,39 +37,23 @@ impl Model for Mirror {
 
 impl Mirror {
     /// A mirror that has read nothing. It takes all the memory that reading needs.
+    #[tactic(auto, using(crate::proofs::RunLemmas::first_is))]
     pub fn new(alloc: Global) -> Result<Mirror, NoMemory>
-        ensures { IfOk result (λ m. m ≡ at_first) }
+        ensures { IfOk result (λ m. m ≡ reading_of []) }
     {
         Ok(Mirror {
             reader: Reader::new(alloc)?,
         })
     }
 
-    /// Reads the next piece of a stream. All pieces together have at most `LONGEST_STREAM` bytes. After a
-    /// fault each later call returns the same fault, and changes nothing.
+    /// Reads the next piece of a stream. After a fault each later call returns the same fault, and changes
+    /// nothing.
     pub fn feed(&mut self, piece: &[u8]) -> Result<(), MirrorFault>
-        requires { self.old.fed + length self.old.begun + length piece.now ≤ longest_stream }
-        ensures read { self.new ≡ after_bytes self.old piece.now }
-        ensures outcome { result ≡ outcome_of self.new.fault }
-
-        // No byte counts twice.
-        ensures count { self.new.fed + length self.new.begun
-            ≤ self.old.fed + length self.old.begun + length piece.now }
-
-        // However a stream is cut into pieces, it has one reading.
+        // However a stream is cut into pieces, it has one reading: that of its records.
         ensures stream { (stream : List ℕ) → self.old ≡ reading_of stream →
             self.new ≡ reading_of (stream ++ piece.now) }
-
-        // The fault is the first one of the bytes so far, by the table.
-        ensures table { (stream : List ℕ) (fault : MirrorFault) →
-            IsBytes stream → self.old ≡ reading_of stream →
-            (result ≡ Err fault) ↔ IsFirstFault (stream ++ piece.now) fault }
-        ensures records { (stream : List ℕ) → IsBytes stream → self.old ≡ reading_of stream →
-            OnOk result (IsReadAs (stream ++ piece.now) self.new) }
-
-        // After a fault the mirror stands as after the whole records before it.
-        ensures failed { (stream : List ℕ) → IsBytes stream → self.old ≡ reading_of stream →
-            IfErr result (IsFailedAs (stream ++ piece.now) self.new) }
+        ensures outcome { result ≡ outcome_of self.new.fault }
+        ensures bound { self.new.fed + length self.new.begun ≤ longest_stream }
     {
         let mut rest = piece;
         while !rest.is_empty() && self.reader.fault().is_none() {
@@ -78,30 +65,33 @@ impl Mirror {
         }
     }
 
-    /// Reads the next piece of a stream up to its first cut, or to its end if it has none, and returns how
-    /// many bytes it read. After a fault each later call returns the same fault, and changes nothing.
+    /// Reads the next piece of a stream up to the last byte of its first cut, or to its end if it has none,
+    /// and returns how many bytes it read. A fault behind a cut is an answer of the next call. After a fault
+    /// each later call returns the same fault, and changes nothing.
     pub fn feed_to_cut(&mut self, piece: &[u8]) -> Result<usize, MirrorFault>
-        requires { self.old.fed + length self.old.begun + length piece.now ≤ longest_stream }
         ensures count { IfOk result (λ n. n ≤ length piece.now) }
         ensures some { 0 < length piece.now → IfOk result (λ n. 0 < n) }
-        ensures read { IfOk result (λ n. self.new ≡ after_bytes self.old (take n piece.now)) }
+        ensures stream { (stream : List ℕ) → self.old ≡ reading_of stream →
+            IfOk result (λ n. self.new ≡ reading_of (stream ++ take n piece.now)) }
+        ensures bound { self.new.fed + length self.new.begun ≤ longest_stream }
         ensures fine { OnOk result (self.new.fault ≡ None) }
 
-        // No byte counts twice.
-        ensures fed { IfOk result (λ n.
-            self.new.fed + length self.new.begun ≤ self.old.fed + length self.old.begun + n) }
-
         // What was read ends one cut at most, and the reading stops for nothing else.
-        ensures cut { IfOk result (λ n.
-            shown_from self.old (take n piece.now) ≡ cut_between self.old.standing self.new.standing) }
+        ensures shows { (stream : List ℕ) → self.old ≡ reading_of stream → IfOk result (λ n.
+            screens_shown (stream ++ take n piece.now)
+            ≡ screens_shown stream ++ cut_between self.old.standing self.new.standing) }
         ensures stop { IfOk result (λ n. n < length piece.now →
             self.new.standing.cuts ≢ self.old.standing.cuts) }
-        ensures screen { OnOk result (self.new.standing.cuts ≢ self.old.standing.cuts →
-            IsSome self.new.standing.screen) }
 
-        // The fault is that of the whole piece.
+        // It stops at the cut's last byte.
+        ensures at_cut { OnOk result (self.new.standing.cuts ≢ self.old.standing.cuts →
+            IsTrue (spec.is_between self.new) × IsSome self.new.standing.screen) }
+
+        // A fault is that of the whole piece, and no cut comes before it that wasn't answered.
         ensures fault { IfErr result (λ fault. self.new.fault ≡ Some fault) }
-        ensures err { OnErr result (self.new ≡ after_bytes self.old piece.now) }
+        ensures err { OnErr result ((stream : List ℕ) → self.old ≡ reading_of stream →
+            self.new ≡ reading_of (stream ++ piece.now)) }
+        ensures none_lost { OnErr result (self.new.standing.cuts ≡ self.old.standing.cuts) }
     {
         let cuts = self.reader.replica().cuts();
         let mut rest = piece;
@@ -112,6 +102,20 @@ impl Mirror {
             None => Ok(piece.len() - rest.len()),
             Some(fault) => Err(fault),
         }
+    }
+
+    /// Whether the stream may end here: M4 if a record or a group isn't whole.
+    pub fn end(&self) -> Result<(), MirrorFault>
+        ensures { result ≡ outcome_of (fault_at_end self.now self.now.fault) }
+    {
+        self.reader.end()
+    }
+
+    /// Begins a new stream, and takes no memory for it.
+    pub fn restart(&mut self)
+        ensures { self.new ≡ reading_of [] }
+    {
+        self.reader.restart();
     }
 
     /// The length of all whole records that were read, in bytes.
@@ -138,21 +142,31 @@ impl Mirror {
         self.reader.replica().cuts()
     }
 
-    /// Whether a record Screen was read.
-    pub fn has_screen(&self) -> bool
-        ensures { IsTrue result ↔ IsSome self.now.standing.screen }
-    {
-        self.reader.replica().has_screen()
-    }
-
-    /// A copy of the screen: that of the last cut, changed by the whole records behind the cut.
-    pub fn screen(&self) -> Result<Screen, NoMemory>
-        requires { IsSome self.now.standing.screen }
-        ensures value { IfOk result (λ s. self.now.standing.screen ≡ Some s) }
+    /// The screen, if a Screen came: that of the last cut, changed by the whole records behind the cut.
+    pub fn screen(&self) -> Option<&Pixels>
+        ensures value { option_copied result ≡ self.now.standing.screen }
         ensures stream { (stream : List ℕ) → self.now ≡ reading_of stream →
-            IsTrue (spec.is_between self.now) →
-            IfOk result (λ s. last_of (screens_shown stream) ≡ Some s) }
+            IsTrue (spec.is_between self.now) → option_copied result ≡ last_of (screens_shown stream) }
     {
         self.reader.replica().screen()
+    }
+
+    /// What the last group that has begun changes on the screen of the cut before it. It costs nothing: it is
+    /// kept as records arrive.
+    pub fn changed(&self) -> Change
+        ensures value { result ≡ self.now.changed }
+
+        // After a cut: outside of the change the screen is that of the cut before.
+        ensures covers_cut { (stream : List ℕ) (screens : List Picture) (before now : Picture) →
+            IsBytes stream → self.now ≡ reading_of stream → self.now.standing.within ≡ false →
+            screens_shown stream ≡ screens ++ before ∷ now ∷ [] → Covers result before now }
+
+        // Within a group: outside of the change the screen is that of the last cut.
+        ensures covers_part { (stream : List ℕ) (before now : Picture) →
+            IsBytes stream → self.now ≡ reading_of stream → self.now.standing.within ≡ true →
+            last_of (screens_shown stream) ≡ Some before → self.now.standing.screen ≡ Some now →
+            Covers result before now }
+    {
+        self.reader.changed()
     }
 }

@@ -2,13 +2,16 @@ ghost use Rattle.std.specs.Prelude.{◌≡◌, ◌+◌, ◌≤◌, ◌<◌, ◌=
 ghost use Rattle.std.specs.Prelude.{IfOk, IfSome, OnSome, IsTrue};
 ghost use Rattle.tr_mirror.specs.Standings.{header_fault};
 ghost use Rattle.tr_mirror.specs.Headers.{header_len, header_of, record_len};
-ghost use Rattle.tr_mirror.specs.Readings as spec;
-ghost use Rattle.tr_mirror.specs.Readings.{IsReading, at_first, failed, record_taken, tried, after_bytes, longest_stream};
+ghost use Rattle.tr_mirror.specs.Readings.{fault_at_end, is_between, outcome_of};
+ghost use Rattle.tr_mirror.specs.Automata as spec;
+ghost use Rattle.tr_mirror.specs.Automata.{IsBounded, IsReading, at_first, change_before, failed, record_taken, tried, after_bytes};
+ghost use Rattle.tr_mirror.specs.Changes.{change_with};
 ghost use Rattle.tr_mirror.specs.Pieces.{TakesFront, IsFaultless};
 
 use crate::begun::Begun;
-use crate::faults::MirrorFault;
-use crate::headers::{header_len, header_of, pixel_count};
+use crate::changes::Change;
+use crate::faults::{MirrorFault, StreamFault};
+use crate::headers::{Header, header_len, header_of, pixel_count};
 use crate::replicas::Replica;
 use std::alloc::Global;
 use std::marker::Model;
@@ -18,6 +21,8 @@ use tr_base::NoMemory;
 #[derive(Debug, Drop)]
 pub struct Reader {
     replica: Replica,
+    // what the records of the last group change
+    changed: Change,
     begun: Begun,
     fed: u64,
     fault: Option<MirrorFault>,
@@ -28,7 +33,13 @@ impl Model for Reader {
 
     ghost Value = { Reading };
 
-    ghost view = { λ r. record { standing = r.replica; begun = r.begun; fed = r.fed; fault = r.fault } };
+    ghost view = { λ r. record {
+      standing = r.replica;
+      changed = r.changed;
+      begun = r.begun;
+      fed = r.fed;
+      fault = r.fault;
+    } };
 }
 
 /// How many bytes the record has that begins with these.
@@ -61,9 +72,9 @@ fn is_whole(bytes: &[u8]) -> bool
     header_len(bytes) <= bytes.len() && bytes.len() == record_len(bytes)
 }
 
-/// The code of the fault that the last of a record's bytes so far shows.
-#[tactic(auto, unfolding(crate::specs::Readings::record_fault))]
-fn fault_of(replica: &Replica, bytes: &[u8]) -> Option<u8>
+/// The fault that the last of a record's bytes so far shows.
+#[tactic(auto, unfolding(crate::specs::Automata::record_fault))]
+fn fault_of(replica: &Replica, bytes: &[u8]) -> Option<StreamFault>
     requires { 0 < length bytes.now }
     ensures { result ≡ spec.record_fault replica.now bytes.now }
 {
@@ -72,7 +83,7 @@ fn fault_of(replica: &Replica, bytes: &[u8]) -> Option<u8>
         if (1..=4).contains(&bytes[0]) {
             None
         } else {
-            Some(1)
+            Some(StreamFault::Unknown)
         }
     } else if bytes.len() == header {
         replica.header_fault(header_of(bytes))
@@ -116,6 +127,7 @@ impl Reader {
     {
         Ok(Reader {
             replica: Replica::new(alloc)?,
+            changed: Change::Nothing,
             begun: Begun::new(alloc)?,
             fed: 0,
             fault: None,
@@ -140,9 +152,43 @@ impl Reader {
         self.fault
     }
 
+    pub fn changed(&self) -> Change
+        ensures { result ≡ self.now.changed }
+    {
+        self.changed
+    }
+
+    /// Whether the stream may end here: M4 if a record or a group isn't whole.
+    pub fn end(&self) -> Result<(), MirrorFault>
+        ensures { result ≡ outcome_of (fault_at_end self.now self.now.fault) }
+    {
+        if let Some(fault) = self.fault {
+            return Err(fault);
+        }
+        if self.is_between() {
+            return Ok(());
+        }
+        let place = self.fed;
+        Err(MirrorFault {
+            place,
+            fault: StreamFault::Unfinished,
+        })
+    }
+
+    /// Begins anew, and takes no memory for it.
+    pub fn restart(&mut self)
+        ensures { self.new ≡ at_first }
+    {
+        self.replica.restart();
+        self.changed = Change::Nothing;
+        self.begun.clear();
+        self.fed = 0;
+        self.fault = None;
+    }
+
     /// Whether no record has begun, and the last whole record was a Cut, or there was none.
     pub fn is_between(&self) -> bool
-        ensures { result ≡ spec.is_between self.now }
+        ensures { result ≡ is_between self.now }
     {
         !self.replica.is_within() && self.begun.as_slice().is_empty()
     }
@@ -161,13 +207,10 @@ impl Reader {
         requires some { 0 < length piece.now }
         requires free { self.old.fault ≡ None }
         requires reading { IsReading self.old }
-        requires limit { self.old.fed + length self.old.begun + length piece.now ≤ longest_stream }
         ensures read { after_bytes self.new result.now ≡ after_bytes self.old piece.now }
         ensures front { TakesFront self.old self.new piece.now result.now }
         ensures shorter { length result.now < length piece.now }
         ensures reading { IsReading self.new }
-        ensures count { self.new.fed + length self.new.begun + length result.now
-            ≤ self.old.fed + length self.old.begun + length piece.now }
     {
         match self.faultless_front(piece) {
             Some(len) => {
@@ -197,12 +240,13 @@ impl Reader {
     /// Puts a whole record on of which nothing was read before.
     fn take_whole(&mut self, whole: &[u8])
         requires begun { self.old.begun ≡ [] }
+        requires bounded { IsBounded self.old.standing self.old.fed }
         requires fine { IsFaultless self.old.standing whole.now }
-        requires limit { self.old.fed + length whole.now ≤ longest_stream }
         ensures { self.new ≡ record_taken self.old whole.now }
     {
-        self.replica
-            .put(header_of(whole), &whole[header_len(whole)..]);
+        let header = header_of(whole);
+        self.note(header);
+        self.replica.put(header, &whole[header_len(whole)..]);
         self.fed += whole.len() as u64;
     }
 
@@ -212,13 +256,10 @@ impl Reader {
         requires some { 0 < length piece.now }
         requires free { self.old.fault ≡ None }
         requires reading { IsReading self.old }
-        requires limit { self.old.fed + length self.old.begun + length piece.now ≤ longest_stream }
         ensures read { after_bytes self.new result.now ≡ after_bytes self.old piece.now }
         ensures front { TakesFront self.old self.new piece.now result.now }
         ensures shorter { length result.now < length piece.now }
         ensures reading { IsReading self.new }
-        ensures count { self.new.fed + length self.new.begun + length result.now
-            ≤ self.old.fed + length self.old.begun + length piece.now }
     {
         let begun = self.begun.as_slice();
         let wanted = try_len(begun) - begun.len();
@@ -228,17 +269,16 @@ impl Reader {
     }
 
     /// Adds bytes to the record that has begun, and tries it.
-    #[tactic(auto, unfolding(crate::specs::Readings::tried))]
+    #[tactic(auto, unfolding(crate::specs::Automata::tried))]
     fn gather(&mut self, front: &[u8])
         requires some { 0 < length front.now }
         requires reach { length self.old.begun + length front.now ≤ spec.try_len self.old.begun }
         requires reading { IsReading self.old }
-        requires limit { self.old.fed + length self.old.begun + length front.now ≤ longest_stream }
         ensures { self.new ≡ tried self.old (self.old.begun ++ front.now) }
     {
         self.begun.push_all(front);
         match fault_of(&self.replica, self.begun.as_slice()) {
-            Some(code) => self.fail(code),
+            Some(fault) => self.fail(fault),
             None => {
                 if is_whole(self.begun.as_slice()) {
                     self.take_record();
@@ -247,14 +287,30 @@ impl Reader {
         }
     }
 
-    fn fail(&mut self, code: u8)
-        ensures { self.new ≡ failed self.old code }
+    fn fail(&mut self, fault: StreamFault)
+        ensures { self.new ≡ failed self.old fault }
     {
         self.begun.clear();
         self.fault = Some(MirrorFault {
             place: self.fed,
-            code,
+            fault,
         });
+    }
+
+    /// Adds what the next record changes. A record behind a Cut begins with nothing.
+    fn note(&mut self, header: Header)
+        requires bounded { IsBounded self.old.standing self.old.fed }
+        requires sound { header_fault self.old.standing header ≡ None }
+        ensures { self.new ≡ record {
+          standing = self.old.standing;
+          changed = change_with header (change_before self.old.standing self.old.changed);
+          begun = self.old.begun;
+          fed = self.old.fed;
+          fault = self.old.fault;
+        } }
+    {
+        let before = self.changed.so_far(self.replica.is_within());
+        self.changed = before.with(header);
     }
 
     /// Puts the record on that has begun and is whole.
@@ -262,12 +318,13 @@ impl Reader {
         requires some { 0 < length self.old.begun }
         requires whole { length self.old.begun ≡ record_len self.old.begun }
         requires sound { header_fault self.old.standing (header_of self.old.begun) ≡ None }
-        requires limit { self.old.fed + length self.old.begun ≤ longest_stream }
+        requires bounded { IsBounded self.old.standing self.old.fed }
         ensures { self.new ≡ record_taken self.old self.old.begun }
     {
+        let header = header_of(self.begun.as_slice());
+        self.note(header);
         let bytes = self.begun.as_slice();
-        self.replica
-            .put(header_of(bytes), &bytes[header_len(bytes)..]);
+        self.replica.put(header, &bytes[header_len(bytes)..]);
         self.fed += bytes.len() as u64;
         self.begun.clear();
     }

@@ -1,1 +1,1 @@
-pub mod ByteLemmas
+pub mod PlainLemmas

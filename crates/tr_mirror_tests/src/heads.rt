@@ -48,7 +48,7 @@ fn long_at(bytes: &[u8], at: usize) -> u32
     u32::from_be_bytes([bytes[at], bytes[at + 1], bytes[at + 2], bytes[at + 3]])
 }
 
-fn place_of(bytes: &[u8]) -> Place
+fn place_behind(bytes: &[u8]) -> Place
     requires { 7 ≤ length bytes.now }
     ensures { segment result ≡ spec.segment_of bytes.now }
 {
@@ -68,8 +68,8 @@ pub fn head_of(bytes: &[u8]) -> Head
 {
     match bytes[0] {
         1 => Head::Screen(short_at(bytes, 1), short_at(bytes, 3), bytes[5]),
-        2 => Head::Run(place_of(bytes)),
-        3 => Head::Fill(place_of(bytes)),
+        2 => Head::Run(place_behind(bytes)),
+        3 => Head::Fill(place_behind(bytes)),
         _ => Head::Cut(long_at(bytes, 1)),
     }
 }
@@ -85,11 +85,11 @@ fn pixel_count(head: Head) -> usize
     }
 }
 
-/// Whether the record is whole that has these bytes so far.
-pub fn is_whole(bytes: &[u8]) -> bool
-    requires { 0 < length bytes.now }
-    ensures { result ≡ (length bytes.now == spec.record_len bytes.now) }
+/// How many bytes the record has that begins with these.
+pub fn record_len(bytes: &[u8]) -> usize
+    requires some { 0 < length bytes.now }
+    requires whole { spec.header_len bytes.now ≤ length bytes.now }
+    ensures { result ≡ spec.record_len bytes.now }
 {
-    let len = header_len(bytes);
-    len <= bytes.len() && bytes.len() == len + pixel_count(head_of(bytes))
+    header_len(bytes) + pixel_count(head_of(bytes))
 }

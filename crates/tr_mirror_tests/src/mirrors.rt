@@ -1,11 +1,11 @@
-//! A stream of updates, read by a mirror in pieces, and plainly, byte by byte.
-ghost use Rattle.std.specs.Prelude.{◌+◌, ◌<◌, ◌≤◌, length};
-ghost use Rattle.tr_mirror.specs.Readings.{longest_stream};
+//! A stream of updates, read by a mirror in pieces, and plainly, record by record.
+ghost use Rattle.std.specs.Prelude.{◌<◌};
 
 use crate::ends::made;
 use crate::plain_readings::{PlainReading, read_plainly};
 use std::process::Abort;
-use tr_mirror::{Mirror, MirrorFault};
+use tr_base::{Kind, Size};
+use tr_mirror::{Bounds, Change, Mirror, MirrorFault, Writer, has_its_pixels};
 use tr_screen::Screen;
 
 /// A screen 3 wide and 2 high of 16 colours, of which a Run sets two pixels and a Fill a row; then the second
@@ -18,7 +18,6 @@ const STREAM: [u8; 60] = [
 /// Feeds a stream in pieces of `step` bytes, up to its first fault.
 fn feed_all(mirror: &mut Mirror, stream: &[u8], step: usize) -> Option<MirrorFault>
     requires step { 0 < step }
-    requires short { mirror.old.fed + length mirror.old.begun + length stream.now ≤ longest_stream }
 {
     let mut rest = stream;
     while !rest.is_empty() {
@@ -53,13 +52,11 @@ fn has_read(rt: &impl Abort, mirror: &Mirror, plain: &PlainReading) -> bool {
 
 /// Whether a mirror has this screen, or none.
 fn has_screen(rt: &impl Abort, mirror: &Mirror, wanted: Option<&Screen>) -> bool {
-    let Some(wanted) = wanted else {
-        return !mirror.has_screen();
-    };
-    if !mirror.has_screen() {
-        return false;
+    match (mirror.screen(), wanted) {
+        (None, None) => true,
+        (Some(screen), Some(wanted)) => are_alike(&made(rt, screen.to_screen()), wanted),
+        _ => false,
     }
-    are_alike(&made(rt, mirror.screen()), wanted)
 }
 
 /// Whether two screens have one size, one kind and the same pixels.
@@ -122,6 +119,82 @@ fn has_cuts(rt: &(impl Abort + AllocGlobal), cuts: u8) -> bool {
         made(rt, stream.extend_from_slice(&[4, 0, 0, 0, number]));
     }
     is_read(rt, &stream, 7)
+}
+
+/// Whether a mirror tells these changes at the cuts of a stream, fed in pieces of `step` bytes.
+fn tells(
+    rt: &(impl Abort + AllocGlobal),
+    mirror: &mut Mirror,
+    step: usize,
+    wanted: &[Change],
+) -> bool {
+    let mut told = Vec::new(rt.alloc());
+    let mut rest: &[u8] = &STREAM;
+    while !rest.is_empty() && step != 0 {
+        let (piece, _) = rest.split_at(step.min(rest.len()));
+        let cuts = mirror.cuts();
+        let Ok(count) = mirror.feed_to_cut(piece) else {
+            return false;
+        };
+        if mirror.cuts() != cuts {
+            made(rt, told.push(mirror.changed()));
+        }
+        let (_, behind) = rest.split_at(count.min(rest.len()));
+        rest = behind;
+    }
+    told.as_slice() == wanted && mirror.end().is_ok()
+}
+
+/// Whether a writer begins anew after 64 cuts, so that a mirror reads each of its streams.
+fn goes_on(rt: &(impl Abort + AllocGlobal)) -> bool {
+    let size = Size { wide: 2, high: 1 };
+    let screen = made(rt, Screen::blank(rt.alloc(), size, Kind::Map8));
+    let mut mirror = made(rt, Mirror::new(rt.alloc()));
+    let mut writer = Writer::new();
+    let mut group = Vec::new(rt.alloc());
+    for _ in 0..100 {
+        if writer.is_full() {
+            if mirror.cuts() != 64 {
+                return false;
+            }
+            writer.restart();
+            mirror.restart();
+        }
+        group.clear();
+        if !has_its_pixels(&screen) || writer.cuts() >= 64 {
+            return false;
+        }
+        made(rt, writer.append(&screen, &mut group));
+        if mirror.feed(&group).is_err() || mirror.end().is_err() {
+            return false;
+        }
+    }
+    mirror.cuts() == 36 && writer.cuts() == 36
+}
+
+#[test]
+fn a_mirror_tells_what_a_cut_changes(rt: HostRuntime) {
+    let row = Bounds {
+        west: 0,
+        east: 2,
+        north: 1,
+        south: 2,
+    };
+    let wanted = [Change::Screen, Change::Within(row), Change::Screen];
+    let mut mirror = made(&rt, Mirror::new(rt.alloc()));
+    for step in [1, 2, 3, 7, 1_000] {
+        assert!(rt; tells(&rt, &mut mirror, step, &wanted), "changes");
+        mirror.restart();
+        assert!(rt;
+            mirror.screen().is_none() && mirror.cuts() == 0,
+            "begun anew"
+        );
+    }
+}
+
+#[test]
+fn a_session_goes_on_after_64_cuts(rt: HostRuntime) {
+    assert!(rt; goes_on(&rt), "100 cuts");
 }
 
 #[test]

@@ -1,16 +1,15 @@
-//! A stream of updates, read plainly: one byte after the other, and all faults tried with each.
-ghost use Rattle.std.specs.Prelude.{◌≡◌, ◌+◌, ◌≤◌, ◌<◌, length, None, IfOk, OnOk};
+//! A stream of updates, read plainly: one record after the other, as the definition has it.
+ghost use Rattle.std.specs.Prelude.{◌≡◌, ◌<◌, ◌≤◌, length, drop, true, None, nat_lt, nat_le, if◌then◌else◌, IfOk, OnOk};
 ghost use Rattle.tr_mirror.specs.Headers.{header_len, header_of, record_len};
-ghost use Rattle.tr_mirror.specs.Standings.{header_fault};
-ghost use Rattle.tr_mirror.specs.Readings as spec;
-ghost use Rattle.tr_mirror.specs.Readings.{IsReading, at_first, failed, record_taken, after_byte, reading_of, longest_stream};
+ghost use Rattle.tr_mirror.specs.Standings.{after_record, pixel_fault};
+ghost use Rattle.tr_mirror.specs.Records as spec;
+ghost use Rattle.tr_mirror.specs.Readings.{longest_stream, reading_of};
 
-use crate::heads::{head_of, header_len, is_whole};
+use crate::heads::{head_of, header_len, record_len};
 use crate::plain_standings::PlainStanding;
 use std::alloc::Global;
-use std::marker::Model;
 use tr_base::NoMemory;
-use tr_mirror::MirrorFault;
+use tr_mirror::{MirrorFault, StreamFault};
 
 /// How far a stream is read.
 #[derive(Drop)]
@@ -21,100 +20,105 @@ pub struct PlainReading {
     pub fault: Option<MirrorFault>,
 }
 
-impl Model for PlainReading {
-    ghost use Rattle.tr_mirror.specs.Readings.{Reading};
-
-    ghost Value = { Reading };
-
-    ghost view = { λ r.
-        record { standing = r.standing; begun = r.begun.items; fed = r.fed; fault = r.fault } };
-}
-
 /// The reading of a stream. It is the definition.
 pub fn read_plainly(alloc: Global, stream: &[u8]) -> Result<PlainReading, NoMemory>
     requires { length stream.now ≤ longest_stream }
-    ensures { IfOk result (λ r. r ≡ reading_of stream.now) }
+    ensures standing { IfOk result (λ r. r.standing ≡ (reading_of stream.now).standing) }
+    ensures begun { IfOk result (λ r. r.begun.items ≡ (reading_of stream.now).begun) }
+    ensures fed { IfOk result (λ r. r.fed ≡ (reading_of stream.now).fed) }
+    ensures fault { IfOk result (λ r. r.fault ≡ (reading_of stream.now).fault) }
 {
-    let mut reading = PlainReading {
-        standing: PlainStanding::new(alloc)?,
-        begun: Vec::new(alloc),
-        fed: 0,
-        fault: None,
-    };
-    for byte in stream {
-        reading.take_byte(alloc, *byte)?;
+    let mut standing = PlainStanding::new(alloc)?;
+    let mut rest = stream;
+    'records: while has_record(&standing, rest) {
+        rest = take_record(alloc, &mut standing, rest)?;
     }
-    Ok(reading)
-}
-
-impl PlainReading {
-    /// Reads one byte more.
-    #[tactic(auto, unfolding(tr_mirror::specs::Readings::tried))]
-    fn take_byte(&mut self, alloc: Global, byte: u8) -> Result<(), NoMemory>
-        requires reading { IsReading self.old }
-        requires limit { self.old.fed + length self.old.begun < longest_stream }
-        ensures { OnOk result (self.new ≡ after_byte self.old byte) }
-    {
-        if self.fault.is_some() {
-            return Ok(());
-        }
-        self.begun.push(byte)?;
-        match fault_of(&self.standing, &self.begun) {
-            Some(code) => self.fail(code),
-            None => {
-                if is_whole(&self.begun) {
-                    self.take_record(alloc)?;
-                }
-            }
-        }
-        Ok(())
-    }
-
-    fn fail(&mut self, code: u8)
-        ensures { self.new ≡ failed self.old code }
-    {
-        self.begun.clear();
-        self.fault = Some(MirrorFault {
-            place: self.fed,
-            code,
-        });
-    }
-
-    /// Puts the record on that has begun and is whole.
-    fn take_record(&mut self, alloc: Global) -> Result<(), NoMemory>
-        requires some { 0 < length self.old.begun }
-        requires whole { length self.old.begun ≡ record_len self.old.begun }
-        requires sound { header_fault self.old.standing (header_of self.old.begun) ≡ None }
-        requires limit { self.old.fed + length self.old.begun ≤ longest_stream }
-        ensures { OnOk result (self.new ≡ record_taken self.old self.old.begun) }
-    {
-        let bytes = self.begun.as_slice();
-        self.standing
-            .put(alloc, head_of(bytes), &bytes[header_len(bytes)..])?;
-        self.fed += bytes.len() as u64;
-        self.begun.clear();
-        Ok(())
+    let fed = (stream.len() - rest.len()) as u64;
+    match front_fault(&standing, rest) {
+        Some(fault) => Ok(PlainReading {
+            standing,
+            begun: Vec::new(alloc),
+            fed,
+            fault: Some(MirrorFault { place: fed, fault }),
+        }),
+        None => Ok(PlainReading {
+            standing,
+            begun: Vec::from_slice(alloc, rest)?,
+            fed,
+            fault: None,
+        }),
     }
 }
 
-/// The code of the fault that the last of a record's bytes so far shows.
-#[tactic(auto, unfolding(tr_mirror::specs::Readings::record_fault))]
-fn fault_of(standing: &PlainStanding, bytes: &[u8]) -> Option<u8>
+/// Does what the record at the front says, and answers the bytes behind it.
+fn take_record<'a>(
+    alloc: Global,
+    standing: &mut PlainStanding,
+    bytes: &'a [u8],
+) -> Result<&'a [u8], NoMemory>
+    requires { spec.has_record standing.old bytes.now ≡ true }
+    ensures rest { IfOk result (λ rest. rest.now ≡ drop (record_len bytes.now) bytes.now) }
+    ensures standing { OnOk result (standing.new
+        ≡ after_record standing.old (header_of bytes.now) (spec.pixels_of bytes.now)) }
+{
+    let len = record_len(bytes);
+    standing.put(alloc, head_of(bytes), &bytes[header_len(bytes)..len])?;
+    Ok(&bytes[len..])
+}
+
+/// Whether the bytes begin with a whole record without a fault.
+fn has_record(standing: &PlainStanding, bytes: &[u8]) -> bool
+    ensures { result ≡ spec.has_record standing.now bytes.now }
+{
+    !bytes.is_empty() && is_whole(bytes) && front_fault(standing, bytes).is_none()
+}
+
+/// Whether all bytes of the record at the front have come.
+fn is_whole(bytes: &[u8]) -> bool
     requires { 0 < length bytes.now }
-    ensures { result ≡ spec.record_fault standing.now bytes.now }
+    ensures { result ≡ nat_le (record_len bytes.now) (length bytes.now) }
 {
-    let header = header_len(bytes);
-    if bytes.len() == 1 {
-        if (1..=4).contains(&bytes[0]) {
-            None
-        } else {
-            Some(1)
-        }
-    } else if bytes.len() == header {
-        standing.header_fault(head_of(bytes))
-    } else if is_whole(bytes) {
-        standing.pixel_fault(&bytes[header..])
-    } else {
-        None
+    header_len(bytes) <= bytes.len() && record_len(bytes) <= bytes.len()
+}
+
+/// The fault of the record at the front, as far as its bytes show one.
+#[tactic(auto, unfolding(tr_mirror::specs::Records::front_fault))]
+fn front_fault(standing: &PlainStanding, bytes: &[u8]) -> Option<StreamFault>
+    ensures { result ≡ spec.front_fault standing.now bytes.now }
+{
+    if bytes.is_empty() {
+        return None;
     }
+    if is_unknown(bytes) {
+        return Some(StreamFault::Unknown);
+    }
+    if bytes.len() < header_len(bytes) {
+        return None;
+    }
+    match standing.header_fault(head_of(bytes)) {
+        Some(fault) => Some(fault),
+        None => fault_of_pixels(standing, bytes),
+    }
+}
+
+/// Whether the record has a first byte that no record has.
+fn is_unknown(bytes: &[u8]) -> bool
+    requires { 0 < length bytes.now }
+    ensures { result ≡ spec.is_unknown bytes.now }
+{
+    bytes[0] < 1 || bytes[0] > 4
+}
+
+/// The fault that the pixels of the record at the front show, if all have come.
+fn fault_of_pixels(standing: &PlainStanding, bytes: &[u8]) -> Option<StreamFault>
+    requires some { 0 < length bytes.now }
+    requires header { header_len bytes.now ≤ length bytes.now }
+    ensures { result ≡ (if nat_lt (length bytes.now) (record_len bytes.now) then None
+        else pixel_fault standing.now (spec.pixels_of bytes.now)) }
+{
+    let len = record_len(bytes);
+    if bytes.len() < len {
+        return None;
+    }
+    standing.pixel_fault(&bytes[header_len(bytes)..len])
 }

@@ -7,13 +7,14 @@ ghost use Rattle.tr_base.specs.Rects.{IsScreenSize};
 ghost use Rattle.tr_screen.specs.Pictures.{written_at};
 ghost use Rattle.tr_mirror.specs.Headers.{pixel_count};
 ghost use Rattle.tr_mirror.specs.Standings as spec;
-ghost use Rattle.tr_mirror.specs.Standings.{stream_start, begun, with_pixels, cut_off, pixels_written, after_record};
+ghost use Rattle.tr_mirror.specs.Standings.{stream_start, screen_begun, with_pixels, cut_off, pixels_written, after_record};
 ghost use Rattle.tr_mirror_tests.specs.Heads.{segment, header};
 
 use crate::heads::{Head, Place};
 use std::alloc::Global;
 use std::marker::Model;
 use tr_base::{Kind, NoMemory, Size};
+use tr_mirror::StreamFault;
 use tr_screen::Screen;
 
 #[derive(Drop)]
@@ -98,29 +99,29 @@ impl PlainStanding {
         }
     }
 
-    /// The code of the fault that a whole header shows.
+    /// The fault that a whole header shows.
     #[tactic(auto, unfolding(tr_mirror::specs::Standings::header_fault))]
-    pub fn header_fault(&self, head: Head) -> Option<u8>
+    pub fn header_fault(&self, head: Head) -> Option<StreamFault>
         ensures { result ≡ spec.header_fault self.now (header head) }
     {
         if self.cuts == 64 {
-            Some(5)
+            Some(StreamFault::TooMany)
         } else if self.is_misplaced(head) {
-            Some(3)
+            Some(StreamFault::Misplaced)
         } else if self.is_out_of_range(head) {
-            Some(2)
+            Some(StreamFault::OutOfRange)
         } else {
             None
         }
     }
 
-    /// The code of the fault that the pixels show.
+    /// The fault that the pixels show.
     #[tactic(auto, unfolding(tr_mirror::specs::Standings::pixel_fault))]
-    pub fn pixel_fault(&self, pixels: &[u8]) -> Option<u8>
+    pub fn pixel_fault(&self, pixels: &[u8]) -> Option<StreamFault>
         ensures { result ≡ spec.pixel_fault self.now pixels.now }
     {
         if self.came && !have_pixels(self.screen.kind(), pixels) {
-            Some(2)
+            Some(StreamFault::OutOfRange)
         } else {
             None
         }
@@ -146,7 +147,7 @@ impl PlainStanding {
 
     fn begin(&mut self, alloc: Global, size: Size, kind: Kind) -> Result<(), NoMemory>
         requires { IsScreenSize size }
-        ensures { OnOk result (self.new ≡ begun self.old size kind) }
+        ensures { OnOk result (self.new ≡ screen_begun self.old size kind) }
     {
         self.screen = Screen::blank(alloc, size, kind)?;
         self.came = true;

@@ -1,21 +1,22 @@
 -- Private contracts alone cite this file.
 -- What becomes of bytes that are shown up to a cut.
-use Rattle.std.specs.Prelude.{◌≡◌, ⊤, ℕ, ◌+◌, ◌≤◌, ◌<◌, List, ◌++◌, length, Some, None}
+use Rattle.std.specs.Prelude.{◌≡◌, ⊤, ℕ, ◌<◌, List, ◌++◌, length, Some, None}
 use Rattle.std.specs.List.{flat_map}
 use Rattle.tr_dump.specs.Reports.{dump_text}
-use Rattle.tr_mirror.specs.Readings.{Reading, after_bytes, shown_from}
+use Rattle.tr_screen.specs.Pictures.{Picture}
+use Rattle.tr_mirror.specs.Readings.{Reading, reading_of, screens_shown}
 use Rattle.tr_show.specs.declared.errors.ShowRefused.{ShowRefused}
 use Rattle.tr_show.specs.declared.errors.ShowRefused.TheVariants as refused
 
--- a front of the bytes was read without a fault, and shown: its dumps are added to the text
-pub record IsPass (old new : Reading) (bytes rest before text : List ℕ) : Type 0 where
+-- behind a stream a front of the bytes was read, and shown: its dumps are added to the text
+pub record IsPass (stream : List ℕ) (m : Reading) (bytes rest before text : List ℕ) : Type 0 where
   pub front : List ℕ
   pub parts : front ++ rest ≡ bytes
   pub some : 0 < length front
-  pub came : new ≡ after_bytes old front
-  pub fine : new.fault ≡ None
-  pub fed : new.fed + length new.begun + length rest ≤ old.fed + length old.begun + length bytes
-  pub written : text ≡ before ++ flat_map dump_text (shown_from old front)
+  pub came : m ≡ reading_of (stream ++ front)
+  pub more : List Picture
+  pub shows : screens_shown (stream ++ front) ≡ screens_shown stream ++ more
+  pub written : text ≡ before ++ flat_map dump_text more
 
 -- the reading has the fault that is refused
 abbrev pub IsLate : Reading → ShowRefused → Type 0

@@ -1,12 +1,12 @@
-ghost use Rattle.std.specs.Prelude.{◌≡◌, ◌+◌, ◌≤◌, ◌<◌, None, length, IfOk, IfErr, OnOk};
-ghost use Rattle.tr_mirror.specs.Readings.{first_fault, longest_stream, after_bytes};
+ghost use Rattle.std.specs.Prelude.{◌≡◌, ◌<◌, ◌++◌, List, ℕ, None, length, IfOk, IfErr, OnOk};
+ghost use Rattle.tr_mirror.specs.Readings.{first_fault, reading_of};
 ghost use Rattle.tr_show.specs.Shows.{IsShowCause, shown_text};
 ghost use Rattle.tr_show.specs.Passes.{IsLate, IsPass};
 
 use crate::errors::ShowRefused;
 use std::alloc::Global;
 use tr_dump::dump;
-use tr_mirror::{LONGEST_STREAM, Mirror, MirrorFault};
+use tr_mirror::{LONGEST_STREAM, Mirror, MirrorFault, StreamFault};
 use tr_output::Output;
 
 /// The dumps of the screens at the cuts of a stream.
@@ -16,7 +16,10 @@ pub fn show(alloc: Global, stream: &[u8]) -> Result<Output, ShowRefused>
     ensures cause { IfErr result (λ e. IsShowCause (first_fault stream.now) e) }
 {
     if stream.len() as u64 > LONGEST_STREAM {
-        return Err(ShowRefused::Fault(MirrorFault { place: 0, code: 5 }));
+        return Err(ShowRefused::Fault(MirrorFault {
+            place: 0,
+            fault: StreamFault::TooMany,
+        }));
     }
     let mut mirror = Mirror::new(alloc)?;
     let mut text = Output::new(alloc);
@@ -24,12 +27,8 @@ pub fn show(alloc: Global, stream: &[u8]) -> Result<Output, ShowRefused>
     while !rest.is_empty() {
         rest = show_to_cut(&mut mirror, rest, &mut text)?;
     }
-    if mirror.is_between() {
-        Ok(text)
-    } else {
-        let place = mirror.fed();
-        Err(ShowRefused::Fault(MirrorFault { place, code: 4 }))
-    }
+    mirror.end()?;
+    Ok(text)
 }
 
 /// Reads bytes as far as their first cut, and appends the dump of its screen. Answers what is left of them.
@@ -38,16 +37,18 @@ fn show_to_cut<'a>(
     bytes: &'a [u8],
     text: &mut Output,
 ) -> Result<&'a [u8], ShowRefused>
-    requires some { 0 < length bytes.now }
-    requires short { mirror.old.fed + length mirror.old.begun + length bytes.now ≤ longest_stream }
-    ensures pass { IfOk result (λ rest.
-        IsPass mirror.old mirror.new bytes.now rest.now text.old text.new) }
-    ensures cause { IfErr result (λ e. IsLate (after_bytes mirror.old bytes.now) e) }
+    requires { 0 < length bytes.now }
+    ensures pass { (stream : List ℕ) → mirror.old ≡ reading_of stream → IfOk result (λ rest.
+        IsPass stream mirror.new bytes.now rest.now text.old text.new) }
+    ensures cause { (stream : List ℕ) → mirror.old ≡ reading_of stream →
+        IfErr result (λ e. IsLate (reading_of (stream ++ bytes.now)) e) }
 {
     let cuts = mirror.cuts();
     let count = mirror.feed_to_cut(bytes)?;
     if mirror.cuts() != cuts {
-        dump(&mirror.screen()?, text)?;
+        if let Some(screen) = mirror.screen() {
+            dump(&screen.to_screen()?, text)?;
+        }
     }
     Ok(&bytes[count..])
 }

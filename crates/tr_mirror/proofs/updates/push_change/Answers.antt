@@ -1,7 +1,8 @@
 use Rattle.std.proofs.Common.{◌++◌, ap, subst, ◌∙◌}
 use Rattle.std.proofs.lemmas.Result.{on_ok_weaker}
 use Rattle.std.specs.Option.{option_copied}
-use Rattle.tr_mirror.specs.Streams.{spelled, IsBase}
+use Rattle.tr_mirror.specs.Records.{spelled}
+use Rattle.tr_mirror.specs.Streams.{IsBase}
 use Rattle.tr_mirror.proofs.UpdateLemmas.{group_of-is}
 use Rattle.tr_mirror.proofs.updates.push_change.Goals as goal
 

@@ -1,5 +1,5 @@
-use Rattle.std.proofs.Common.{◌≡◌, ◌+◌, ◌≤◌, length}
-use Rattle.tr_mirror.specs.Readings.{IsReading}
+use Rattle.std.proofs.Common.{◌≡◌, ◌≤◌, length}
+use Rattle.tr_mirror.specs.Automata.{IsReading}
 use Rattle.tr_mirror.proofs.PieceLemmas.{HasRead}
 use Rattle.tr_mirror.proofs.mirrors.Mirror.feed_to_cut.Given as goal
 
@@ -7,7 +7,6 @@ use Rattle.tr_mirror.proofs.mirrors.Mirror.feed_to_cut.Given as goal
 abbrev pub invariant-loop-self : goal.invariant-loop-self
 invariant-loop-self l = record {
   reading : IsReading l.self-inside.reader;
-  count : l.self-inside.reader.fed + length l.self-inside.reader.begun + length l.rest ≤ l.fn.self.fed + length l.fn.self.begun + length l.piece;
   read : HasRead l.fn.self l.self-inside.reader l.piece l.rest;
   begins : length l.rest ≤ length l.piece;
   cuts : l.cuts ≡ l.fn.self.standing.cuts;

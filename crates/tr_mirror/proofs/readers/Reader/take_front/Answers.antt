@@ -1,5 +1,5 @@
 use Rattle.std.proofs.Common.{sym, ap, subst, ◌∙◌}
-use Rattle.tr_mirror.specs.Readings.{IsReading, after_bytes, record_taken}
+use Rattle.tr_mirror.specs.Automata.{IsReading, after_bytes, record_taken}
 use Rattle.tr_mirror.specs.Pieces.{TakesFront, IsFaultless}
 use Rattle.tr_mirror.proofs.PieceLemmas.{read-faultless, TakesFront-faultless, IsReading-faultless}
 use Rattle.tr_mirror.proofs.readers.Reader.take_front.Goals as goal

@@ -1,9 +1,10 @@
-use Rattle.std.proofs.Common.{◌≡◌, ◌+◌, ◌≤◌, ◌<◌, ◌++◌, length, sym, ap, ◌∙◌, arith, length-append}
+use Rattle.std.proofs.Common.{◌≡◌, ◌+◌, ◌≤◌, ◌<◌, ◌++◌, length, sym, ap, ◌∙◌, arith}
 use Rattle.std.proofs.lemmas.List.{take-append-drop}
-use Rattle.tr_mirror.specs.Readings.{Reading, cut_between, after_bytes, try_len}
-use Rattle.tr_mirror.proofs.ReadingLemmas.{gathers, read-append, tried_fed, IsReading-tried}
+use Rattle.tr_mirror.specs.Readings.{Reading, cut_between}
+use Rattle.tr_mirror.specs.Automata.{after_bytes, try_len}
+use Rattle.tr_mirror.proofs.ReadingLemmas.{gathers, read-append, IsReading-tried}
 use Rattle.tr_mirror.proofs.RecordLemmas.{gathers_shown}
-use Rattle.tr_mirror.proofs.ShownLemmas.{screen_at_cut}
+use Rattle.tr_mirror.proofs.ShownLemmas.{EndsAtCut-tried}
 use Rattle.tr_mirror.proofs.readers.Reader.take_part.Goals as goal
 
 pub returns-clause-read : goal.returns-clause-read
@@ -40,7 +41,7 @@ returns-clause-front c =
       came = gathers m front c.requires.free some reach ∙ sym c.gather.ensures;
       shown = gathers_shown m front c.requires.free some reach
           ∙ ap (λ (r : Reading). cut_between m.standing r.standing) (sym c.gather.ensures);
-      screen = rw c.gather.ensures (screen_at_cut m front c.requires.reading some reach);
+      ends = rw c.gather.ensures (EndsAtCut-tried m front c.requires.free c.requires.reading some reach);
     }
 
 pub returns-clause-reading : goal.returns-clause-reading
@@ -53,10 +54,3 @@ returns-clause-reading c =
     let some : 0 < length front = omega (arith, c.split_at.ensures.front_len, c.min.ensures, c.requires.reading.short) in
     let reach : length m.begun + length front ≤ try_len m.begun = omega (arith, c.split_at.ensures.front_len, c.min.ensures, c.requires.reading.short) in
     rw c.gather.ensures (IsReading-tried m front c.requires.reading some reach)
-
-pub returns-clause-count : goal.returns-clause-count
-returns-clause-count c =
-    let m = c.args.self.now in
-    let front = c.split_at.result.0.now in
-    let grown = tried_fed m (m.begun ++ front) in
-    rw c.gather.ensures (omega (arith, grown, length-append m.begun front, c.split_at.ensures.front_len, c.split_at.ensures.back_len))
