@@ -11,7 +11,9 @@ use Rattle.tr_grammar.specs.declared.Code.TheVariants.{B7}
 use Rattle.tr_grammar.specs.States.{nothing_yet}
 use Rattle.tr_grammar.specs.Texts.{lines_of}
 use Rattle.tr_grammar.specs.Scripts.{Refusal, Script, most_script_bytes, refusal_of, refused_at, first_bad_line as first_refusal, script_of}
-use Rattle.tr_mirror.specs.declared.MirrorFault.{MirrorFault}
+use Rattle.tr_mirror.specs.declared.faults.MirrorFault.{MirrorFault}
+use Rattle.tr_mirror.specs.declared.faults.StreamFault.TheVariants.{TooMany}
+use Rattle.tr_mirror.specs.Records.{fault_in}
 use Rattle.tr_mirror.specs.Readings.{fault_at_end, first_fault, longest_stream, reading_of}
 use Rattle.tr_show.specs.Shows.{shown_text}
 use Rattle.tr_serial.specs.Outputs.{gen_text, drawn, out_text, widgets}
@@ -70,7 +72,7 @@ not_too_long command bytes h = short_text bytes h
 stream_not_too_long : (bytes : List ℕ) → first_fault bytes ≡ None → length bytes < most_read commands.Show
 stream_not_too_long bytes h =
     below_more longest_stream (length bytes)
-    (none_else (nat_lt longest_stream (length bytes)) (record { place = 0; code = 5 }) (fault_at_end (reading_of bytes) (reading_of bytes).fault) h)
+    (none_else (nat_lt longest_stream (length bytes)) (record { place = 0; fault = TooMany }) (fault_at_end (reading_of bytes) (fault_in bytes)) h)
 
 -- where fewer bytes are read than may be, none is left
 all_read : (most : ℕ) (xs : List ℕ) → length (take most xs) < most → drop most xs ≡ []

@@ -12,13 +12,13 @@ use Rattle.tr_arguments.specs.declared.Command.TheVariants as commands
 use Rattle.tr_grammar.specs.States.{nothing_yet}
 use Rattle.tr_grammar.specs.Texts.{lines_of}
 use Rattle.tr_grammar.specs.Scripts.{Refusal, Script, after_all_lines, refusal_of, script_of}
-use Rattle.std.specs.List.{flat_map}
-use Rattle.tr_screen.specs.Pictures.{Picture}
-use Rattle.tr_mirror.specs.declared.MirrorFault.{MirrorFault}
-use Rattle.tr_mirror.specs.Readings.{IsStream, first_fault, screens_shown}
+use Rattle.std.specs.List.{filter, flat_map}
+use Rattle.tr_mirror.specs.declared.faults.MirrorFault.{MirrorFault}
+use Rattle.tr_mirror.specs.Readings.{IsStream, fault_number, first_fault, screens_shown}
 use Rattle.tr_dump.specs.Reports.{dump_text}
-use Rattle.tr_serial.specs.Screens.{dumped_screens, mirror_bytes}
-use Rattle.tr_serial.specs.Outputs.{check_text, gen_text, drawn}
+use Rattle.tr_serial.specs.Reports.{is_dump, reports_of, report_texts}
+use Rattle.tr_serial.specs.Screens.{mirror_bytes}
+use Rattle.tr_serial.specs.Outputs.{check_text, gen_text, drawn, out_text}
 use Rattle.tr_player.specs.Checks.{check_refusal}
 use Rattle.tr_threads.specs.declared.plays.Threaded.{Threaded}
 use Rattle.tr_player.specs.declared.responses.Response.{Response}
@@ -51,11 +51,14 @@ due_of_valid commands.Check bytes s other none is back = by_limits (check_refusa
 due_of_valid commands.Play bytes s other none is back = absurd (other refl)
 due_of_valid command bytes s other none is back = (none, is, (refl, back))
 
--- what `mirror` writes, where it is a stream that shows the screens that the script dumps
-pub read_back : (s : Script) (text : List ℕ) → text ≡ mirror_bytes s → IsStream text → screens_shown text ≡ dumped_screens s → IsReadBack commands.Mirror s
-read_back s text is stream shows = (
+-- what `mirror` writes, where it is a stream of which the dumps among the reports are shown
+pub read_back : (s : Script) (text : List ℕ) → text ≡ mirror_bytes s → IsStream text →
+    flat_map dump_text (screens_shown text) ≡ report_texts (filter is_dump (reports_of s)) → out_text s ≡ report_texts (reports_of s) →
+    IsReadBack commands.Mirror s
+read_back s text is stream dumps reports = (
   subst (λ (t : List ℕ). IsStream t) is stream,
-  ap (λ (t : List ℕ). flat_map dump_text (screens_shown t)) (sym is) ∙ ap (λ (screens : List Picture). flat_map dump_text screens) shows,
+  ap (λ (t : List ℕ). flat_map dump_text (screens_shown t)) (sym is) ∙ dumps,
+  reports,
 )
 
 -- so it is with what was made of the script
@@ -93,17 +96,13 @@ refused_due command bytes r line code result same_line same_code cause made =
     (λ (response : Response). (due : Due) × IsResponse due response × IsDueOfText command bytes due)
     (λ response is. (refused r, subst (λ (s : Refusal). IsResponse (refused s) response) same is, due_refused command bytes r cause)) made
 
--- and bytes that are no stream, with the response that names the place and the code
-pub faulty_due : (bytes : List ℕ) (f : MirrorFault) (place code : ℕ) (result : Result Response NoMemory) → place ≡ f.place → code ≡ f.code →
-    first_fault bytes ≡ Some f → IfOk result (λ response. IsResponse (faulty (record { place = place; code = code })) response) →
+-- and bytes that are no stream, with the response that names their fault
+pub faulty_due : (bytes : List ℕ) (f : MirrorFault) (result : Result Response NoMemory) → first_fault bytes ≡ Some f →
+    IfOk result (λ response. IsResponse (faulty f) response) →
     IfOk result (λ response. (due : Due) × IsResponse due response × IsDueOfShow bytes due)
-faulty_due bytes f place code result same_place same_code cause made =
-    let with_place : ℕ → MirrorFault = λ n. record { place = n; code = code } in
-    let with_code : ℕ → MirrorFault = λ n. record { place = f.place; code = n } in
-    let same : record { place = place; code = code } ≡ f = ap with_place same_place ∙ ap with_code same_code in
-    IfOk-weaker result (λ (response : Response). IsResponse (faulty (record { place = place; code = code })) response)
-    (λ (response : Response). (due : Due) × IsResponse due response × IsDueOfShow bytes due)
-    (λ response is. (faulty f, subst (λ (g : MirrorFault). IsResponse (faulty g) response) same is, cause)) made
+faulty_due bytes f result cause made =
+    IfOk-weaker result (λ (response : Response). IsResponse (faulty f) response)
+    (λ (response : Response). (due : Due) × IsResponse due response × IsDueOfShow bytes due) (λ response is. (faulty f, is, cause)) made
 
 -- ---- the text of a refusal
 
@@ -113,8 +112,9 @@ regroup a b c d e = simp append_assoc
 pub refusal_text : (r : Refusal) → codes "refused: line " ++ (decimal r.line ++ (codes " B" ++ (decimal r.code ++ codes "\n"))) ≡ refused_text r
 refusal_text r = sym (regroup (codes "refused: line ") (decimal r.line) (codes " B") (decimal r.code) (codes "\n"))
 
-pub fault_text : (f : MirrorFault) → codes "refused: byte " ++ (decimal f.place ++ (codes " M" ++ (decimal f.code ++ codes "\n"))) ≡ faulty_text f
-fault_text f = sym (regroup (codes "refused: byte ") (decimal f.place) (codes " M") (decimal f.code) (codes "\n"))
+pub fault_text : (f : MirrorFault) → codes "refused: byte " ++ (decimal f.place ++ (codes " M" ++ (decimal (fault_number f.fault) ++ codes "\n")))
+    ≡ faulty_text f
+fault_text f = sym (regroup (codes "refused: byte ") (decimal f.place) (codes " M") (decimal (fault_number f.fault)) (codes "\n"))
 
 -- ---- the text of a response
 

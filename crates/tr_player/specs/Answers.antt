@@ -1,5 +1,6 @@
 -- What a call answers, and when.
 use Rattle.std.specs.Prelude.{◌≡◌, ◌≢◌, ◌⊎◌, ⊤, ℕ, ◌+◌, List, ◌++◌, take, Option, Some, None, IsSomeAnd, codes, decimal}
+use Rattle.std.specs.List.{filter}
 use Rattle.tr_io.specs.declared.streams.Source.{Ghosts as SourceGhosts}
 use Rattle.tr_io.specs.declared.streams.Sink.{Ghosts as SinkGhosts}
 use Rattle.tr_io.specs.Faults.{HasFault}
@@ -9,11 +10,12 @@ use Rattle.tr_widget.specs.declared.WidgetCmd.{WidgetCmd}
 use Rattle.tr_grammar.specs.Scripts.{Refusal, Script, most_script_bytes, refusal_of, script_of}
 use Rattle.tr_stage.specs.Stages.{StageView}
 use Rattle.tr_server.specs.Differing.{DiffersView}
-use Rattle.tr_mirror.specs.declared.MirrorFault.{MirrorFault}
-use Rattle.tr_mirror.specs.Readings.{first_fault, longest_stream}
+use Rattle.tr_mirror.specs.declared.faults.MirrorFault.{MirrorFault}
+use Rattle.tr_mirror.specs.Readings.{fault_number, first_fault, longest_stream}
 use Rattle.tr_show.specs.Shows.{shown_text}
 use Rattle.tr_serial.specs.Outputs.{out_text, check_text, gen_text, drawn, serial_journal}
-use Rattle.tr_serial.specs.Screens.{dump_texts, mirror_bytes}
+use Rattle.tr_serial.specs.Reports.{is_dump, reports_of, report_texts}
+use Rattle.tr_serial.specs.Screens.{mirror_bytes}
 use Rattle.tr_threads.specs.declared.plays.Threaded.{Threaded}
 use Rattle.tr_threads.specs.Threads.{IsThreaded}
 use Rattle.tr_arguments.specs.declared.Command.{Command}
@@ -73,9 +75,13 @@ text_for commands.Check s = check_text s
 text_for commands.Mirror s = mirror_bytes s
 text_for command s = out_text s
 
--- what `mirror` writes of a script is a stream, of which `show` writes what `serial` writes of the script's dumps
+-- What `mirror` writes of a script is a stream. Of this stream `show` writes the dumps among the reports that `serial` writes of the
+-- script, in order.
 abbrev pub IsReadBack : Command → Script → Type 0
-IsReadBack commands.Mirror s = (first_fault (mirror_bytes s) ≡ None) × (shown_text (mirror_bytes s) ≡ dump_texts s)
+IsReadBack commands.Mirror s =
+    (first_fault (mirror_bytes s) ≡ None)
+    × (shown_text (mirror_bytes s) ≡ report_texts (filter is_dump (reports_of s)))
+    × (out_text s ≡ report_texts (reports_of s))
 IsReadBack command s = ⊤
 
 -- what one thread writes of a script by a command: its text, and of `mirror` a stream that can be read back; `play` asks for many threads
@@ -104,7 +110,7 @@ refused_text r = codes "refused: line " ++ decimal r.line ++ codes " B" ++ decim
 
 -- what is written where the bytes are no stream: where its first fault stands, and which it is
 abbrev pub faulty_text : MirrorFault → List ℕ
-faulty_text f = codes "refused: byte " ++ decimal f.place ++ codes " M" ++ decimal f.code ++ codes "\n"
+faulty_text f = codes "refused: byte " ++ decimal f.place ++ codes " M" ++ decimal (fault_number f.fault) ++ codes "\n"
 
 -- what a call is to answer before it is written. The last three are a script that one thread played, one that threads played, and a stream
 -- that was read, with what is written of them

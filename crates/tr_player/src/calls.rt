@@ -125,7 +125,7 @@ pub fn serial_call<S: Source, K: Sink>(
     ensures never_refused { OfNumber (asked_by (texts_of words.now)) (λ number.
         result.status ≢ code Status.Refused) }
 
-    // The same of a stream, by its reading byte by byte.
+    // The same of a stream, by its records.
     ensures faulty { Yields result.status (result.status ≢ code Status.ReadFault →
         OfStreamRead (asked_by (texts_of words.now)) (S.left source.old) (λ bytes.
         (result.status ≡ code Status.Refused) ↔ IsSome (first_fault bytes))) }
@@ -243,7 +243,7 @@ pub fn trestle_call<R: Threads + Wait + Sync, S: Source, K: Sink, G: Gate + Sync
     ensures never_refused { OfNumber (command_of (texts_of words.now)) (λ number.
         result.status ≢ code Status.Refused) }
 
-    // The same of a stream, by its reading byte by byte.
+    // The same of a stream, by its records.
     ensures faulty { Yields result.status (result.status ≢ code Status.ReadFault →
         OfStreamRead (command_of (texts_of words.now)) (S.left source.old) (λ bytes.
         (result.status ≡ code Status.Refused) ↔ IsSome (first_fault bytes))) }

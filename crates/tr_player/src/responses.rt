@@ -269,16 +269,17 @@ fn response_to_show(alloc: Global, bytes: &[u8]) -> Result<Response, NoMemory>
 {
     match show(alloc, bytes) {
         Ok(text) => Ok(Response::Shown(text)),
-        Err(ShowRefused::Fault(MirrorFault { place, code })) => stream_refusal(alloc, place, code),
+        Err(ShowRefused::Fault(fault)) => stream_refusal(alloc, fault),
         Err(ShowRefused::NoMemory) => Err(NoMemory),
     }
 }
 
 /// The response to a stream that isn't shown.
-fn stream_refusal(alloc: Global, place: u64, code: u8) -> Result<Response, NoMemory>
-    ensures { IfOk result (λ response.
-        IsResponse (faulty (record { place = place; code = code })) response) }
+fn stream_refusal(alloc: Global, fault: MirrorFault) -> Result<Response, NoMemory>
+    ensures { IfOk result (λ response. IsResponse (faulty fault) response) }
 {
+    let place = fault.place;
+    let code = fault.fault.number();
     let text = format!(in alloc; "refused: byte {place} M{code}\n")?;
     Ok(Response::Refused(text.into_bytes()))
 }

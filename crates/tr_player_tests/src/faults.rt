@@ -21,6 +21,9 @@ pub(crate) const DUMP: &[u8] = b"dump 1 1 map8\n07\n";
 /// What a check of it prints.
 const CHECKED: &[u8] = b"step 1 bad 0 stale 0 outside 0\ndump 1 1 map8\n07\n";
 
+/// The stream of its screen: a Screen, a Fill and a Cut.
+pub(crate) const PIXEL_STREAM: &[u8] = &[1, 0, 1, 0, 1, 1, 3, 0, 0, 0, 0, 0, 1, 7, 4, 0, 0, 0, 1];
+
 /// A script that ends too early.
 const NO_END: &[u8] = b"trestle 1\nscreen 1 1 map8\n";
 
@@ -55,7 +58,8 @@ pub(crate) fn end_of<S: Source, K: Sink>(
     }
 }
 
-/// A call: its words, the script, the reads and the writes that fail. A write takes 4 bytes at most.
+/// A call: its words, the script or the stream, the reads and the writes that fail. A write takes 4 bytes at
+/// most.
 #[derive(Clone, Copy)]
 struct Call<'a> {
     texts: &'a [&'a str],
@@ -64,7 +68,7 @@ struct Call<'a> {
     writes: &'a [u64],
 }
 
-/// What it ends in: its status, what is written, and how many bytes of the script are left unread.
+/// What it ends in: its status, what is written, and how many of its bytes are left unread.
 #[derive(Clone, Copy)]
 struct End<'a> {
     status: u8,
@@ -72,7 +76,7 @@ struct End<'a> {
     left: usize,
 }
 
-/// Whether a call ends so, with a stage exactly where its status is 0.
+/// Whether a call ends so, with a stage exactly where its status is 0 and a script was played.
 fn ends(rt: &(impl Abort + AllocGlobal), call: &Call, want: &End) -> bool {
     let alloc = rt.alloc();
     let script = made(rt, Vec::from_slice(alloc, call.script));
@@ -80,11 +84,13 @@ fn ends(rt: &(impl Abort + AllocGlobal), call: &Call, want: &End) -> bool {
     let writes = made(rt, Vec::from_slice(alloc, call.writes));
     let mut sink = MemorySink::new(alloc, 4, writes);
     let (status, entries) = end_of(rt, call.texts, &mut source, &mut sink);
-    let is_due = status == want.status && entries.is_some() == (status == 0);
+    let is_played = status == 0 && call.texts != ["show"].as_slice();
+    let is_due = status == want.status && entries.is_some() == is_played;
     is_due && sink.written() == want.text && source.left().len() == want.left
 }
 
-/// A call of one word: the script, the reads and the writes that fail, its status and what is written.
+/// A call of one word: the script or the stream, the reads and the writes that fail, its status and what is
+/// written.
 type Row<'a> = (&'a str, &'a [u8], &'a [u64], &'a [u64], u8, &'a [u8]);
 
 /// Whether a call ends as its row says. Nothing is read where the word is unknown or the first read fails.
@@ -125,6 +131,30 @@ fn causes_are_looked_at_in_their_order(rt: HostRuntime) {
         ("serial", PIXEL, none, &[5], 5, b"dump 1 1 map8\n07"),
         ("serial", PIXEL, none, &[6], 0, DUMP),
         ("check", PIXEL, none, &[9], 5, &CHECKED[..32]),
+        // The same where a stream is written, and where one is read.
+        ("mirror", PIXEL, &[1], none, 4, READ_FAULT),
+        ("mirror", PIXEL, &[2], none, 4, READ_FAULT),
+        ("mirror", NO_END, &[2], none, 4, READ_FAULT),
+        ("mirror", NO_END, none, &[2], 5, b"refu"),
+        ("mirror", PIXEL, none, &[1], 5, b""),
+        ("mirror", PIXEL, none, &[3], 5, &PIXEL_STREAM[..8]),
+        ("mirror", PIXEL, none, &[5], 5, &PIXEL_STREAM[..16]),
+        ("mirror", PIXEL, none, &[6], 0, PIXEL_STREAM),
+        ("show", PIXEL_STREAM, &[1], none, 4, READ_FAULT),
+        ("show", PIXEL_STREAM, &[2], none, 4, READ_FAULT),
+        ("show", PIXEL_STREAM, &[3], none, 0, DUMP),
+        ("show", &PIXEL_STREAM[..17], &[2], none, 4, READ_FAULT),
+        (
+            "show",
+            &PIXEL_STREAM[..17],
+            none,
+            none,
+            3,
+            b"refused: byte 14 M4\n",
+        ),
+        ("show", &PIXEL_STREAM[..17], none, &[3], 5, b"refused:"),
+        ("show", PIXEL_STREAM, none, &[1], 5, b""),
+        ("show", PIXEL_STREAM, none, &[5], 5, b"dump 1 1 map8\n07"),
     ]
     .iter()
     .enumerate()

@@ -1,11 +1,12 @@
-//! A script of 75 bytes that comes byte by byte, and is cut: each read and each write fails in turn.
+//! A script of 75 bytes and a stream of 19 that come byte by byte, and are cut: each read and each write
+//! fails in turn.
 use crate::ends::made;
-use crate::faults::{DUMP, PIXEL, READ_FAULT, end_of};
+use crate::faults::{DUMP, PIXEL, PIXEL_STREAM, READ_FAULT, end_of};
 use std::process::Abort;
 use tr_io::{MemorySink, PieceSource};
 
-/// A call: its words, the script, and the read and the write that fail, 0 for none. A read gives one byte,
-/// and a write takes 4 at most.
+/// A call: its words, the script or the stream, and the read and the write that fail, 0 for none. A read
+/// gives one byte, and a write takes 4 at most.
 #[derive(Clone, Copy)]
 struct Call<'a> {
     texts: &'a [&'a str],
@@ -15,7 +16,7 @@ struct Call<'a> {
 }
 
 /// Whether a call ends with this status, with this text written, and with a stage exactly where the status
-/// is 0.
+/// is 0 and a script was played.
 fn ends(rt: &(impl Abort + AllocGlobal), call: &Call, status: u8, text: &[u8]) -> bool {
     let alloc = rt.alloc();
     let script = made(rt, Vec::from_slice(alloc, call.script));
@@ -24,7 +25,8 @@ fn ends(rt: &(impl Abort + AllocGlobal), call: &Call, status: u8, text: &[u8]) -
     let write = made(rt, Vec::from_slice(alloc, &[call.write]));
     let mut sink = MemorySink::new(alloc, 4, write);
     let (answered, entries) = end_of(rt, call.texts, &mut source, &mut sink);
-    let is_due = answered == status && entries.is_some() == (status == 0);
+    let is_played = status == 0 && call.texts != ["show"].as_slice();
+    let is_due = answered == status && entries.is_some() == is_played;
     is_due && sink.written() == text
 }
 
@@ -49,7 +51,8 @@ fn each_read_fails(rt: HostRuntime) {
     assert!(rt; ends(&rt, &fails_at_read(77), 0, DUMP), "none");
 }
 
-/// A call: its words, the script, the read and the write that fail, its status and what is written.
+/// A call: its words, the script or the stream, the read and the write that fail, its status and what is
+/// written.
 type Row<'a> = (&'a [&'a str], &'a [u8], u64, u64, u8, &'a [u8]);
 
 /// Whether a call ends as its row says.
@@ -67,6 +70,7 @@ fn comes_out(rt: &(impl Abort + AllocGlobal), row: &Row) -> bool {
 #[test]
 fn each_write_fails_and_the_script_is_cut(rt: HostRuntime) {
     let serial = ["serial"].as_slice();
+    let show = ["show"].as_slice();
     for (place, row) in [
         (serial, PIXEL, 0, 1, 5, b"".as_slice()),
         (serial, PIXEL, 0, 2, 5, b"dump"),
@@ -85,6 +89,19 @@ fn each_write_fails_and_the_script_is_cut(rt: HostRuntime) {
         (serial, &PIXEL[..71], 0, 0, 3, b"refused: line 7 B8\n"),
         (serial, &PIXEL[..73], 0, 0, 3, b"refused: line 7 B1\n"),
         (serial, &PIXEL[..74], 0, 0, 0, DUMP),
+        (show, PIXEL_STREAM, 1, 0, 4, READ_FAULT),
+        (show, PIXEL_STREAM, 6, 0, 4, READ_FAULT),
+        (show, PIXEL_STREAM, 19, 0, 4, READ_FAULT),
+        (show, PIXEL_STREAM, 20, 0, 4, READ_FAULT),
+        (show, PIXEL_STREAM, 21, 0, 0, DUMP),
+        (show, PIXEL_STREAM, 0, 3, 5, b"dump 1 1"),
+        (show, &PIXEL_STREAM[..0], 0, 0, 0, b""),
+        (show, &PIXEL_STREAM[..5], 0, 0, 3, b"refused: byte 0 M4\n"),
+        (show, &PIXEL_STREAM[..6], 0, 0, 3, b"refused: byte 6 M4\n"),
+        (show, &PIXEL_STREAM[..14], 0, 0, 3, b"refused: byte 14 M4\n"),
+        (show, &PIXEL_STREAM[..18], 0, 0, 3, b"refused: byte 14 M4\n"),
+        (show, &PIXEL_STREAM[1..], 0, 0, 3, b"refused: byte 0 M1\n"),
+        (show, &PIXEL_STREAM[6..], 0, 0, 3, b"refused: byte 0 M3\n"),
     ]
     .iter()
     .enumerate()

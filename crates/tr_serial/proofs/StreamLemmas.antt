@@ -1,20 +1,12 @@
 -- The stream that screens are appended to, one after another.
-use Rattle.std.proofs.Common.{◌≡◌, ℕ, ◌+◌, Bool, true, false, cond, List, [], ◌∷◌, ◌++◌, length, Option, Some, None, refl, sym, ap, subst, ◌∙◌, arith, append_assoc, length-append}
+use Rattle.std.proofs.Common.{◌≡◌, ℕ, ◌+◌, Bool, true, false, cond, List, [], ◌∷◌, ◌++◌, length, Option, Some, None, Result, Ok, Err, OnOk, refl, sym, ap, subst, ◌∙◌, arith, append_assoc}
 use Rattle.std.proofs.lemmas.List.{append-nil}
-use Rattle.tr_base.specs.declared.Point.{Point}
-use Rattle.tr_base.specs.declared.Size.{Size}
-use Rattle.tr_base.specs.declared.Kind.{Kind}
-use Rattle.tr_base.specs.Rects.{has_point, whole_of}
-use Rattle.tr_base.proofs.KindLemmas.{same_kind_itself}
-use Rattle.tr_screen.specs.Pictures.{IsPicture, Picture, picture_by, pixel_of}
-use Rattle.tr_screen.specs.Resizing.{kept_pixel}
-use Rattle.tr_screen.specs.Runs.{IsOn}
-use Rattle.tr_machine.proofs.RenderLemmas.{picture_is}
+use Rattle.tr_screen.specs.Pictures.{Picture}
 use Rattle.tr_client.specs.declared.Client.{Ghosts}
-use Rattle.tr_mirror.specs.Readings.{IsStream, screens_shown, last_of}
-use Rattle.tr_mirror.specs.Streams.{Record, group_of, groups_of, spelled, stream_of}
-use Rattle.tr_mirror.specs.Updates.{Awaits, ShowsMore}
-use Rattle.tr_mirror.proofs.ShownLemmas.{last_of-push}
+use Rattle.tr_mirror.specs.Readings.{last_of}
+use Rattle.tr_mirror.specs.Records.{Record, spelled}
+use Rattle.tr_mirror.specs.Streams.{group_of, groups_of, stream_of}
+use Rattle.tr_mirror.specs.Updates.{HasSent, WriterView}
 use Rattle.tr_mirror.proofs.UpdateLemmas.{spelled-append}
 use Rattle.tr_journal.specs.Journals.{JournalLine}
 use Rattle.tr_journal.specs.declared.Actor.TheVariants.{Player}
@@ -29,24 +21,6 @@ use Rattle.tr_run.proofs.RunLemmas.{Does-append, run_lines-append, state_adds}
 use Rattle.tr_serial.specs.Screens.{screens_from}
 use Rattle.tr_serial.specs.Streams.{Appends, IsAppended, IsStreamOf, Mirrors, StreamView}
 use Rattle.tr_serial.proofs.ScreenLemmas.{screens_from-append}
-
--- ---- the screen that is kept
-
--- a screen that is made again in its own size and kind is the same
-pub made_again : (old new : Picture) (size : Size) (kind : Kind) → IsPicture old → IsPicture new → size ≡ old.size → kind ≡ old.kind → new.size ≡ size →
-    new.kind ≡ kind → ((p : Point) → IsOn size p → pixel_of new p ≡ kept_pixel old kind p) → new ≡ old
-made_again old new size kind was is old_size old_kind new_size new_kind points =
-    picture_is new (pixel_of old) is same
-    ∙ ap (λ (s : Size). picture_by s new.kind (pixel_of old)) (new_size ∙ old_size)
-    ∙ ap (λ (k : Kind). picture_by old.size k (pixel_of old)) (new_kind ∙ old_kind)
-    ∙ sym (picture_is old (pixel_of old) was (λ p on. refl))
-  where
-    same : (p : Point) → has_point (whole_of new.size) p ≡ true → pixel_of new p ≡ pixel_of old p
-    same p on =
-        let on_size : has_point (whole_of size) p ≡ true = subst (λ (s : Size). has_point (whole_of s) p ≡ true) new_size on in
-        let on_old : has_point (whole_of old.size) p ≡ true = subst (λ (s : Size). has_point (whole_of s) p ≡ true) old_size on_size in
-        points p on_size ∙ ap (λ (k : Kind). kept_pixel old k p) old_kind
-        ∙ rw (same_kind_itself old.kind, on_old) refl
 
 -- ---- one screen more
 
@@ -86,26 +60,31 @@ stream_more screens now =
     ∙ ap (λ (o : Option Picture). stream_of screens ++ spelled (group_of o now (1 + length screens))) (last_from-none screens)
     ∙ ap (λ (n : ℕ). stream_of screens ++ spelled (group_of (last_of screens) now n)) same
 
+-- the writer's answer is that of the stream
+pub appended : {E : Type 0} (r : Result (Unit {0}) E) (s t : StreamView) (now : Picture) →
+    OnOk r (t.bytes ≡ s.bytes ++ spelled (group_of s.writer.last now (s.writer.cuts + 1))) →
+    OnOk r (t.writer ≡ record { last = Some now; cuts = s.writer.cuts + 1 }) →
+    OnOk r ((stream added : List ℕ) (screens : List Picture) → HasSent s.writer stream screens → t.bytes ≡ s.bytes ++ added →
+    HasSent t.writer (stream ++ added) (screens ++ now ∷ [])) → OnOk r (IsAppended s t now)
+appended (Err e) s t now group next sent = tt
+appended (Ok x) s t now group next sent =
+    let added : List ℕ = spelled (group_of s.writer.last now (s.writer.cuts + 1)) in
+    record {
+      group = group;
+      sent = λ screens has. subst (λ (b : List ℕ). HasSent t.writer b (screens ++ now ∷ [])) (sym group) (sent s.bytes added screens has group);
+      cuts = ap (λ (w : WriterView). w.cuts) next;
+    }
+
 pub appends_one : (s t : StreamView) (now : Picture) → IsAppended s t now → Appends s t (now ∷ [])
 appends_one s t now a = λ screens is.
-    let n : ℕ = s.groups + 1 in
-    let awaits : Awaits s.bytes n s.last = record {
-      is_stream = is.is_stream;
-      cuts = ap (λ (l : List Picture). length l + 1) is.shows ∙ omega (arith, is.groups);
-      shows = ap (λ (l : List Picture). last_of l) is.shows ∙ sym is.last;
-    } in
-    let added : List ℕ = spelled (group_of s.last now n) in
-    let more : ShowsMore s.bytes added now = a.shows s.bytes added awaits a.group in
+    let added : List ℕ = spelled (group_of s.writer.last now (s.writer.cuts + 1)) in
     record {
-      last = a.last ∙ sym (last_of-push screens now);
-      groups = a.groups ∙ omega (arith, is.groups, length-append screens (now ∷ []));
       bytes = a.group
           ∙ ap (λ (b : List ℕ). b ++ added) is.bytes
-          ∙ ap (λ (o : Option Picture). stream_of screens ++ spelled (group_of o now n)) is.last
-          ∙ ap (λ (k : ℕ). stream_of screens ++ spelled (group_of (last_of screens) now (k + 1))) is.groups
+          ∙ ap (λ (o : Option Picture). stream_of screens ++ spelled (group_of o now (s.writer.cuts + 1))) is.sent.last
+          ∙ ap (λ (k : ℕ). stream_of screens ++ spelled (group_of (last_of screens) now (k + 1))) is.sent.cuts
           ∙ sym (stream_more screens now);
-      is_stream = subst (λ (b : List ℕ). IsStream b) (sym a.group) more.is_stream;
-      shows = ap (λ (b : List ℕ). screens_shown b) a.group ∙ more.shows ∙ ap (λ (l : List Picture). l ++ now ∷ []) is.shows;
+      sent = a.sent screens is.sent;
     }
 
 -- ---- screens in a row
@@ -116,16 +95,6 @@ appends_none s = λ screens is. subst (λ (l : List Picture). IsStreamOf s l) (s
 pub appends_more : (s t u : StreamView) (xs ys : List Picture) → Appends s t xs → Appends t u ys → Appends s u (xs ++ ys)
 appends_more s t u xs ys first second = λ screens is.
     subst (λ (l : List Picture). IsStreamOf u l) (append_assoc screens xs ys) (second (screens ++ xs) (first screens is))
-
--- the stream of no screen has no byte
-pub stream_of_none : (s : StreamView) → s.last ≡ None → s.groups ≡ 0 → s.bytes ≡ [] → IsStreamOf s []
-stream_of_none s last groups bytes = record {
-  last = last;
-  groups = groups;
-  bytes = bytes;
-  is_stream = subst (λ (b : List ℕ). IsStream b) (sym bytes) refl;
-  shows = ap (λ (b : List ℕ). screens_shown b) bytes;
-}
 
 -- ---- what becomes of a run and of the stream
 

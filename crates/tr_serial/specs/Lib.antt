@@ -1,4 +1,5 @@
 pub mod Outputs
+pub mod Reports
 pub mod Screens
 pub mod Streams
 pub mod Values

@@ -1,6 +1,5 @@
 -- The screens that a script dumps, and the stream of them.
 use Rattle.std.specs.Prelude.{ℕ, List, [], ◌∷◌, ◌++◌, length, sum_by}
-use Rattle.std.specs.List.{flat_map}
 use Rattle.tr_screen.specs.Pictures.{Picture}
 use Rattle.tr_mirror.specs.Streams.{stream_of}
 use Rattle.tr_client.specs.declared.Client.{Ghosts}
@@ -13,7 +12,6 @@ use Rattle.tr_machine.specs.Pictures.{render}
 use Rattle.tr_machine.specs.Replays.{next}
 use Rattle.tr_grammar.specs.States.{Part}
 use Rattle.tr_grammar.specs.Scripts.{Script}
-use Rattle.tr_dump.specs.Reports.{dump_text}
 use Rattle.tr_serial.specs.Outputs.{serial_journal, widgets}
 
 module _ {C M : Type 0} (client : Ghosts C M) where
@@ -34,10 +32,6 @@ dumped_screens s = screens_from widgets (start s.opening) (serial_journal s)
 -- what `mirror` writes: the stream of these screens
 abbrev pub mirror_bytes : Script → List ℕ
 mirror_bytes s = stream_of (dumped_screens s)
-
--- Their texts. Of the reports that `serial` writes these are the dumps, in order: `serial_reports` in proofs/TextLemmas.antt
-abbrev pub dump_texts : Script → List ℕ
-dump_texts s = flat_map dump_text (dumped_screens s)
 
 -- how many reports there are
 abbrev pub report_count : List Part → ℕ

@@ -1,5 +1,5 @@
 ghost use Rattle.std.specs.Prelude.{◌≡◌, ◌+◌, ◌≤◌, ◌<◌, true, false, [], ◌∷◌, ◌++◌, if◌then◌else◌, length, All, IfOk, OnOk, map};
-ghost use Rattle.std.specs.List.{flat_map};
+ghost use Rattle.std.specs.List.{filter, flat_map};
 ghost use Rattle.tr_journal.specs.declared.Actor.TheVariants.{Player};
 ghost use Rattle.tr_journal.specs.declared.Query.TheVariants.{Dump};
 ghost use Rattle.tr_journal.specs.declared.Step.TheVariants.{Sync};
@@ -9,7 +9,10 @@ ghost use Rattle.tr_widget.specs.Widgets.{widget_words};
 ghost use Rattle.tr_mirror.specs.Readings.{IsStream, screens_shown};
 ghost use Rattle.tr_grammar.specs.Scripts.{IsPlayablePart, IsPlayableScript};
 ghost use Rattle.tr_run.specs.Runs.{makes, reporting};
+ghost use Rattle.tr_dump.specs.Reports.{dump_text};
 ghost use Rattle.tr_serial.specs.Outputs as spec;
+ghost use Rattle.tr_serial.specs.Outputs.{out_text};
+ghost use Rattle.tr_serial.specs.Reports.{is_dump, reports_of, report_texts};
 ghost use Rattle.tr_serial.specs.Screens.{dumped_screens, mirror_bytes, report_count};
 ghost use Rattle.tr_serial.specs.Streams.{Mirrors};
 
@@ -35,6 +38,11 @@ pub fn mirror(alloc: Global, script: Script) -> Result<Played, NoMemory>
     // Whoever reads the stream has these screens at its cuts.
     ensures stream { IfOk result (λ played. IsStream played.text) }
     ensures shows { IfOk result (λ played. screens_shown played.text ≡ dumped_screens script) }
+
+    // `show` of it prints the dumps among the reports that `serial` prints.
+    ensures dumps { IfOk result (λ played. flat_map dump_text (screens_shown played.text)
+        ≡ report_texts (filter is_dump (reports_of script))) }
+    ensures reports { out_text script ≡ report_texts (reports_of script) }
     ensures journal { IfOk result (λ played. played.stage.journal ≡ spec.serial_journal script) }
     ensures opening { IfOk result (λ played. played.stage.opening ≡ script.opening) }
 {
@@ -60,7 +68,7 @@ fn mirror_parts<C: Client<Cmd = WidgetCmd>, N: NameOf>(
     parts: Vec<Part>,
 ) -> Result<(), NoMemory>
     requires playable { All (IsPlayablePart (tree_of run.old.stage.opening).nodes) parts.items }
-    requires few { stream.old.groups + report_count parts.items ≤ 64 }
+    requires few { stream.old.writer.cuts + report_count parts.items ≤ 64 }
     ensures { OnOk result
         (Mirrors C.Client widget_words run.old run.new (spec.cues parts.items) stream.old stream.new) }
 {
@@ -81,10 +89,10 @@ fn mirror_part<C: Client<Cmd = WidgetCmd>, N: NameOf>(
     part: Part,
 ) -> Result<(), NoMemory>
     requires playable { IsPlayablePart (tree_of run.old.stage.opening).nodes part }
-    requires few { stream.old.groups + length part.reports ≤ 64 }
+    requires few { stream.old.writer.cuts + length part.reports ≤ 64 }
     ensures mirrors { OnOk result (Mirrors C.Client widget_words run.old run.new
         ((if is_later then makes Player Sync ∷ [] else []) ++ spec.part_cues part) stream.old stream.new) }
-    ensures count { OnOk result (stream.new.groups ≤ stream.old.groups + length part.reports) }
+    ensures count { OnOk result (stream.new.writer.cuts ≤ stream.old.writer.cuts + length part.reports) }
 {
     let Part { reports, steps } = part;
     begin(run, is_later)?;
@@ -99,10 +107,10 @@ fn mirror_all<C: Client, N: NameOf>(
     reports: &[Query],
 ) -> Result<(), NoMemory>
     requires queries { All (IsQuery (tree_of run.old.stage.opening).nodes) reports.now }
-    requires few { stream.old.groups + length reports.now ≤ 64 }
+    requires few { stream.old.writer.cuts + length reports.now ≤ 64 }
     ensures mirrors { OnOk result (Mirrors C.Client C.Cmd.words run.old run.new
         (flat_map reporting reports.now) stream.old stream.new) }
-    ensures count { OnOk result (stream.new.groups ≤ stream.old.groups + length reports.now) }
+    ensures count { OnOk result (stream.new.writer.cuts ≤ stream.old.writer.cuts + length reports.now) }
 {
     for query in reports {
         mirror_one(run, stream, *query)?;
@@ -117,10 +125,10 @@ fn mirror_one<C: Client, N: NameOf>(
     query: Query,
 ) -> Result<(), NoMemory>
     requires values { IsQuery (tree_of run.old.stage.opening).nodes query }
-    requires few { stream.old.groups < 64 }
+    requires few { stream.old.writer.cuts < 64 }
     ensures mirrors { OnOk result
         (Mirrors C.Client C.Cmd.words run.old run.new (reporting query) stream.old stream.new) }
-    ensures count { OnOk result (stream.new.groups ≤ stream.old.groups + 1) }
+    ensures count { OnOk result (stream.new.writer.cuts ≤ stream.old.writer.cuts + 1) }
 {
     match query {
         Query::Dump => mirror_dump(run, stream),
@@ -133,10 +141,10 @@ fn mirror_dump<C: Client, N: NameOf>(
     run: &mut Run<C, N>,
     stream: &mut ScreenStream,
 ) -> Result<(), NoMemory>
-    requires { stream.old.groups < 64 }
+    requires { stream.old.writer.cuts < 64 }
     ensures mirrors { OnOk result
         (Mirrors C.Client C.Cmd.words run.old run.new (reporting Dump) stream.old stream.new) }
-    ensures count { OnOk result (stream.new.groups ≤ stream.old.groups + 1) }
+    ensures count { OnOk result (stream.new.writer.cuts ≤ stream.old.writer.cuts + 1) }
 {
     // Called, before and after, for what it tells the prover; and so are the values of the pixels.
     run.stage().stands();

@@ -8,6 +8,5 @@ returns-in-Ok c = (shown c.in-Ok.text, refl, (c.in-Ok.ensures.valid, c.in-Ok.ens
 
 pub returns-in-Err-Fault : goal.returns-in-Err-Fault
 returns-in-Err-Fault c =
-    let f = c.in-Err-Fault.field-0-0 in
-    let fault = rw c.in-Err-Fault.field-0-is at c.in-Err-Fault.ensures.cause in
-    faulty_due c.args.bytes.now f f.place f.code c.stream_refusal.result refl refl fault c.stream_refusal.ensures
+    let cause = rw c.in-Err-Fault.field-0-is at c.in-Err-Fault.ensures.cause in
+    faulty_due c.args.bytes.now c.in-Err-Fault.fault c.stream_refusal.result cause c.stream_refusal.ensures

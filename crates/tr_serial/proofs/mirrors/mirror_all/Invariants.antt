@@ -8,5 +8,5 @@ use Rattle.tr_serial.proofs.mirrors.mirror_all.Given as goal
 abbrev pub invariant-loop-query : goal.invariant-loop-query
 invariant-loop-query g l = record {
   mirrors : Mirrors g.C.Client g.C.Cmd.Command.words l.fn.run l.run (flat_map reporting (take l.query-index l.reports)) l.fn.stream l.stream;
-  count : l.stream.groups ≤ l.fn.stream.groups + l.query-index;
+  count : l.stream.writer.cuts ≤ l.fn.stream.writer.cuts + l.query-index;
 }

@@ -30,4 +30,4 @@ returns-clause-mirrors g c =
     stood stands (subst (λ (p : Picture). IsAppended c.args.stream.now c.append.new.self p) screen appended)) c.append.ensures.ok
 
 pub returns-clause-count : goal.returns-clause-count
-returns-clause-count g c = on_ok_weaker c.append.result (λ appended. omega (arith, appended.groups)) c.append.ensures.ok
+returns-clause-count g c = on_ok_weaker c.append.result (λ appended. omega (arith, appended.cuts)) c.append.ensures.ok

@@ -12,6 +12,6 @@ invariant-loop-part g l = record {
   can_next : (goal.iterator-loop-part g).can_next l.part-iterator;
   is_finite : (goal.iterator-loop-part g).is_finite l.part-iterator;
   mirrors : Mirrors g.C.Client widget_words l.fn.run l.run (cues (take (length l.yielded) l.fn.parts.items)) l.fn.stream l.stream;
-  few : l.stream.groups + report_count (drop (length l.yielded) l.fn.parts.items) ≤ 64;
+  few : l.stream.writer.cuts + report_count (drop (length l.yielded) l.fn.parts.items) ≤ 64;
   later : l.is_later ≡ is_later (length l.yielded);
 }
