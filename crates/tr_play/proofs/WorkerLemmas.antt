@@ -1,9 +1,9 @@
 -- What the workers of a session are given, and what they make of it.
-use Rattle.std.proofs.Common.{◌≡◌, ℕ, ◌+◌, ◌<◌, ◌≤◌, Bool, true, false, nat_lt, cond, List, [], ◌∷◌, ◌++◌, ◌==◌, length, take, drop, get_or, refl, sym, ap, subst, ◌∙◌, arith}
+use Rattle.std.proofs.Common.{◌≡◌, ℕ, ◌+◌, ◌-◌, ◌<◌, ◌≤◌, Bool, true, false, nat_lt, cond, List, [], ◌∷◌, ◌++◌, ◌==◌, length, take, drop, get_or, refl, sym, ap, subst, subst₂, ◌∙◌, arith}
 use Rattle.std.specs.Prelude.{All, Some, slice_get}
 use Rattle.std.proofs.lemmas.Bool.{ltb-false, ltb-true}
 use Rattle.std.proofs.lemmas.Bool.Decides.{nat_tests}
-use Rattle.std.proofs.lemmas.List.{append-nil, append_assoc, drop-take, get_or_default, get_or_past, get_or-take, length-take, length-take-le, take-append-drop, take-take, take_all, take_more}
+use Rattle.std.proofs.lemmas.List.{append-nil, append_assoc, drop-take, get_or_append_left, get_or-append_right, get_or_default, get_or_past, get_or-take, length-append, length-take, length-take-le, take-append-drop, take-take, take_all, take_more}
 use Rattle.std.proofs.lemmas.Option.{get_or_from_slice_get}
 use Rattle.std.proofs.lemmas.List.Elements.{All-cons, All-head, All-nil, All-tail, All-weaker}
 use Rattle.tr_base.specs.declared.LeafId.{LeafId}
@@ -22,7 +22,7 @@ use Rattle.tr_stage.specs.Stages.{StageView}
 use Rattle.tr_server.specs.Passes.{PassView}
 use Rattle.tr_play.specs.Lists.{AreListed, HaveLists}
 use Rattle.tr_play.specs.Sessions.{AreWhole, IsWhole}
-use Rattle.tr_play.specs.Workers.{AreReady, HasTaken, HasWorked, IsWorker}
+use Rattle.tr_play.specs.Workers.{AreReady, HasTaken, HasWorked, HaveTaken, IsWorker}
 
 -- ---- steps
 
@@ -191,6 +191,36 @@ pub still_workers : {M : Type 0} (leaves : ℕ) (before after : List (PassView M
 still_workers {M} leaves before after lists all many taken = λ i d within.
     let low : i < length before = omega (arith, within, many) in
     subst (λ (actor : Actor). IsWorker leaves actor) (sym (taken i d low).actor) (all i d low)
+
+-- ---- halves of the workers
+
+-- where those of two halves did, all did
+pub taken_both : {M : Type 0} (lists : ListsView M) (all xs ys xs' ys' : List (PassView M)) → all ≡ xs ++ ys →
+    HaveTaken lists xs xs' → HaveTaken lists ys ys' → HaveTaken lists all (xs' ++ ys')
+taken_both {M} lists all xs ys xs' ys' are first second = (count, each)
+  where
+    before : length all ≡ length xs + length ys
+    before = ap length are ∙ length-append xs ys
+
+    count : length (xs' ++ ys') ≡ length all
+    count = omega (arith, before, length-append xs' ys', first.0, second.0)
+
+    each : (i : ℕ) (d : PassView M) → i < length all → HasTaken lists (get_or all i d) (get_or (xs' ++ ys') i d)
+    each i d within =
+        subst (λ (ps : List (PassView M)). HasTaken lists (get_or ps i d) (get_or (xs' ++ ys') i d)) (sym are)
+        (by_test (nat_lt i (length xs)) refl)
+      where
+        by_test : (b : Bool) → nat_lt i (length xs) ≡ b → HasTaken lists (get_or (xs ++ ys) i d) (get_or (xs' ++ ys') i d)
+        by_test true low =
+            let here : i < length xs = ltb-true i (length xs) low in
+            let there : i < length xs' = omega (arith, here, first.0) in
+            subst₂ (HasTaken lists) (sym (get_or_append_left xs ys d i here)) (sym (get_or_append_left xs' ys' d i there))
+            (first.1 i d here)
+        by_test false high =
+            let past : length xs ≤ i = ltb-false i (length xs) high in
+            subst₂ (HasTaken lists) (sym (get_or-append_right xs ys (length xs) i d refl past))
+            (sym (get_or-append_right xs' ys' (length xs) i d first.0 past))
+            (second.1 (i - length xs) d (omega (arith, within, before, past)))
 
 -- where there is no step, a stage that stays has run
 pub ran_nothing : {C M : Type 0} (s : StageView C M) (steps : List (Actor × Step M)) → (length steps == 0) ≡ true → HasRun s s steps

@@ -1,6 +1,6 @@
 -- Private contracts alone cite this file.
 -- What a worker does with its pass.
-use Rattle.std.specs.Prelude.{◌≡◌, ℕ, ◌<◌, ⊤, Bool, true, false, All, List, [], ◌∷◌, ◌++◌, take, Result, OnOk, OnErr}
+use Rattle.std.specs.Prelude.{◌≡◌, ℕ, ◌<◌, ⊤, Bool, true, false, All, List, [], ◌∷◌, ◌++◌, length, slice_index_or, take, Result, OnOk, OnErr}
 use Rattle.tr_base.specs.declared.errors.NoMemory.{NoMemory}
 use Rattle.tr_forest.specs.Nodes.{Nodes}
 use Rattle.tr_journal.specs.declared.steps.Actor.{Actor}
@@ -48,3 +48,12 @@ pub record HasTaken {M : Type 0} (lists : ListsView M) (before after : PassView 
 -- the steps of each list can be made by its actor
 abbrev pub AreReady : {M : Type 0} → Nodes → ListsView M → Type 0
 AreReady t lists = (actor : Actor) → is_maker actor ≡ true → All (λ step. IsPartStep t (actor, step)) (list_of lists actor)
+
+-- these are the passes of workers, of which there are some, and the steps of each list can be made by its actor
+abbrev pub CanWork : {M : Type 0} → Nodes → ListsView M → List (PassView M) → Type 0
+CanWork t lists passes = (0 < length passes) × All (λ pass. IsWorker (length lists.leaves) pass.actor) passes × AreReady t lists
+
+-- with each of some passes its actor's steps were made, or the first so many of them
+abbrev pub HaveTaken : {M : Type 0} → ListsView M → List (PassView M) → List (PassView M) → Type 0
+HaveTaken {M} lists before after = (length after ≡ length before)
+    × ((i : ℕ) (d : PassView M) → i < length before → HasTaken lists (slice_index_or before i d) (slice_index_or after i d))

@@ -35,6 +35,11 @@ impl<'a, M: Command> Model for PartLists<'a, M> {
 }
 
 impl<'a, M: Command> PartLists<'a, M> {
+    /// Whether an actor has work: it has steps in the part, or is the painter.
+    pub(crate) fn has_work(&self, actor: Actor) -> bool {
+        self.places.has_work(actor)
+    }
+
     /// The steps of an actor.
     pub(crate) fn of(&self, actor: Actor) -> List<'_, M>
         requires { HasList (length self.now.leaves) actor }

@@ -50,6 +50,19 @@ impl Places {
         }
     }
 
+    /// Whether an actor has a step, or is the painter.
+    pub(crate) fn has_work(&self, actor: Actor) -> bool {
+        match actor {
+            Actor::Leaf(leaf) => match self.leaves.get(usize::from(leaf.0)) {
+                Some(row) => !row.places().is_empty(),
+                None => false,
+            },
+            Actor::Desk => !self.desk.places().is_empty(),
+            Actor::Player => !self.player.places().is_empty(),
+            Actor::Painter => true,
+        }
+    }
+
     /// The places of an actor's steps.
     pub(crate) fn of(&self, actor: Actor) -> &[u32]
         requires { HasList (length self.now.leaves) actor }

@@ -1,10 +1,11 @@
 ghost use Rattle.std.specs.Prelude.{◌≡◌, ℕ, ◌+◌, ◌*◌, ◌<◌, ◌↔◌, [], All, IfOk, IfErr, IsTrue, length, vec_len, slice_index_or};
+ghost use Rattle.std.specs.Thread.{IsSync};
 ghost use Rattle.tr_journal.specs.Differences.{Matches, account_of};
 ghost use Rattle.tr_journal.specs.Openings.{tree_of};
 ghost use Rattle.tr_server.specs.Closing.{IfDiffers};
 ghost use Rattle.tr_server.specs.Sessions.{HasIds};
 ghost use Rattle.tr_play.specs.Sessions.{AreWhole, IsLeft, IsWhole};
-ghost use Rattle.tr_play.specs.Workers.{AreReady, HasTaken, IsWorker};
+ghost use Rattle.tr_play.specs.Workers.{AreReady, CanWork, HasTaken, HaveTaken, IsWorker};
 
 use crate::contexts::Context;
 use crate::counters::Counter;
@@ -77,34 +78,72 @@ fn all_at_work<C: Client, L: Session, R: Threads + Wait + Sync, G: Gate + Sync>(
     ensures taken { (i : ℕ) (d : _) → i < vec_len workers.old →
         HasTaken lists.now (slice_index_or workers.old.items i d) (slice_index_or workers.new.items i d) }
 {
-    all_work(context, workers.as_mut_slice(), lists, steps);
+    all_work(context, lists, steps, workers.as_mut_slice());
 }
 
-/// All workers do what is theirs, each in a thread of its own; but where there is one step at most, for
-/// which all others would wait, one thread does it all.
+/// All workers do their work: two halves of them side by side if both have work and the part has several
+/// steps, and else one half after the other.
+#[cycle(workers)]
 fn all_work<C: Client, L: Session, R: Threads + Wait + Sync, G: Gate + Sync>(
     context: &Context<'_, C, L, R, G>,
-    workers: &mut [Pass<C, L>],
     lists: &PartLists<'_, C::Cmd>,
     steps: usize,
+    workers: &mut [Pass<C, L>],
 )
-    requires some { 0 < length workers.old }
-    requires workers { All (λ pass. IsWorker (length lists.now.leaves) pass.actor) workers.old }
-    requires ready { AreReady (tree_of context.now.server.now.opening).nodes lists.now }
-    ensures { (i : ℕ) (d : _) → i < length workers.old →
-        HasTaken lists.now (slice_index_or workers.old i d) (slice_index_or workers.new i d) }
+    requires { CanWork (tree_of context.now.server.now.opening).nodes lists.now workers.old }
+    ensures { HaveTaken lists.now workers.old workers.new }
 {
-    let threads = if steps > 1 { workers.len() } else { 1 };
-    thread::for_each_mut(
-        context.rt,
-        workers,
-        threads,
-        &|_i: usize, pass: &mut Pass<C, L>|
-            requires { IsWorker (length lists.now.leaves) pass.now.actor
-                × AreReady (tree_of context.now.server.now.opening).nodes lists.now }
-            ensures { HasTaken lists.entry.now pass.entry.now pass.exit.now }
-        { do_own(context, pass, lists, steps) },
-    );
+    if workers.len() == 1 {
+        do_own(context, &mut workers[0], lists, steps);
+        return;
+    }
+    let (front, back) = workers.split_at_mut(workers.len() / 2);
+    let is_apart = steps > 1 && has_work(lists, front) && has_work(lists, back);
+    both_halves(context, lists, steps, is_apart, front, back);
+}
+
+/// Two halves of the workers do their work, side by side or one after the other. It is a function of its own,
+/// since a closure's `requires` has to be that of the function around it.
+#[cycle(workers)]
+fn both_halves<C: Client, L: Session, R: Threads + Wait + Sync, G: Gate + Sync>(
+    context: &Context<'_, C, L, R, G>,
+    lists: &PartLists<'_, C::Cmd>,
+    steps: usize,
+    is_apart: bool,
+    front: &mut [Pass<C, L>],
+    back: &mut [Pass<C, L>],
+)
+    requires front { CanWork (tree_of context.now.server.now.opening).nodes lists.now front.old }
+    requires back { CanWork (tree_of context.now.server.now.opening).nodes lists.now back.old }
+    ensures front { HaveTaken lists.now front.old front.new }
+    ensures back { HaveTaken lists.now back.old back.new }
+{
+    if !is_apart {
+        all_work(context, lists, steps, front);
+        all_work(context, lists, steps, back);
+        return;
+    }
+    let mut first = ||
+        requires { IsSync R.row × IsSync G.row
+            × CanWork (tree_of context.now.server.now.opening).nodes lists.now front.now }
+        ensures { HaveTaken lists.entry.now front.entry.now front.exit.now }
+    { all_work(context, lists, steps, front) };
+    let mut second = ||
+        requires { IsSync R.row × IsSync G.row
+            × CanWork (tree_of context.now.server.now.opening).nodes lists.now back.now }
+        ensures { HaveTaken lists.entry.now back.entry.now back.exit.now }
+    { all_work(context, lists, steps, back) };
+    thread::join_mut(context.rt, &mut first, &mut second);
+}
+
+/// Whether one of these workers has work. The painter always has.
+fn has_work<C: Client, L: Session>(lists: &PartLists<'_, C::Cmd>, workers: &[Pass<C, L>]) -> bool {
+    for pass in workers {
+        if lists.has_work(pass.actor()) {
+            return true;
+        }
+    }
+    false
 }
 
 /// A worker does what is its own: the painter repaints the screen, and each other actor makes the steps of
