@@ -125,8 +125,8 @@ fn screens_of_two_sizes_come_out_in_turn(rt: HostRuntime) {
     assert!(rt; comes_out(&rt, &Output::new(rt.alloc()), b""), "none");
 }
 
-/// Whether a text that is written by seven bytes at once ends at this write, which fails, with those before it
-/// written.
+/// Whether a text that is written by seven bytes at once ends at this write, which fails, and the bytes of
+/// the writes before it are written.
 fn ends_at(rt: &(impl Abort + AllocGlobal), output: &Output, text: &[u8], write: u64) -> bool
     requires write { 1 ≤ write × (write ≤ 1000) }
 {

@@ -33,7 +33,8 @@ pub returns-in-Where-clause-err : goal.returns-in-Where-clause-err
 returns-in-Where-clause-err g c = unchanged c.append_place.result _ _ _ _ c.out-in-Where.view_is c.append_place.ensures.err
 
 pub returns-in-Inbox-clause-ok : goal.returns-in-Inbox-clause-ok
-returns-in-Inbox-clause-ok g c = rw (c.in-Inbox.is, sym c.inbox.ensures) (grown c.inbox-in-Inbox.result _ _ _ _ _ c.out-in-Inbox.view_is c.inbox-in-Inbox.ensures.ok)
+returns-in-Inbox-clause-ok g c =
+    rw (c.in-Inbox.is, sym c.inbox.ensures) (grown c.inbox-in-Inbox.result _ _ _ _ _ c.out-in-Inbox.view_is c.inbox-in-Inbox.ensures.ok)
 
 pub returns-in-Inbox-clause-err : goal.returns-in-Inbox-clause-err
 returns-in-Inbox-clause-err g c = unchanged c.inbox-in-Inbox.result _ _ _ _ c.out-in-Inbox.view_is c.inbox-in-Inbox.ensures.err
