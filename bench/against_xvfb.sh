@@ -13,6 +13,9 @@
 # It wants Xvfb, xterm, xwd, cc, and the headers of X11 and Xtst (Debian's xvfb, xterm, x11-apps, libx11-dev and libxtst-dev),
 # and date with %N. Where there is no Xvfb it says so, and measures nothing.
 set -eu
+case ${1-} in
+    -h | --help) sed -n '2,/^[^#]/s/^# \{0,1\}//p' "$0"; exit ;;
+esac
 top=$(CDPATH= cd -P -- "$(dirname -- "$0")/.." && pwd)
 rounds=${1:-3}
 program=${2:-}

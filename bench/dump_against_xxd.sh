@@ -2,6 +2,9 @@
 # Times the dump of a 1024 by 1024 screen against `xxd -p` of as many bytes, in one run, and prints
 # both times and their ratio: below 1 trestle is the faster one. It wants xxd and date with %N.
 set -eu
+case ${1-} in
+    -h | --help) sed -n '2,/^[^#]/s/^# \{0,1\}//p' "$0"; exit ;;
+esac
 top=$(CDPATH= cd -P -- "$(dirname -- "$0")/.." && pwd)
 rounds=${1:-40}
 folder=$(mktemp -d)

@@ -8,10 +8,13 @@
 #    programs at once;
 # 3. COUNT scripts (2,000 if left out) that are drawn from SEED, cut, joined and bent: which is refused and why is
 #    compared with a second reader, and what some of them print with a plain model, which know nothing of the program;
-# 4. the dearest scripts that the limits allow, at a hundredth of their size and at twice that: time and memory.
+# 4. the dearest scripts and streams that are allowed, at a hundredth of their size and at twice that: time, memory.
 #
-# PROGRAM is a built trestle; where it is left out, the launcher proves and builds it. It wants Python 3.8.
+# PROGRAM is a built trestle; where it is left out, the launcher proves and builds it. It wants Python 3.8 and cc.
 set -eu
+case ${1-} in
+    -h | --help) sed -n '2,/^[^#]/s/^# \{0,1\}//p' "$0"; exit ;;
+esac
 top=$(CDPATH= cd -P -- "$(dirname -- "$0")/.." && pwd)
 count=${1:-2000}
 seed=${2:-1}

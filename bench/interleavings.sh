@@ -6,6 +6,9 @@
 # COUNT is 2,000 if left out, and SEED is 1: the number of the first script. PROGRAM is a built trestle; where it is left out, the launcher
 # proves and builds it. How each is judged is told in judges/model/threads.py.
 set -eu
+case ${1-} in
+    -h | --help) sed -n '2,/^[^#]/s/^# \{0,1\}//p' "$0"; exit ;;
+esac
 top=$(CDPATH= cd -P -- "$(dirname -- "$0")/.." && pwd)
 program=${2:-}
 if [ -z "$program" ]; then

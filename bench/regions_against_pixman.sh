@@ -11,6 +11,9 @@
 # builds it.
 # It wants cc and pixman's headers (Debian's libpixman-1-dev).
 set -eu
+case ${1-} in
+    -h | --help) sed -n '2,/^[^#]/s/^# \{0,1\}//p' "$0"; exit ;;
+esac
 top=$(CDPATH= cd -- "$(dirname -- "$0")/.." && pwd)
 rounds=${1:-5}
 ours=${2:-}

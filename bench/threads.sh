@@ -6,12 +6,15 @@
 # Each time is the best of ROUNDS (3 if left out), and each round plays both. PROGRAM is a built trestle; where it is left out,
 # the launcher proves and builds it. It wants date with %N. The first line tells how many processors there are.
 #
-# `desktop` has seven windows with a command each in turn, moves and a change of the screen. `eight` has eight windows with
+# `desktop` has seven windows, of five a command each in turn, moves and a change of the screen. `eight` has eight windows with
 # 4,000 figures or lines each, and a flush after each 25th; of `alone` one of these windows has its lines, and the others have
 # none: what its worker takes by itself, and so what all eight take at least. `waiting` is `eight` without a flush, so that by
 # serial all of it waits for the dump. The aims, for four processors: `play` at most 0.6 of `serial` on `eight`, and at most 1.2
 # on each of the workloads of bench/workloads.sh, which follow. They have one client or none, and the painter beside it.
 set -eu
+case ${1-} in
+    -h | --help) sed -n '2,/^[^#]/s/^# \{0,1\}//p' "$0"; exit ;;
+esac
 top=$(CDPATH= cd -P -- "$(dirname -- "$0")/.." && pwd)
 rounds=${1:-3}
 program=${2:-}

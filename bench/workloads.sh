@@ -17,6 +17,9 @@
 # ninth, 99,000 moves, 90,000 figures, 90,000 events and 19,000 rounds of the desktop, and exactly 64 dumps
 # and 2,000 checked steps. The script of gen 1 has one size, and no ratio.
 set -eu
+case ${1-} in
+    -h | --help) sed -n '2,/^[^#]/s/^# \{0,1\}//p' "$0"; exit ;;
+esac
 top=$(CDPATH= cd -P -- "$(dirname -- "$0")/.." && pwd)
 rounds=${1:-3}
 program=${2:-}

@@ -7,7 +7,7 @@
     fuzz      plays such scripts, many a second, and compares what comes with what the reader says
     streams   runs the program as badly as a shell can
     limits    scripts at each limit, the last value that passes and the first that is refused
-    worst     scripts that are as dear as a script may be, with the time and the memory that they take
+    worst     scripts and streams that are as dear as they may be, with the time and the memory that they take
     growths   plays a script again and again, each time with another growth of memory refused
     program   runs the program, and measures it
 """

@@ -188,6 +188,23 @@ def contents() -> Iterator[Case]:
     yield plays("the last time", text(BEGIN, late), "2 desk mu key 4294967295 1 = ok", "3 player mu sync = ok")
 
 
+def editors() -> Iterator[Case]:
+    """The lines of an editor, and where its caret may go. A window of one row shows the caret's line: each `x` and the caret's
+    cell behind them are all 1."""
+    head = ["trestle 2", "screen 24 8 map8", f"glyph 78 {FULL}", "leaf a 24 24 24 8 8 8 edit", "root a", "begin"]
+    dump = [["dump 24 8 map8", *["01" * 8 * cells + "00" * 8 * (3 - cells)] * 8] for cells in range(4)]
+    end = ["sync", "dump", "end"]
+    yield plays("200 lines of an editor", text(head, ["@a insert x", "@a split"] * 199, end), *dump[1])
+    yield plays("201 lines of an editor", text(head, ["@a insert x", "@a split"] * 200, end), *dump[2])
+    for count, shown in ((STR_BYTES - 1, dump[3]), (STR_BYTES, dump[2])):
+        lines = [f"@a insert {'x' * count}", "@a split", "@a insert x", "@a goto 1 0", "@a erase", "@a goto 1 40"]
+        yield plays(f"a line of {count + 1} bytes of two", text(head, lines, end), *shown)
+    for command in ("goto 199 80", "copy 80 80"):
+        yield plays(command, text(head, [f"@a {command}"], end), *dump[1])
+    for command in ("goto 200 0", "goto 0 81", "copy 81 0", "copy 0 81"):
+        yield refused(command, text(head, [f"@a {command}"], end), 7, 2)
+
+
 def glyph_first(lines: List[str], glyph: List[str]) -> List[str]:
     """The lines of a script with one glyph more."""
     return lines[:2] + glyph + lines[2:]
@@ -220,7 +237,7 @@ def threads() -> Iterator[Case]:
 
 def cases() -> Iterator[Case]:
     """All of them."""
-    for group in (texts, strings, names, counts, windows, levels, screens, contents, checks, threads):
+    for group in (texts, strings, names, counts, windows, levels, screens, contents, editors, checks, threads):
         yield from group()
 
 

@@ -1,14 +1,15 @@
 #!/usr/bin/env python3
-"""Plays scripts that are as dear as a script may be, at a part of their size and at twice that size.
+"""Plays scripts and streams that are as dear as they may be, at a part of their size and at twice that size.
 
     judges/model/worst.py PROGRAM [PART [NAME..]]
     judges/model/worst.py --write NAME PART
 
-PROGRAM is a linked trestle, PART the part of the size that the limits of a script allow, as 0.01 (which is taken where it
-is left out) or 1; NAME is that of a script, and all are played where there is none. For each a line tells the processor
-time and the memory of both sizes, and their ratios; where the work grows as the script does they are about 2. `--write`
-prints the script."""
+PROGRAM is a linked trestle, PART the part of the size that the limits allow, as 0.01 (which is taken where it is left out)
+or 1; NAME is that of a script or a stream, and all are played where there is none. For each a line tells the processor time
+and the memory of both sizes, and their ratios; where the work grows as the size does they are about 2. `--write` prints
+the script or the stream."""
 
+import random
 import sys
 from pathlib import Path
 from typing import Callable, Dict, List, NamedTuple
@@ -194,9 +195,11 @@ def written(count: int) -> List[str]:
 
 
 def turned(count: int) -> List[str]:
-    """The same editor, whose caret goes to its end and back: each time all shown lines are painted, and wait."""
+    """The same editor in a window of 198 rows, whose caret goes to its end and back: each time all shown lines are painted,
+    and wait. (In a window of 199 rows they are moved by one row.)"""
+    opening = [*HEAD, "node z z 3", f"leaf a 0 {SIDE} {SIDE} 0 1584 1584 edit", "put a z", "root z", "begin", "dump", "sync"]
     lines = [f"@a insert {'x' * 80}", "@a goto 0 0", "@a split"] * 199
-    return [*one("edit"), *lines, *["@a goto 199 0", "@a goto 0 0"] * (count // 2), *END]
+    return [*opening, *lines, *["@a goto 199 0", "@a goto 0 0"] * (count // 2), *END]
 
 
 SCRIPTS: Dict[str, Callable[[int], List[str]]] = {
@@ -208,34 +211,66 @@ SCRIPTS: Dict[str, Callable[[int], List[str]]] = {
 }  # fmt: skip
 
 
+# The most cuts of a stream.
+CUTS = 64
+# A record that begins the largest screen.
+SCREEN = b"\1" + SIDE.to_bytes(2, "big") * 2 + b"\1"
+
+
+def cut(number: int) -> bytes:
+    """The record of a cut."""
+    return b"\4" + number.to_bytes(4, "big")
+
+
+def unchanged(cuts: int) -> bytes:
+    """The largest screen, and cuts that change nothing."""
+    return SCREEN + b"".join(cut(number) for number in range(1, cuts + 1))
+
+
+def rewritten(cuts: int) -> bytes:
+    """At full size the longest stream without a fault: each group has the largest screen, and each row has other pixels."""
+    numbers, stream = random.Random(1), bytearray()
+    for number in range(1, cuts + 1):
+        stream += SCREEN
+        for v in range(SIDE):
+            stream += b"\2\0\0" + v.to_bytes(2, "big") + SIDE.to_bytes(2, "big")
+            stream += numbers.getrandbits(8 * SIDE).to_bytes(SIDE, "big")
+        stream += cut(number)
+    return bytes(stream)
+
+
+STREAMS: Dict[str, Callable[[int], bytes]] = {it.__name__: it for it in (unchanged, rewritten)}
 # The words by which some of them are played.
-WORDS = {"checked": "check", "parted": "play", "shared": "play"}
+WORDS = {"checked": "check", "parted": "play", "shared": "play", **dict.fromkeys(STREAMS, "show")}
 
 
 class Measured(NamedTuple):
-    """What a size of a script came to."""
+    """What a size of a script or a stream came to."""
 
-    lines: int
+    size: str
     ran: Ran
 
 
 def script(name: str, part: float) -> bytes:
-    """The script at a part of its size."""
+    """The script or the stream at a part of its size."""
+    if name in STREAMS:
+        return STREAMS[name](max(1, int(CUTS * part)))
     return "".join(line + "\n" for line in SCRIPTS[name](max(4, int(STEPS * part)))).encode("ascii")
 
 
 def measure(runner: Runner, name: str, part: float) -> Measured:
-    """Plays a script at a part of its size."""
+    """Plays a script or a stream at a part of its size."""
     given = script(name, part)
     ran = runner.run([WORDS.get(name, "serial")], given, Limits(seconds=7200))
-    return Measured(given.count(b"\n"), ran)
+    size = f"bytes={len(given)}" if name in STREAMS else f"lines={given.count(10)}"
+    return Measured(size, ran)
 
 
 def told(measured: Measured) -> str:
     """What is told of a size."""
     ran = measured.ran
     status = "" if ran.status == 0 else f" status={ran.status}"
-    return f"lines={measured.lines} s={ran.seconds:.2f} MB={ran.kilobytes // 1024} written={len(ran.output)}{status}"
+    return f"{measured.size} s={ran.seconds:.2f} MB={ran.kilobytes // 1024} written={len(ran.output)}{status}"
 
 
 def main(words: List[str]) -> int:
@@ -248,7 +283,7 @@ def main(words: List[str]) -> int:
         return 2
     part = float(words[1]) if len(words) > 1 else 0.01
     runner = Runner(words[0])
-    for name in words[2:] or SCRIPTS:
+    for name in words[2:] or (*SCRIPTS, *STREAMS):
         if part > 0.5:
             print(f"worst: {name:13} {told(measure(runner, name, part))}", flush=True)
             continue
