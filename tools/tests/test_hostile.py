@@ -16,7 +16,8 @@ from model.outputs import wrong_check, wrong_output  # noqa: E402
 from model.printing import output_of  # noqa: E402
 from model.program import Limits, Ran, Runner  # noqa: E402
 from model.reader import Refusal, refusal_of  # noqa: E402
-from model.worst import SCRIPTS, script  # noqa: E402
+from model.worst import SCRIPTS, STREAMS, script  # noqa: E402
+from trestle_tools.stream_reader import Reader  # noqa: E402
 
 # What stands behind the scripts of a folder.
 STORED = {"demos": ".serial", "docs/examples": ".out"}
@@ -99,10 +100,13 @@ class Scripts(unittest.TestCase):
                     self.assertEqual(refusal_of(case.script), case.refusal)
 
     def test_worst(self) -> None:
-        """The dearest scripts are scripts."""
+        """The dearest scripts are scripts, and the dearest streams are streams."""
         for name in SCRIPTS:
             with self.subTest(script=name):
                 self.assertIsNone(refusal_of(script(name, 0.005)))
+        for name in STREAMS:
+            with self.subTest(stream=name):
+                self.assertEqual(2, len(list(Reader().frames([script(name, 2 / 64)]))))
 
     def test_drawn(self) -> None:
         """A seed and a number give the same script each time, and some of them play."""
