@@ -10,10 +10,10 @@ use std::rt::Clock;
 use std::time::Instant;
 use tr_mirror::Mirror;
 
-/// How many spans are measured. The best one counts.
+/// The number of measured spans. The best one counts.
 const SPANS: u32 = 100;
 
-/// Prints a line for a copy of a stream, and for each size of pieces in which a mirror is fed.
+/// Prints a line for a copy of a stream, and for each size of a mirror's pieces.
 pub fn feeds<R: Print + Clock + AllocGlobal>(rt: &R, stream: &[u8], timed: bool) -> io::Result<()> {
     let nanos = best_copy(rt, rt.alloc(), stream, timed)?;
     line(rt, "std copy_from_slice", stream.len(), nanos)?;
@@ -42,7 +42,7 @@ fn line<R: Print + AllocGlobal>(
     println!(rt; "")
 }
 
-/// The nanoseconds that a copy of a stream takes at best, where they are asked for.
+/// The best time of a copy of a stream in nanoseconds, if it is to be measured.
 fn best_copy<R: Clock>(
     rt: &R,
     alloc: Global,
@@ -70,8 +70,8 @@ fn copy_all(copy: &mut [u8], stream: &[u8]) {
     }
 }
 
-/// The nanoseconds that a new mirror takes for a stream in pieces of `step` bytes, at best, where
-/// they are asked for.
+/// The best time of a new mirror for a stream in pieces of `step` bytes, in nanoseconds, if it is to be
+/// measured.
 fn best_feed<R: Clock>(
     rt: &R,
     alloc: Global,
@@ -87,7 +87,7 @@ fn best_feed<R: Clock>(
     Ok(timed.then_some(best))
 }
 
-/// The nanoseconds that a new mirror takes.
+/// The nanoseconds of a new mirror.
 fn feed_new<R: Clock>(rt: &R, alloc: Global, stream: &[u8], step: usize) -> io::Result<u64> {
     let mut mirror = Mirror::new(alloc).map_err(out_of_memory)?;
     let nanos = span(rt, &mut mirror, stream, step);
@@ -95,7 +95,7 @@ fn feed_new<R: Clock>(rt: &R, alloc: Global, stream: &[u8], step: usize) -> io::
     nanos
 }
 
-/// The nanoseconds that a mirror takes which was fed nothing.
+/// The nanoseconds of a mirror that was fed nothing.
 fn span<R: Clock>(rt: &R, mirror: &mut Mirror, stream: &[u8], step: usize) -> io::Result<u64> {
     let start = Instant::now(rt)?;
     if !is_fed(mirror, stream, step) {
@@ -105,7 +105,7 @@ fn span<R: Clock>(rt: &R, mirror: &mut Mirror, stream: &[u8], step: usize) -> io
     Ok(u64::try_from(nanos).unwrap_or(u64::MAX))
 }
 
-/// Feeds a stream to a mirror that was fed nothing. Whether it has no fault, and a cut.
+/// Feeds a stream to a mirror that was fed nothing. Answers whether it has no fault, and a cut.
 #[inline(never)]
 fn is_fed(mirror: &mut Mirror, stream: &[u8], step: usize) -> bool {
     if step == 0 || stream.len() > 2_000_000 {
@@ -114,7 +114,7 @@ fn is_fed(mirror: &mut Mirror, stream: &[u8], step: usize) -> bool {
     feed_all(mirror, stream, step) && mirror.cuts() == 1 && mirror.is_between()
 }
 
-/// Feeds a stream in pieces. Whether it has no fault.
+/// Feeds a stream in pieces. Answers whether it has no fault.
 fn feed_all(mirror: &mut Mirror, stream: &[u8], step: usize) -> bool
     requires step { 0 < step }
 {

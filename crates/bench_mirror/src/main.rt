@@ -1,8 +1,8 @@
 //! Measures the writer and the reader of streams beside std's `==` and `copy_from_slice`, on
 //! screens of 1024 by 1024.
 //!
-//! Each line says how many bytes a piece of work wrote or read, which never changes. With the word
-//! `time` it ends with the speed at best, in billions of bytes of a screen a second.
+//! Each line has the number of bytes that a piece of work wrote or read, which never changes. With the
+//! word `time` it ends with the best speed, in billions of bytes of a screen a second.
 #![tactic(auto)]
 
 mod feeds;

@@ -8,31 +8,31 @@ use tr_base::{Kind, NoMemory, Size};
 use tr_mirror::{has_its_pixels, update};
 use tr_screen::Screen;
 
-/// How many spans are measured. The best one counts.
+/// The number of measured spans. The best one counts.
 const SPANS: u32 = 40;
 
-/// How often a piece of work is done in a span.
+/// The number of repetitions of a piece of work in a span.
 const ROUND: u32 = 16;
 
-/// How many bytes the pixels of a screen have.
+/// The number of bytes of a screen's pixels.
 pub(crate) const PIXELS: usize = 1024 * 1024;
 
-/// What is measured.
+/// A measured piece of work.
 #[derive(Clone, Copy)]
 pub enum Work {
     /// Two comparisons of as many bytes as a screen has, by std.
     TwoComparisons,
-    /// The update from a screen to one that shows the same.
+    /// The update from a screen to an equal one.
     SameScreen,
-    /// A copy of as many bytes as a screen has behind an empty Vec with room, by std.
+    /// A copy of as many bytes as a screen has, by std: into a Vec without elements that has room.
     Copy,
-    /// That copy row by row, each behind seven bytes, as a stream has rows.
+    /// That copy row by row, each row after seven other bytes, as in a stream.
     CopyRows,
-    /// The update from a screen to one of which each pixel is another one.
+    /// The update from a screen to one that differs in each pixel.
     OtherScreen,
 }
 
-/// Screens, and as many bytes beside them.
+/// Screens, and the same number of bytes beside them.
 #[derive(Drop)]
 pub struct Bench {
     last: Screen,
@@ -66,7 +66,7 @@ impl Bench {
     }
 }
 
-/// A screen of which no row is of one colour. Two with other numbers differ in each pixel.
+/// A screen without a row of one colour. Two with other numbers differ in each pixel.
 fn mixed(alloc: Global, number: u8) -> Result<Screen, NoMemory> {
     let size = Size {
         wide: 1024,
@@ -98,7 +98,7 @@ fn push(
     Ok(())
 }
 
-/// Appends rows of 1024 bytes, each behind seven others.
+/// Appends rows of 1024 bytes, each after seven others.
 fn push_rows(bytes: &[u8], out: &mut Vec<u8>) -> Result<(), NoMemory> {
     for row in bytes.chunks_exact(1024) {
         out.extend_from_slice(&[2, 0, 0, 0, 0, 4, 0])?;
@@ -108,7 +108,7 @@ fn push_rows(bytes: &[u8], out: &mut Vec<u8>) -> Result<(), NoMemory> {
 }
 
 impl Work {
-    /// Does the work once, and answers how many bytes it wrote.
+    /// Does the work once, and answers the number of bytes that it wrote.
     #[inline(never)]
     pub fn run(self, bench: &mut Bench) -> Result<usize, NoMemory> {
         bench.out.clear();
@@ -141,7 +141,7 @@ impl fmt::Display for Work {
     }
 }
 
-/// How many hundredths of a billion bytes of a screen are done a second, at best.
+/// The best speed, in hundredths of a billion bytes of a screen a second.
 pub fn speed<R: Clock>(rt: &R, bench: &mut Bench, work: Work) -> io::Result<u64> {
     let mut best = u64::MAX;
     for _ in 0..SPANS {

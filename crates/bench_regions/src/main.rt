@@ -17,10 +17,10 @@ use std::{env, io};
 use tr_base::NoMemory;
 use tr_region::Region;
 
-/// How long an operation is repeated, at least, in milliseconds.
+/// The least time of an operation's repetitions, in milliseconds.
 const SPAN_MILLIS: u64 = 200;
 
-/// How often it is repeated between two looks at the clock.
+/// The number of repetitions between two readings of the clock.
 const ROUND: u64 = 64;
 
 fn main(rt: HostRuntime) -> io::Result<()> {
@@ -78,7 +78,7 @@ fn line<R: Print + Clock + AllocGlobal>(
     println!(rt; "")
 }
 
-/// How many rectangles the operation's region has.
+/// The number of rectangles of the operation's region.
 fn length_of(operation: Operation, a: &Region, b: &Region) -> io::Result<usize> {
     let out = operation.apply(a, b).map_err(out_of_memory)?;
     Ok(out.rects().len())
@@ -97,7 +97,7 @@ fn print_lengths<R: Print + AllocGlobal>(
     )
 }
 
-/// How often in a second the operation is done.
+/// The number of operations in a second.
 fn speed<R: Clock>(rt: &R, operation: Operation, a: &Region, b: &Region) -> io::Result<u64> {
     let start = Instant::now(rt)?;
     for rounds in 1..u32::MAX {

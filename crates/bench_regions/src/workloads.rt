@@ -5,11 +5,11 @@ use std::fmt;
 use tr_base::{NoMemory, Rect};
 use tr_region::Region;
 
-/// What the operations are applied to: two regions of a workload.
+/// The operands: two regions of a workload.
 #[derive(Drop)]
 pub struct Operands {
     pub workload: Workload,
-    /// How many rectangles each region was made of.
+    /// The number of rectangles that each region was made of.
     pub n: u16,
     pub a: Region,
     pub b: Region,
@@ -24,8 +24,8 @@ impl Operands {
     }
 }
 
-/// Numbers of a linear congruential generator with the multiplier 1664525 and the increment
-/// 1013904223, of which the high half is used.
+/// Numbers of a linear congruential generator with the multiplier 1664525 and the increment 1013904223.
+/// Only the high half of each is used.
 #[derive(Drop)]
 struct Draws {
     state: u32,
@@ -49,7 +49,7 @@ impl Draws {
     }
 }
 
-/// How the rectangles of a region are chosen.
+/// The choice of a region's rectangles.
 #[derive(Clone, Copy)]
 pub enum Workload {
     /// Anywhere on a screen of 1024 by 1024, up to 64 each way.
@@ -94,7 +94,7 @@ impl Workload {
     }
 }
 
-/// The rectangle of this corner and these sides.
+/// The rectangle with this corner and these sides.
 fn rect_at(west: u32, north: u32, wide: u32, high: u32) -> Rect
     requires west { west < 65536 }
     requires north { north < 65536 }

@@ -3,7 +3,7 @@ use std::fmt;
 use tr_base::{Kind, Op, Pair};
 use tr_kernel::Mask;
 
-/// What is measured.
+/// A measured kernel.
 #[derive(Clone, Copy)]
 pub enum Kernel {
     StdFill,
@@ -39,7 +39,7 @@ impl Rows {
         })
     }
 
-    /// Rows of 19 colours, of which the last pixels differ, and every fifth before them.
+    /// Rows of 19 colours. Their last pixels differ, and every fifth before them.
     pub fn mixed(alloc: Global, width: usize) -> Result<Rows, AllocError> {
         let mut rows = Rows::plain(alloc, width)?;
         for (i, pixel) in rows.row.iter_mut().enumerate() {
@@ -55,7 +55,7 @@ impl Rows {
         Ok(rows)
     }
 
-    /// How many pixels the row has.
+    /// The number of the row's pixels.
     pub fn width(&self) -> usize {
         self.row.len()
     }
@@ -71,8 +71,8 @@ impl Rows {
 }
 
 impl Kernel {
-    /// Runs the kernel once, and answers what it answers, or the row's width. It has no large locals,
-    /// since a function pays at entry for those that it hands on by address. The operations come
+    /// Runs the kernel once, and returns its answer, or the row's width. It has no large locals,
+    /// since a function pays at entry for those that it passes on by address. The operations come
     /// from outside, so that the kernel is compiled for all of them.
     #[inline(never)]
     pub fn run(self, rows: &mut Rows, number: u8, one: Op, zero: Op) -> usize {

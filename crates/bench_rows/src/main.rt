@@ -1,8 +1,8 @@
 //! Measures the kernels on rows of pixels beside std's `fill`, `copy_from_slice` and `==`.
 //!
-//! Each line has a kernel and, for rows of 1024 and of 67 pixels, what it answered and the sum of
-//! the row that it left, which never change. With the word `time` it ends with the speed on each
-//! row, in billions of bytes a second.
+//! Each line has a kernel and, for rows of 1024 and of 67 pixels, its answer and the sum of the row after
+//! it, which never change. With the word `time` it ends with the speed on each row, in billions of bytes
+//! a second.
 #![tactic(auto)]
 
 mod kernels;
@@ -17,7 +17,7 @@ use std::rt::{Clock, Env};
 use std::{env, io};
 use tr_base::{Op, Point};
 
-/// The rows that are measured, by their pixels.
+/// The widths of the measured rows, in pixels.
 const WIDTHS: [usize; 2] = [1024, 67];
 
 fn main(rt: HostRuntime) -> io::Result<()> {
@@ -106,7 +106,7 @@ fn print_answer<R: Print + AllocGlobal>(
     print!(rt; " {width}: {answer} {sum}")
 }
 
-/// What a kernel answers, and the sum of the row that it leaves.
+/// The answer of a kernel, and the sum of the row after it.
 fn answer(
     alloc: Global,
     kernel: Kernel,

@@ -14,10 +14,10 @@ use tr_region::Region;
 use tr_repair::move_pixels;
 use tr_screen::Screen;
 
-/// How many spans are measured. The best one counts.
+/// The number of measured spans. The best one counts.
 const SPANS: u32 = 40;
 
-/// How often a screen is scrolled in a span.
+/// The number of scrolls of a screen in a span.
 const ROUND: u64 = 32;
 
 /// The size of each screen.
@@ -106,7 +106,7 @@ pub fn copy<R: Print + Clock + AllocGlobal>(rt: &R, timed: bool) -> io::Result<(
     println!(rt; "")
 }
 
-/// How many hundredths of a billion bytes a second that is, for so many bytes.
+/// The speed for this many bytes in this time, in hundredths of a billion bytes a second.
 fn hundredths(nanos: u64, bytes: u64) -> u64 {
     bytes.wrapping_mul(ROUND * 100) / nanos.max(1)
 }
@@ -152,7 +152,7 @@ fn movable(alloc: Global, size: Size, west: u16, delta: Point) -> Result<Region,
     Ok(region)
 }
 
-/// How many pixels a region of one rectangle has.
+/// The number of pixels of a region of one rectangle.
 fn bytes_in(region: &Region) -> u64 {
     let mut count: u64 = 0;
     for rect in region.rects() {

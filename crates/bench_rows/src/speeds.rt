@@ -5,13 +5,13 @@ use std::rt::Clock;
 use std::time::Instant;
 use tr_base::Op;
 
-/// How many spans are measured. The best one counts.
+/// The number of measured spans. The best one counts.
 const SPANS: u32 = 300;
 
-/// How often a kernel runs in a span.
+/// The number of runs of a kernel in a span.
 const ROUND: u64 = 512;
 
-/// How many hundredths of a billion bytes a second the kernel does on plain rows, at best.
+/// The kernel's best speed on plain rows, in hundredths of a billion bytes a second.
 pub fn speed<R: Clock + AllocGlobal>(
     rt: &R,
     kernel: Kernel,

@@ -1,8 +1,8 @@
 //! Measures the steps of a stage: acts on three sorts of content, flushes, moves of windows and motions
-//! of the cursor, at the beginning of a journal and behind a long one.
+//! of the cursor, at the beginning of a journal and after a long one.
 //!
-//! Each line has what is measured, how many entries the journal got before without any use, how many
-//! steps were made, and then the entries of the journal and how far the screen lags behind, which never
+//! Each line has the workload, the number of entries that the journal got before without any use, the
+//! number of steps that were made, and then the entries of the journal and the screen's lag, which never
 //! change. With the word `time` the journal is longer and more steps are made, and each line ends with
 //! the microseconds of a step, of all rounds and of the best one.
 #![tactic(auto)]
@@ -19,14 +19,14 @@ use std::io::ErrorKind;
 use std::rt::{Clock, Env};
 use std::{env, io};
 
-/// What is made where nothing is timed.
+/// The extent if nothing is timed.
 const COUNTED: Extent = Extent {
     history: 1_000,
     rounds: 2,
     timed: false,
 };
 
-/// What is made where something is.
+/// The extent if the steps are timed.
 const TIMED: Extent = Extent {
     history: 100_000,
     rounds: 64,

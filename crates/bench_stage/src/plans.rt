@@ -4,27 +4,27 @@ use tr_client::Client;
 use tr_forest::Edit;
 use tr_journal::Step;
 
-/// How many motions are made in a round.
+/// The number of motions in a round.
 const MOTIONS: u8 = 64;
 
-/// The window that is told something.
+/// The window that gets the commands.
 const WINDOW: LeafId = LeafId(0);
 
-/// What is made of a stage to measure it.
+/// The windows and the steps of a measurement.
 #[derive(Drop)]
 pub struct Plan<C: Client> {
     /// The contents of its windows.
     pub contents: Vec<C>,
     /// The steps that are made once, before all others.
     pub first: Vec<Step<C::Cmd>>,
-    /// Those that are made before each round, and not measured.
+    /// The steps that are made before each round, and not measured.
     pub before: Vec<Step<C::Cmd>>,
-    /// Those of a round, which are measured.
+    /// The steps of a round, which are measured.
     pub round: Vec<Step<C::Cmd>>,
 }
 
 impl<C: Client> Plan<C> {
-    /// So many windows with the same content, and no step.
+    /// `count` windows with the same content, and no step.
     pub fn of(alloc: Global, content: &C, count: u8) -> Result<Plan<C>, NoMemory> {
         let mut contents = Vec::new(alloc);
         for _ in 0..count {
@@ -38,31 +38,31 @@ impl<C: Client> Plan<C> {
         })
     }
 
-    /// The window is told the commands so many times before all rounds.
+    /// The window gets the commands `times` times before all rounds.
     pub fn fill(&mut self, cmds: &[C::Cmd], times: u8) -> Result<(), NoMemory> {
         tell(&mut self.first, cmds, times)
     }
 
-    /// Before each round the window is told the commands, and is flushed.
+    /// Before each round the window gets the commands, and is flushed.
     pub fn prepare(&mut self, cmds: &[C::Cmd]) -> Result<(), NoMemory> {
         tell(&mut self.before, cmds, 1)?;
         self.before.push(Step::Flush { leaf: WINDOW })?;
         Ok(())
     }
 
-    /// In a round the window is told the commands so many times.
+    /// In a round the window gets the commands `times` times.
     pub fn act(&mut self, cmds: &[C::Cmd], times: u8) -> Result<(), NoMemory> {
         tell(&mut self.round, cmds, times)
     }
 
-    /// In a round the window is flushed, which was told the commands so many times before.
+    /// Before each round the window gets the commands `times` times; in the round it is flushed.
     pub fn flush(&mut self, cmds: &[C::Cmd], times: u8) -> Result<(), NoMemory> {
         tell(&mut self.before, cmds, times)?;
         self.round.push(Step::Flush { leaf: WINDOW })?;
         Ok(())
     }
 
-    /// In a round the first window and the last one are moved to and fro.
+    /// In a round the first window and the last one move to and fro.
     pub fn move_windows(&mut self) -> Result<(), NoMemory> {
         let count = u16::try_from(self.contents.len()).unwrap_or(u16::MAX);
         move_window(&mut self.round, 0)?;
@@ -82,7 +82,7 @@ impl<C: Client> Plan<C> {
     }
 }
 
-/// Adds that the window is told the commands so many times.
+/// Adds the steps that give the window the commands `times` times.
 fn tell<M: Command>(steps: &mut Vec<Step<M>>, cmds: &[M], times: u8) -> Result<(), NoMemory> {
     for _ in 0..times {
         tell_once(steps, cmds)?;
@@ -99,7 +99,7 @@ fn tell_once<M: Command>(steps: &mut Vec<Step<M>>, cmds: &[M]) -> Result<(), NoM
     Ok(())
 }
 
-/// Adds that a window is moved to and fro.
+/// Adds the steps that move a window to and fro.
 fn move_window<M: Drop>(steps: &mut Vec<Step<M>>, n: u16) -> Result<(), NoMemory> {
     let child = node_of(n);
     for at in [place_of(n.saturating_add(3)), place_of(n)] {
@@ -114,7 +114,7 @@ pub fn node_of(n: u16) -> NodeId {
     NodeId(n.saturating_add(1))
 }
 
-/// Where a window lies: further south-east than those before it.
+/// The place of a window: further south-east than the windows before it.
 pub fn place_of(n: u16) -> Point {
     Point {
         h: i32::from(n) * 14,
@@ -122,7 +122,7 @@ pub fn place_of(n: u16) -> Point {
     }
 }
 
-/// The same steps.
+/// A copy of the steps.
 pub fn copies_of<M: Command>(alloc: Global, steps: &[Step<M>]) -> Result<Vec<Step<M>>, NoMemory> {
     let mut copies = Vec::with_capacity(alloc, steps.len())?;
     for step in steps {

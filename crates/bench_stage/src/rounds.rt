@@ -6,33 +6,33 @@ use tr_client::Client;
 use tr_journal::Step;
 use tr_stage::{Peek, Stage};
 
-/// How much is made of a plan.
+/// The extent of a measurement.
 #[derive(Clone, Copy)]
 pub struct Extent {
-    /// How many entries the journal gets without any use, before the rounds.
+    /// The number of entries that the journal gets without any use, before the rounds.
     pub history: u32,
-    /// How many rounds are made.
+    /// The number of rounds.
     pub rounds: u32,
-    /// Whether the clock is looked at.
+    /// Whether the clock is read.
     pub timed: bool,
 }
 
-/// What was found.
+/// The result of a measurement.
 #[derive(Drop)]
 pub struct Measured {
-    /// How many steps were measured.
+    /// The number of measured steps.
     pub steps: u64,
-    /// How many entries the journal has in the end.
+    /// The number of entries in the journal at the end.
     pub entries: usize,
-    /// How far the screen lags behind in the end.
+    /// The screen's lag at the end.
     pub peek: Peek,
-    /// How many steps a round has.
+    /// The number of steps of a round.
     round: u64,
-    /// How long the rounds took.
+    /// The times of the rounds.
     spans: Spans,
 }
 
-/// How many nanoseconds rounds took.
+/// The times of rounds in nanoseconds.
 #[derive(Clone, Copy)]
 struct Spans {
     all: u64,
@@ -40,12 +40,12 @@ struct Spans {
 }
 
 impl Measured {
-    /// How long a step took on average.
+    /// The mean time of a step.
     pub fn mean_nanos(&self) -> u64 {
         self.spans.all / self.steps.max(1)
     }
 
-    /// How long a step took on average in the best round.
+    /// The mean time of a step in the best round.
     pub fn best_nanos(&self) -> u64 {
         self.spans.best / self.round.max(1)
     }
@@ -92,8 +92,8 @@ fn make_rounds<R: Clock + AllocGlobal, C: Client>(
     Ok(spans)
 }
 
-/// Makes a round on a screen that is up to date, and says how many nanoseconds it took, or 0 where
-/// nothing is timed.
+/// Makes a round on a screen that is up to date, and answers its time in nanoseconds, or 0 if nothing is
+/// timed.
 fn make_round<R: Clock + AllocGlobal, C: Client>(
     rt: &R,
     stage: &mut Stage<C>,
@@ -111,7 +111,7 @@ fn make_round<R: Clock + AllocGlobal, C: Client>(
 }
 
 impl Spans {
-    /// With one more.
+    /// The times with one more round.
     fn with(self, nanos: u64) -> Spans {
         Spans {
             all: self.all.saturating_add(nanos),
@@ -120,7 +120,7 @@ impl Spans {
     }
 }
 
-/// Adds so many entries to the journal.
+/// Adds `history` entries to the journal.
 fn lengthen<C: Client>(stage: &mut Stage<C>, history: u32) -> Result<(), Stopped> {
     for _ in 0..history {
         make(stage, Step::Sync)?;
@@ -128,7 +128,7 @@ fn lengthen<C: Client>(stage: &mut Stage<C>, history: u32) -> Result<(), Stopped
     Ok(())
 }
 
-/// How many nanoseconds the steps take.
+/// The time of the steps in nanoseconds.
 fn span<R: Clock, C: Client>(
     rt: &R,
     stage: &mut Stage<C>,
@@ -140,7 +140,7 @@ fn span<R: Clock, C: Client>(
     Ok(u64::try_from(nanos).unwrap_or(u64::MAX))
 }
 
-/// What was found of a stage.
+/// The result for a stage.
 fn found<C: Client>(
     stage: &Stage<C>,
     round: u64,

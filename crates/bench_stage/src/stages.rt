@@ -29,11 +29,11 @@ const WINDOW: Size = Size {
 /// The root of each stage.
 const ROOT: NodeId = NodeId(0);
 
-/// Why nothing is measured.
+/// The cause of a missing measurement.
 #[derive(Debug, Drop)]
 pub enum Stopped {
     NoMemory,
-    /// A step isn't allowed, or answers that it wasn't done.
+    /// A step isn't allowed, or its answer says that it wasn't done.
     Refused,
     Io(io::Error),
 }
@@ -59,7 +59,7 @@ impl From<io::Error> for Stopped {
     }
 }
 
-/// A stage whose windows lie on a Z, each in front of those before it, and a bit further south-east.
+/// A stage whose windows lie on a Z, each in front of the windows before it, and a bit further south-east.
 pub fn stage_of<C: Client>(alloc: Global, contents: &[C]) -> Result<Stage<C>, Stopped> {
     let mut opening = Opening::new(alloc, SCREEN, Kind::Map8)?;
     match fill(alloc, &mut opening, contents) {
@@ -144,7 +144,7 @@ fn has_node(tree: &Tree, node: NodeId) -> bool
     usize::from(node.0) < tree.count()
 }
 
-/// Just this size.
+/// The shape that allows only this size.
 fn just(size: Size) -> Shapes
     requires wide { size.wide ≤ 4096 }
     requires high { size.high ≤ 4096 }
@@ -185,7 +185,7 @@ pub fn make_copies<C: Client>(
     Ok(())
 }
 
-/// Makes a step, which is done.
+/// Makes a step, which must be done.
 pub fn make<C: Client>(stage: &mut Stage<C>, step: Step<C::Cmd>) -> Result<(), Stopped> {
     let actor = maker_of(&step);
     let level = stated(&step);
@@ -201,7 +201,7 @@ pub fn make<C: Client>(stage: &mut Stage<C>, step: Step<C::Cmd>) -> Result<(), S
     }
 }
 
-/// Who makes the step.
+/// The actor of the step.
 fn maker_of<M>(step: &Step<M>) -> Actor {
     match *step {
         Step::Act { leaf, .. } | Step::Flush { leaf } => Actor::Leaf(leaf),
@@ -210,7 +210,7 @@ fn maker_of<M>(step: &Step<M>) -> Actor {
     }
 }
 
-/// Whether the step may be made in this way.
+/// Whether the actor may make the step at this level.
 fn is_allowed<C: Client>(stage: &Stage<C>, actor: Actor, level: Held, step: &Step<C::Cmd>) -> bool
     ensures { IsTrue result → IsFor (tree_of stage.now.opening).nodes actor level step.now }
 {

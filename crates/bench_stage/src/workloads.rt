@@ -7,19 +7,19 @@ use w_canvas::{Area, Canvas, CanvasCmd};
 use w_lines::{Lines, LinesCmd};
 use w_plain::{Solid, SolidCmd};
 
-/// How many lines are kept.
+/// The number of lines that are kept.
 const LINES: u8 = 200;
 
-/// How many figures a canvas has room for.
+/// The number of figures that a canvas has room for.
 const FIGURES: u8 = 64;
 
-/// How often a window is told its commands in a round.
+/// The number of times that a window gets its commands in a round.
 const ROUND: u8 = 32;
 
 /// A window of one colour.
 const SOLID: Widget = Widget::Solid(Solid { tint: 7 });
 
-/// The window gets the colour that it began with.
+/// The window gets its first colour again.
 const TINT: WidgetCmd = WidgetCmd::Solid(SolidCmd::Tint(7));
 
 /// The window gets another colour.
@@ -28,25 +28,25 @@ const OTHER_TINT: WidgetCmd = WidgetCmd::Solid(SolidCmd::Tint(200));
 /// The canvas loses its last figure.
 const UNDO: WidgetCmd = WidgetCmd::Canvas(CanvasCmd::Undo);
 
-/// What is measured.
+/// A measured workload.
 #[derive(Clone, Copy)]
 pub enum Workload {
-    /// A window of one colour is told a colour.
+    /// A window of one colour gets a colour.
     ActOnSolid,
     /// A typescript with all lines that are kept gets one more.
     ActOnLines,
     /// A canvas with all figures that it has room for loses the last one, and gets it back.
     ActOnCanvas,
-    /// So many commands that wait for a window of one colour are executed.
+    /// This number of commands that wait for a window of one colour are executed.
     Flush(u8),
-    /// Of so many windows the one behind the others and the one in front are moved to and fro.
+    /// Among this number of windows the rearmost and the foremost move to and fro.
     Move(u8),
-    /// The cursor goes across so many windows.
+    /// The cursor goes across this number of windows.
     Motion(u8),
 }
 
 impl Workload {
-    /// How it is measured.
+    /// The plan of its measurement.
     pub fn plan(self, alloc: Global) -> Result<Plan<Widget>, NoMemory> {
         let mut plan = self.windows(alloc)?;
         match self.add_steps(alloc, &mut plan) {
@@ -75,7 +75,7 @@ impl Workload {
         }
     }
 
-    /// How many windows there are.
+    /// The number of windows.
     fn count(self) -> u8 {
         match self {
             Workload::Move(count) | Workload::Motion(count) => count,

@@ -1,5 +1,5 @@
 -- A Counter obeys the laws of clients.
--- These are proofs, which stand here since an impl cites nothing else of its crate; no contract cites them.
+-- Proofs of an impl's laws: of its crate, an impl may cite just specs/. No contract cites them.
 use Rattle.std.proofs.Common.{◌≡◌, ℕ, ◌+◌, ◌<◌, ◌≤◌, ◌^◌, ◌==◌, ◌&&◌, min, ℤ, pos, Bool, true, false, cond, [], ◌∷◌, Some, None, refl, ap, ◌∙◌, arith}
 use Rattle.std.specs.Prelude.{IfSome}
 use Rattle.std.proofs.lemmas.Int.{ints}
@@ -39,7 +39,7 @@ and_true : (b : Bool) → b && true ≡ b
 and_true true = refl
 and_true false = refl
 
--- a point of a part lies in some columns of it by its column alone
+-- a point of a part lies in some columns of the part, by the point's column alone
 columns-have : (part : Edges) (from to : ℕ) (q : Point) → has_point part q ≡ true →
     has_point (columns_of part from to) q ≡ between (pos from) (pos to) q.h
 columns-have part from to q here =
@@ -50,7 +50,7 @@ columns-have part from to q here =
     (and_parts (between part.west part.east q.h) (between part.north part.south q.v) here).1
     ∙ and_true (between (pos from) (pos to) q.h)
 
--- what a bar grows by lies in the longer bar
+-- the growth of a bar lies in the longer bar
 grown-in : (low high : ℕ) (h : ℤ) → between (pos low) (pos high) h ≡ true → between (pos 0) (pos high) h ≡ true
 grown-in low high h within = grind (arith, ints)
 
@@ -59,7 +59,7 @@ grown-beside : (low high : ℕ) (h : ℤ) → low ≤ high → between (pos low)
     between (pos 0) (pos low) h ≡ between (pos 0) (pos high) h
 grown-beside low high h order beside = grind (arith, ints)
 
--- ---- a part of the picture is painted
+-- ---- the painting of a part
 
 -- the bar over the background, by whether a point lies in the bar
 bar-makes : (look : Look) (tint : ℕ) (bar : Bool) →
@@ -103,7 +103,7 @@ counter_answers x (Mouse time click button at) valid known = click_answers click
 counter_answers x (Key time code) valid known = key_answers code
 counter_answers x event valid known = tt
 
--- the columns that are painted have the tint in the longer bar, and the others are as they were
+-- the painted columns have the tint in the longer bar, and the others didn't change
 grown-gives : (look : Look) (size : Size) (tint : ℕ) (grown after before : Bool) (old : Point → ℕ) (q : Point) →
     old q ≡ eff look.kind (cond before (Set tint) Bg) 0 → (grown ≡ true → after ≡ true) → (grown ≡ false → before ≡ after) →
     Gives look.kind size (cond grown (Value (eff look.kind (Set tint) 0)) Keep) old q (eff look.kind (cond after (Set tint) Bg) 0)

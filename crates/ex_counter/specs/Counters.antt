@@ -1,4 +1,4 @@
--- Windows with a bar, which is as long as a number that events count up.
+-- Windows with a bar; its length is a number that events count up.
 use Rattle.std.specs.Prelude.{ℕ, ◌+◌, ◌<◌, ◌^◌, ◌==◌, min, pos, if◌then◌else◌, List, [], ◌∷◌, ◌++◌, Option, Some, None, codes, decimal}
 use Rattle.tr_base.specs.declared.Point.{Point}
 use Rattle.tr_base.specs.declared.Size.{Size}
@@ -24,7 +24,7 @@ pub record IsCounter (x : Counter) : Type 0 where
   pub count : x.count < 2 ^ 8
   pub tint : x.tint < 2 ^ 8
 
--- so is what a command adds
+-- the addend of a command is a byte
 abbrev pub IsCounterCmd : CounterCmd → Type 0
 IsCounterCmd (Add n) = n < 2 ^ 8
 
@@ -42,31 +42,31 @@ counter_next x (Add n) = record x { count = min (x.count + n) greatest }
 
 -- ---- the picture
 
--- the first columns, as many as the number says, have the tint, as the kind has it; the others are background
+-- the first `count` columns have the tint, as the kind has it; the others are background
 abbrev pub counter_pic : Look → Size → Counter → Point → ℕ
 counter_pic look size x q = eff look.kind (if between (pos 0) (pos x.count) q.h then Set x.tint else Bg) 0
 
--- the columns of a part of the window from one on, before another
+-- the columns from `from` on, before `to`, of a part of the window
 abbrev pub columns_of : Edges → ℕ → ℕ → Edges
 columns_of part from to = meet_of part (rect_of (pos from) (pos to) part.north part.south)
 
--- a part is painted: all of it background, and the bar over it
+-- the painting of a part: all of it background, and the bar over it
 abbrev pub counter_paints : Edges → Counter → List Paint
 counter_paints part x = batch_of (Tint part Bg ∷ Tint (columns_of part 0 x.count) (Set x.tint) ∷ [])
 
--- from one bar to a longer one, just the columns between their ends are painted
+-- the painting from one bar to a longer one: only the columns between their ends
 abbrev pub growth_paints : Edges → Counter → Counter → List Paint
 growth_paints part x longer = batch_of (Tint (columns_of part x.count longer.count) (Set longer.tint) ∷ [])
 
--- a command's patch paints by how much the bar grows
+-- a command's patch paints the growth of the bar
 abbrev pub counter_patch : Look → Size → Counter → CounterCmd → List Paint
 counter_patch look size x cmd = growth_paints (whole_of size) x (counter_next x cmd)
 
--- the picture doesn't depend on the size, so what both windows have is kept
+-- the picture doesn't depend on the size, so the part that both windows have is kept
 abbrev pub counter_keeps : Counter → Size → Size → Edges
 counter_keeps x from to = meet_of (whole_of from) (whole_of to)
 
--- ---- what it does with events, and what others read
+-- ---- events, and the value for others
 
 -- the code of the key that counts
 abbrev pub plus : ℕ
@@ -81,7 +81,7 @@ abbrev pub click_answer : Click → Option CounterCmd
 click_answer FirstDown = Some (Add 10)
 click_answer click = None
 
--- the command that an event asks for
+-- the command for an event
 abbrev pub counter_answer : Counter → Event → Option CounterCmd
 counter_answer x (Mouse time click button at) = click_answer click
 counter_answer x (Key time code) = key_answer code

@@ -1,4 +1,4 @@
-//! A client of its own: the content of a window, with its commands. The meaning stands in
+//! A client of its own: the content of a window, with its commands. Its definition is in
 //! specs/Counters.antt; this file computes it.
 ghost use Rattle.std.specs.Prelude.{◌≡◌, IfOk, IfSome};
 ghost use Rattle.tr_base.specs.Rects.{whole_of};
@@ -15,31 +15,31 @@ use tr_paint::{Batch, Paint};
 /// The code of the key that counts.
 const PLUS: u8 = 43;
 
-/// A window with a bar, which is as long as a number that events count up.
+/// A window with a bar; its length is a number that events count up.
 #[derive(Clone, Copy, Debug, PartialEq, Eq)]
 pub struct Counter {
-    /// The number: how many columns the bar has.
+    /// The number: the number of columns of the bar.
     pub count: u8,
     /// The colour of the bar, as far as the kind of the pixels has it.
     pub tint: u8,
 }
 
-/// What a Counter can be told.
+/// A command for a Counter.
 #[derive(Clone, Copy, Debug, PartialEq, Eq)]
 pub enum CounterCmd {
-    /// The number becomes so much greater, up to 255.
+    /// Adds to the number, up to 255.
     Add(u8),
 }
 
 impl Counter {
-    /// A bar of this colour that has no column yet.
+    /// A bar of this colour, without a column yet.
     pub fn new(tint: u8) -> Counter
         ensures { result ≡ record { count = 0; tint = tint } }
     {
         Counter { count: 0, tint }
     }
 
-    /// Tells what each counter keeps. Nothing runs.
+    /// The properties of each counter, for the prover. Nothing runs.
     pub fn invariant(&self)
         ensures { spec.IsCounter self.now }
     {
@@ -51,7 +51,7 @@ impl Counter {
         ensures value { result ≡ self.now.count }
         ensures invariant { spec.IsCounter self.now }
     {
-        // Read for what it tells the prover: that it is a byte.
+        // Read for its clause: it is a byte.
         let _tint = self.tint;
         self.count
     }
@@ -83,7 +83,7 @@ impl Counter {
         Ok(batch)
     }
 
-    /// The commands that paint, in a whole window, by how much a longer bar is longer than this one.
+    /// The commands that paint, in a whole window, the growth of this bar to a longer one.
     fn growth(&self, alloc: Global, size: Size, longer: &Counter) -> Result<Batch, NoMemory>
         requires { IsWindowSize size }
         ensures { IfOk result (λ batch. batch ≡ spec.growth_paints (whole_of size) self.now longer.now) }
@@ -97,7 +97,7 @@ impl Counter {
     }
 }
 
-/// The columns of a part of a window from one on, before another.
+/// The columns from `from` on, before `to`, of a part of a window.
 fn columns(part: &Rect, from: u8, to: u8) -> Rect
     requires { IsNearRect part.now }
     ensures edges { result ≡ spec.columns_of part.now from to }
@@ -108,7 +108,7 @@ fn columns(part: &Rect, from: u8, to: u8) -> Rect
     part.meet(&Rect::edges(west, east, part.north(), part.south()))
 }
 
-/// How much a command adds.
+/// The addend of a command.
 fn amount_of(cmd: &CounterCmd) -> u8
     ensures value { cmd.now ≡ CounterCmd.Add result }
     ensures valid { spec.IsCounterCmd cmd.now }
@@ -118,7 +118,7 @@ fn amount_of(cmd: &CounterCmd) -> u8
     }
 }
 
-/// The command that a key asks for.
+/// The command for a key.
 fn asked_by_key(code: u8) -> Option<CounterCmd>
     ensures command { IfSome result (λ cmd. spec.IsCounterCmd cmd) }
     ensures answer { result ≡ spec.key_answer code }
@@ -130,7 +130,7 @@ fn asked_by_key(code: u8) -> Option<CounterCmd>
     }
 }
 
-/// The command that a button asks for.
+/// The command for a button.
 fn asked_by_click(click: Click) -> Option<CounterCmd>
     ensures command { IfSome result (λ cmd. spec.IsCounterCmd cmd) }
     ensures answer { result ≡ spec.click_answer click }
@@ -167,7 +167,7 @@ impl Command for CounterCmd {
     }
 }
 
-/// Each call tells that its content is valid: so it calls `invariant`, or `count` if it needs the number.
+/// Each call must know that its content is valid: it calls `invariant`, or `count` if it needs the number.
 impl Client for Counter {
     ghost use Rattle.ex_counter.specs.Counters.{IsCounter, counter_pic, counter_next, counter_patch, counter_answer, counter_value, counter_keeps};
     ghost use Rattle.ex_counter.specs.CounterLaws.{counter_contents, counter_answers, counter_patches, counter_empty_patches, counter_keeping, counter_kinds};

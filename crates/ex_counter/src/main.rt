@@ -1,6 +1,6 @@
 //! A client to copy from, and a program that shows two of its windows: the mouse clicks in each, a key is
 //! struck, and the windows take these events. It prints the screen at first and after each of the three,
-//! and in the end the journal, which has every step with its answer.
+//! and at the end the journal, which has every step with its answer.
 //!
 //! The client is `counters.rt`, with its meaning and its laws in specs/. The rest is generic over clients,
 //! so that no proof of it looks into the laws of one.
@@ -27,7 +27,7 @@ use tr_run::{Finished, Mode, Run};
 
 const SCREEN: Size = Size { wide: 24, high: 8 };
 
-/// What a window wants each way: eleven points, half of what the border leaves across.
+/// The shape of a window, each way: eleven points, half of the room that the border leaves across.
 const ANY: Shape = Shape {
     lo: 0,
     pref: 11,
@@ -39,7 +39,7 @@ const WEST: LeafId = LeafId(0);
 
 const EAST: LeafId = LeafId(1);
 
-/// Why nothing is printed.
+/// The cause of a missing text.
 #[derive(Debug, Drop)]
 enum Stopped {
     NoMemory,
@@ -81,13 +81,13 @@ fn main(rt: HostRuntime) -> io::Result<()> {
     }
 }
 
-/// What the program prints.
+/// The text that the program prints.
 fn text<C: Client>(alloc: Global, west: C, east: C) -> Result<Output, Stopped> {
     let run = start(alloc, opening(alloc, west, east)?)?;
     play(run)
 }
 
-/// Plays a run to its end. It answers what was printed meanwhile.
+/// Plays a run to its end. It answers the text.
 fn play<C: Client>(mut run: Run<'static, C, Names>) -> Result<Output, Stopped> {
     let made = make_all(&mut run);
     let text = text_of(run);
@@ -95,7 +95,7 @@ fn play<C: Client>(mut run: Run<'static, C, Names>) -> Result<Output, Stopped> {
     Ok(text)
 }
 
-/// All that happens.
+/// Makes all steps.
 fn make_all<C: Client>(run: &mut Run<C, Names>) -> Result<(), Stopped> {
     show(run)?;
     click(run, WEST, Point { h: 4, v: 4 }, 1)?;
@@ -107,15 +107,15 @@ fn make_all<C: Client>(run: &mut Run<C, Names>) -> Result<(), Stopped> {
     list(run)
 }
 
-/// What was printed. For the prover a function of its own, in which alone a run vanishes: `play` is slow to
-/// prove where it takes one apart, or may return before.
+/// The text of a run. This function is there for the prover: it alone drops a run. A proof of `play` is
+/// slow if `play` takes a run apart, or may return before.
 fn text_of<C: Client>(run: Run<'static, C, Names>) -> Output {
     let Finished { stage, text, .. } = run.finish();
     drop(stage);
     text
 }
 
-// ---- The opening: a border around two windows that stand side by side.
+// ---- The opening: a border around two windows side by side.
 
 fn opening<C: Client>(alloc: Global, west: C, east: C) -> Result<Opening<C>, Stopped> {
     let mut opening = Opening::new(alloc, SCREEN, Kind::Map8)?;
@@ -128,8 +128,8 @@ fn opening<C: Client>(alloc: Global, west: C, east: C) -> Result<Opening<C>, Sto
     }
 }
 
-/// Adds all nodes. For the prover a function of its own: whatever may return early is slow to prove where
-/// an opening would vanish then.
+/// Adds all nodes. This function is there for the prover: a proof is slow if an early return would drop an
+/// opening.
 fn fill<C: Client>(opening: &mut Opening<C>, west: C, east: C) -> Result<(), Stopped> {
     let border = add_frame(opening, NodeKind::Border { width: 1 })?;
     let row = add_frame(opening, NodeKind::H)?;
@@ -169,7 +169,7 @@ fn add_window<C: Client>(opening: &mut Opening<C>, content: C) -> Result<NodeId,
 
 /// Makes a node the last child of another.
 fn put<C: Client>(opening: &mut Opening<C>, child: NodeId, parent: NodeId) -> Result<(), Stopped> {
-    // Where it stands matters to the children of a Z alone.
+    // The place matters only to the children of a Z.
     let at = Point { h: 0, v: 0 };
     if !is_edit(opening.tree(), &Edit::Attach { child, parent, at }) {
         return Err(Stopped::Refused);
@@ -200,7 +200,7 @@ fn start<C: Client>(alloc: Global, opening: Opening<C>) -> Result<Run<'static, C
 // ---- The steps: events come from the desk, and each window takes its own.
 
 /// The mouse goes over a window, and a button goes down and up. The window takes both events, and becomes
-/// the one that keys go to.
+/// the owner of the keys.
 fn click<C: Client>(
     run: &mut Run<C, Names>,
     leaf: LeafId,
@@ -210,7 +210,7 @@ fn click<C: Client>(
     make(run, Actor::Desk, Step::Motion { time, at })?;
     press(run, leaf, true, time)?;
     press(run, leaf, false, time)?;
-    // The time has to be that of the event that the window was sent last.
+    // The time has to be that of the last event of the window.
     let selection = Selection::Key;
     let own = Step::Own {
         leaf,
@@ -232,7 +232,7 @@ fn press<C: Client>(
     make(run, Actor::Leaf(leaf), Step::Take { leaf })
 }
 
-/// A key is struck, and the window that keys go to takes the event.
+/// A key is struck, and the owner of the keys takes the event.
 fn strike<C: Client>(
     run: &mut Run<C, Names>,
     leaf: LeafId,
@@ -243,7 +243,7 @@ fn strike<C: Client>(
     make(run, Actor::Leaf(leaf), Step::Take { leaf })
 }
 
-/// Makes a step, if it is allowed. What it is answered stands in the journal.
+/// Makes a step, if it is allowed. Its answer is in the journal.
 fn make<C: Client>(
     run: &mut Run<C, Names>,
     actor: Actor,
@@ -259,7 +259,7 @@ fn make<C: Client>(
     Ok(())
 }
 
-/// Prints the screen, once it is up to date.
+/// Prints the screen, after it is brought up to date.
 fn show<C: Client>(run: &mut Run<C, Names>) -> Result<(), Stopped> {
     Ok(run.report(Query::Dump)?)
 }

@@ -1,7 +1,7 @@
 use tr_base::{LeafId, NodeId};
 use tr_journal::NameOf;
 
-/// What the nodes, and the windows among them, are called in texts.
+/// The names of the nodes, and of the windows among them, in texts.
 pub struct Names;
 
 impl NameOf for Names {

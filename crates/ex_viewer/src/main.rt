@@ -1,7 +1,7 @@
 //! A program to copy from: it reads a stream of updates from standard input, piece by piece as it comes, and
-//! prints after each cut which part of the screen changed. A viewer that draws copies the rows of
-//! `mirror.screen()` within that part. That the lines arrive on standard output is shown by the program's run
-//! alone.
+//! prints after each cut the changed part of the screen. A viewer that draws copies the rows of
+//! `mirror.screen()` within that part. Only a run of the program shows that the lines arrive on standard
+//! output.
 #![tactic(auto)]
 
 mod stops;
@@ -11,7 +11,7 @@ use std::process::ExitCode;
 use tr_io::{Source, StdSource};
 use tr_mirror::{Change, Mirror};
 
-/// How many bytes are asked for at once.
+/// The number of bytes in one read.
 const PIECE: usize = 4096;
 
 fn main(rt: HostRuntime) -> ExitCode {
@@ -25,14 +25,14 @@ fn main(rt: HostRuntime) -> ExitCode {
     }
 }
 
-/// Prints the changes of the stream that a source has, to its end.
+/// Prints the changes of the stream in a source, to its end.
 fn view<R: Print + AllocGlobal, S: Source>(rt: &R, source: &mut S) -> Result<(), Stopped> {
     let mut piece = vec![in rt.alloc(); 0u8; PIECE]?;
     let mut mirror = Mirror::new(rt.alloc())?;
     view_pieces(rt, source, &mut mirror, &mut piece)
 }
 
-/// Prints the changes of what a source has, to its end. It comes by way of `piece`.
+/// Prints the changes of the stream in a source, to its end. The bytes come by way of `piece`.
 fn view_pieces<R: Print + AllocGlobal, S: Source>(
     rt: &R,
     source: &mut S,
@@ -68,7 +68,7 @@ fn view_piece<R: Print + AllocGlobal>(
     Ok(())
 }
 
-/// Prints what the last cut changed.
+/// Prints the change of the last cut.
 fn print_change<R: Print + AllocGlobal>(rt: &R, mirror: &Mirror) -> Result<(), Stopped> {
     let cut = mirror.cuts();
     match mirror.changed() {

@@ -5,7 +5,7 @@ use tr_base::NoMemory;
 use tr_io::Failed;
 use tr_mirror::MirrorFault;
 
-/// Why the viewer stopped before the stream's end.
+/// The cause of a stop before the stream's end.
 #[derive(Clone, Copy, Debug, Error)]
 pub enum Stopped {
     #[error("out of memory")]

@@ -1,4 +1,4 @@
--- What the words after the program's name ask for.
+-- The command that the words after the program's name ask for.
 use Rattle.std.specs.Prelude.{ℕ, List, [], ◌∷◌, Option, Some, None, if◌then◌else◌, bytes_eq, codes, map, String, string_bytes}
 use Rattle.std.specs.declared.alloc.Global.{Global}
 use Rattle.tr_grammar.specs.Words.{is_number, nat_of}
@@ -9,7 +9,7 @@ use Rattle.tr_arguments.specs.declared.commands.Command.TheVariants.{Play, Seria
 abbrev pub texts_of : List (String Global) → List (List ℕ)
 texts_of words = map string_bytes words
 
--- what one word asks for alone
+-- the command of one word alone
 abbrev pub alone : List ℕ → Option Command
 alone word =
     if bytes_eq word (codes "play") then Some Play
@@ -19,15 +19,15 @@ alone word =
     else (if bytes_eq word (codes "show") then Some Show
     else None))))
 
--- the script that is drawn from a number, which is spelled in one way
+-- the command for the script of a number, which has one spelling
 abbrev pub gen_of_number : List ℕ → Option Command
 gen_of_number number = if is_number 0 4294967295 number then Some (Gen (nat_of number)) else None
 
--- what two words ask for: `gen` and a number
+-- the command of two words: `gen` and a number
 abbrev pub with_number : List ℕ → List ℕ → Option Command
 with_number word number = if bytes_eq word (codes "gen") then gen_of_number number else None
 
--- what a list of words asks for, if it is an accepted one
+-- the command of a list of words, if it is an accepted one
 abbrev pub command_of : List (List ℕ) → Option Command
 command_of (word ∷ []) = alone word
 command_of (word ∷ number ∷ []) = with_number word number

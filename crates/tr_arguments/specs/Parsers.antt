@@ -1,5 +1,5 @@
 -- Private contracts alone cite this file.
--- The parser of the words, and what it finds.
+-- The parser of the words, and its findings.
 use Rattle.std.specs.Prelude.{ℕ, ◌==◌, Bool, true, List, [], ◌∷◌, Option, Some, None, codes, slice_index, option_and_then}
 use Rattle.clap.specs.Walk.{Row, Rule, Text, first_of}
 use Rattle.clap.specs.Simple.{App, new_app, new_rule, new_shape, on_top, with_rule, with_subcommand}
@@ -26,7 +26,7 @@ bare_words = on_top (λ s. record s {
 abbrev pub gen : App
 gen = with_rule (new_app (codes "gen")) number_rule
 
--- a subcommand with nothing behind its name
+-- a subcommand with nothing after its name
 abbrev pub with_command_name : App → Text → App
 with_command_name app name = with_subcommand app (new_shape name)
 
@@ -43,10 +43,10 @@ abbrev pub words_of_option : Option Text → List Text
 words_of_option None = []
 words_of_option (Some word) = word ∷ []
 
--- the words that a subcommand and its number stand for
+-- the words of a subcommand and its number
 abbrev pub words_found : Text × List Row → List Text
 words_found found = found.0 ∷ words_of_option (first_of (codes "number") found.1)
 
--- what a subcommand asks for, if one was found
+-- the command of a subcommand, if one was found
 abbrev pub command_of_found : Option (Text × List Row) → Option Command
 command_of_found found = option_and_then (λ f. command_of (words_found f)) found

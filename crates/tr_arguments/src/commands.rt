@@ -1,4 +1,4 @@
-//! What the words of the command line ask for.
+//! The commands of the command line.
 ghost use Rattle.std.specs.Prelude.{◌≡◌, ◌∷◌, false, IfOk, option_map, string_bytes};
 ghost use Rattle.std.specs.List.{list_any};
 ghost use Rattle.tr_arguments.specs.Commands.{command_of, gen_of_number, texts_of};
@@ -12,14 +12,14 @@ use std::alloc::Global;
 use tr_base::NoMemory;
 use tr_words::number;
 
-/// What the program is asked to do.
+/// A command of the program.
 #[derive(Clone, Copy, Debug, PartialEq, Eq)]
 pub enum Command {
     /// Plays a script with many threads.
     Play,
     /// Plays a script on one thread.
     Serial,
-    /// Plays a script on one thread, and shows after each step how far the screen lags behind.
+    /// Plays a script on one thread, and shows after each step the screen's lag.
     Check,
     /// Plays a script on one thread, and writes the stream of the screens that are dumped.
     Mirror,
@@ -29,9 +29,9 @@ pub enum Command {
     Gen(u32),
 }
 
-/// What the words after the program's name ask for; `None` where they are no accepted list: `play`,
-/// `serial`, `check`, `mirror`, `show`, or `gen` and a number from 0 to 4294967295, in decimal digits without
-/// a zero in front.
+/// The command of the words after the program's name; `None` if they are no accepted list. The accepted
+/// ones are `play`, `serial`, `check`, `mirror`, `show`, and `gen` with a number from 0 to 4294967295, in
+/// decimal digits without a zero in front.
 pub fn command_of(alloc: Global, words: &[String]) -> Result<Option<Command>, NoMemory>
     ensures { IfOk result (λ command. command ≡ command_of (texts_of words.now)) }
 {
@@ -54,7 +54,7 @@ fn is_flag(word: &str) -> bool
     word.starts_with('-')
 }
 
-/// What words ask for of which none begins with a hyphen.
+/// The command of words without a hyphen in front.
 fn parse(alloc: Global, words: &[String]) -> Result<Option<Command>, NoMemory>
     requires { list_any (λ word. is_flag (string_bytes word)) words.now ≡ false }
     ensures { IfOk result (λ command. command ≡ command_of (texts_of words.now)) }
@@ -69,7 +69,7 @@ fn parse(alloc: Global, words: &[String]) -> Result<Option<Command>, NoMemory>
     }
 }
 
-/// What the subcommand that a parse found asks for.
+/// The command of the subcommand that a parse found.
 fn found(matches: &ArgMatches) -> Option<Command>
     ensures { result ≡ command_of_found (subcommand_rows_of matches.now) }
 {
@@ -79,7 +79,7 @@ fn found(matches: &ArgMatches) -> Option<Command>
     }
 }
 
-/// What a first word asks for, with the word behind it, if there is one.
+/// The command of a first word, with the word after it, if there is one.
 fn named(name: &str, number: Option<&str>) -> Option<Command>
     ensures { result ≡ command_of (name.now ∷ words_of_option (option_map (λ word. word.now) number.entry)) }
 {
@@ -94,7 +94,7 @@ fn named(name: &str, number: Option<&str>) -> Option<Command>
     }
 }
 
-/// The script of a number, which is spelled in one way.
+/// The command for the script of a number, which has one spelling.
 fn numbered(word: &str) -> Option<Command>
     ensures { result ≡ gen_of_number word.now }
 {

@@ -1,4 +1,4 @@
-//! The words of the command line, and what they ask the program to do. They are read with `clap`.
+//! The words of the command line, and the command that they give. `clap` reads them.
 #![tactic(auto)]
 
 mod commands;

@@ -1,4 +1,4 @@
-//! The parser of the words, which is `clap`'s: a subcommand for each accepted first word.
+//! The parser of the words, by `clap`: a subcommand for each accepted first word.
 ghost use Rattle.std.specs.Prelude.{◌≡◌, IfOk};
 ghost use Rattle.tr_arguments.specs.Parsers as spec;
 ghost use Rattle.tr_arguments.specs.Parsers.{parser};
@@ -19,7 +19,7 @@ pub fn parser<'a>(alloc: Global) -> Result<Command<'a>, AllocError>
     mirroring.subcommand(drawn)
 }
 
-/// The words with which a script is played, and its reports are written.
+/// The words that play a script, and write its reports.
 fn playing<'a>(alloc: Global) -> Result<Command<'a>, AllocError>
     ensures { IfOk result (λ made. app_of made ≡ spec.playing) }
 {

@@ -1,4 +1,4 @@
--- What an audit of a journal tells: all but the opening.
+-- The result of an audit of a journal: all but the opening.
 use Rattle.std.specs.Prelude.{◌≡◌, ℕ, List, length, take, drop}
 use Rattle.tr_journal.specs.declared.steps.Actor.{Actor}
 use Rattle.tr_journal.specs.declared.entries.Entry.{Entry}
@@ -14,7 +14,7 @@ module _ {M : Type 0} (lists : ListsView M) (later : List (Entry M)) where
   abbrev pub HaveSameSteps : Type 0
   HaveSameSteps = (actor : Actor) → HasList (length lists.leaves) actor → list_of lists actor ≡ steps_by actor later
 
-  -- the actor has a list, and those before it made the steps of theirs
+  -- the actor has a list, and each actor before it made the steps of its list
   pub record IsReached (actor : Actor) : Type 0 where
     pub listed : HasList (length lists.leaves) actor
     pub earlier : (other : Actor) → HasList (length lists.leaves) other → IsBefore other actor
@@ -25,17 +25,17 @@ module _ {M : Type 0} (lists : ListsView M) (later : List (Entry M)) where
   IsOwnApart place (Own actor x y) = IsReached actor × DifferIn (list_of lists actor) (steps_by actor later) place x y
   IsOwnApart place what = ⊥
 
-  -- the same, as a difference says it
+  -- the same, for a difference
   abbrev pub IsOwnDifference : Difference M → Type 0
   IsOwnDifference d = IsOwnApart d.place d.what
 
 module _ {M : Type 0} (kept : List (Entry M)) (lists : ListsView M) (found : List (Entry M)) where
-  -- the entries that were kept are there, and behind them each actor's steps
+  -- the kept entries are there, and after them each actor's steps
   pub record HasAllEntries : Type 0 where
     pub entries : kept ≡ take (length kept) found
     pub steps : HaveSameSteps lists (drop (length kept) found)
 
-  -- what differs first: an entry that was kept, or else a step of an actor
+  -- the first difference: a kept entry, or else a step of an actor
   abbrev pub IsApart : ℕ → Apart M → Type 0
   IsApart place Opening = ⊥
   IsApart place (Kept x y) = DifferIn kept (take (length kept) found) place x y

@@ -1,4 +1,4 @@
-//! Whether a journal has what is handed in.
+//! Whether a journal has the given entries and steps.
 ghost use Rattle.std.specs.Prelude.{◌≡◌, ◌≤◌, ◌↔◌, ◌+◌, ◌^◌, ◌<◌, IsTrue, IfOk, IfNone, IfSome, length, take, drop, slice_get, Some};
 ghost use Rattle.std.specs.Option.{ForSome};
 ghost use Rattle.tr_journal.specs.Openings.{DifferAt};
@@ -11,9 +11,9 @@ use std::alloc::Global;
 use tr_base::{Command, NoMemory};
 use tr_journal::{Apart, Difference, Entry, Journal, Lists, Step};
 
-/// The first difference between what is handed in and what a journal has: its first entries, which are
-/// to be those of `kept`, and behind them each actor's steps, which are to be those of its list. What
-/// steps sent isn't compared, nor what the painter did.
+/// The first difference between the given entries and steps and those of a journal: its first entries
+/// must be those of `kept`, and after them each actor's steps must be those of its list. The deliveries
+/// of steps aren't compared, and the painter's steps aren't either.
 pub fn first_apart<M: Command>(
     alloc: Global,
     kept: &Journal<M>,
@@ -31,7 +31,7 @@ pub fn first_apart<M: Command>(
     own_difference(alloc, lists, journal, kept.len())
 }
 
-/// The first entry of `kept` that the journal hasn't at the same place.
+/// The first entry of `kept` that the journal doesn't have at the same place.
 fn first_kept_apart<M: Command>(kept: &Journal<M>, journal: &Journal<M>) -> Option<usize>
     ensures none { let found = take (length kept.now.lines) (entries_of journal.now.lines) in
         IfNone result (entries_of kept.now.lines ≡ found) }
@@ -48,14 +48,14 @@ fn first_kept_apart<M: Command>(kept: &Journal<M>, journal: &Journal<M>) -> Opti
     None
 }
 
-/// Whether the journal has this entry behind `k` others.
+/// Whether the journal has this entry after `k` others.
 fn has_entry<M: Command>(journal: &Journal<M>, k: usize, entry: &Entry<M>) -> bool
     ensures { IsTrue result ↔ (slice_get (entries_of journal.now.lines) k ≡ Some entry.now) }
 {
     k < journal.len() && journal.get(k).same(entry)
 }
 
-/// The difference of the entries behind `k` others.
+/// The difference of the entries after `k` others.
 fn kept_difference<M: Command>(
     alloc: Global,
     kept: &Journal<M>,
@@ -78,7 +78,7 @@ fn kept_difference<M: Command>(
     })
 }
 
-/// The entry behind `k` others, if there is one.
+/// The entry after `k` others, if there is one.
 fn entry_of<M: Command>(
     alloc: Global,
     journal: &Journal<M>,
@@ -93,7 +93,7 @@ fn entry_of<M: Command>(
     }
 }
 
-/// The first difference between the lists and the steps behind the first `from` entries.
+/// The first difference between the lists and the steps after the first `from` entries.
 fn own_difference<M: Command>(
     alloc: Global,
     lists: &Lists<M>,
@@ -110,7 +110,7 @@ fn own_difference<M: Command>(
         return Ok(None);
     };
     let list = lists.of(actor);
-    // Called for what they tell the prover: that the place can be counted.
+    // Tells the prover that the place can be counted.
     let _lengths = (list.len(), journal.len());
     Ok(Some(Difference {
         place: so_far.same as u64 + 1,
@@ -122,7 +122,7 @@ fn own_difference<M: Command>(
     }))
 }
 
-/// The step behind `k` others, if there is one.
+/// The step after `k` others, if there is one.
 fn step_in<M: Command>(
     alloc: Global,
     steps: &[Step<M>],
@@ -136,7 +136,7 @@ fn step_in<M: Command>(
     }
 }
 
-/// The step of the entry behind so many others, if one is asked for.
+/// The step of the entry after the given number of others, if one is given.
 fn step_of<M: Command>(
     alloc: Global,
     journal: &Journal<M>,

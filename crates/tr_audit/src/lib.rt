@@ -1,5 +1,5 @@
-//! An audit: whether a journal has the entries that were kept of it, and behind them each actor's steps,
-//! as they were noted apart from it.
+//! An audit: whether a journal has the entries that were kept of it, and after them each actor's steps,
+//! as a separate record has them.
 #![tactic(auto)]
 
 mod audits;

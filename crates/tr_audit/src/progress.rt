@@ -1,5 +1,5 @@
-//! One pass over the entries behind the kept ones, which says of each actor how far its steps are
-//! those of its list. It takes memory for the actors, and none for entries.
+//! One pass over the entries after the kept ones. For each actor it finds how many of its first steps
+//! are those of its list. It takes memory for the actors, and none for entries.
 ghost use Rattle.std.specs.Prelude.{◌≡◌, ◌↔◌, ◌+◌, ◌^◌, ◌<◌, ◌≤◌, ℕ, IsTrue, IsNone, IfOk, IfNone, IfSome, drop, length, get_or, slice_get, replicate, Some};
 ghost use Rattle.tr_journal.specs.Lists.{HasList, list_of};
 ghost use Rattle.tr_journal.specs.Actors.{entries_of};
@@ -11,17 +11,17 @@ use std::alloc::Global;
 use tr_base::{Command, LeafId, NoMemory};
 use tr_journal::{Actor, Journal, Lists, Step};
 
-/// How far the steps that an actor made are those of its list.
+/// The progress of an actor through its list.
 #[derive(Clone, Copy, Debug)]
 pub(crate) struct Progress {
-    /// So many of them are.
+    /// The number of first steps that agree.
     pub(crate) same: usize,
-    /// The entry with the next one, if that isn't the list's.
+    /// The entry with the next step, if that isn't the list's.
     pub(crate) apart: Option<usize>,
 }
 
-/// The first actor whose steps behind the first `from` entries aren't those of its list, and how far
-/// they are.
+/// The first actor whose steps after the first `from` entries aren't those of its list, and its
+/// progress.
 pub(crate) fn first_own_apart<M: Command>(
     alloc: Global,
     lists: &Lists<M>,
@@ -42,7 +42,7 @@ pub(crate) fn first_own_apart<M: Command>(
     Ok(Some((actor, progress[rank])))
 }
 
-/// What is known behind the last entry, where the first `from` entries are left out.
+/// The progress of all actors after the last entry, without the first `from` entries.
 fn followed<M: Command>(
     alloc: Global,
     lists: &Lists<M>,
@@ -60,7 +60,7 @@ fn followed<M: Command>(
     Ok(progress)
 }
 
-/// As many times that no step was made.
+/// The progress of `count` actors before any step.
 fn no_progress(alloc: Global, count: usize) -> Result<Vec<Progress>, NoMemory>
     ensures { IfOk result (λ progress. progress.items ≡ replicate count no_progress) }
 {
@@ -74,7 +74,7 @@ fn no_progress(alloc: Global, count: usize) -> Result<Vec<Progress>, NoMemory>
     Ok(progress)
 }
 
-/// Goes on by the entry behind `k` others.
+/// Continues by the entry after `k` others.
 fn follow_entry<M: Command>(
     progress: &mut Vec<Progress>,
     lists: &Lists<M>,
@@ -94,7 +94,7 @@ fn follow_entry<M: Command>(
     }
 }
 
-/// Goes on by the entry behind `k` others, one of the list's actor.
+/// Continues by the entry after `k` others; its actor is the list's.
 fn follow<M: Command>(
     progress: Progress,
     list: &[Step<M>],
@@ -121,7 +121,7 @@ fn follow<M: Command>(
     }
 }
 
-/// Whether the list has this step behind `k` others.
+/// Whether the list has this step after `k` others.
 fn is_at<M: Command>(list: &[Step<M>], k: usize, step: &Step<M>) -> bool
     ensures there { IsTrue result ↔ (slice_get list.now k ≡ Some step.now) }
     ensures counted { IsTrue result → k + 1 < 2 ^ 64 }
@@ -129,7 +129,7 @@ fn is_at<M: Command>(list: &[Step<M>], k: usize, step: &Step<M>) -> bool
     k < list.len() && list[k].same(step)
 }
 
-/// The rank of the first actor who isn't through its list.
+/// The rank of the first actor whose steps aren't those of its list.
 fn first_rank_apart<M: Command>(lists: &Lists<M>, progress: &[Progress]) -> Option<usize>
     requires { length progress.now ≡ length lists.now.leaves + 2 }
     ensures none { IfNone result (spec.AreThrough lists.now progress.now (length progress.now)) }
@@ -151,7 +151,7 @@ fn is_through<M>(list: &[Step<M>], progress: Progress) -> bool
     progress.apart.is_none() && progress.same == list.len()
 }
 
-/// Where the actor's list stands among so many leaves' lists and the two others, if it has one.
+/// The rank of the actor's list among the leaves' lists and the two others, if it has one.
 fn rank_of(leaves: u8, actor: Actor) -> Option<usize>
     ensures { result ≡ spec.rank_of leaves actor }
 {

@@ -6,11 +6,11 @@ use Rattle.tr_base.specs.Tiles.{is_set}
 abbrev pub box_glyph : List ℕ
 box_glyph = 255 ∷ 129 ∷ 129 ∷ 129 ∷ 129 ∷ 129 ∷ 129 ∷ 255 ∷ []
 
--- the font of which no glyph was set
+-- the font in which no glyph was set
 abbrev pub empty_font : List (List ℕ)
 empty_font = replicate 95 box_glyph
 
--- the glyph of a byte; that of a byte outside 32 to 126 is the box
+-- the glyph of a byte; the glyph of a byte outside 32 to 126 is the box
 abbrev pub glyph_of : List (List ℕ) → ℕ → List ℕ
 glyph_of font byte = if nat_le 32 byte then slice_index_or font (byte - 32) box_glyph else box_glyph
 
@@ -18,11 +18,11 @@ glyph_of font byte = if nat_le 32 byte then slice_index_or font (byte - 32) box_
 abbrev pub glyph_bit : List (List ℕ) → ℕ → ℕ → ℕ → Bool
 glyph_bit font byte h v = is_set (slice_index (glyph_of font byte) v) h
 
--- the pixel of a bit: 255 where it is set
+-- the pixel of a bit: 255 if it is set, and else 0
 abbrev pub pixel_of : Bool → ℕ
 pixel_of bit = if bit then 255 else 0
 
--- row after row each of the 95 glyphs has its eight pixels
+-- the pixels row by row: in each row each of the 95 glyphs has its eight pixels
 pub record HasPixels (glyphs : List (List ℕ)) (pixels : List ℕ) : Type 0 where
   pub count : length glyphs ≡ 95
   pub size : length pixels ≡ 6080

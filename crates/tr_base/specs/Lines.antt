@@ -1,8 +1,8 @@
--- Short texts that are painted in one line.
+-- Short texts, each painted in one line.
 use Rattle.std.specs.Prelude.{◌≡◌, ℕ, ◌-◌, ◌≤◌, ◌&&◌, nat_le, Bool, List, ◌++◌, length, take, replicate}
 use Rattle.std.specs.List.{AllPass}
 
--- a byte that a text may have: 32 to 126
+-- a byte that may occur in a text: 32 to 126
 abbrev pub is_printable : ℕ → Bool
 is_printable c = nat_le 32 c && nat_le c 126
 
@@ -11,7 +11,7 @@ pub record IsLine (text : List ℕ) : Type 0 where
   pub short : length text ≤ 80
   pub printable : AllPass is_printable text
 
--- the 80 bytes in which a text is kept: itself, and zeros behind it
+-- the 80 bytes in which a text is kept: its own bytes, and zeros after them
 abbrev pub padded : List ℕ → List ℕ
 padded text = text ++ replicate (80 - length text) 0
 

@@ -1,14 +1,14 @@
--- Pixmaps: pictures that are handed over as pixels.
+-- Pixmaps: pictures given as pixels.
 use Rattle.std.specs.Prelude.{◌≡◌, ℕ, ◌+◌, ◌*◌, List, length, slice_index, unsigned_abs}
 use Rattle.tr_base.specs.declared.points.Point.{Point}
 use Rattle.tr_base.specs.declared.sizes.Size.{Size}
 
--- what a contract sees of a pixmap: its size, and its pixels row after row from north to south
+-- the model of a pixmap: its size, and its pixels row by row from north to south
 pub record PixmapView : Type 0 where
   pub size : Size
   pub pixels : List ℕ
 
--- it has as many pixels as its size says
+-- the number of pixels is the product of the sides
 pub record IsPixmap (m : PixmapView) : Type 0 where
   pub count : length m.pixels ≡ m.size.wide * m.size.high
 

@@ -1,9 +1,9 @@
--- Bits of a byte that stand for points side by side, and tiles of eight by eight of them.
+-- Bits of a byte as points side by side, and tiles of eight such bytes.
 use Rattle.std.specs.Prelude.{ℕ, ℤ, pos, ◌-◌, ◌%◌, ◌==◌, Bool, slice_index, unsigned_abs}
 use Rattle.std.specs.Int.{bit_at, int_rem_euclid}
 use Rattle.tr_base.specs.declared.tiles.Tile.{Tile}
 
--- the bit of a place is set: place 0 is the highest bit, which stands westmost, and place 8 is place 0 again
+-- the bit of a place is set: place 0 is the highest bit, the westmost pixel, and place 8 is place 0 again
 abbrev pub is_set : ℕ → ℕ → Bool
 is_set byte place = bit_at byte (7 - place % 8) == 1
 
@@ -11,6 +11,6 @@ is_set byte place = bit_at byte (7 - place % 8) == 1
 abbrev pub tile_index : ℤ → ℕ
 tile_index x = unsigned_abs (int_rem_euclid x (pos 8))
 
--- the tile is repeated in all directions: the bit at a point
+-- the bit at a point of the plane that repeats the tile in all directions
 abbrev pub tile_bit : Tile → ℤ → ℤ → Bool
 tile_bit tile h v = is_set (slice_index tile.rows (tile_index v)) (tile_index h)

@@ -3,9 +3,9 @@ ghost use Rattle.std.specs.Prelude.{◌≡◌, ◌↔◌, ◌++◌, ℕ, List, I
 use crate::errors::NoMemory;
 use std::alloc::Global;
 
-/// What a client can be told to do.
+/// A command of a client.
 pub trait Command: Sized + Drop + Send + Sync {
-    /// The values that are commands, with their numbers in range.
+    /// The valid commands: their numbers are in range.
     ghost valid: { Self → Type 0 };
 
     /// The command's words in a script.
@@ -15,7 +15,7 @@ pub trait Command: Sized + Drop + Send + Sync {
     fn known(&self)
         ensures { valid self.now };
 
-    /// The same command.
+    /// A copy of the command.
     fn copy(&self, alloc: Global) -> Result<Self, NoMemory>
         ensures { IfOk result (λ c. c ≡ self.now) };
 

@@ -8,23 +8,23 @@ use crate::tiles::is_set;
 use std::alloc::Global;
 use std::marker::Model;
 
-/// The least byte that has a glyph of its own.
+/// The least byte with a glyph of its own.
 const FIRST: u8 = 32;
 
-/// The greatest byte that has a glyph of its own.
+/// The greatest byte with a glyph of its own.
 const LAST: u8 = 126;
 
-/// How many bytes have a glyph of their own.
+/// The number of bytes with a glyph of their own.
 const GLYPHS: usize = 95;
 
-/// How many pixels a row of all glyphs has.
+/// The number of pixels in a row of all glyphs.
 const ROW: usize = 8 * GLYPHS;
 
 /// The glyph of a byte that was never set.
 const BOX: [u8; 8] = [0xff, 0x81, 0x81, 0x81, 0x81, 0x81, 0x81, 0xff];
 
-/// The glyphs of the bytes 32 to 126, each of 8 by 8 bits, row after row from north to south; the
-/// highest bit of a row stands westmost. Beside them each glyph has its pixels ready, so that a text is
+/// The glyphs of the bytes 32 to 126, each of 8 by 8 bits, row by row from north to south. The highest
+/// bit of a row is the westmost pixel. The font also keeps the pixels of each glyph, so that a text is
 /// painted without taking bits apart.
 #[derive(Debug, Drop)]
 pub struct Font {
@@ -43,7 +43,7 @@ impl Model for Font {
     ghost invariant = { λ f. HasPixels f.glyphs.items f.pixels.items };
 }
 
-/// What painting depends on beside the content: which pixels there are, and the glyphs of texts.
+/// The environment of painting: the kind of the pixels, and the glyphs of texts.
 #[derive(Clone, Copy)]
 pub struct Env<'a> {
     pub kind: Kind,
@@ -51,7 +51,7 @@ pub struct Env<'a> {
 }
 
 impl Font {
-    /// A font of which no glyph was set: each is a box.
+    /// A font in which no glyph was set: each is a box.
     pub fn empty(alloc: Global) -> Result<Font, NoMemory>
         ensures glyphs { IfOk result (λ f. f ≡ spec.empty_font) }
     {
@@ -87,8 +87,8 @@ impl Font {
         }
     }
 
-    /// Row `v` of the pixels of all glyphs side by side, from that of byte 32 on: eight pixels each, 255
-    /// where a bit is set, and else 0.
+    /// Row `v` of the pixels of all glyphs side by side, from the glyph of byte 32 on: eight pixels each,
+    /// 255 for a set bit, and 0 for any other.
     #[inline(always)]
     pub fn row(&self, v: usize) -> &[u8]
         requires { v < 8 }
@@ -128,7 +128,7 @@ fn box_pixels(alloc: Global) -> Result<Vec<u8>, NoMemory>
     Ok(pixels)
 }
 
-/// Puts the pixels of a glyph into its column of all rows.
+/// Puts the pixels of a glyph into its columns of all rows.
 fn put_glyph(pixels: &mut [u8], place: usize, glyph: [u8; 8])
     requires size { length pixels.old ≡ 8 * ROW }
     requires place { place < GLYPHS }

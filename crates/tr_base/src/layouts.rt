@@ -6,7 +6,7 @@ use crate::points::Point;
 use crate::rects::{Rect, moved};
 use crate::shapes::{Shape, Shapes};
 
-/// The greatest length of a window, at which sums and products of lengths stop.
+/// The greatest length of a window. Sums and products of lengths stop there.
 pub const LONGEST: u16 = 4096;
 
 /// The sums of the children's lengths along one axis, down or across.
@@ -20,7 +20,7 @@ pub fn sums(down: bool, children: &[Shapes]) -> Shape
     all
 }
 
-/// The greatest of the children's lengths along one axis, down or across, and 0 without children.
+/// The greatest of the children's lengths along one axis, down or across; 0 without children.
 pub fn maxima(down: bool, children: &[Shapes]) -> Shape
     ensures { result ≡ maxima_of (map (along down) children.now) }
 {
@@ -38,7 +38,7 @@ pub fn along(down: bool, shapes: &Shapes) -> Shape
     if down { shapes.down } else { shapes.across }
 }
 
-/// The shapes of a window by its lengths along one axis, down or across, and along the other.
+/// The shapes of a window from its lengths along one axis, down or across, and along the other.
 pub fn shapes_of(down: bool, main: Shape, other: Shape) -> Shapes
     ensures { result ≡ shapes_of down main other }
 {
@@ -94,15 +94,15 @@ fn maximum(a: &Shape, b: &Shape) -> Shape
     }
 }
 
-/// The rectangle of a child that stands nowhere.
+/// The rectangle of a child that has no place.
 pub fn empty_place() -> Rect
     ensures { result ≡ empty_rect }
 {
     Rect::edges(0, 0, 0, 0)
 }
 
-/// How many points a node's rectangle has from west to east, and from north to south: at most 4096
-/// each way.
+/// The number of points of a node's rectangle from west to east, and from north to south: at most
+/// 4096 each way.
 pub fn sides(rect: &Rect) -> (u32, u32)
     requires { IsDomain rect.now }
     ensures sides { result ≡ sides_of rect.now }
@@ -116,7 +116,7 @@ pub fn sides(rect: &Rect) -> (u32, u32)
     rect.size()
 }
 
-/// The rectangle of a size, of at most 4096 each way, whose corner is that of another, moved by at
+/// The rectangle of this size, at most 4096 each way, whose corner is another's corner moved by at
 /// most 4096 each way.
 pub fn placed(rect: &Rect, by: Point, size: (u32, u32)) -> Rect
     requires domain { IsDomain rect.now }
@@ -132,8 +132,8 @@ pub fn placed(rect: &Rect, by: Point, size: (u32, u32)) -> Rect
     Rect::edges(west, east, north, south)
 }
 
-/// The place of a child of its preferred size, whose corner is the node's, moved by at most 2048
-/// each way. In an empty node it is empty.
+/// The place of a child with its preferred size. Its corner is the node's corner, moved by at most
+/// 2048 each way. In an empty node the place is empty.
 pub fn preferred_place(rect: &Rect, by: Point, child: &Shapes) -> Rect
     requires domain { IsDomain rect.now }
     requires offset { IsOffset farthest by }
@@ -156,7 +156,7 @@ fn preferred_size(child: &Shapes) -> (u32, u32)
     (u32::from(across.pref), u32::from(down.pref))
 }
 
-/// The sides of a node's rectangle: the one along an axis, down or across, and the other one.
+/// The sides of a node's rectangle: the side along an axis, down or across, and the other side.
 pub fn sides_along(down: bool, rect: &Rect) -> (u32, u32)
     requires { IsDomain rect.now }
     ensures sides { result ≡ sides_of (turned down rect.now) }
@@ -168,8 +168,8 @@ pub fn sides_along(down: bool, rect: &Rect) -> (u32, u32)
     if down { (high, wide) } else { (wide, high) }
 }
 
-/// The rectangle of a size whose corner is that of another, moved. Of both pairs the number along
-/// an axis, down or across, comes first, and each is at most 4096.
+/// The rectangle of this size whose corner is another's corner, moved. In both pairs the number along
+/// the axis, down or across, comes first. Each is at most 4096.
 pub fn placed_along(down: bool, rect: &Rect, by: (u32, u32), size: (u32, u32)) -> Rect
     requires domain { IsDomain rect.now }
     requires main { by.0 ≤ longest }

@@ -8,17 +8,17 @@ use std::alloc::Global;
 use std::marker::Model;
 use std::sync::Arc;
 
-/// The most bytes that a line has.
+/// The most bytes in a line.
 pub const LINE: usize = 80;
 
-/// A text of at most 80 bytes, each 32 to 126, seen as their list. Its copies share the bytes, so a copy
-/// takes no memory.
+/// A text of at most 80 bytes, each 32 to 126; its model is their list. Its copies share the bytes, so
+/// a copy takes no memory.
 #[derive(Debug, Drop)]
 pub struct Line {
     kept: Arc<Kept>,
 }
 
-/// The bytes of a text, and zeros behind them.
+/// The bytes of a text, and zeros after them.
 #[derive(Debug, Drop)]
 struct Kept {
     bytes: [u8; LINE],
@@ -38,7 +38,7 @@ impl Model for Line {
 }
 
 impl Line {
-    /// The text of these bytes.
+    /// A text with these bytes.
     pub fn of(alloc: Global, bytes: &[u8]) -> Result<Line, NoMemory>
         requires short { length bytes.now ≤ LINE }
         requires printable { AllPass is_printable bytes.now }
@@ -61,7 +61,7 @@ impl Line {
         &self.kept.bytes[..usize::from(self.kept.len)]
     }
 
-    /// The same text.
+    /// A copy of the text.
     pub fn copy(&self) -> Result<Line, NoMemory>
         ensures { IfOk result (λ l. l ≡ self.now) }
     {
@@ -78,14 +78,14 @@ impl Line {
     }
 }
 
-/// Whether a text may have the byte: 32 to 126.
+/// Whether the byte may occur in a text: 32 to 126.
 pub fn is_printable(byte: u8) -> bool
     ensures { result ≡ is_printable byte }
 {
     32 <= byte && byte <= 126
 }
 
-/// The bytes, and zeros behind them.
+/// The bytes, and zeros after them.
 fn padded(bytes: &[u8]) -> [u8; LINE]
     requires { length bytes.now ≤ LINE }
     ensures { result ≡ spec.padded bytes.now }

@@ -7,7 +7,7 @@ use crate::points::Point;
 use crate::sizes::Size;
 use std::marker::Model;
 
-/// A picture that is handed over as pixels, row after row from north to south.
+/// A picture given as pixels, row by row from north to south.
 #[derive(Debug, Drop)]
 pub struct Pixmap {
     size: Size,
@@ -25,7 +25,7 @@ impl Model for Pixmap {
 }
 
 impl Pixmap {
-    /// The picture of this size with these pixels, of which there are as many as the size says.
+    /// The picture of this size with these pixels. Their number is the product of the sides.
     pub fn new(size: Size, pixels: Vec<u8>) -> Pixmap
         requires { vec_len pixels ≡ size.wide * size.high }
         ensures { result ≡ record { size = size; pixels = pixels.items } }
@@ -33,7 +33,7 @@ impl Pixmap {
         Pixmap { size, pixels }
     }
 
-    /// How many pixels it has from west to east, and from north to south.
+    /// The number of pixels from west to east, and from north to south.
     pub fn size(&self) -> Size
         ensures value { result ≡ self.now.size }
         ensures invariant { IsPixmap self.now }

@@ -1,14 +1,14 @@
 ghost use Rattle.std.specs.Prelude.{◌≡◌, ◌<◌};
 ghost use Rattle.tr_base.specs.Tiles as spec;
 
-/// A pattern of 8 by 8 bits, row after row from north to south. The highest bit stands westmost.
+/// A pattern of 8 by 8 bits, row by row from north to south. The highest bit is the westmost pixel.
 #[derive(Clone, Copy, Debug, PartialEq, Eq)]
 pub struct Tile {
     pub rows: [u8; 8],
 }
 
-/// The bit of the tile at a point, where the tile is repeated in all directions: that of row `v` and
-/// column `h`, both by their remainders by 8, which are never negative.
+/// The bit at a point of the plane that repeats the tile in all directions: the bit in row `v` and
+/// column `h`, each by its remainder by 8, which is never negative.
 pub fn tile_bit(tile: &Tile, h: i32, v: i32) -> bool
     ensures { result ≡ spec.tile_bit tile.now h v }
 {
@@ -23,7 +23,7 @@ pub fn place_of(x: i32) -> u8
     x.rem_euclid(8) as u8
 }
 
-/// Whether the bit of a place is set: place 0 is the highest bit, which stands westmost.
+/// Whether the bit of a place is set: place 0 is the highest bit, the westmost pixel.
 pub fn is_set(byte: u8, place: u8) -> bool
     requires { place < 8 }
     ensures { result ≡ spec.is_set byte place }

@@ -1,4 +1,4 @@
--- What a contract sees of a window's waiting commands.
+-- The model of a window's waiting commands.
 use Rattle.std.specs.Prelude.{ℕ, List}
 use Rattle.tr_base.specs.declared.Size.{Size}
 use Rattle.tr_base.specs.declared.Kind.{Kind}
@@ -16,7 +16,7 @@ pub record PreparedView (C M : Type 0) : Type 0 where
   pub kind : Kind
   pub commands : List M
 
--- what a contract of a book says of a Prepared
+-- the model of a Prepared in a book
 abbrev pub view_of : {C M : Type 0} {client : Ghosts C M} {command : CommandGhosts M} →
     Prepared C M client command → PreparedView C M
 view_of p = record {
@@ -27,8 +27,8 @@ view_of p = record {
   commands = p.commands.items;
 }
 
--- the commands of a window that wait, the level of each, which is the list of what its caller held,
--- and how many were handed over
+-- the waiting commands of a window, the levels that the caller of each held, and the number of commands
+-- that were handed over
 pub record BookView (C M : Type 0) : Type 0 where
   pub prepared : PreparedView C M
   pub levels : List (List Level)

@@ -12,7 +12,7 @@ use tr_client::{Client, Prepared};
 use tr_levels::Held;
 
 /// The commands of one window that wait to be handed over, in their order, prepared over a content.
-/// Each has its level: what its caller held below the window's lock, which is never a share or a
+/// Each has its level: the levels that its caller held below the window's lock, never a share or a
 /// window. A book has no limit.
 #[derive(Drop)]
 pub struct Book<C: Client> {
@@ -61,8 +61,8 @@ impl<C: Client> Book<C> {
         })
     }
 
-    /// The command waits, as the last one. For want of memory it is let go, and the book is as
-    /// before. The level holds no share and no window, as `Held::parts` shows.
+    /// Adds a command after those that wait. If memory runs out, the command is dropped, and the book is
+    /// as before. The level holds no share and no window, as `Held::parts` shows.
     pub fn post(&mut self, level: Held, cmd: C::Cmd) -> Result<(), NoMemory>
         requires { HoldsNoLeaf level }
         ensures ok_prepared { OnOk result (self.new.prepared ≡
@@ -77,8 +77,7 @@ impl<C: Client> Book<C> {
         Ok(())
     }
 
-    /// The waiting commands are prepared anew from another content, for another font, size and
-    /// kind.
+    /// Prepares the waiting commands anew from another content, for another font, size and kind.
     pub fn refit(&mut self, content: C, font: &Font, size: Size, kind: Kind) -> Result<(), NoMemory>
         requires { IsWindowSize size }
         ensures commands { self.new.prepared.commands ≡ self.old.prepared.commands }
@@ -95,7 +94,7 @@ impl<C: Client> Book<C> {
     }
 
     /// The waiting commands were handed over: they are counted, and the next ones are prepared over
-    /// what `fresh` has.
+    /// the content, font, size and kind of `fresh`.
     pub fn renew(&mut self, fresh: Prepared<C>)
         requires fresh { fresh.commands.items ≡ [] }
         requires count { self.old.handed + length self.old.prepared.commands < 2 ^ 64 }
@@ -108,8 +107,8 @@ impl<C: Client> Book<C> {
         self.prepared = fresh;
     }
 
-    /// The waiting commands were handed over: they are counted, and the next ones are prepared over
-    /// what these left, of which `from` is a copy. The lists keep their memory, and the font stays.
+    /// The waiting commands were handed over: they are counted, and the next ones are prepared over a
+    /// copy `from` of the content that they left. The lists keep their memory, and the font stays.
     pub fn restart(&mut self, from: C)
         requires from { from ≡
             content_after C.Client self.old.prepared.from self.old.prepared.commands }
@@ -142,7 +141,7 @@ impl<C: Client> Book<C> {
         (prepared, levels)
     }
 
-    /// Commands wait again that were given away, in place of those that wait now.
+    /// Puts commands that were given away in place of those that wait now.
     pub fn take_back(&mut self, prepared: Prepared<C>, levels: Vec<Held>)
         requires { HaveLevels prepared.commands.items levels.items }
         ensures prepared { self.new.prepared ≡ view_of prepared }
@@ -153,7 +152,7 @@ impl<C: Client> Book<C> {
         self.levels = levels;
     }
 
-    /// So many commands that were given away were handed over.
+    /// Counts `number` of the commands that were given away as handed over.
     pub fn count(&mut self, number: u64)
         requires { self.old.handed + number < 2 ^ 64 }
         ensures prepared { self.new.prepared ≡ self.old.prepared }
@@ -163,7 +162,7 @@ impl<C: Client> Book<C> {
         self.handed += number;
     }
 
-    /// How many commands wait.
+    /// The number of commands that wait.
     pub fn waiting(&self) -> usize
         ensures waiting { result ≡ length self.now.prepared.commands }
         ensures invariant { HaveLevels self.now.prepared.commands self.now.levels }
@@ -171,7 +170,7 @@ impl<C: Client> Book<C> {
         self.prepared.commands.len()
     }
 
-    /// How many commands were handed over.
+    /// The number of commands that were handed over.
     pub fn handed(&self) -> u64
         ensures { result ≡ self.now.handed }
     {
@@ -193,7 +192,8 @@ impl<C: Client> Book<C> {
     }
 }
 
-/// No command waits any more, and the next ones are prepared over `from`, a copy of what those left.
+/// Removes all waiting commands, and prepares the next ones over `from`, a copy of the content that they
+/// left.
 fn start_over<C: Client>(prepared: &mut Prepared<C>, levels: &mut Vec<Held>, from: C)
     requires { from ≡ prepared.old.to }
     ensures prepared { view_of prepared.new ≡

@@ -4,8 +4,8 @@ ghost use Rattle.tr_cage.specs.Cages as spec;
 
 use tr_base::{Point, Rect};
 
-/// Where the cursor may be without the window being told. The window is told once the cage doesn't
-/// hold the cursor.
+/// The positions of the cursor that a window needn't be told. The window is told once the cage
+/// doesn't hold the cursor.
 #[derive(Clone, Copy, Debug, PartialEq, Eq)]
 pub enum Cage {
     /// Every position.
@@ -16,7 +16,7 @@ pub enum Cage {
 }
 
 /// Whether the cage holds the cursor at `at`, relative to the window's north-west corner. The cursor
-/// is gone where another window, or none, is under it.
+/// is gone if another window, or none, is under it.
 pub fn holds(cage: &Cage, at: Point, is_gone: bool) -> bool
     ensures cases { result ≡ spec.cage_holds cage.now at is_gone }
     ensures empty { (here gone : Bool) → cage.now ≡ Cage.Only empty_rect here gone → result ≡ false }

@@ -1,4 +1,4 @@
-//! Cages: where the cursor may go before a window is told of its position.
+//! Cages: the positions of the cursor that a window needn't be told.
 #![tactic(auto)]
 
 mod cages;

@@ -1,5 +1,5 @@
 -- Private contracts alone cite this file.
--- Chunks: lines of a part that are read apart from the lines before them.
+-- Chunks: lines of a part that are read separately from the lines before them.
 use Rattle.std.specs.Prelude.{◌≡◌, ℕ, ◌+◌, ◌*◌, ◌/◌, ◌%◌, ◌<◌, min, ⊤, ◌⊎◌, Option, Some, None, List, All, ◌++◌, length, take, slice_index_or}
 use Rattle.std.specs.List.{flat_map}
 use Rattle.std.specs.Fork.{slice_chunk}
@@ -11,34 +11,34 @@ use Rattle.tr_grammar.specs.Faults.{nodes_so_far}
 use Rattle.tr_grammar.specs.Scripts.{first_bad_line, after_all_lines, IsPlayable}
 use Rattle.tr_reader.specs.Adding.{with_steps}
 
--- steps that lines make, each with who makes it
+-- steps that lines make, each with its actor
 abbrev pub Made : Type 0
 Made = List (Actor × Step WidgetCmd)
 
--- Behind c and any more steps these lines, of which the first is line n, have no fault and add these steps, which can be played; so
--- the first fault is that of what comes later.
+-- After c and any more steps, these lines, starting with line n, have no fault and add these steps, which can be played; so
+-- the first fault is that of the later lines.
 pub record MakeSteps (c : SoFar) (n : ℕ) (lines : List (List ℕ)) (made : Made) : Type 0 where
   pub fault : (before : Made) (later : List (List ℕ)) →
       first_bad_line (with_steps c before) n (lines ++ later) ≡ first_bad_line (with_steps c (before ++ made)) (n + length lines) later
   pub script : (before : Made) → after_all_lines (with_steps c before) lines ≡ with_steps c (before ++ made)
   pub playable : All (IsPlayable (nodes_so_far c)) made
 
--- the steps that a chunk's lines make; none are answered where it wasn't read, for whatever reason
+-- the steps that a chunk's lines make; `None` if the chunk wasn't read, for any reason
 abbrev pub IsChunk : SoFar → ℕ → List (List ℕ) → Option Made → Type 0
 IsChunk c n lines None = ⊤
 IsChunk c n lines (Some made) = MakeSteps c n lines made
 
--- what was read of line n and those behind it, cut into chunks of so many lines, of which the last may be shorter
+-- the results for line n and the lines after it, cut into chunks of `size` lines; the last chunk may be shorter
 pub record AreChunks (c : SoFar) (n size : ℕ) (lines : List (List ℕ)) (chunks : List (Option Made)) : Type 0 where
   pub count : length chunks ≡ length lines / size + min 1 (length lines % size)
   pub each : (k : ℕ) (d : Option Made) → k < length chunks →
       IsChunk c (n + k * size) (slice_chunk lines size k) (slice_index_or chunks k d)
 
--- all of these lists, one behind another
+-- all of these lists, one after another
 abbrev pub joined : {A : Type 0} → List (List A) → List A
 joined lists = flat_map (λ xs. xs) lists
 
--- so many of the lines, of which the first is line n, are taken, all or none: the script so far has their steps
+-- the first `count` of the lines, starting with line n, are taken, all or none: the script so far has their steps
 pub record TakesLines (c : SoFar) (n : ℕ) (lines : List (List ℕ)) (new : SoFar) (count : ℕ) : Type 0 where
   pub all : (count ≡ 0) ⊎ (count ≡ length lines)
   pub made : Made

@@ -15,8 +15,8 @@ use tr_reader::{Reader, Steps};
 use tr_script::take_step;
 use tr_widget::WidgetCmd;
 
-/// The steps of a chunk, of which the first line has this number, if none of its lines says anything else or
-/// has a fault, and there is memory.
+/// The steps of a chunk that starts with the line of this number, if each of its lines is silent or makes a
+/// step, none has a fault, and memory doesn't run out.
 fn read_chunk(
     alloc: Global,
     reader: &Reader,
@@ -41,7 +41,7 @@ fn read_chunk(
 }
 
 /// The steps of all chunks, each of this length but the last, which may be shorter. Each is read in a thread
-/// of its own where one can be made.
+/// of its own if one can be started.
 fn read_chunks<R: Threads + Sync>(
     rt: &R,
     alloc: Global,
@@ -70,7 +70,7 @@ fn read_chunks<R: Threads + Sync>(
     }
 }
 
-/// What all of them have, if each has something and there is memory.
+/// All of the values, if no option is empty and memory doesn't run out.
 fn all_some<T: Drop>(alloc: Global, options: Vec<Option<T>>) -> Option<Vec<T>>
     ensures { IfSome result (λ all. map (λ x. Some x) all.items ≡ options.items) }
 {
@@ -83,7 +83,7 @@ fn all_some<T: Drop>(alloc: Global, options: Vec<Option<T>>) -> Option<Vec<T>>
     Some(all)
 }
 
-/// How many steps there are, for the room that is taken for them.
+/// The number of steps. It tells how much room to make for them.
 fn step_count(chunks: &[Steps<WidgetCmd>]) -> usize {
     let mut count: usize = 0;
     for chunk in chunks {
@@ -92,7 +92,7 @@ fn step_count(chunks: &[Steps<WidgetCmd>]) -> usize {
     count
 }
 
-/// The steps of all chunks come behind those of the part that goes on.
+/// Appends the steps of all chunks to those of the current part.
 fn add_chunks(reader: &mut Reader, chunks: Vec<Steps<WidgetCmd>>) -> Result<(), NoMemory>
     requires place { is_at_steps reader.old.place ≡ true }
     requires playable { All (λ steps. All (IsPlayable (nodes_so_far reader.old)) steps) chunks.items }
@@ -104,9 +104,9 @@ fn add_chunks(reader: &mut Reader, chunks: Vec<Steps<WidgetCmd>>) -> Result<(), 
     Ok(())
 }
 
-/// Reads lines, of which the first has this number, in chunks of this length, and answers how many: all, or
-/// none where one of them doesn't make a step and isn't silent, or has a fault, or memory is wanting to read
-/// them so.
+/// Reads lines, starting with the line of this number, in chunks of this length, and returns their number:
+/// all, or none if one of them neither makes a step nor is silent, or has a fault, or memory runs out for
+/// the chunks.
 pub(crate) fn take_chunks<R: Threads + Sync>(
     rt: &R,
     alloc: Global,

@@ -17,14 +17,14 @@ use tr_reader::{Reader, Script};
 use tr_script::{MOST_LINES, refused_at, take_line};
 use tr_words::lines_of;
 
-/// How many lines are worth a thread.
+/// The number of lines that is worth a thread.
 const LINES_A_CHUNK: usize = 1_000;
 
-/// How many threads read at most.
+/// The most threads that read.
 const MOST_CHUNKS: usize = 8;
 
-/// How many of the first lines may make steps, if no more than `most` are looked at: those before the first
-/// that begins as a sync or the end does. Where this is mistaken the lines are read one after another.
+/// The number of first lines that may make steps, if at most `most` are examined: those before the first
+/// one that begins like a sync or the end. If this guess is wrong, the lines are read one after another.
 fn step_lines(lines: &[&[u8]], most: usize) -> usize
     ensures lines { result ≤ length lines.now }
     ensures most { result ≤ most }
@@ -37,7 +37,7 @@ fn step_lines(lines: &[&[u8]], most: usize) -> usize
     lines.len()
 }
 
-/// How many threads read: one for each processor, if their number is known, and eight at most.
+/// The number of threads that read: one for each processor, if their number is known, and at most eight.
 fn chunk_count<R: Threads>(rt: &R) -> usize
     ensures some { 0 < result }
     ensures most { result ≤ 8 }
@@ -48,8 +48,8 @@ fn chunk_count<R: Threads>(rt: &R) -> usize
     }
 }
 
-/// Reads lines behind a step, of which the first has this number, in chunks, where there are enough of them
-/// for two. Answers how many were read: all or none.
+/// Reads lines after a step, starting with the line of this number, in chunks, if there are enough of them
+/// for two. Returns the number of lines read: all or none.
 fn take_lines<R: Threads + Sync>(
     rt: &R,
     alloc: Global,
@@ -71,8 +71,8 @@ fn take_lines<R: Threads + Sync>(
     take_chunks(rt, alloc, reader, first, lines, size)
 }
 
-/// Reads the lines, of which the first is line 1: one after another, but behind the first step of a part
-/// those up to its end in chunks, if they can be read so.
+/// Reads the lines, starting with line 1: one after another, except that the lines after the first step of
+/// a part, up to its end, are read in chunks if possible.
 fn read_lines<R: Threads + Sync>(
     rt: &R,
     alloc: Global,

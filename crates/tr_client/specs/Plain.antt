@@ -4,7 +4,7 @@ use Rattle.tr_base.specs.declared.Point.{Point}
 use Rattle.tr_base.specs.declared.Pair.{Pair}
 use Rattle.tr_base.specs.declared.Op.TheVariants.{Bg, Fg}
 
--- the background where a bit is 0, and the foreground where it is 1
+-- the background for a bit that is 0, and the foreground for a bit that is 1
 abbrev pub plain : Pair
 plain = record { zero = Bg; one = Fg }
 

@@ -1,4 +1,4 @@
--- What commands in a row make of a content, by what its client says of one command.
+-- The effect of several commands on a content, from its client's definition of one command.
 use Rattle.std.specs.Prelude.{List, [], ◌∷◌, ◌++◌}
 use Rattle.tr_base.specs.declared.Size.{Size}
 use Rattle.tr_paint.specs.declared.paints.Paint.{Paint}

@@ -1,4 +1,4 @@
--- Texts in a window, and lines that stand one below the other: each in a strip of the window that is eight points high, in cells of 8 by 8.
+-- Texts in a window, and lines one below the other: each in a strip of the window that is eight points high, in cells of 8 by 8.
 use Rattle.std.specs.Prelude.{ℕ, ◌*◌, ◌/◌, pos, neg_ℤ, Bool, if◌then◌else◌, List, [], ◌∷◌, length, slice_index_or, unsigned_abs}
 use Rattle.tr_base.specs.declared.Point.{Point}
 use Rattle.tr_base.specs.declared.Size.{Size}
@@ -11,19 +11,19 @@ use Rattle.tr_paint.specs.Traces.{Look}
 use Rattle.tr_paint.specs.Batches.{batch_of}
 use Rattle.tr_client.specs.Plain.{colour_of}
 
--- the colour of a point by a text whose cells begin at `at`: foreground for the letters, and background for all other points
+-- the colour of a point in a text whose cells begin at `at`: foreground for the letters, and background for all other points
 abbrev pub text_colour : Look → Point → List ℕ → Point → ℕ
 text_colour look at text q = if has_point (cells_of at (length text)) q then colour_of (text_bit look.font at text q) else 0
 
--- the number of strips of a window, and so of lines for which it has room
+-- the number of strips of a window, each with room for a line
 abbrev pub room : Size → ℕ
 room size = size.high / 8
 
--- the strip of a point, by the number of strips above it
+-- the strip of a point: the number of strips above it
 abbrev pub strip_of : Point → ℕ
 strip_of q = unsigned_abs q.v / 8
 
--- the north-west corner of the strip that has so many others above it
+-- the north-west corner of the strip with `above` others above it
 abbrev pub begin_of : ℕ → Point
 begin_of above = record { h = pos 0; v = pos (8 * above) }
 
@@ -31,11 +31,11 @@ begin_of above = record { h = pos 0; v = pos (8 * above) }
 abbrev pub in_cells : ℕ → List ℕ → Point → Bool
 in_cells above line q = has_point (cells_of (begin_of above) (length line)) q
 
--- the colour of a point by the line in its strip
+-- the colour of a point, given by the line in its strip
 abbrev pub line_colour : Look → ℕ → List ℕ → Point → ℕ
 line_colour look above line q = text_colour look (begin_of above) line q
 
--- the colour of a point by these lines, one below the other; below the last one all is background
+-- the colour of a point, given by these lines, one below the other; below the last one all is background
 abbrev pub colour_in : Look → List (List ℕ) → Point → ℕ
 colour_in look lines q = line_colour look (strip_of q) (slice_index_or lines (strip_of q) []) q
 

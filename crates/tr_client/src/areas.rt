@@ -5,8 +5,8 @@ ghost use Rattle.tr_client.specs.Laws.{IsWindowSize};
 
 use tr_base::{Op, Pair, Rect, Size, whole};
 
-/// The operations of a picture of two colours, as a text or a tile: the background where a bit is 0,
-/// and the foreground where it is 1.
+/// The operations of a picture of two colours, such as a text or a tile: the background for a bit that
+/// is 0, and the foreground for a bit that is 1.
 pub const PLAIN: Pair = Pair {
     zero: Op::Bg,
     one: Op::Fg,

@@ -16,14 +16,14 @@ use tr_paint::Batch;
 
 /// The content of a window: its picture, the commands that change it, and its answers to events.
 ///
-/// A picture is for a look, which is the kind of the pixels and the font, and for a size with sides up
-/// to 4096. Its points are those of the window, relative to its north-west corner; of other points
-/// nothing is painted.
+/// A picture depends on a look, which is the kind of the pixels and the font, and on a size with sides
+/// up to 4096. Its points are those of the window, relative to its north-west corner; other points are
+/// never painted.
 pub trait Client: Sized + Drop + Send + Sync {
-    /// What the content can be told to do.
+    /// The commands of the content.
     type Cmd: Command;
 
-    /// The values that are contents.
+    /// The valid contents.
     ghost valid: { Self → Type 0 };
 
     /// The colour of a point.
@@ -39,10 +39,10 @@ pub trait Client: Sized + Drop + Send + Sync {
     /// The command that an event asks for.
     ghost answer: { Self → Event → Option Self.Cmd };
 
-    /// What others are given who read the content, as one who takes the selection.
+    /// The text that another leaf gets when it reads the content.
     ghost value: { Self → List ℕ };
 
-    /// Which points need not be painted again when the window's size changes.
+    /// The points that need not be painted again when the window's size changes.
     ghost keeps: { Self → Size → Size → Edges } = { λ content from to. empty_rect };
 
     /// A copy of the content.
@@ -56,7 +56,7 @@ pub trait Client: Sized + Drop + Send + Sync {
         ensures other { valid other.now }
         ensures same { IsTrue result ↔ (self.now ≡ other.now) };
 
-    /// Commands that paint the part of the picture that lies in `clip`, whatever was there, and touch
+    /// Commands that paint the part of the picture that lies in `clip`, over any old pixels, and touch
     /// no other point.
     fn paint(&self, alloc: Global, env: &Env, size: Size, clip: Rect) -> Result<Batch, NoMemory>
         requires { IsWindowSize size }
@@ -80,8 +80,8 @@ pub trait Client: Sized + Drop + Send + Sync {
         ensures patch { let look = look_of env.now.kind env.now.font.now in
             IfOk result (λ r. r.1 ≡ patch look size self.now cmd.now) };
 
-    /// Changes the content in place by a command, and appends the command's patch to a batch. For want of
-    /// memory both stay as they are. A client with large contents should define this call, so that it
+    /// Changes the content in place by a command, and appends the command's patch to a batch. If memory
+    /// runs out, both stay as they are. A client with large contents should define this call, so that it
     /// needs no copy of them.
     fn apply(
         &mut self,
@@ -140,8 +140,8 @@ pub trait Client: Sized + Drop + Send + Sync {
         known(event)
     }
 
-    /// Law of patches: whatever part of the old picture is known, each point of the window is unknown
-    /// after the patch, or has its colour in the new picture. The call does nothing.
+    /// Law of patches: for every known part of the old picture, each point of the window is unknown after
+    /// the patch, or has its colour in the new picture. The call does nothing.
     fn obeys_patch(&self, env: &Env, size: Size, cmd: &Self::Cmd)
         requires size { IsWindowSize size }
         requires valid { valid self.now }
@@ -170,8 +170,7 @@ pub trait Client: Sized + Drop + Send + Sync {
             Survives (keeps self.now from to) from to (pic look from self.now) (pic look to self.now) }
     {}
 
-    /// Law of kinds: each colour is a value that a pixel of the look's kind can have. The call does
-    /// nothing.
+    /// Law of kinds: each colour is a value of a pixel of the look's kind. The call does nothing.
     fn obeys_kinds(&self, env: &Env, size: Size)
         requires size { IsWindowSize size }
         requires valid { valid self.now }
@@ -179,10 +178,10 @@ pub trait Client: Sized + Drop + Send + Sync {
             (p : Point) → IsPixel look.kind (pic look size self.now p) }
     {}
 
-    /// A command leaves a content.
+    /// The content after a command is valid.
     ghost contents: { (x : Self) (cmd : Self.Cmd) → valid x → Self.Cmd.valid cmd → valid (next x cmd) };
 
-    /// An event asks for a command.
+    /// The command that an event asks for is valid.
     ghost answers: { (x : Self) (event : Event) → valid x → IsEvent event →
         IfSome (answer x event) (λ cmd. Self.Cmd.valid cmd) };
 
@@ -196,12 +195,12 @@ pub trait Client: Sized + Drop + Send + Sync {
         valid x → Self.Cmd.valid cmd → IsWindowSize size → is_flat size ≡ true →
         patch look size x cmd ≡ [] };
 
-    /// What is kept lies in both windows, and has the same colours in both.
+    /// The kept points lie in both windows, and have the same colours in both.
     ghost keeping: { (look : Look) (from to : Size) (x : Self) →
         valid x → IsWindowSize from → IsWindowSize to →
         Survives (keeps x from to) from to (pic look from x) (pic look to x) };
 
-    /// Each colour is a value that a pixel of the look's kind can have.
+    /// Each colour is a value of a pixel of the look's kind.
     ghost kinds: { (look : Look) (size : Size) (x : Self) (p : Point) → valid x → IsWindowSize size →
         IsPixel look.kind (pic look size x p) };
 }

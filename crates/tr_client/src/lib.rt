@@ -1,6 +1,6 @@
 //! Clients of windows: a content with a picture, commands that change it, and the patch of each command,
 //! which leads from the old picture to the new one. The laws of [`Client`] suffice to prove that a screen
-//! on which patches are executed is right.
+//! is right after patches are executed on it.
 //!
 //! [`Prepared`] is a list of commands for a content, which a window may take over at once.
 #![tactic(auto)]

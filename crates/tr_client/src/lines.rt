@@ -12,14 +12,14 @@ use std::alloc::Global;
 use tr_base::{Line, NoMemory, Op, Point, Rect, Size};
 use tr_paint::{Batch, Paint};
 
-/// How many lines a window has room for, each in a strip that is eight points high.
+/// The number of lines that fit into a window, each in a strip that is eight points high.
 pub fn room(size: Size) -> usize
     ensures { result ≡ spec.room size }
 {
     usize::from(size.high / 8)
 }
 
-/// The north-west corner of the strip that has so many others above it.
+/// The north-west corner of the strip with `above` others above it.
 pub fn begin_of(above: usize) -> Point
     requires { 8 * above ≤ longest }
     ensures value { result ≡ spec.begin_of above }
@@ -42,7 +42,7 @@ pub fn area_of(size: Size, above: usize, end: usize) -> Rect
     Rect::edges(0, i32::from(size.wide), north_of(above), north_of(end))
 }
 
-/// The way of one line upwards.
+/// The move by one line upwards.
 pub fn upwards() -> Point
     ensures value { result ≡ spec.upwards }
     ensures near { IsNearPoint result }
@@ -50,7 +50,7 @@ pub fn upwards() -> Point
     Point { h: 0, v: -8 }
 }
 
-/// The way of one line downwards.
+/// The move by one line downwards.
 pub fn downwards() -> Point
     ensures value { result ≡ spec.downwards }
     ensures near { IsNearPoint result }
@@ -92,7 +92,7 @@ pub fn paint_lines(alloc: Global, part: Rect, lines: &[Line]) -> Result<Batch, N
     Ok(batch)
 }
 
-/// Puts copies of lines at the end of others. For want of memory it may put a part of them.
+/// Puts copies of lines at the end of others. If memory runs out, it may have put some of them.
 pub fn append_lines(all: &mut Vec<Line>, lines: &[Line]) -> Result<(), NoMemory>
     ensures ok { OnOk result (all.new.items ≡ all.old.items ++ lines.now) }
     ensures err { OnErr result (take (length all.old.items) all.new.items ≡ all.old.items) }

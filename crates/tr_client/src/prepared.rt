@@ -59,7 +59,7 @@ impl<C: Client> Prepared<C> {
         })
     }
 
-    /// Appends a command. For want of memory nothing changes.
+    /// Appends a command. If memory runs out, nothing changes.
     pub fn add(&mut self, cmd: C::Cmd) -> Result<(), NoMemory>
         ensures from { self.new.from ≡ self.old.from }
         ensures font { self.new.font ≡ self.old.font }
@@ -81,7 +81,7 @@ impl<C: Client> Prepared<C> {
         Ok(())
     }
 
-    /// Prepares the same commands again, for another content, font, size and kind. For want of memory
+    /// Prepares the same commands again, for another content, font, size and kind. If memory runs out,
     /// nothing changes.
     pub fn refit(&mut self, content: C, font: &Font, size: Size, kind: Kind) -> Result<(), NoMemory>
         requires { IsWindowSize size }
@@ -132,8 +132,8 @@ fn run<C: Client>(
     Ok((to, batch))
 }
 
-/// The law of patches for a content and a command, told before the content changes. It asks which points
-/// the content keeps only since the answer tells that it is a content.
+/// The law of patches for a content and a command, told before the content changes. It asks for the
+/// points that the content keeps only because that answer tells that the content is valid.
 fn obeys<C: Client>(content: &C, env: &Env, size: Size, cmd: &C::Cmd)
     requires { IsWindowSize size }
     ensures { let look = look_of env.now.kind env.now.font.now in

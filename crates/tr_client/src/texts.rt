@@ -22,8 +22,8 @@ pub fn append_all(out: &mut Vec<u8>, texts: &[&[u8]]) -> Result<(), NoMemory>
     Ok(())
 }
 
-/// Appends a word, a space and a text to `out`, or the word alone if the text is empty. For want of memory
-/// nothing changes.
+/// Appends a word, a space and a text to `out`, or the word alone if the text is empty. If memory runs
+/// out, nothing changes.
 pub fn append_with_text(out: &mut Vec<u8>, word: &[u8], text: &Line) -> Result<(), NoMemory>
     ensures ok { OnOk result (out.new.items ≡ out.old.items ++ with_text word.now text.now) }
     ensures err { OnErr result (out.new.items ≡ out.old.items) }
@@ -44,7 +44,7 @@ pub fn decimal_line(alloc: Global, n: u8) -> Result<Line, NoMemory>
     Line::of(alloc, buffer.format(n).as_bytes())
 }
 
-/// Two texts, one behind the other, as one line.
+/// Two texts, one after the other, as one line.
 #[tactic(auto, using(crate::proofs::TextLemmas::line_in_a_row))]
 pub fn line_in_a_row(alloc: Global, front: &[u8], back: &[u8]) -> Result<Line, NoMemory>
     requires front { IsLine front.now }
@@ -56,7 +56,7 @@ pub fn line_in_a_row(alloc: Global, front: &[u8], back: &[u8]) -> Result<Line, N
     Line::of(alloc, &all[..front.len() + back.len()])
 }
 
-/// Two texts in a row, with zeros behind them.
+/// Two texts in a row, with zeros after them.
 fn both(front: &[u8], back: &[u8]) -> [u8; LINE]
     requires { length front.now + length back.now ≤ LINE }
     ensures long { length result ≡ LINE }

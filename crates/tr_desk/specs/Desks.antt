@@ -1,4 +1,4 @@
--- The input devices, and what windows own.
+-- The input devices, and the owners of selections.
 use Rattle.std.specs.Prelude.{ℕ, pos, neg_ℤ, ◌-◌, ◌==◌, Bool, true, false, if◌then◌else◌, List, Option, Some, None, IfSome, get_or, set, replicate, length, ◌≡◌, ◌<◌}
 use Rattle.std.specs.List.{list_any}
 use Rattle.tr_base.specs.declared.Point.{Point}
@@ -12,8 +12,8 @@ use Rattle.tr_base.specs.declared.Selection.TheVariants.{Key, Source, Target}
 use Rattle.tr_cage.specs.declared.Cage.TheVariants.{Everywhere}
 use Rattle.tr_desk.specs.declared.desks.LeafState.{LeafState}
 
--- what a contract sees of a desk: the cursor, the time of the last event, whether each of the five buttons is held, the leaf that
--- mouse events go to, the owner of each selection, and what is kept of each leaf
+-- the model of a desk: the cursor, the time of the last event, whether each of the five buttons is held, the leaf that gets the mouse
+-- events, the owner of each selection, and the state of each leaf
 pub record Devices : Type 0 where
   pub cursor : Point
   pub time : ℕ
@@ -24,11 +24,11 @@ pub record Devices : Type 0 where
   pub target : Option LeafId
   pub leaves : List LeafState
 
--- a leaf that no mouse or key event has reached, and that needn't be told where the cursor is
+-- a leaf that no mouse or key event has reached, and that needn't be told the cursor's place
 abbrev pub untold : LeafState
 untold = record { cage = Everywhere; last = 0 }
 
--- at the beginning the cursor lies off the screen, no button is held, and nobody owns anything
+-- the first state: the cursor lies off the screen, no button is held, and no selection has an owner
 abbrev pub idle : ℕ → Devices
 idle count = record {
   cursor = record { h = neg_ℤ (pos 1); v = neg_ℤ (pos 1) };
@@ -53,26 +53,26 @@ is_any_held held = list_any (λ h. h) held
 abbrev pub held_after : List Bool → ℕ → Bool → List Bool
 held_after held button down = set held (button - 1) down
 
--- what a button did, by whether it goes down, whether any was held before, and whether any is held after
+-- the kind of a button event: the button goes down or up; if down, some button was held before it; if up, some button is held after it
 abbrev pub click_of : Bool → Bool → Bool → Click
 click_of true before after = if before then OtherDown else FirstDown
 click_of false before after = if after then OtherUp else LastUp
 
--- what a button did that goes down or up
+-- the kind of the event of a button that goes down or up
 abbrev pub click : Devices → ℕ → Bool → Click
 click d button down = click_of down (is_any_held d.held) (is_any_held (held_after d.held button down))
 
--- the leaf that has a point; a frame and what lies off the screen are no leaf's
+-- the leaf that owns a point; a frame and a place off the screen have no leaf
 abbrev pub leaf_at : Spot → Option LeafId
 leaf_at (spots.Leaf leaf at size kind) = Some leaf
 leaf_at spot = None
 
--- who gets the event: at the first button the leaf at the spot, and until the last one goes up that same leaf
+-- the leaf that gets the event: at the first button the leaf at the spot, and until the last one goes up that same leaf
 abbrev pub receiver : Click → Spot → Option LeafId → Option LeafId
 receiver FirstDown spot focus = leaf_at spot
 receiver click spot focus = focus
 
--- the mouse focus after an event: set at the first button, nobody on a frame or off the screen, kept, and none after the last one
+-- the mouse focus after an event: the leaf at the spot for the first button, none after the last one, and else as before
 abbrev pub focus_after : Click → Spot → Option LeafId → Option LeafId
 focus_after LastUp spot focus = None
 focus_after click spot focus = receiver click spot focus
@@ -97,16 +97,16 @@ owned_by leaf Key d = record d { key = leaf }
 owned_by leaf Source d = record d { source = leaf }
 owned_by leaf Target d = record d { target = leaf }
 
--- the old owner, where it is another leaf
+-- the previous owner, if that is another leaf
 abbrev pub other_than : LeafId → Option LeafId → Option LeafId
 other_than leaf None = None
 other_than leaf (Some old) = if old.0 == leaf.0 then None else Some old
 
--- somebody is a leaf of the desk, or nobody
+-- an optional leaf is none, or a leaf of the desk
 abbrev pub IsKnown : ℕ → Option LeafId → Type 0
 IsKnown count leaf = IfSome leaf (λ l. l.0 < count)
 
--- there are five buttons, and whoever has the mouse or owns a selection is a leaf of the desk
+-- there are five buttons, and the mouse focus and each owner of a selection are leaves of the desk
 pub record IsDesk (d : Devices) : Type 0 where
   pub buttons : length d.held ≡ 5
   pub focus : IsKnown (length d.leaves) d.focus
@@ -114,10 +114,10 @@ pub record IsDesk (d : Devices) : Type 0 where
   pub source : IsKnown (length d.leaves) d.source
   pub target : IsKnown (length d.leaves) d.target
 
--- what is kept of a leaf
+-- the state of a leaf
 abbrev pub state_of : Devices → LeafId → LeafState
 state_of d leaf = get_or d.leaves leaf.0 untold
 
--- the desk with something else kept of a leaf
+-- the desk with another state of a leaf
 abbrev pub with_state : LeafId → LeafState → Devices → Devices
 with_state leaf s d = record d { leaves = set d.leaves leaf.0 s }

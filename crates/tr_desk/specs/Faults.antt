@@ -1,4 +1,4 @@
--- Why a desk refuses something.
+-- The reasons for a refusal by a desk.
 use Rattle.std.specs.Prelude.{ℕ, Bool, false, not, ◌&&◌, ◌==◌, nat_le, nat_lt, if◌then◌else◌, Option, Some, None}
 use Rattle.tr_base.specs.declared.LeafId.{LeafId}
 use Rattle.tr_base.specs.declared.Selection.{Selection}
@@ -10,7 +10,7 @@ use Rattle.tr_desk.specs.Desks.{Devices, is_held, selection_owner, state_of}
 abbrev pub time_fault : Devices → ℕ → Option DeskFault
 time_fault d time = if nat_lt time d.time then Some (Earlier d.time) else None
 
--- a button that goes down isn't held before, and one that goes up is
+-- a button that goes down must not be held before, and one that goes up must be
 abbrev pub button_fault : Bool → Bool → Option DeskFault
 button_fault down held = if down && held then Some Held else if not down && not held then Some NotHeld else None
 
@@ -19,7 +19,7 @@ abbrev pub first_of_two : Option DeskFault → Option DeskFault → Option DeskF
 first_of_two None second = second
 first_of_two (Some fault) second = Some fault
 
--- why a button can't go down or up at a time
+-- the reason why a button can't go down or up at a time
 abbrev pub mouse_fault : Devices → ℕ → ℕ → Bool → Option DeskFault
 mouse_fault d time button down = first_of_two (time_fault d time) (button_fault down (is_held d button))
 
@@ -34,6 +34,6 @@ abbrev pub is_owned_by : LeafId → Option LeafId → Bool
 is_owned_by leaf None = false
 is_owned_by leaf (Some other) = other.0 == leaf.0
 
--- only its owner gives a selection up
+-- only the owner of a selection gives it up
 abbrev pub disown_fault : Devices → LeafId → Selection → Option DeskFault
 disown_fault d leaf selection = if is_owned_by leaf (selection_owner d selection) then None else Some NotOwner

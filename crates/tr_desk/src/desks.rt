@@ -10,11 +10,11 @@ use thiserror::Error;
 use tr_base::{Click, LeafId, NoMemory, Point, Selection, Spot};
 use tr_cage::Cage;
 
-/// How many buttons a mouse has.
+/// The number of a mouse's buttons.
 const BUTTONS: usize = 5;
 
-/// Why a desk refuses something. It has changed nothing then. Where several faults stand together
-/// the first one is named.
+/// The reason for a refusal by a desk. A desk that refuses has changed nothing. Of several faults the
+/// first one is named.
 #[derive(Clone, Copy, Debug, PartialEq, Eq, Error)]
 pub enum DeskFault {
     /// The event is older than the last one, which came at `now`.
@@ -33,20 +33,20 @@ pub enum DeskFault {
     /// The window doesn't own the selection.
     #[error("another window, or none, owns the selection")]
     NotOwner,
-    /// Nobody owns the selection.
+    /// No leaf owns the selection.
     #[error("nobody owns the selection")]
     Unowned,
 }
 
-/// What a desk keeps of a leaf: its cage, and the time of the last mouse or key event that it was
-/// sent, or 0.
+/// A desk's state of a leaf: its cage, and the time of the last mouse or key event that was sent to
+/// it, or 0.
 #[derive(Clone, Copy, Debug)]
 pub struct LeafState {
     pub cage: Cage,
     pub last: u32,
 }
 
-/// The state of the input devices and of the selections. Only `new` can want memory.
+/// The state of the input devices and of the selections. Only `new` can run out of memory.
 #[derive(Debug, Drop)]
 pub struct Desk {
     cursor: Point,
@@ -88,8 +88,8 @@ impl Model for Desk {
 }
 
 impl Desk {
-    /// The desk of so many leaves: the cursor lies at (-1, -1), no button is held, nobody owns
-    /// anything, and every cage is everywhere.
+    /// The desk of `leaves` leaves: the cursor lies at (-1, -1), no button is held, no selection has an
+    /// owner, and every cage is everywhere.
     pub fn new(alloc: Global, leaves: u8) -> Result<Desk, NoMemory>
         ensures { IfOk result (λ desk. desk ≡ spec.idle leaves) }
     {
@@ -109,9 +109,9 @@ impl Desk {
         })
     }
 
-    /// A button, from 1 to 5, goes down or up while the cursor is at a spot: who gets the event, and
-    /// what the button did. From the first button that goes down to the last one that goes up all
-    /// events go to the leaf at which the first went down.
+    /// A button, from 1 to 5, goes down or up while the cursor is at a spot. The answer is the leaf that
+    /// gets the event, if one does, and the kind of the event. From the first button that goes down to the
+    /// last one that goes up, all events go to the leaf at which the first went down.
     pub fn mouse(
         &mut self,
         time: u32,
@@ -154,7 +154,8 @@ impl Desk {
         Ok(())
     }
 
-    /// A key is struck: who gets the event, which is the owner of the selection Key.
+    /// A key is struck. The answer is the leaf that gets the event: the owner of the selection Key, if
+    /// there is one.
     pub fn key(&mut self, time: u32) -> Result<Option<LeafId>, DeskFault>
         ensures answer { IfOk result (λ leaf. leaf ≡ self.old.key) }
         ensures known { IfOk result (λ leaf. spec.IsKnown (length self.old.leaves) leaf) }
@@ -168,7 +169,7 @@ impl Desk {
         Ok(self.key)
     }
 
-    /// A leaf was sent a mouse or key event.
+    /// A mouse or key event was sent to a leaf.
     pub fn delivered(&mut self, leaf: LeafId, time: u32)
         requires { leaf.0 < length self.old.leaves }
         ensures { self.new
@@ -178,7 +179,7 @@ impl Desk {
         state.last = time;
     }
 
-    /// A leaf has another cage.
+    /// A leaf gets another cage.
     pub fn set_cage(&mut self, leaf: LeafId, cage: Cage)
         requires { leaf.0 < length self.old.leaves }
         ensures { self.new
@@ -188,9 +189,9 @@ impl Desk {
         state.cage = cage;
     }
 
-    /// A leaf takes a selection, at a time from 1 on that is both the desk's and that of the last
-    /// mouse or key event that reached the leaf. The answer is the owner before it, where that is
-    /// another leaf.
+    /// A leaf takes a selection, at a time from 1 on that is both the desk's time and that of the last
+    /// mouse or key event that reached the leaf. The answer is the previous owner, if that is another
+    /// leaf.
     pub fn own(
         &mut self,
         leaf: LeafId,
@@ -226,7 +227,7 @@ impl Desk {
         Ok(())
     }
 
-    /// Where the cursor is, in the screen's coordinates.
+    /// The cursor's place, in the screen's coordinates.
     pub fn cursor(&self) -> Point
         ensures { result ≡ self.now.cursor }
     {
@@ -240,7 +241,7 @@ impl Desk {
         self.time
     }
 
-    /// The leaf that mouse events go to while a button is held.
+    /// The leaf that gets the mouse events while a button is held.
     pub fn focus(&self) -> Option<LeafId>
         ensures { result ≡ self.now.focus }
     {
@@ -265,7 +266,7 @@ impl Desk {
         state.last
     }
 
-    /// How many leaves it knows.
+    /// The number of its leaves.
     pub fn leaves(&self) -> usize
         ensures count { result ≡ length self.now.leaves }
         ensures invariant { spec.IsDesk self.now }
@@ -348,7 +349,8 @@ fn is_any_held(held: &[bool; BUTTONS]) -> bool
     held[0] || held[1] || held[2] || held[3] || held[4]
 }
 
-/// What a button did, by whether some button was held before, and whether one is held after.
+/// The kind of a button event: the button goes down or up. If down, `before` says that some button was
+/// held before it; if up, `after` says that some button is held after it.
 fn click_of(down: bool, before: bool, after: bool) -> Click
     ensures { result ≡ spec.click_of down before after }
 {
@@ -360,7 +362,7 @@ fn click_of(down: bool, before: bool, after: bool) -> Click
     }
 }
 
-/// Who gets the event.
+/// The leaf that gets the event, if one does.
 fn receiver(click: Click, spot: &Spot, focus: Option<LeafId>) -> Option<LeafId>
     ensures { result ≡ spec.receiver click spot.now focus }
 {
@@ -380,7 +382,7 @@ fn leaf_at(spot: &Spot) -> Option<LeafId>
     }
 }
 
-/// Who gets the next event, by who gets this one.
+/// The leaf that gets the next event, by the one that gets this event.
 fn focus_after(click: Click, receiver: Option<LeafId>) -> Option<LeafId>
     ensures { (spot : Spot) (focus : Option LeafId) → receiver ≡ spec.receiver click spot focus →
         result ≡ spec.focus_after click spot focus }

@@ -1,5 +1,5 @@
-//! The input devices of the whole screen (cursor, mouse buttons, time), whom their events go to, and
-//! which window owns each selection.
+//! The input devices of the whole screen (cursor, mouse buttons, time), the leaves that get their
+//! events, and the owner of each selection.
 #![tactic(auto)]
 
 mod desks;

@@ -1,5 +1,5 @@
 -- Private contracts alone cite this file.
--- What a call leaves of a text that it was to append to, where it wants memory.
+-- A text after a call that failed for want of memory.
 use Rattle.std.specs.Prelude.{◌≡◌, ℕ, List, take, length}
 
 -- the new text begins with the old one

@@ -1,4 +1,4 @@
--- Which names of nodes and leaves a text needs.
+-- The names of nodes and leaves that a text needs.
 use Rattle.std.specs.Prelude.{⊤, All, IfSome}
 use Rattle.tr_base.specs.declared.spots.Spot.{Spot}
 use Rattle.tr_base.specs.declared.spots.Spot.TheVariants as spots
@@ -19,7 +19,7 @@ use Rattle.tr_journal.specs.declared.differences.Apart.TheVariants as apart
 use Rattle.tr_journal.specs.Journals.{JournalLine}
 use Rattle.tr_journal.specs.Names.{Names, HasNode, HasLeaf}
 
--- what a point belongs to has a name
+-- the leaf or node of a point has a name
 abbrev pub IsNamedSpot : Names → Spot → Type 0
 IsNamedSpot names (spots.Leaf leaf at size kind) = HasLeaf names leaf
 IsNamedSpot names (spots.Frame node tint kind) = HasNode names node
@@ -56,7 +56,7 @@ abbrev pub IsNamedQuery : Names → Query → Type 0
 IsNamedQuery names (queries.Inbox leaf) = HasLeaf names leaf
 IsNamedQuery names query = ⊤
 
--- what a step names has a name; a leaf that is flushed or repainted is named by the step, or is the actor's
+-- the nodes and leaves of a step have names; the leaf of a flush or repaint is the step's, or the actor's
 abbrev pub IsNamedStep : {M : Type 0} → Names → Step M → Type 0
 IsNamedStep names (steps.Alter edit) = IsNamedEdit names edit
 IsNamedStep names (steps.Flush leaf) = HasLeaf names leaf
@@ -64,24 +64,24 @@ IsNamedStep names (steps.Repaint leaf) = HasLeaf names leaf
 IsNamedStep names (steps.Report query) = IsNamedQuery names query
 IsNamedStep names step = ⊤
 
--- what the text of an entry names has a name
+-- the nodes and leaves in the text of an entry have names
 pub record IsNamedEntry {M : Type 0} (names : Names) (entry : Entry M) : Type 0 where
   pub actor : IsNamedActor names entry.actor
   pub levels : All (IsNamedLevel names) entry.level
   pub step : IsNamedStep names entry.step
 
--- so does what the text of its deliveries names
+-- and so have those in the text of its deliveries
 pub record IsNamedLine {M : Type 0} (names : Names) (line : JournalLine M) : Type 0 where
   pub entry : IsNamedEntry names line.entry
   pub sent : All (λ delivery. HasLeaf names delivery.leaf) line.sent
 
--- what differs has a name, and the entries or the steps name what has one
+-- the nodes and leaves of a differing part have names
 abbrev pub IsNamedApart : {M : Type 0} → Names → Apart M → Type 0
 IsNamedApart names apart.Opening = ⊤
 IsNamedApart names (apart.Kept made found) = IfSome made (IsNamedEntry names) × IfSome found (IsNamedEntry names)
 IsNamedApart names (apart.Own actor made found) =
     IsNamedActor names actor × IfSome made (IsNamedStep names) × IfSome found (IsNamedStep names)
 
--- so does all that the text of a difference names
+-- so have all those in the text of a difference
 abbrev pub IsNamedDifference : {M : Type 0} → Names → Difference M → Type 0
 IsNamedDifference names d = IsNamedApart names d.what

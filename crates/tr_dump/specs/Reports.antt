@@ -24,7 +24,7 @@ dump_head p = line_text (codes "dump" ∷ size_words p.size ++ kind_word p.kind 
 abbrev pub dump_text : Picture → List ℕ
 dump_text p = dump_head p ++ flat_map row_text p.rows
 
--- how many points are bad, how many commands wait, and how many good points show an older content
+-- the numbers of bad points, of waiting commands, and of good points that show an older content
 abbrev pub peek_text : Peek3 → List ℕ
 peek_text peek =
     line_text (codes "peek"
@@ -33,7 +33,7 @@ peek_text peek =
     ∷ codes "stale" ∷ decimal peek.stale
     ∷ [])
 
--- what a point belongs to: a leaf, with the point as that has it, or a node's frame, or nothing
+-- the owner of a point: a leaf, with the point in its coordinates, a node's frame, or nothing
 abbrev pub place_text : Names → Point → Spot → List ℕ
 place_text names p (spots.Leaf leaf at size kind) =
     line_text (codes "where" ∷ point_words p ++ codes "leaf" ∷ leaf_name names leaf ∷ point_words at)
@@ -45,7 +45,7 @@ place_text names p spots.Off = line_text (codes "where" ∷ point_words p ++ cod
 abbrev pub event_line : Event → List ℕ
 event_line event = line_text (event_text event ∷ [])
 
--- what waits for a leaf, the oldest event first, and how many were dropped
+-- the inbox of a leaf: its events, the oldest first, and the number of dropped ones
 abbrev pub inbox_text : Names → LeafId → InboxView → List ℕ
 inbox_text names leaf inbox =
     line_text (codes "inbox" ∷ leaf_name names leaf
@@ -54,17 +54,17 @@ inbox_text names leaf inbox =
     ∷ [])
     ++ flat_map event_line inbox.events
 
--- what stands between the name of a leaf and an event that was sent to it
+-- the text between the name of a leaf and an event that was sent to it
 abbrev pub fate_text : Bool → List ℕ
 fate_text true = codes " dropped "
 fate_text false = codes " "
 
--- what a step sent, behind its answer
+-- a delivery of a step; it follows the answer
 abbrev pub delivery_text : Names → Delivery → List ℕ
 delivery_text names delivery =
     codes "; " ++ leaf_name names delivery.leaf ++ fate_text delivery.dropped ++ event_text delivery.event
 
--- an entry behind its number, and what its step sent
+-- an entry after its number, and the deliveries of its step
 abbrev pub journal_line : {M : Type 0} → (M → List ℕ) → Names → ℕ × JournalLine M → List ℕ
 journal_line words names (number, line) =
     spaced (decimal number ∷ entry_text words names line.entry ∷ []) ++ flat_map (delivery_text names) line.sent ++ codes "\n"

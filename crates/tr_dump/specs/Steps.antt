@@ -26,24 +26,24 @@ use Rattle.tr_journal.specs.Steps.{is_leaf_actor}
 use Rattle.tr_dump.specs.Values.{spaced, kind_word, selection_word, point_words, size_words, rect_words, shape_words, event_text}
 use Rattle.tr_journal.specs.Names.{Names, node_name, leaf_name}
 
--- who makes a step
+-- the actor of a step
 abbrev pub actor_text : Names → Actor → List ℕ
 actor_text names (actors.Leaf leaf) = codes "leaf:" ++ leaf_name names leaf
 actor_text names actors.Desk = codes "desk"
 actor_text names actors.Painter = codes "painter"
 actor_text names actors.Player = codes "player"
 
--- what is held
+-- a lock that is held
 abbrev pub level_text : Names → Level → List ℕ
 level_text names levels.Mu = codes "mu"
 level_text names (levels.Share leaf) = codes "share:" ++ leaf_name names leaf
 level_text names (levels.Win leaf) = codes "win:" ++ leaf_name names leaf
 
--- all that is held, with commas between
+-- all locks that are held, with commas between
 abbrev pub levels_text : Names → List Level → List ℕ
 levels_text names levels = join_by (level_text names) (codes ",") levels
 
--- where a cage holds the cursor: while it is over the window, while it is gone, or both
+-- the cursors that a cage holds: over the window, gone, or both
 abbrev pub cage_word : Bool → Bool → List ℕ
 cage_word true true = codes "both"
 cage_word true false = codes "here"
@@ -54,7 +54,7 @@ abbrev pub cage_text : Cage → List ℕ
 cage_text cages.Everywhere = codes "free"
 cage_text (cages.Only rect here gone) = spaced (codes "cage" ∷ rect_words rect ++ cage_word here gone ∷ [])
 
--- the word for what a step does to a button
+-- the word for a button that goes down or up
 abbrev pub button_word : Bool → List ℕ
 button_word true = codes "down"
 button_word false = codes "up"
@@ -93,7 +93,7 @@ flush_text names actor leaf = if is_leaf_actor leaf actor then codes "flush" els
 abbrev pub repaint_text : Names → Actor → LeafId → List ℕ
 repaint_text names actor leaf = if is_leaf_actor leaf actor then codes "force" else spaced (codes "repaint" ∷ leaf_name names leaf ∷ [])
 
--- the text of a step, in the words of a script where it stands in one
+-- the text of a step, in the words of a script if scripts have such a step
 abbrev pub step_text : {M : Type 0} → (M → List ℕ) → Names → Actor → Step M → List ℕ
 step_text words names actor (steps.Act leaf cmd) = words cmd
 step_text words names actor (steps.Mark leaf clip) = spaced (codes "mark" ∷ rect_words clip)
@@ -141,7 +141,7 @@ answer_text answers.Empty = codes "empty"
 answer_text (answers.Tree fault) = node_fault_text fault
 answer_text (answers.Desk fault) = desk_fault_text fault
 
--- the text of an entry: who made it, what was held, the step, and what it answered
+-- the text of an entry: its actor, the held locks, the step, and the answer
 abbrev pub entry_text : {M : Type 0} → (M → List ℕ) → Names → Entry M → List ℕ
 entry_text words names entry =
     spaced (actor_text names entry.actor

@@ -29,7 +29,7 @@ kind_word Mono = codes "mono"
 kind_word Map4 = codes "map4"
 kind_word Map8 = codes "map8"
 
--- the word for what a mouse button did
+-- the word for a click
 abbrev pub click_word : Click → List ℕ
 click_word FirstDown = codes "firstdown"
 click_word OtherDown = codes "otherdown"
@@ -42,7 +42,7 @@ selection_word selections.Key = codes "key"
 selection_word selections.Source = codes "source"
 selection_word selections.Target = codes "target"
 
--- the word for whether the cursor is gone from a window
+-- the word for a cursor that is here or gone
 abbrev pub presence_word : Bool → List ℕ
 presence_word true = codes "gone"
 presence_word false = codes "here"
@@ -55,11 +55,11 @@ point_words p = signed_decimal p.h ∷ signed_decimal p.v ∷ []
 abbrev pub size_words : Size → List (List ℕ)
 size_words size = decimal size.wide ∷ decimal size.high ∷ []
 
--- the words of a rectangle: its edges in the west, the east, the north and the south
+-- the words of a rectangle: its west, east, north and south edges
 abbrev pub rect_words : Edges → List (List ℕ)
 rect_words e = signed_decimal e.west ∷ signed_decimal e.east ∷ signed_decimal e.north ∷ signed_decimal e.south ∷ []
 
--- the words of a shape: the least length, the preferred one and the greatest
+-- the words of a shape: the least, the preferred and the greatest length
 abbrev pub shape_words : Lengths → List (List ℕ)
 shape_words l = decimal l.lo ∷ decimal l.pref ∷ decimal l.hi ∷ []
 

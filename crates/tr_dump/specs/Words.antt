@@ -1,5 +1,5 @@
 -- Private contracts alone cite this file.
--- The words of a line as the code has them.
+-- The code's words of a line.
 use Rattle.std.specs.Prelude.{ℕ, Bool, true, false, List, [], ◌++◌, codes, decimal}
 use Rattle.std.specs.Fmt.{signed_decimal}
 use Rattle.tr_dump.specs.declared.words.Word.{Word}
@@ -11,11 +11,11 @@ word_text (Text text) = text.now
 word_text (Number n) = decimal n
 word_text (Signed z) = signed_decimal z
 
--- a word behind a space
+-- a word after a space
 abbrev pub behind_space : Word → List ℕ
 behind_space word = codes " " ++ word_text word
 
--- the tree's lock, if it is held, with a comma behind it unless it is held alone
+-- the tree's lock, if it is held, and a comma unless it is held alone
 abbrev pub mu_text : Bool → Bool → List ℕ
 mu_text true true = codes "mu"
 mu_text true false = codes "mu,"

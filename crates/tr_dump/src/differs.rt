@@ -13,8 +13,8 @@ use tr_base::{Command, NoMemory};
 use tr_client::append_all;
 use tr_journal::{Actor, Apart, Difference, Entry, NameOf, Step};
 
-/// Appends where a stage differs from what was handed in, on a line: in what and at which place, what
-/// was handed in, and what the stage has.
+/// Appends a difference of a stage, on a line: its part and place, the expected text, and the text of the
+/// stage.
 pub fn differs_line<M: Command, N: NameOf>(
     difference: &Difference<M>,
     names: &N,
@@ -46,7 +46,7 @@ fn append_difference<M: Command, N: NameOf>(
     append_sides(&difference.what, names, out)
 }
 
-/// Appends what differs and at which place.
+/// Appends the part and the place of a difference.
 #[tactic(auto, using(crate::proofs::BeginsLemmas::begins_itself, crate::proofs::BeginsLemmas::begins_before))]
 fn append_place<M: Command, N: NameOf>(
     difference: &Difference<M>,
@@ -68,7 +68,7 @@ fn append_place<M: Command, N: NameOf>(
     )
 }
 
-/// Appends what differs, or nothing.
+/// Appends the differing part, or nothing.
 fn append_apart<M: Command, N: NameOf>(
     what: &Apart<M>,
     names: &N,
@@ -86,7 +86,7 @@ fn append_apart<M: Command, N: NameOf>(
     }
 }
 
-/// Appends what was handed in and what the stage has, and ends the line.
+/// Appends the expected text and the text of the stage, and ends the line.
 #[tactic(auto, using(crate::proofs::BeginsLemmas::begins_itself, crate::proofs::BeginsLemmas::begins_before))]
 fn append_sides<M: Command, N: NameOf>(
     what: &Apart<M>,
@@ -105,7 +105,7 @@ fn append_sides<M: Command, N: NameOf>(
     Ok(out.push(b'\n')?)
 }
 
-/// Appends what was handed in.
+/// Appends the expected text.
 fn append_made<M: Command, N: NameOf>(
     what: &Apart<M>,
     names: &N,
@@ -123,7 +123,7 @@ fn append_made<M: Command, N: NameOf>(
     }
 }
 
-/// Appends what the stage has.
+/// Appends the text of the stage.
 fn append_found<M: Command, N: NameOf>(
     what: &Apart<M>,
     names: &N,
@@ -141,7 +141,7 @@ fn append_found<M: Command, N: NameOf>(
     }
 }
 
-/// Appends the text of an entry, or a dash where there is none.
+/// Appends the text of an entry, or a dash if there is none.
 fn append_entry_or_dash<M: Command, N: NameOf>(
     entry: &Option<Entry<M>>,
     names: &N,
@@ -158,7 +158,7 @@ fn append_entry_or_dash<M: Command, N: NameOf>(
     }
 }
 
-/// Appends the text of an actor's step, or a dash where there is none.
+/// Appends the text of an actor's step, or a dash if there is none.
 fn append_step_or_dash<M: Command, N: NameOf>(
     actor: Actor,
     step: &Option<Step<M>>,

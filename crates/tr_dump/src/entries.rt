@@ -28,7 +28,7 @@ pub(crate) fn append_entry<M: Command, N: NameOf>(
     append_answer(&entry.reply.answer, out)
 }
 
-/// Appends an actor and the levels that it held, a space behind each.
+/// Appends an actor and the locks that it held, a space after each.
 #[tactic(auto, using(crate::proofs::BeginsLemmas::begins_itself, crate::proofs::BeginsLemmas::begins_before))]
 fn append_maker<N: NameOf>(
     actor: Actor,

@@ -17,8 +17,8 @@ use tr_base::{Command, NoMemory};
 use tr_client::append_all;
 use tr_journal::{Delivery, Entry, Journal, NameOf};
 
-/// Appends how many entries there are, on a line, and then a line for each entry, numbered from 1, with
-/// all that its step sent.
+/// Appends the number of entries, on a line, and then a line for each entry, numbered from 1, with the
+/// deliveries of its step.
 pub fn journal<M: Command, N: NameOf>(
     journal: &Journal<M>,
     names: &N,
@@ -70,7 +70,7 @@ fn append_entries<M: Command, N: NameOf>(
     Ok(())
 }
 
-/// Appends the entry behind `k` others, behind its number.
+/// Appends entry `k` (counted from 0) after its number.
 #[tactic(auto, using(crate::proofs::BeginsLemmas::begins_itself, crate::proofs::BeginsLemmas::begins_before))]
 fn append_numbered<M: Command, N: NameOf>(
     k: usize,
@@ -89,7 +89,7 @@ fn append_numbered<M: Command, N: NameOf>(
     append_entry(entry, names, out)
 }
 
-/// Appends what a step sent, and ends the line.
+/// Appends the deliveries of a step, and ends the line.
 #[tactic(auto, using(crate::proofs::BeginsLemmas::begins_itself, crate::proofs::BeginsLemmas::begins_before))]
 fn append_sent<N: NameOf>(sent: &[Delivery], names: &N, out: &mut Vec<u8>) -> Result<(), NoMemory>
     requires { All (λ delivery. HasLeaf (names_of N.NameOf names.now) delivery.leaf) sent.now }
@@ -120,7 +120,7 @@ fn append_delivery<N: NameOf>(
     append_event(&delivery.event, out)
 }
 
-/// What stands between the name of a leaf and an event that was sent to it.
+/// The text between the name of a leaf and an event that was sent to it.
 fn fate_text(dropped: bool) -> &'static [u8]
     ensures { result.now ≡ spec.fate_text dropped }
 {

@@ -1,6 +1,6 @@
-//! The texts of reports: the screen, what waits to be painted, the journal, what a point belongs to, what
-//! waits in an inbox, and where a stage differs from what was handed in. Each call appends its text to
-//! `out`, or nothing where memory is wanted.
+//! The texts of reports: the screen, the counts of a peek, the journal, the owner of a point, the events in
+//! an inbox, and the difference of a stage from the given entries and steps. Each call appends its text
+//! to `out`, or nothing for want of memory.
 #![tactic(auto)]
 
 mod answers;

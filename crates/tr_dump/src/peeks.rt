@@ -6,7 +6,7 @@ use crate::words::{append_line, or_nothing};
 use tr_base::NoMemory;
 use tr_journal::Peek3;
 
-/// Appends what is bad, what waits and what is stale, on a line.
+/// Appends the counts of bad points, waiting commands and stale points, on a line.
 pub fn peek_line(peek: &Peek3, out: &mut Vec<u8>) -> Result<(), NoMemory>
     ensures ok { OnOk result (out.new.items ≡ out.old.items ++ peek_text peek.now) }
     ensures err { OnErr result (out.new.items ≡ out.old.items) }

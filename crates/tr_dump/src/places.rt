@@ -13,7 +13,7 @@ use tr_base::{Event, LeafId, NoMemory, Point, Spot};
 use tr_inbox::Inbox;
 use tr_journal::NameOf;
 
-/// Appends what a point belongs to, on a line.
+/// Appends the owner of a point, on a line.
 pub fn place_line<N: NameOf>(
     p: Point,
     spot: &Spot,
@@ -30,7 +30,7 @@ pub fn place_line<N: NameOf>(
     or_nothing(appended, len, out)
 }
 
-/// Appends what a point belongs to.
+/// Appends the owner of a point.
 fn append_place<N: NameOf>(
     p: Point,
     spot: &Spot,
@@ -69,8 +69,8 @@ fn append_place<N: NameOf>(
     }
 }
 
-/// Appends how many events wait for a leaf and how many were dropped, on a line, and then each event that
-/// waits, on a line, the oldest first.
+/// Appends the numbers of waiting and dropped events of a leaf, on a line, and then each waiting event, on
+/// a line, the oldest first.
 pub fn inbox<N: NameOf>(
     leaf: LeafId,
     inbox: &Inbox,
@@ -114,7 +114,7 @@ fn append_inbox<N: NameOf>(
     append_events(inbox, out)
 }
 
-/// Appends a line for each event that waits.
+/// Appends a line for each waiting event.
 #[tactic(auto, using(crate::proofs::BeginsLemmas::begins_itself, crate::proofs::BeginsLemmas::begins_before))]
 fn append_events(inbox: &Inbox, out: &mut Vec<u8>) -> Result<(), NoMemory>
     ensures ok { OnOk result (out.new.items ≡ out.old.items ++ flat_map spec.event_line inbox.now.events) }

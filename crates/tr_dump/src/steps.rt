@@ -36,7 +36,7 @@ pub(crate) fn append_actor<N: NameOf>(
     }
 }
 
-/// Appends the text of the levels that are held.
+/// Appends the text of the held locks.
 #[tactic(auto, using(crate::proofs::BeginsLemmas::begins_itself, crate::proofs::BeginsLemmas::begins_before))]
 pub(crate) fn append_levels<N: NameOf>(
     held: &Held,
@@ -66,7 +66,7 @@ pub(crate) fn append_levels<N: NameOf>(
     }
 }
 
-/// The text of the tree's lock, if it is held, with a comma behind it unless it is held alone.
+/// The text of the tree's lock, if it is held, with a comma after it unless it is held alone.
 fn mu_text(mu: bool, alone: bool) -> &'static [u8]
     ensures { result.now ≡ mu_text mu alone }
 {

@@ -1,4 +1,4 @@
-//! Lines as rows of words.
+//! Lines as sequences of words.
 ghost use Rattle.std.specs.Prelude.{◌≡◌, ◌++◌, codes, take, OnOk, OnErr};
 ghost use Rattle.std.specs.List.{flat_map};
 ghost use Rattle.tr_dump.specs.Begins.{Begins};
@@ -30,7 +30,7 @@ fn append_word(word: &Word, out: &mut Vec<u8>) -> Result<(), NoMemory>
     })
 }
 
-/// Appends a word, and then others, each behind a space.
+/// Appends a word, and then others, each after a space.
 #[tactic(auto, using(crate::proofs::BeginsLemmas::begins_itself, crate::proofs::BeginsLemmas::begins_before))]
 pub(crate) fn append_words(out: &mut Vec<u8>, word: &[u8], others: &[Word]) -> Result<(), NoMemory>
     ensures ok { OnOk result
@@ -41,7 +41,7 @@ pub(crate) fn append_words(out: &mut Vec<u8>, word: &[u8], others: &[Word]) -> R
     append_behind(out, others)
 }
 
-/// Appends words, each behind a space.
+/// Appends words, each after a space.
 #[tactic(auto, using(crate::proofs::BeginsLemmas::begins_itself, crate::proofs::BeginsLemmas::begins_before))]
 fn append_behind(out: &mut Vec<u8>, words: &[Word]) -> Result<(), NoMemory>
     ensures ok { OnOk result (out.new.items ≡ out.old.items ++ flat_map behind_space words.now) }
@@ -54,7 +54,7 @@ fn append_behind(out: &mut Vec<u8>, words: &[Word]) -> Result<(), NoMemory>
     Ok(())
 }
 
-/// Appends a line: a word, and then others, each behind a space.
+/// Appends a line: a word, and then others, each after a space.
 #[tactic(auto, using(crate::proofs::BeginsLemmas::begins_itself, crate::proofs::BeginsLemmas::begins_before))]
 pub(crate) fn append_line(out: &mut Vec<u8>, word: &[u8], others: &[Word]) -> Result<(), NoMemory>
     ensures ok { OnOk result (out.new.items ≡
@@ -65,7 +65,7 @@ pub(crate) fn append_line(out: &mut Vec<u8>, word: &[u8], others: &[Word]) -> Re
     Ok(out.push(b'\n')?)
 }
 
-/// Takes back what stands behind the first `len` bytes, if memory was wanted for it.
+/// Cuts a text back to its first `len` bytes, if the append failed for want of memory.
 pub(crate) fn or_nothing(
     appended: Result<(), NoMemory>,
     len: usize,

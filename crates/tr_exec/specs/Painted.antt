@@ -1,5 +1,5 @@
 -- Private contracts alone cite this file.
--- What a command, and a batch, make of a screen.
+-- The effects of a command, and of a batch, on a screen.
 use Rattle.std.specs.Prelude.{◌≡◌, ℕ, Bool, true, false, ◌&&◌, List, Some}
 use Rattle.tr_base.specs.declared.Point.{Point}
 use Rattle.tr_base.specs.Ops.{eff}
@@ -18,7 +18,7 @@ use Rattle.tr_exec.specs.Unknown.{moved_of}
 abbrev pub in_sight : Paint → Point → List Edges → Point → Bool
 in_sight c origin visible p = holds visible p && has_point (area c) (before_shift p origin)
 
--- a command moves pixels, or leaves all as they are, or applies its operation to each visible point of its area
+-- a command moves pixels, or leaves all unchanged, or applies its operation to each visible point of its area
 abbrev pub IsPainted : Look → Paint → Point → List Edges → Picture → Picture → Type 0
 IsPainted look (Scroll clip delta) origin visible old new =
     Repaints (moved_of (Scroll clip delta) origin visible) (λ p. pixel_of old (before_shift p delta)) old new
@@ -27,7 +27,7 @@ IsPainted look c origin visible old new =
     Repaints (in_sight c origin visible) (λ p. eff look.kind (op_at look.font c (before_shift p origin)) (pixel_of old p)) old new
 
 -- after a batch each visible point whose colour is known has it;
--- one that no command touches keeps its pixel, and so do the points that aren't visible
+-- a visible point that no command touches keeps its pixel, and so do all points that aren't visible
 pub record ShowsBatch (look : Look) (base : Base) (batch : List Paint)
     (origin : Point) (visible : List Edges) (old new : Picture) : Type 0 where
   pub size : new.size ≡ old.size

@@ -1,5 +1,5 @@
 -- Private contracts alone cite this file.
--- What a command paints along a run of points.
+-- The pixels that a command paints along a run of points.
 use Rattle.std.specs.Prelude.{◌≡◌, ℕ, ◌+◌, ◌*◌, ◌<◌, pos, neg_ℤ, ◌+ℤ◌, ◌≤ℤ◌, ◌<ℤ◌, ◌/◌, ◌%◌, List, map, length, slice_index}
 use Rattle.std.specs.List.{range_with_len}
 use Rattle.tr_base.specs.declared.Point.{Point}
@@ -17,14 +17,14 @@ pub record IsWithin (size : Size) (p : Point) (n : ℕ) : Type 0 where
   pub north : pos 0 ≤ℤ p.v
   pub south : p.v <ℤ pos size.high
 
--- the n points from p on lie within the cells of a text of so many bytes
+-- the n points from p on lie within the cells of a text of this number of bytes
 pub record IsInCells (count : ℕ) (p : Point) (n : ℕ) : Type 0 where
   pub west : pos 0 ≤ℤ p.h
   pub east : (p.h +ℤ pos n) ≤ℤ pos (8 * count)
   pub north : pos 0 ≤ℤ p.v
   pub south : p.v <ℤ pos 8
 
--- the corner of a command's picture lies at most 131,072 from the screen's, each way
+-- the corner of a command's picture is at most 131,072 away from the screen's, each way
 pub record IsCorner (at : Point) : Type 0 where
   pub west : neg_ℤ (pos 131072) ≤ℤ at.h
   pub east : at.h ≤ℤ pos 131072
@@ -36,6 +36,6 @@ abbrev pub AreGlyphRows : List (List ℕ) → List ℕ → List ℕ → Type 0
 AreGlyphRows font text bits =
     (v k : ℕ) → v < 8 → k < length text → slice_index bits (80 * v + k) ≡ slice_index (glyph_of font (slice_index text k)) v
 
--- of 64 bytes, whose two halves are taken by turns, the 32 from place `start` on
+-- the 32 bytes from place `start` on, after the two halves of 64 bytes are interleaved
 abbrev pub by_turns : List ℕ → ℕ → List ℕ
 by_turns bytes start = map (λ i. slice_index bytes (i / 2 + 32 * (i % 2))) (range_with_len start 32)

@@ -1,5 +1,5 @@
 -- Private contracts alone cite this file.
--- Which visible points are unknown after a command, computed without pixels.
+-- The visible points that are unknown after a command, computed without pixels.
 use Rattle.std.specs.Prelude.{◌≡◌, Bool, true, false, ◌&&◌, ◌||◌, not, is_none, if◌then◌else◌, List}
 use Rattle.tr_base.specs.declared.Point.{Point}
 use Rattle.tr_base.specs.Rects.{Edges, before_shift, has_point}
@@ -11,7 +11,7 @@ use Rattle.tr_paint.specs.Traces.{Look, Base, after}
 use Rattle.tr_exec.specs.declared.effects.Effect.{Effect}
 use Rattle.tr_exec.specs.declared.effects.Effect.TheVariants.{Tells, Loses, Keeps, Moves}
 
--- what a command makes of what is known of the points of its area
+-- the effect of a command on the knowledge of the points of its area
 abbrev pub effect_of : Paint → Effect
 effect_of (Scroll clip delta) = Moves delta
 effect_of (Spoil clip) = Loses
@@ -22,7 +22,7 @@ abbrev pub IsNearEffect : Effect → Type 0
 IsNearEffect (Moves delta) = IsNearPoint delta
 IsNearEffect effect = Unit {0}
 
--- a point is unknown after that, by which points were unknown before
+-- a point is unknown after an effect, given the points that were unknown before it
 abbrev pub lost_by : Effect → (Point → Bool) → Point → Bool
 lost_by Tells unknown p = false
 lost_by Loses unknown p = true
@@ -58,7 +58,7 @@ moved_of c origin visible p = false
 abbrev pub IsMovedBy : Point → List Edges → Paint → List Edges → Type 0
 IsMovedBy origin visible c moved = (p : Point) → holds moved p ≡ moved_of c origin visible p
 
--- the bad points after a batch: of the visible points those whose colour isn't known, and of the others those that were bad
+-- the bad points after a batch: the visible points whose colour isn't known, and the other points that were bad
 abbrev pub bad_after : Look → Base → List Paint → Point → List Edges → List Edges → Point → Bool
 bad_after look base batch origin visible bad p =
     if holds visible p then is_none (after look base batch (before_shift p origin)) else holds bad p

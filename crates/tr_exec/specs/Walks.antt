@@ -1,4 +1,4 @@
--- Which points a walk paints.
+-- The points that a walk paints.
 use Rattle.std.specs.Prelude.{◌≡◌, ℕ, ℤ, pos, ◌≤ℤ◌, ◌<ℤ◌, Bool, true, ◌&&◌, List, All}
 use Rattle.std.specs.Int.{int_min, int_max}
 use Rattle.tr_base.specs.declared.Point.{Point}
@@ -19,7 +19,7 @@ AreOn size test = (p : Point) → test p ≡ true → IsOn size p
 abbrev pub HasRow : Edges → ℕ → Type 0
 HasRow area v = (area.north ≤ℤ pos v) × (pos v <ℤ area.south) × (area.west <ℤ area.east)
 
--- the rectangle in the columns of the area
+-- the rectangle, cut to the columns of the area
 abbrev pub in_columns_of : Edges → Edges → Edges
 in_columns_of area r = record { west = int_max r.west area.west; east = int_min r.east area.east; north = r.north; south = r.south }
 
@@ -27,7 +27,7 @@ in_columns_of area r = record { west = int_max r.west area.west; east = int_min 
 abbrev pub Meets : Edges → Edges → Type 0
 Meets area r = (area.west <ℤ r.east) × (r.west <ℤ area.east)
 
--- within the area's columns, a row of rectangles has the columns of a band's rectangles; each has columns of the area
+-- within the area's columns, a row of rectangles has the columns of a band's rectangles; each rectangle has columns of the area
 pub record IsRowOf (area : Edges) (rects row : List Edges) : Type 0 where
   pub columns : (x : ℤ) → area.west ≤ℤ x → x <ℤ area.east → in_spans (spans_of row) x ≡ in_spans (spans_of rects) x
   pub apart : AreApart (spans_of row)

@@ -1,4 +1,4 @@
-//! The painting commands as brushes. Each knows where on the screen its picture begins.
+//! The paint commands as brushes. Each has the corner of its picture on the screen.
 ghost use Rattle.std.specs.Prelude.{◌≡◌, ◌*◌, ℕ, if◌then◌else◌, ◌-ℤ◌, ◌<ℤ◌, ◌≤ℤ◌, pos, neg_ℤ, true, length, slice_index, unsigned_abs};
 ghost use Rattle.tr_base.specs.declared.Point.{Point};
 ghost use Rattle.tr_base.specs.Rects.{InReach, has_point, whole_of, rect_of, before_shift};
@@ -162,14 +162,14 @@ impl Brush for LettersBrush<'_> {
     }
 }
 
-/// The first point of a run of the area, counted from a picture's corner.
+/// The first point of a run of the area, relative to a picture's corner.
 fn start_in(corner: Point, area: &Rect, run: Run) -> Point
     requires corner { IsCorner corner }
     requires some { run.west <ℤ run.east }
     requires within { (p : Point) → in_run run p ≡ true → has_point area.now p ≡ true }
     ensures { result ≡ before_shift (point_in run 0) corner }
 {
-    // Called for what they tell the prover: that the edges of a rectangle are within reach.
+    // These calls tell the prover that the edges of a rectangle are within reach.
     let _ = (area.west(), area.east(), area.north(), area.south());
     Point {
         h: distance(run.west, corner.h),
@@ -177,7 +177,7 @@ fn start_in(corner: Point, area: &Rect, run: Run) -> Point
     }
 }
 
-/// How far a coordinate of the screen is from a corner's.
+/// The distance of a coordinate of the screen from a corner's.
 fn distance(x: i32, corner: i32) -> i32
     requires x { InReach x }
     requires low { neg_ℤ (pos 131072) ≤ℤ corner }

@@ -5,20 +5,20 @@ ghost use Rattle.tr_exec.specs.Unknown as spec;
 use tr_base::Point;
 use tr_paint::Paint;
 
-/// What a command makes of what is known of the points of its area.
+/// The effect of a command on the knowledge of the points of its area.
 #[derive(Clone, Copy)]
 pub(crate) enum Effect {
     /// Each point is known afterwards.
     Tells,
     /// No point is known afterwards.
     Loses,
-    /// Each point is known where it was.
+    /// Each point is known afterwards if it was before.
     Keeps,
-    /// Each point is known where the point so far before it was.
+    /// Each point is known afterwards if the point at this distance before it was.
     Moves(Point),
 }
 
-/// What the command makes of what is known of the points of its area.
+/// The effect of the command on the knowledge of the points of its area.
 pub(crate) fn effect_of(paint: &Paint) -> Effect
     requires { IsNearPaint paint.now }
     ensures value { result ≡ spec.effect_of paint.now }

@@ -15,14 +15,14 @@ use tr_paint::Batch;
 use tr_region::Region;
 use tr_screen::Screen;
 
-/// Executes the commands of a batch in their order, within the visible points of a window whose
-/// north-west corner lies at `origin`, each coordinate of it within -65,536 to 65,536. The commands
-/// are in the window's coordinates, both regions in the screen's, and both lie on the screen. The
-/// screen's kind is that of `env`.
+/// Executes the commands of a batch in their order, within the visible points of a window. Each
+/// coordinate of its north-west corner `origin` is within -65,536 to 65,536. The commands are in the
+/// window's coordinates, both regions in the screen's, and both lie on the screen. The screen's kind
+/// is that of `env`.
 ///
-/// What is known at first are the pixels of the visible points that aren't bad. Afterwards each
-/// visible point whose colour is known has it, and the bad points among the visible ones are those
-/// whose colour isn't known. What these show is free where a command touches them.
+/// At first the pixels of the visible points that aren't bad are known. Afterwards each visible
+/// point whose colour is known has it, and the bad ones among the visible points are those whose
+/// colour isn't known. A bad point may show anything if a command touches it.
 ///
 /// All memory is taken before the first pixel is written, so after an `Err` nothing has changed.
 pub fn execute(
@@ -45,7 +45,7 @@ pub fn execute(
         OnOk result ((p : Point) (x : ℕ) → holds visible.now p ≡ true →
         colour_after look base batch.now origin p ≡ Some x → pixel_of screen.new p ≡ x) }
 
-    // Of the visible points those are bad whose colour isn't known.
+    // The bad ones among the visible points are those whose colour isn't known.
     ensures unknown { let look = look_of env.now.kind env.now.font.now in
         let base = base_of origin visible.now bad.old screen.old in
         OnOk result ((p : Point) → holds visible.now p ≡ true →
@@ -66,7 +66,7 @@ pub fn execute(
     ensures err_screen { OnErr result (screen.new ≡ screen.old) }
     ensures err_bad { OnErr result (bad.new ≡ bad.old) }
 {
-    // Called for what it tells the prover: that the screen is no larger than the greatest one.
+    // Tells the prover that the screen is no larger than the greatest one.
     let _ = screen.size();
     let site = Site {
         alloc,
@@ -79,8 +79,8 @@ pub fn execute(
     Ok(())
 }
 
-/// The same, where the visible points are told that are good, in place of the bad ones: of these the pixels
-/// are known at first. It answers the visible points whose colour is known afterwards.
+/// The same, given the good visible points in place of the bad ones: their pixels are known at first. It
+/// returns the visible points whose colour is known afterwards.
 pub fn execute_known(
     alloc: Global,
     batch: &Batch,
@@ -101,7 +101,7 @@ pub fn execute_known(
         OnOk result ((p : Point) (x : ℕ) → holds visible.now p ≡ true →
         colour_after look base batch.now origin p ≡ Some x → pixel_of screen.new p ≡ x) }
 
-    // These points are answered.
+    // These points are returned.
     ensures good { let look = look_of env.now.kind env.now.font.now in
         let base = known_base origin visible.now good.now screen.old in
         IfOk result (λ r. (p : Point) → holds r p
@@ -119,7 +119,7 @@ pub fn execute_known(
     ensures kind { screen.new.kind ≡ screen.old.kind }
     ensures err { OnErr result (screen.new ≡ screen.old) }
 {
-    // Called for what it tells the prover: that the screen is no larger than the greatest one.
+    // Tells the prover that the screen is no larger than the greatest one.
     let _ = screen.size();
     let site = Site {
         alloc,

@@ -26,7 +26,7 @@ use tr_repair::move_pixels;
 use tr_screen::Screen;
 
 impl Site<'_> {
-    /// Does to the screen what the commands of a batch do, by the points that each moves.
+    /// Executes the commands of a batch on the screen, given the points that each moves.
     pub fn paint_all(&self, env: &Env<'_>, batch: &Batch, moves: &[Region], screen: &mut Screen)
         requires origin { IsOrigin self.now.origin }
         requires visible { RegionLiesOn screen.old.size self.now.visible.now }
@@ -45,7 +45,7 @@ impl Site<'_> {
         }
     }
 
-    /// Does to the screen what a command does.
+    /// Executes a command on the screen.
     fn paint(&self, env: &Env<'_>, paint: &Paint, moved: &Region, screen: &mut Screen)
         requires near { IsNearPaint paint.now }
         requires origin { IsOrigin self.now.origin }
@@ -101,7 +101,7 @@ impl Site<'_> {
         }
     }
 
-    /// The point of the screen at which a point of the window lies.
+    /// The point of the screen at a point of the window.
     fn place(&self, q: Point) -> Point
         requires near { IsNearPoint q }
         requires origin { IsOrigin self.now.origin }

@@ -13,17 +13,17 @@ use tr_base::NoMemory;
 use tr_paint::Batch;
 use tr_region::Region;
 
-/// What is computed before the first pixel is written, so that no memory is wanted afterwards.
+/// The results that are computed before the first pixel is written, so that no memory is needed afterwards.
 #[derive(Drop)]
 pub(crate) struct Plan {
-    /// For each command of the batch the points that it moves.
+    /// The points that each command of the batch moves.
     pub moves: Vec<Region>,
-    /// The bad points in the end.
+    /// The bad points after the batch.
     pub bad: Region,
 }
 
 impl Site<'_> {
-    /// What a batch is going to move, and which points are bad in the end.
+    /// The points that a batch will move, and the points that are bad after it.
     pub fn plan(&self, batch: &Batch, bad: &Region) -> Result<Plan, NoMemory>
         requires origin { IsOrigin self.now.origin }
         requires visible { RegionLiesOn greatest_screen self.now.visible.now }

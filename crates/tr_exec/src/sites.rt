@@ -12,8 +12,8 @@ use tr_base::{NoMemory, Point, Rect};
 use tr_paint::Paint;
 use tr_region::Region;
 
-/// Where a batch is executed: where the window's north-west corner lies on the screen, and which
-/// points of the window are visible, in the screen's coordinates.
+/// The place of a batch: the window's north-west corner on the screen, and the visible points of the
+/// window, in the screen's coordinates.
 #[derive(Clone, Copy)]
 pub(crate) struct Site<'a> {
     pub alloc: Global,
@@ -32,7 +32,7 @@ impl Site<'_> {
         paint.area().shift(self.origin)
     }
 
-    /// The visible points that are unknown after an effect in an area, by those before it.
+    /// The visible points that are unknown after an effect in an area, given those before it.
     pub fn unknown_after(
         &self,
         effect: Effect,
@@ -53,7 +53,7 @@ impl Site<'_> {
         }
     }
 
-    /// The same, where each point of the area is known where the point `delta` before it was.
+    /// The same, if each point of the area is known exactly if the point `delta` before it was.
     fn unknown_after_move(
         &self,
         delta: Point,
@@ -93,7 +93,7 @@ impl Site<'_> {
         requires region { RegionLiesOn greatest_screen region.now }
         ensures { IfOk result (λ r. (p : Point) → holds r p ≡ holds region.now (before_shift p delta)) }
     {
-        // Called for what it tells the prover: that the list of a region is canonical.
+        // Tells the prover that the list of a region is canonical.
         let _ = region.rects();
         region.shift(delta)
     }

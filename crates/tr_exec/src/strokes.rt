@@ -13,7 +13,7 @@ use std::simd::prelude::*;
 use tr_base::{Font, Kind, LINE, Line, Op, Pixmap, Point, Tile, eff, place_of, resolved};
 use tr_kernel::{Letters, Mask, copy_row, exchange_row, fill_row, letter_row};
 
-/// How many bytes the glyphs of the longest text have.
+/// The number of bytes of the glyphs of the longest text.
 const BITS: usize = 8 * LINE;
 
 /// Applies one operation to each pixel of a run.
@@ -37,7 +37,7 @@ pub(crate) fn texture_run(mask: &Mask, tile: &Tile, at: Point, pixels: &mut [u8]
     mask.row(pixels, tile_row(tile, at.v), place_of(at.h));
 }
 
-/// The row of a tile that a coordinate has.
+/// The row of a tile at a coordinate.
 fn tile_row(tile: &Tile, v: i32) -> u8
     ensures { result ≡ slice_index tile.now.rows (place_in_tile v) }
 {
@@ -56,7 +56,7 @@ pub(crate) fn pixels_run(kind: Kind, src: &Pixmap, at: Point, pixels: &mut [u8])
     resolve_row(kind, pixels);
 }
 
-/// A coordinate as the number of one of so many rows.
+/// A coordinate as a row number below `high`.
 fn row_of(v: i32, high: u16) -> u16
     requires north { pos 0 ≤ℤ v }
     requires south { v <ℤ pos high }
@@ -113,7 +113,7 @@ pub(crate) fn text_run(mask: &Mask, glyphs: &GlyphRows<'_>, at: Point, pixels: &
 {
     let h = at.h.unsigned_abs() as usize;
     let row = LINE * at.v.unsigned_abs() as usize;
-    // Called for what it tells the prover: that the text isn't longer than a row.
+    // Tells the prover that the text isn't longer than a row.
     let _ = glyphs.text.bytes();
     mask.cells(pixels, &glyphs.bits[row + h / 8..row + LINE], (h % 8) as u8);
 }
@@ -169,7 +169,7 @@ fn glyph_rows(font: &Font, text: &[u8]) -> [u8; BITS]
     bits
 }
 
-/// Puts down the glyphs of these bytes, one behind another.
+/// Writes the glyphs of these bytes, one after another.
 #[inline(always)]
 fn gather(font: &Font, text: &[u8], glyphs: &mut [u8; BITS])
     requires short { length text.now ≤ LINE }
@@ -182,17 +182,17 @@ fn gather(font: &Font, text: &[u8], glyphs: &mut [u8; BITS])
     }
 }
 
-/// Puts a glyph at a place.
+/// Writes a glyph at a place.
 #[inline(always)]
 fn put_glyph(glyphs: &mut [u8; BITS], at: usize, glyph: &[u8; 8])
     requires room { at + 8 ≤ BITS }
     ensures { glyphs.new ≡ put_chunk at glyphs.old glyph.now }
 {
-    // A vector that is made of an array is made byte by byte, and this is one store.
+    // A vector made from an array would be made byte by byte, and this is one store.
     glyphs[at..at + 8].copy_from_slice(glyph);
 }
 
-/// Puts the rows of eight glyphs into the cells from `at` on.
+/// Writes the rows of eight glyphs into the cells from `at` on.
 #[inline(always)]
 fn put_eight(bits: &mut [u8; BITS], at: usize, glyphs: &[u8])
     requires room { at + 8 ≤ LINE }
@@ -208,7 +208,7 @@ fn put_eight(bits: &mut [u8; BITS], at: usize, glyphs: &[u8])
     }
 }
 
-/// Puts eight bytes at a place.
+/// Writes eight bytes at a place.
 #[inline(always)]
 fn put_row(bits: &mut [u8; BITS], at: usize, row: u8x8)
     requires room { at + 8 ≤ BITS }
@@ -220,7 +220,7 @@ fn put_row(bits: &mut [u8; BITS], at: usize, row: u8x8)
 
 /// The columns of eight rows of eight bytes.
 ///
-/// Three times the halves are interleaved: each time the bits of a byte's place turn by one.
+/// The halves are interleaved three times: each time the bits of a byte's place rotate by one.
 #[inline(always)]
 fn exchanged(rows: &[u8]) -> [u8; 64]
     requires { length rows.now ≡ 64 }
@@ -243,7 +243,7 @@ fn halves(bytes: &[u8]) -> (u8x32, u8x32)
     (u8x32::from_slice(bytes), u8x32::from_slice(&bytes[32..]))
 }
 
-/// The bytes of two halves by turns, as two halves again.
+/// The bytes of two halves, interleaved, as two halves again.
 #[inline(always)]
 fn turned(a: u8x32, b: u8x32) -> (u8x32, u8x32)
     requires a { length a ≡ 32 }
@@ -253,7 +253,7 @@ fn turned(a: u8x32, b: u8x32) -> (u8x32, u8x32)
     a.interleave(b)
 }
 
-/// Two halves, one behind the other.
+/// Two halves, one after the other.
 #[inline(always)]
 fn joined(a: u8x32, b: u8x32) -> [u8; 64]
     requires a { length a ≡ 32 }
@@ -266,7 +266,7 @@ fn joined(a: u8x32, b: u8x32) -> [u8; 64]
     bytes
 }
 
-/// Puts half of 64 bytes at a place.
+/// Writes half of 64 bytes at a place.
 #[inline(always)]
 fn put_half(bytes: &mut [u8; 64], at: usize, half: u8x32)
     requires room { at + 32 ≤ 64 }

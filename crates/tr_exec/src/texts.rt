@@ -1,4 +1,4 @@
-//! A text is written in two colours if both operations leave one, else it is painted through a mask.
+//! A text is written in two colours if both operations are opaque, else it is painted through a mask.
 ghost use Rattle.std.specs.Prelude.{◌≡◌, ◌*◌, pos, true, length};
 ghost use Rattle.tr_base.specs.declared.Point.{Point};
 ghost use Rattle.tr_base.specs.Ops.{opaque as is_opaque};
@@ -51,7 +51,7 @@ pub(crate) fn paint_text(
     }
 }
 
-/// The same for operations that leave one colour each, whatever was there.
+/// The same for two opaque operations: each leaves one colour, whatever was there.
 fn write_text(screen: &mut Screen, visible: &Region, env: &Env<'_>, text: &PlacedText<'_>)
     requires one { is_opaque text.now.ops.one ≡ true }
     requires zero { is_opaque text.now.ops.zero ≡ true }

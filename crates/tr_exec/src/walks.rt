@@ -13,7 +13,7 @@ use tr_base::{Rect, greater, lesser};
 use tr_region::{Band, Region, nearest_row};
 use tr_screen::{Run, Screen};
 
-/// What becomes of the pixels of an area, each by its point.
+/// The new pixels of an area, each by its point.
 pub trait Brush {
     ghost area: { Self → Edges };
 
@@ -23,7 +23,7 @@ pub trait Brush {
     fn area(&self) -> Rect
         ensures { result ≡ area self.now };
 
-    /// Paints the pixels of a run, which holds points of the area alone.
+    /// Paints the pixels of a run. All points of the run lie in the area.
     fn paint(&self, run: Run, pixels: &mut [u8])
         requires long { length pixels.old ≡ width_of run }
         requires some { run.west <ℤ run.east }
@@ -32,9 +32,9 @@ pub trait Brush {
             slice_index pixels.new k ≡ pixel self.now (point_in run k) (slice_index pixels.old k) };
 }
 
-/// Paints the points of a region that lie in the brush's area, and no others: row by row, and in
-/// each row run by run. It costs the area's rows that the region has, and the rectangles that they
-/// meet.
+/// Paints the points of a region that lie in the brush's area, and no others: row by row, and in each
+/// row run by run. Its cost grows with the rows of the area that the region has, and with the rectangles
+/// that they meet.
 pub fn paint_within<B: Brush>(screen: &mut Screen, visible: &Region, brush: &B)
     requires { AreOn screen.old.size (in_area (holds visible.now) (B.area brush.now)) }
     ensures { let test = in_area (holds visible.now) (B.area brush.now) in
@@ -54,7 +54,7 @@ pub fn paint_within<B: Brush>(screen: &mut Screen, visible: &Region, brush: &B)
     }
 }
 
-/// Paints the points of a band that lie in the brush's area, which has points in each of its rows.
+/// Paints the points of a band that lie in the brush's area, which has points in each row of the band.
 fn paint_band<B: Brush>(screen: &mut Screen, band: &Band<'_>, brush: &B)
     requires order { band.now.north ≤ band.now.south }
     requires rows { (v : ℕ) → band.now.north ≤ v → v < band.now.south → HasRow (B.area brush.now) v }
@@ -67,7 +67,7 @@ fn paint_band<B: Brush>(screen: &mut Screen, band: &Band<'_>, brush: &B)
 {
     let area = brush.area();
     let row = band.between(area.west(), area.east());
-    // Most bands have one rectangle. The compiler computes the columns of a copy once, and not for each row.
+    // Most bands have one rectangle. In a copy the compiler computes the columns once, and not for each row.
     if row.len() == 1 {
         paint_rows(screen, band, &[row[0]], brush);
     } else {
@@ -92,7 +92,7 @@ fn paint_rows<B: Brush>(screen: &mut Screen, band: &Band<'_>, row: &[Rect], brus
     }
 }
 
-/// Paints the points of a row that lie in the brush's area, of which each rectangle has columns.
+/// Paints the points of a row that lie in the brush's area. Each rectangle of the row has columns of it.
 fn paint_row<B: Brush>(screen: &mut Screen, row: &[Rect], v: u16, brush: &B)
     requires row { HasRow (B.area brush.now) v }
     requires meet { All (Meets (B.area brush.now)) row.now }

@@ -1,4 +1,4 @@
--- The shapes of the nodes that have one child, and where that child stands.
+-- The shapes of the nodes that have one child, and the place of that child.
 use Rattle.std.specs.Prelude.{ℕ, ◌+◌, ◌*◌, pos, ◌+ℤ◌, ◌-ℤ◌}
 use Rattle.tr_base.specs.declared.shapes.Shapes.{Shapes}
 use Rattle.tr_base.specs.declared.sizes.Size.{Size}
@@ -6,7 +6,7 @@ use Rattle.tr_base.specs.Rects.{Edges, rect_of}
 use Rattle.tr_base.specs.Shapes.{Lengths}
 use Rattle.tr_base.specs.Layouts.{longest, stopped}
 
--- lengths, each greater by so much
+-- lengths, each greater by the same number
 abbrev pub widened : ℕ → Lengths → Lengths
 widened by l = record { lo = stopped (l.lo + by); pref = stopped (l.pref + by); hi = stopped (l.hi + by) }
 
@@ -17,7 +17,7 @@ border_shape width child = record {
   down = widened (2 * width) child.down;
 }
 
--- just one length will do
+-- the lengths all have one value
 abbrev pub fixed : ℕ → Lengths
 fixed n = record { lo = n; pref = n; hi = n }
 
@@ -25,7 +25,7 @@ fixed n = record { lo = n; pref = n; hi = n }
 abbrev pub rigid_shape : Size → Shapes
 rigid_shape size = record { across = fixed size.wide; down = fixed size.high }
 
--- any length will do, and the preferred one is as before
+-- the lengths allow any length, and keep the preferred one
 abbrev pub loosened : Lengths → Lengths
 loosened l = record { lo = 0; pref = l.pref; hi = longest }
 
@@ -33,7 +33,7 @@ loosened l = record { lo = 0; pref = l.pref; hi = longest }
 abbrev pub translate_shape : Shapes → Shapes
 translate_shape child = record { across = loosened child.across; down = loosened child.down }
 
--- a border leaves its child the rectangle less the width on each side, or the empty one where nothing is left
+-- a border leaves its child the rectangle less the width on each side, or the empty one if nothing is left
 abbrev pub border_place : Edges → ℕ → Edges
 border_place e width =
     rect_of (e.west +ℤ pos width) (e.east -ℤ pos width) (e.north +ℤ pos width) (e.south -ℤ pos width)

@@ -5,8 +5,8 @@ ghost use Rattle.tr_filter.specs.Filters.{widened, border_shape, fixed, rigid_sh
 
 use tr_base::{LONGEST, Point, Rect, Shape, Shapes, Size, preferred_place};
 
-/// The shape of a border of this width on all four sides around a child. Without a child, hand in
-/// the shape of a node without children, 0 in all lengths.
+/// The shape of a border of this width on all four sides around a child. Without a child, pass the
+/// shape of a node without children, 0 in all lengths.
 pub fn border_shape(width: u8, child: Shapes) -> Shapes
     ensures { result ≡ border_shape width child }
 {
@@ -29,7 +29,7 @@ pub fn rigid_shape(size: Size) -> Shapes
     }
 }
 
-/// The shape of a node that moves its child. Without a child, hand in 0 in all lengths.
+/// The shape of a node that moves its child. Without a child, pass 0 in all lengths.
 pub fn translate_shape(child: Shapes) -> Shapes
     ensures { result ≡ translate_shape child }
 {
@@ -39,7 +39,7 @@ pub fn translate_shape(child: Shapes) -> Shapes
     }
 }
 
-/// Where a border of this width leaves its child: empty, or within the node's rectangle.
+/// The place of a border's child: empty, or within the node's rectangle.
 pub fn border_place(rect: Rect, width: u8) -> Rect
     requires { IsDomain rect }
     ensures place { result ≡ border_place rect width }
@@ -54,9 +54,9 @@ pub fn border_place(rect: Rect, width: u8) -> Rect
     )
 }
 
-/// Where a node with an offset of at most 2048 each way has its child, which may reach past the
-/// node: empty, or with its corner within 2048 of the node's along each axis and with its sides at
-/// most 4096.
+/// The place of the child of a node with an offset of at most 2048 each way. The child may reach past
+/// the node: it is empty, or its corner is within 2048 of the node's along each axis and its sides are
+/// at most 4096.
 pub fn translate_place(rect: Rect, by: Point, child: Shapes) -> Rect
     requires domain { IsDomain rect }
     requires offset { IsOffset farthest by }

@@ -1,4 +1,4 @@
--- What an edit makes of the nodes, and where it is refused.
+-- The effect of an edit on the nodes, and the reasons for its refusal.
 use Rattle.std.specs.Prelude.{◌≡◌, ℕ, ◌+◌, ⊤, Bool, true, false, not, ◌&&◌, ◌||◌, ◌==◌, nat_lt, if◌then◌else◌, List, [], ◌∷◌, ◌++◌, Option, Some, None, is_some, set, length}
 use Rattle.std.specs.List.{filter}
 use Rattle.tr_base.specs.declared.Point.{Point}
@@ -41,11 +41,11 @@ changed n change t = record t { entries = set t.entries n.0 (change (node t n)) 
 abbrev pub without : NodeId → List NodeId → List NodeId
 without child cs = filter (λ c. not (c.0 == child.0)) cs
 
--- a Z takes a child in front of all others, another node behind them
+-- a Z takes a child in front of all others, another node after them
 abbrev pub with_child : NodeId → Entry → Entry
 with_child child e = record e { children = if is_z e.kind then child ∷ e.children else e.children ++ child ∷ [] }
 
--- the child hangs below a parent, and stands there
+-- the child gets a parent and a place
 abbrev pub hung : NodeId → Point → Entry → Entry
 hung parent at e = record e { parent = Some parent; at = at }
 
@@ -58,29 +58,29 @@ forgetting child kind = kind
 abbrev pub bereft : NodeId → Entry → Entry
 bereft child e = record e { kind = forgetting child e.kind; children = without child e.children }
 
--- the child hangs nowhere
+-- the child has no parent
 abbrev pub loose : Entry → Entry
 loose e = record e { parent = None }
 
--- the child is the first one, in front of all others
+-- the child becomes the first one, in front of all others
 abbrev pub lifting : NodeId → Entry → Entry
 lifting child e = record e { children = child ∷ without child e.children }
 
--- a node is of this kind
+-- a node gets this kind
 abbrev pub turned_to : NodeKind → Entry → Entry
 turned_to kind e = record e { kind = kind }
 
--- what a change of the parent makes of the nodes, if there is a parent
+-- the nodes after a change of the parent, if there is a parent
 abbrev pub at_parent : Option NodeId → (NodeId → Nodes → Nodes) → Nodes → Nodes
 at_parent None change t = t
 at_parent (Some parent) change t = change parent t
 
--- which strips a Page shows
+-- a Page shows this page
 abbrev pub paged : ℕ → NodeKind → NodeKind
 paged page (kinds.Page per old) = kinds.Page per page
 paged page kind = kind
 
--- the shapes of a leaf
+-- a leaf gets these shapes
 abbrev pub reshaped : Shapes → NodeKind → NodeKind
 reshaped shapes (kinds.Leaf leaf old) = kinds.Leaf leaf shapes
 reshaped shapes kind = kind
@@ -106,7 +106,7 @@ edited t (edits.Rescreen kind) = t
 abbrev pub is_root : Nodes → NodeId → Bool
 is_root t n = of_parent t.root (λ root. root.0 == n.0)
 
--- the node has a parent, and that is no Z
+-- the node has a parent that isn't a Z
 abbrev pub hangs_outside_z : Nodes → NodeId → Bool
 hangs_outside_z t n = of_parent (node t n).parent (λ parent. not (is_z (node t parent).kind))
 
@@ -118,7 +118,7 @@ hangs t n = is_some (node t n).parent
 abbrev pub is_occupied : Nodes → NodeId → Bool
 is_occupied t n = is_filter (node t n).kind && not (length (node t n).children == 0)
 
--- an Attach makes a list of children longer, and may want memory; no other edit does
+-- an Attach makes a list of children longer, and may run out of memory; no other edit does
 abbrev pub wants_memory : Edit → Bool
 wants_memory (edits.Attach child parent at) = true
 wants_memory edit = false
@@ -145,16 +145,16 @@ faults_of t (edits.Shapes n shapes) = (not (is_leaf (node t n).kind), faults.Wro
 faults_of t (edits.Resize size) = []
 faults_of t (edits.Rescreen kind) = []
 
--- the first fault that is there
+-- the first fault that is found
 abbrev pub first_node_fault : List (Bool × NodeFault) → Option NodeFault
 first_node_fault [] = None
 first_node_fault (x ∷ xs) = if x.0 then Some x.1 else first_node_fault xs
 
--- why an edit is refused, where it is
+-- the reason for the refusal of an edit, if it is refused
 abbrev pub refusal : Nodes → Edit → Option NodeFault
 refusal t edit = first_node_fault (faults_of t edit)
 
--- an edit is refused for its fault; want of memory may come where it has none
+-- an edit is refused for its fault; an edit without a fault may run out of memory
 abbrev pub IsCause : Option NodeFault → EditRefused → Type 0
 IsCause fault refused.NoMemory = fault ≡ None
 IsCause fault (refused.Fault f) = fault ≡ Some f

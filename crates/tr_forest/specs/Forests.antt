@@ -1,4 +1,4 @@
--- What all nodes of a forest keep.
+-- The invariant of a forest.
 use Rattle.std.specs.Prelude.{◌≡◌, ◌≢◌, ◌≤◌, ◌<◌, true, [], AllPairs, Some, None, length}
 use Rattle.tr_base.specs.declared.NodeId.{NodeId}
 use Rattle.tr_base.specs.declared.LeafId.{LeafId}
@@ -6,7 +6,7 @@ use Rattle.tr_base.specs.Layouts.{farthest, IsOffset}
 use Rattle.tr_forest.specs.Nodes.{Nodes, IsNode, IsNodeKind, node, is_leaf, is_filter, shown_by, leaf_of, leaf_count}
 use Rattle.tr_forest.specs.Families.{levels, is_among, depth}
 
--- Parents and children agree, nobody is listed twice, and no node lies below itself or deeper than 16.
+-- parents and children agree, no node is listed twice, and no node lies below itself or deeper than 16
 pub record IsForest (t : Nodes) : Type 0 where
   pub count : length t.entries ≤ 256
   pub parents : (n parent : NodeId) → (node t n).parent ≡ Some parent → is_among n (node t parent).children ≡ true

@@ -1,4 +1,4 @@
--- The nodes of a tree of windows: what each of them is, and whose child.
+-- The nodes of a tree of windows: the kind of each of them, and its parent.
 use Rattle.std.specs.Prelude.{◌≡◌, ℕ, pos, ◌≤◌, ◌<◌, ⊤, Bool, true, false, List, [], Option, Some, None, get_or, length, ◌==◌}
 use Rattle.std.specs.List.{filter, position_or_len}
 use Rattle.tr_base.specs.declared.Point.{Point}
@@ -9,7 +9,7 @@ use Rattle.tr_base.specs.Layouts.{longest, farthest, IsOffset}
 use Rattle.tr_forest.specs.declared.kinds.NodeKind.{NodeKind}
 use Rattle.tr_forest.specs.declared.kinds.NodeKind.TheVariants as kinds
 
--- a node: what it is, the tint of its frame, where it stands in a Z, whose child it is, and its own children in order
+-- a node: its kind, the tint of its frame, its place in a Z, its parent, and its own children in order
 pub record Entry : Type 0 where
   pub kind : NodeKind
   pub tint : ℕ
@@ -17,7 +17,7 @@ pub record Entry : Type 0 where
   pub parent : Option NodeId
   pub children : List NodeId
 
--- the nodes by their numbers, and which of them is the root
+-- the nodes by their numbers, and the number of the root
 pub record Nodes : Type 0 where
   pub entries : List Entry
   pub root : Option NodeId
@@ -26,7 +26,7 @@ pub record Nodes : Type 0 where
 abbrev pub new_entry : NodeKind → ℕ → Entry
 new_entry kind tint = record { kind = kind; tint = tint; at = record { h = pos 0; v = pos 0 }; parent = None; children = [] }
 
--- the node of this number; a number that is no node's stands for an H that hangs nowhere
+-- the node of this number; a number without a node gives an H without a parent
 abbrev pub node : Nodes → NodeId → Entry
 node t n = get_or t.entries n.0 (new_entry kinds.H 0)
 
@@ -81,7 +81,7 @@ abbrev pub shown_by : NodeKind → Option NodeId
 shown_by (kinds.T shown) = shown
 shown_by kind = None
 
--- which leaf a node is
+-- the leaf of a kind of node, if it is one
 abbrev pub leaf_of : NodeKind → Option LeafId
 leaf_of (kinds.Leaf leaf shapes) = Some leaf
 leaf_of kind = None
@@ -95,7 +95,7 @@ is_that_leaf leaf kind = false
 abbrev pub node_of : Nodes → LeafId → NodeId
 node_of t leaf = record { 0 = position_or_len (λ e. is_that_leaf leaf e.kind) t.entries }
 
--- how many leaves there are
+-- the number of leaves
 abbrev pub leaf_count : Nodes → ℕ
 leaf_count t = length (filter (λ e. is_leaf e.kind) t.entries)
 
@@ -104,7 +104,7 @@ pub record IsNext (t : Nodes) (leaf : LeafId) : Type 0 where
   pub next : leaf.0 ≡ leaf_count t
   pub room : leaf_count t < 32
 
--- where a node that is to be added is a leaf, it is the next leaf
+-- if a node that is to be added is a leaf, it is the next leaf
 abbrev pub IsNextLeaf : Nodes → NodeKind → Type 0
 IsNextLeaf t (kinds.Leaf leaf shapes) = IsNext t leaf
 IsNextLeaf t kind = ⊤

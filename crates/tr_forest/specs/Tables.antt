@@ -5,7 +5,7 @@ use Rattle.tr_base.specs.declared.NodeId.{NodeId}
 use Rattle.tr_forest.specs.Nodes.{Nodes, node, leaf_of, leaf_count}
 use Rattle.tr_forest.specs.Forests.{IsForest}
 
--- which node is the leaf of this number
+-- the node of the leaf of this number
 abbrev pub in_table : List NodeId → ℕ → NodeId
 in_table leaves k = get_or leaves k (record { 0 = 0 })
 

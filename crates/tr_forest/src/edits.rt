@@ -4,8 +4,8 @@ use tr_base::{Kind, NoMemory, NodeId, Point, Shapes, Size};
 /// A change of the tree or of its screen.
 #[derive(Clone, Copy, Debug, PartialEq, Eq)]
 pub enum Edit {
-    /// The child becomes the first child of a Z, or the last one of another parent, and stands at
-    /// `at`, at most 2048 each way, wherever its parent is a Z.
+    /// The child becomes the first child of a Z, or the last child of another parent. In a Z it lies
+    /// at `at`, at most 2048 each way.
     Attach {
         child: NodeId,
         parent: NodeId,
@@ -35,7 +35,7 @@ pub enum Edit {
         node: NodeId,
         size: Size,
     },
-    /// Where a child of a Z stands, at most 2048 each way.
+    /// The place of a child of a Z, at most 2048 each way.
     Move {
         child: NodeId,
         at: Point,
@@ -69,7 +69,7 @@ pub enum Edit {
     },
 }
 
-/// Why an edit is refused. Where several faults stand together the first one is named.
+/// The reason for the refusal of an edit. Of several faults the first one is named.
 #[derive(Clone, Copy, Debug, PartialEq, Eq, Error)]
 pub enum NodeFault {
     /// The node, or the child's parent, isn't of the kind that the edit is for.
@@ -78,7 +78,7 @@ pub enum NodeFault {
     /// The parent lies below the child, or is the child.
     #[error("a node would lie below itself")]
     Cycle,
-    /// The parent is a filter, and has its child.
+    /// The parent is a filter, and already has a child.
     #[error("a filter has its child")]
     Occupied,
     /// The child has a parent, or is the root.
@@ -92,7 +92,7 @@ pub enum NodeFault {
     NotChild,
 }
 
-/// An edit that has changed nothing.
+/// The refusal of an edit. The edit has changed nothing.
 #[derive(Clone, Copy, Debug, PartialEq, Eq, Error)]
 pub enum EditRefused {
     #[error("out of memory")]

@@ -8,7 +8,7 @@ use std::alloc::Global;
 use std::marker::Model;
 use tr_base::{NoMemory, NodeId, Point};
 
-/// A node, seen without where its children lie in memory.
+/// A node. Its model has the children as a list, without their place in memory.
 #[derive(Drop)]
 pub(crate) struct Node {
     pub(crate) kind: NodeKind,
@@ -27,7 +27,7 @@ impl Model for Node {
         record { kind = n.kind; tint = n.tint; at = n.at; parent = n.parent; children = n.children.items } };
 }
 
-/// Takes one out of a list of children.
+/// Takes a child out of a list of children.
 fn remove(children: &mut Vec<NodeId>, child: NodeId)
     ensures others { children.new.items ≡ without child children.old.items }
     ensures capacity { vec_capacity children.new ≡ vec_capacity children.old }
@@ -45,7 +45,7 @@ fn put_first(children: &mut Vec<NodeId>, child: NodeId)
 }
 
 impl Node {
-    /// A node that hangs nowhere.
+    /// A node without a parent.
     pub(crate) fn new(alloc: Global, kind: NodeKind, tint: u8) -> Node
         ensures { result ≡ new_entry kind tint }
     {
@@ -58,7 +58,7 @@ impl Node {
         }
     }
 
-    /// Takes a child: a Z in front of all others, another node behind them.
+    /// Takes a child: a Z takes it in front of all others, another node after them.
     pub(crate) fn adopt(&mut self, child: NodeId) -> Result<(), NoMemory>
         ensures ok { OnOk result (self.new ≡ with_child child self.old) }
         ensures err { OnErr result (self.new ≡ self.old) }
@@ -71,7 +71,7 @@ impl Node {
         Ok(())
     }
 
-    /// Hangs below a parent from now on.
+    /// Gets a parent.
     pub(crate) fn hang(&mut self, parent: NodeId, at: Point)
         ensures { self.new ≡ hung parent at self.old }
     {
@@ -79,7 +79,7 @@ impl Node {
         self.at = at;
     }
 
-    /// Has lost a child, and names it no more.
+    /// Loses a child, and no longer names it.
     pub(crate) fn lose(&mut self, child: NodeId)
         ensures { self.new ≡ bereft child self.old }
     {
@@ -87,14 +87,14 @@ impl Node {
         remove(&mut self.children, child);
     }
 
-    /// Hangs nowhere from now on.
+    /// Loses its parent.
     pub(crate) fn loosen(&mut self)
         ensures { self.new ≡ loose self.old }
     {
         self.parent = None;
     }
 
-    /// Has this child in front of all others.
+    /// Puts this child in front of all others.
     pub(crate) fn lift(&mut self, child: NodeId)
         requires { is_among child self.old.children ≡ true }
         ensures { self.new ≡ lifting child self.old }
@@ -102,7 +102,7 @@ impl Node {
         put_first(&mut self.children, child);
     }
 
-    /// Is of this kind from now on.
+    /// Gets this kind.
     pub(crate) fn turn(&mut self, kind: NodeKind)
         ensures { self.new ≡ turned_to kind self.old }
     {
@@ -134,7 +134,7 @@ impl Node {
         })
     }
 
-    /// Is the same as another, in the memory that it has.
+    /// Becomes the same as another node, in the memory that it has.
     pub(crate) fn copy_from(&mut self, other: &Node) -> Result<(), NoMemory>
         ensures { OnOk result (self.new ≡ other.now) }
     {

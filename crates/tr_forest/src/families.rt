@@ -9,7 +9,7 @@ use std::alloc::Global;
 use std::marker::Model;
 use tr_base::{NoMemory, NodeId, Point};
 
-/// Nodes and a root, with no rule on who is whose child. A change is that of one node.
+/// Nodes and a root, without a rule on parents and children. A change of it is a change of one node.
 #[derive(Drop)]
 pub(crate) struct Family {
     nodes: Vec<Node>,
@@ -102,7 +102,7 @@ impl Family {
         Ok(())
     }
 
-    /// A node takes a child; nothing else is changed.
+    /// A node takes a child; nothing else changes.
     pub(crate) fn adopt(&mut self, parent: NodeId, child: NodeId) -> Result<(), NoMemory>
         requires { IsNode self.old parent }
         ensures ok { OnOk result (self.new ≡ changed parent (with_child child) self.old) }
@@ -178,7 +178,7 @@ impl Family {
         })
     }
 
-    /// Is the same as another, in the memory that it has.
+    /// Becomes the same as another family, in the memory that it has.
     pub(crate) fn copy_from(&mut self, other: &Family) -> Result<(), NoMemory>
         ensures { OnOk result (self.new ≡ other.now) }
     {
@@ -197,7 +197,7 @@ fn copy_nodes(alloc: Global, nodes: &[Node]) -> Result<Vec<Node>, NoMemory>
     Ok(copy)
 }
 
-/// The nodes are the same as others, each in the memory that it has if there are as many.
+/// The nodes become the same as others, each in the memory that it has if there are as many.
 fn copy_nodes_from(nodes: &mut Vec<Node>, others: &[Node]) -> Result<(), NoMemory>
     ensures { OnOk result (nodes.new.items ≡ others.now) }
 {

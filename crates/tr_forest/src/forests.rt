@@ -17,7 +17,8 @@ use std::alloc::Global;
 use std::marker::Model;
 use tr_base::{LeafId, NoMemory, NodeId, Point};
 
-/// At most 256 nodes, of which one may be the root. What hangs nowhere is kept too, whole.
+/// At most 256 nodes. One of them may be the root. A node without a parent is kept too, with all nodes
+/// below it.
 #[derive(Drop)]
 pub struct Forest {
     family: Family,
@@ -46,7 +47,7 @@ impl Forest {
         }
     }
 
-    /// Adds a node that hangs nowhere. Nodes are numbered from 0 as they are added.
+    /// Adds a node without a parent. Nodes are numbered from 0 as they are added.
     pub fn add(&mut self, kind: NodeKind, tint: u8) -> Result<NodeId, NoMemory>
         requires room { length self.old.entries < 256 }
         requires kind { IsNodeKind kind }
@@ -70,8 +71,8 @@ impl Forest {
         set_root_in(&mut self.family, &self.leaves, n);
     }
 
-    /// Changes the nodes as the edit says, or refuses it. Of several faults the first one is named.
-    /// Only an Attach may want memory.
+    /// Changes the nodes as the edit says, or refuses it. Of several faults the first one is named. Only an
+    /// Attach may run out of memory.
     pub fn edit(&mut self, edit: &Edit) -> Result<(), EditRefused>
         requires { IsEdit self.old edit.now }
         ensures ok { OnOk result (self.new ≡ edited self.old edit.now) }
@@ -83,7 +84,7 @@ impl Forest {
         edit_in(&mut self.family, &self.leaves, edit)
     }
 
-    /// Why an edit is refused, if it is.
+    /// The reason for the refusal of an edit, if it is refused.
     pub fn refusal(&self, edit: &Edit) -> Option<NodeFault>
         requires { IsEdit self.now edit.now }
         ensures { result ≡ refusal self.now edit.now }
@@ -91,7 +92,7 @@ impl Forest {
         refusal(&self.family, edit)
     }
 
-    /// How many nodes there are.
+    /// The number of nodes.
     pub fn count(&self) -> usize
         ensures count { result ≡ length self.now.entries }
         ensures invariant { IsForest self.now }
@@ -99,7 +100,7 @@ impl Forest {
         self.family.count()
     }
 
-    /// What a node is.
+    /// The kind of a node.
     pub fn kind_of(&self, n: NodeId) -> NodeKind
         requires { IsNode self.now n }
         ensures { result ≡ (node self.now n).kind }
@@ -115,7 +116,7 @@ impl Forest {
         self.family.tint_of(n)
     }
 
-    /// Where a node stands in a Z.
+    /// The place of a node in a Z.
     pub fn at_of(&self, n: NodeId) -> Point
         requires { IsNode self.now n }
         ensures { result ≡ (node self.now n).at }
@@ -123,7 +124,7 @@ impl Forest {
         self.family.at_of(n)
     }
 
-    /// Whose child a node is.
+    /// The parent of a node.
     pub fn parent(&self, n: NodeId) -> Option<NodeId>
         requires { IsNode self.now n }
         ensures { result ≡ (node self.now n).parent }
@@ -131,7 +132,7 @@ impl Forest {
         self.family.parent(n)
     }
 
-    /// A node's children, from front to back or in the order in which they stand.
+    /// A node's children, in their order: in a Z from front to back.
     pub fn children(&self, n: NodeId) -> &[NodeId]
         requires { IsNode self.now n }
         ensures { result.now ≡ (node self.now n).children }
@@ -139,14 +140,14 @@ impl Forest {
         self.family.children(n)
     }
 
-    /// The root, once it was chosen.
+    /// The root, if it was chosen.
     pub fn root(&self) -> Option<NodeId>
         ensures { result ≡ self.now.root }
     {
         self.family.root()
     }
 
-    /// How many leaves were added.
+    /// The number of leaves.
     pub fn leaves(&self) -> u8
         ensures { result ≡ leaf_count self.now }
     {
@@ -161,7 +162,7 @@ impl Forest {
         lies_under(&self.family, LEVELS, top, n)
     }
 
-    /// Which node a leaf is.
+    /// The node of a leaf.
     pub fn node_of(&self, leaf: LeafId) -> NodeId
         requires { leaf.0 < leaf_count self.now }
         ensures is { result ≡ node_of self.now leaf }
@@ -171,7 +172,7 @@ impl Forest {
         self.leaves[usize::from(leaf.0)]
     }
 
-    /// The same nodes once more.
+    /// A copy of the nodes.
     pub fn copy(&self) -> Result<Forest, NoMemory>
         ensures { IfOk result (λ f. f ≡ self.now) }
     {
@@ -180,7 +181,7 @@ impl Forest {
         Ok(Forest { family, leaves })
     }
 
-    /// The same nodes, in the memory of another forest. Where that has as many nodes, each with as many
+    /// A copy of the nodes, in the memory of another forest. If that has as many nodes, each with as many
     /// children, nothing is allocated.
     pub fn copy_into(&self, spare: Forest) -> Result<Forest, NoMemory>
         ensures { IfOk result (λ f. f ≡ self.now) }
@@ -195,8 +196,8 @@ impl Forest {
         Ok(Forest { family, leaves })
     }
 
-    /// Sixteen steps are enough, so depths, heights and who lies below whom are those of trees of any
-    /// depth. It does nothing.
+    /// Tells that sixteen steps are enough: depths, heights and the test for nodes below a node are those of
+    /// trees of any depth. Nothing runs.
     pub fn levels_suffice(&self)
         ensures depths { (n : NodeId) → depth self.now n ≡ deeper (node self.now n).parent (depth self.now) }
         ensures heights { (n : NodeId) →

@@ -4,12 +4,12 @@ ghost use Rattle.tr_forest.specs.Edits.{forgetting, paged, reshaped};
 
 use tr_base::{LeafId, NodeId, Point, Shapes, Size};
 
-/// What a node does with its children.
+/// The kind of a node: its arrangement of its children.
 #[derive(Clone, Copy, Debug, PartialEq, Eq)]
 pub enum NodeKind {
-    /// Its children stand side by side, from west to east.
+    /// Its children lie side by side, from west to east.
     H,
-    /// Its children stand one below another, from north to south.
+    /// Its children lie one below another, from north to south.
     V,
     /// Its children lie over one another, the first one in front, each at its own offset.
     Z,
@@ -17,16 +17,16 @@ pub enum NodeKind {
     T { shown: Option<NodeId> },
     /// It shows `per` children at a time, 1 to 16, in strips of one height; pages count from 0.
     Page { per: u8, page: u8 },
-    /// It surrounds its child by so many points on each side.
+    /// It surrounds its child by `width` points on each side.
     Border { width: u8 },
     /// It has this size, of at most 4096 each way.
     Rigid { size: Size },
     /// It moves its child, by at most 2048 each way.
     Translate { by: Point },
-    /// It packs its children in rows, which go across, or down where `down` is true, with 0 to 64
-    /// points between neighbours.
+    /// It packs its children in rows, which go across, or down if `down` is true, with 0 to 64 points
+    /// between neighbours.
     Pack { down: bool, gap: u8 },
-    /// A window, which wants these lengths.
+    /// A window that wants these lengths.
     Leaf { leaf: LeafId, shapes: Shapes },
 }
 
@@ -82,7 +82,7 @@ impl NodeKind {
         )
     }
 
-    /// Which leaf it is.
+    /// The leaf of this kind, if it is one.
     pub(crate) fn leaf(self) -> Option<LeafId>
         ensures { result ≡ leaf_of self }
     {
@@ -92,7 +92,7 @@ impl NodeKind {
         }
     }
 
-    /// The same kind, which doesn't name the child any more.
+    /// The same kind, but it no longer names the child.
     pub(crate) fn forgetting(self, child: NodeId) -> NodeKind
         ensures { result ≡ forgetting child self }
     {
@@ -102,7 +102,7 @@ impl NodeKind {
         }
     }
 
-    /// The same kind; a Page shows this page.
+    /// The same kind, but a Page shows this page.
     pub(crate) fn paged(self, page: u8) -> NodeKind
         ensures { result ≡ paged page self }
     {
@@ -112,7 +112,7 @@ impl NodeKind {
         }
     }
 
-    /// The same kind; a leaf wants these lengths.
+    /// The same kind, but a leaf wants these lengths.
     pub(crate) fn reshaped(self, shapes: Shapes) -> NodeKind
         ensures { result ≡ reshaped shapes self }
     {

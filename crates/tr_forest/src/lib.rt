@@ -1,5 +1,5 @@
-//! The nodes of a tree of windows: what each of them is, whose child it is, and the edits that
-//! change that, with what refuses them. Where windows lie is the business of the layers above.
+//! The nodes of a tree of windows: the kind of each of them, its parent and its children, and the edits
+//! that change these, with the reasons for refusals. The layers above place the windows.
 #![tactic(auto)]
 
 mod changes;

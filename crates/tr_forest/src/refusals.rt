@@ -10,7 +10,7 @@ use crate::families::Family;
 use crate::walks::{LEVELS, depth_of, height_of, lies_under, parent_of};
 use tr_base::NodeId;
 
-/// A fault that was found or not.
+/// A fault, if it was found.
 fn fault_if(found: bool, fault: NodeFault) -> Option<NodeFault>
     ensures { result ≡ (if found then Some fault else None) }
 {
@@ -49,7 +49,7 @@ fn is_too_deep(family: &Family, child: NodeId, parent: NodeId) -> bool
     depth_of(family, LEVELS, parent) + height_of(family, LEVELS, child) > LEVELS
 }
 
-/// Why the child can't become a child of the parent, where it can't.
+/// The reason why the child can't become a child of the parent, if it can't.
 fn attach_fault(family: &Family, child: NodeId, parent: NodeId) -> Option<NodeFault>
     requires forest { IsForest family.now }
     requires child { IsNode family.now child }
@@ -71,7 +71,7 @@ fn attach_fault(family: &Family, child: NodeId, parent: NodeId) -> Option<NodeFa
     fault_if(is_too_deep(family, child, parent), NodeFault::TooDeep)
 }
 
-/// Why a node can't be treated as a child of a Z, where it can't.
+/// The reason why a node can't be edited as a child of a Z, if it can't.
 fn z_fault(family: &Family, child: NodeId) -> Option<NodeFault>
     requires forest { IsForest family.now }
     requires child { IsNode family.now child }
@@ -102,7 +102,7 @@ fn is_listed(ns: &[NodeId], n: NodeId) -> bool
     false
 }
 
-/// Why a node can't show a child, where it can't.
+/// The reason why a node can't show a child, if it can't.
 fn show_fault(family: &Family, n: NodeId, child: NodeId) -> Option<NodeFault>
     requires { IsNode family.now n }
     ensures { result ≡ refusal family.now (Edit.Show n child) }
@@ -113,7 +113,7 @@ fn show_fault(family: &Family, n: NodeId, child: NodeId) -> Option<NodeFault>
     fault_if(!has_child(family, n, child), NodeFault::NotChild)
 }
 
-/// Why an edit is refused, where it is.
+/// The reason for the refusal of an edit, if it is refused.
 pub(crate) fn refusal(family: &Family, edit: &Edit) -> Option<NodeFault>
     requires forest { IsForest family.now }
     requires edit { IsEdit family.now edit.now }

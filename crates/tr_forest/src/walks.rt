@@ -6,7 +6,7 @@ ghost use Rattle.tr_forest.specs.Forests.{IsForest};
 use crate::families::Family;
 use tr_base::NodeId;
 
-/// How many nodes may lie one below another.
+/// The most nodes that may lie one below another.
 pub(crate) const LEVELS: u8 = 16;
 
 /// A node's parent, which is a node too.
@@ -19,7 +19,7 @@ pub(crate) fn parent_of(family: &Family, n: NodeId) -> Option<NodeId>
     family.parent(n)
 }
 
-/// How many nodes lie from n up to its topmost node.
+/// The number of nodes from n up to its topmost node.
 pub(crate) fn depth_of(family: &Family, levels: u8, n: NodeId) -> u8
     requires forest { IsForest family.now }
     requires node { IsNode family.now n }
@@ -54,7 +54,7 @@ pub(crate) fn lies_under(family: &Family, levels: u8, top: NodeId, n: NodeId) ->
     lies_under(family, levels - 1, top, parent)
 }
 
-/// How many nodes lie from n down to its lowest node.
+/// The number of nodes from n down to its lowest node.
 pub(crate) fn height_of(family: &Family, levels: u8, n: NodeId) -> u8
     requires forest { IsForest family.now }
     requires node { IsNode family.now n }

@@ -1,12 +1,12 @@
--- Numbers that look drawn at random: each comes from a state, which each draw replaces.
+-- Pseudorandom numbers: each comes from a state, and each draw replaces the state.
 use Rattle.std.specs.Prelude.{ℕ, ◌+◌, ◌*◌, ◌/◌, ◌%◌, ◌^◌, List, length, slice_index}
 
--- what was made with draws, and the state after them
+-- a value made with draws, and the state after them
 pub record DrawnValue (A : Type 0) : Type 0 where
   pub value : A
   pub state : ℕ
 
--- what is made with draws follows from the state before them
+-- values made with draws are functions of the state before them
 abbrev pub Drawing : Type 0 → Type 0
 Drawing A = ℕ → DrawnValue A
 
@@ -14,7 +14,7 @@ Drawing A = ℕ → DrawnValue A
 abbrev pub give : {A : Type 0} → A → Drawing A
 give value state = record { value = value; state = state }
 
--- first the one, and then, with the draws after it, what its value asks for
+-- first the one, then the drawing that its value gives, with the draws after it
 infixl 10 ◌>>=◌
 abbrev pub ◌>>=◌ : {A B : Type 0} → Drawing A → (A → Drawing B) → Drawing B
 (first >>= next) state = let made = first state in next made.value made.state

@@ -61,7 +61,7 @@ tint_line = do
   tint ← draw 256
   give (codes "@s tint" ++ number_word tint)
 
--- where something is moved to along one axis: from 32 points before the root's corner on
+-- a coordinate that something is moved to; the least is 32 points before the root's corner
 abbrev pub coordinate_word : ℕ → Drawing (List ℕ)
 coordinate_word k = do
   n ← draw k
@@ -81,7 +81,7 @@ move_line = do
   v ← coordinate_word 192
   give (codes "move" ++ child ++ h ++ v)
 
--- a child of the root comes to the front
+-- a child of the root moves to the front
 abbrev pub lift_line : Drawing (List ℕ)
 lift_line = do
   child ← child_word

@@ -25,7 +25,7 @@ opening_lines =
     ∷ codes "begin"
     ∷ []
 
--- after every hundredth round all windows are waited for
+-- after every hundredth round the player waits for all windows
 abbrev pub sync_after : ℕ → List (List ℕ)
 sync_after round = if round % 100 == 0 then codes "sync" ∷ [] else []
 

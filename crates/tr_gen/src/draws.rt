@@ -3,13 +3,13 @@ ghost use Rattle.tr_gen.specs.Draws as spec;
 
 use std::marker::Model;
 
-/// What the state is multiplied by.
+/// The factor of the generator.
 const MULTIPLIER: u32 = 1664525;
 
-/// What is added to it then.
+/// The increment of the generator.
 const INCREMENT: u32 = 1013904223;
 
-/// Numbers that follow from a first one, by a linear congruential generator, seen as its state.
+/// Numbers that follow from a first one, by a linear congruential generator. The model is its state.
 #[derive(Drop)]
 pub struct Draws {
     state: u32,

@@ -1,5 +1,5 @@
-//! The text of a script from a number: a screen with four windows, and 2,000 rounds that look drawn at
-//! random.
+//! The text of a script from a number: a screen with four windows, and 2,000 rounds of pseudorandom
+//! commands.
 #![tactic(auto)]
 
 mod draws;

@@ -1,4 +1,4 @@
-//! The lines of rounds, put at the end of a script.
+//! The lines of rounds, appended to a script.
 ghost use Rattle.std.specs.Prelude.{◌≡◌, ◌<◌, ◌-ℤ◌, pos, OnOk};
 ghost use Rattle.tr_gen.specs.Draws.{draw};
 ghost use Rattle.tr_gen.specs.Lines as spec;
@@ -8,7 +8,7 @@ use crate::draws::Draws;
 use crate::writers::Writer;
 use tr_base::NoMemory;
 
-/// How far before the root's corner a child may be moved.
+/// The greatest distance of a child before the root's corner.
 const MARGIN: i32 = 32;
 
 fn append_letters(script: &mut Writer, count: u16) -> Result<(), NoMemory>
@@ -79,7 +79,7 @@ fn append_tint_line(script: &mut Writer) -> Result<(), NoMemory>
     script.append_number(tint)
 }
 
-/// Where a child is moved to along one axis.
+/// Draws a coordinate that a child is moved to.
 fn draw_coordinate(draws: &mut Draws, below: u16) -> i32
     requires { 0 < below }
     ensures value { result ≡ pos (draw below draws.old).value -ℤ pos 32 }
@@ -119,7 +119,7 @@ fn append_lift_line(script: &mut Writer) -> Result<(), NoMemory>
     append_child(script)
 }
 
-/// Puts the line of the next round at the end, without a line feed.
+/// Appends the line of the next round, without a line feed.
 #[tactic(auto, unfolding(crate::specs::Lines::drawn_line))]
 pub fn append_round_line(script: &mut Writer) -> Result<(), NoMemory>
     ensures { OnOk result (script.new ≡ continued script.old spec.round_line) }

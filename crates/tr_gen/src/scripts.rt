@@ -7,7 +7,7 @@ use crate::writers::Writer;
 use std::alloc::Global;
 use tr_base::NoMemory;
 
-/// What every script begins with.
+/// The first lines of every script.
 const OPENING: &[u8] = b"trestle 1\n\
 screen 256 192 map8\n\
 glyph 41 183c66667e666600\n\
@@ -26,16 +26,16 @@ put b z 20 20\n\
 root z\n\
 begin\n";
 
-/// What every script ends with.
+/// The last lines of every script.
 const ENDING: &[u8] = b"dump\nend\n";
 
-/// How many rounds a script has.
+/// The number of rounds of a script.
 const ROUNDS: u16 = 2000;
 
-/// After so many rounds all windows are waited for.
+/// After this many rounds the player waits for all windows.
 const ROUNDS_A_SYNC: u16 = 100;
 
-/// Puts the lines of a round at the end: one, and behind every hundredth a `sync`.
+/// Appends the lines of a round: one, and after every hundredth a `sync`.
 fn append_round(script: &mut Writer, round: u16) -> Result<(), NoMemory>
     ensures { OnOk result (script.new ≡ continued script.old (drawn_text (spec.round_lines round))) }
 {

@@ -11,7 +11,7 @@ use tr_base::NoMemory;
 /// Room for the text of a script, which has some 29,000 bytes.
 const ROOM: usize = 32768;
 
-/// A text, and the draws that it goes on with. After want of memory nothing is known of it.
+/// A text, and the draws that continue it. After want of memory nothing is known of it.
 #[derive(Drop)]
 pub struct Writer {
     text: Vec<u8>,
@@ -46,7 +46,7 @@ impl Writer {
         text
     }
 
-    /// Puts a text at the end.
+    /// Appends a text.
     pub fn append(&mut self, text: &[u8]) -> Result<(), NoMemory>
         ensures { OnOk result (self.new ≡ continued self.old (give text.now)) }
     {
@@ -54,7 +54,7 @@ impl Writer {
         Ok(())
     }
 
-    /// Puts a number at the end, as one more word of a line.
+    /// Appends a number as one more word of a line.
     pub fn append_number<I: Integer>(&mut self, number: I) -> Result<(), NoMemory>
         ensures { OnOk result (self.new ≡ continued self.old (give (codes " " ++ I.text number))) }
     {

@@ -24,9 +24,9 @@ use Rattle.tr_grammar.specs.Forms.{Field, new_name, a_node, a_leaf, at_leaf, num
 use Rattle.tr_grammar.specs.Meanings.{meaning_of}
 use Rattle.tr_grammar.specs.States.{SoFar}
 
--- ---- where a line may stand
+-- ---- the places of a line
 
--- which lines stand in the same places
+-- the sorts of lines; all lines of a sort have the same places
 pub data Sort : Type 0 where
   version_line : Sort
   screen_line : Sort
@@ -34,7 +34,7 @@ pub data Sort : Type 0 where
   step_line : Sort
   report_line : Sort
 
--- a sync stands wherever a step does, and the end wherever a report does
+-- a sync may come wherever a step may, and the end wherever a report may
 abbrev pub sort_of : Form → Sort
 sort_of Version = version_line
 sort_of Screen = screen_line
@@ -64,7 +64,7 @@ sort_of Inbox = report_line
 sort_of End = report_line
 sort_of f = step_line
 
--- a line of the sort may stand there
+-- a line of this sort may come at this place
 abbrev pub allows : Place → Sort → Bool
 allows places.Start version_line = true
 allows places.Head screen_line = true
@@ -92,7 +92,7 @@ is_misspelled (text, ws) = not (nat_le (length (join_with_byte 32 ws)) 80)
 is_misspelled (new_name, ws) = not (is_name (word_at ws 0))
 is_misspelled (f, ws) = false
 
--- ---- what a line says
+-- ---- the meaning of a line
 
 -- the command is one of the widget
 abbrev pub suits : WidgetCmd → Widget → Bool
@@ -110,14 +110,14 @@ abbrev pub suits_leaf : WidgetCmd → Option Widget → Bool
 suits_leaf cmd None = false
 suits_leaf cmd (Some x) = suits cmd x
 
--- the first of these that is so
+-- the first fault whose test is true
 abbrev pub first_of : List (Code × Bool) → Option Code
 first_of [] = None
 first_of (fault ∷ faults) = if fault.1 then Some fault.0 else first_of faults
 
--- behind what the lines so far say
+-- after the lines so far
 module _ (c : SoFar) where
-  -- a line of this form may not stand here
+  -- a line of this form may not come here
   abbrev pub is_misplaced : Form → Bool
   is_misplaced f = not (allows c.place (sort_of f))
 
@@ -150,7 +150,7 @@ module _ (c : SoFar) where
   is_refused meanings.Begin = is_none nodes_so_far.root
   is_refused l = false
 
-  -- how many reports there are
+  -- the number of reports
   abbrev pub reports_so_far : ℕ
   reports_so_far = sum_by (λ p. length p.reports) c.ended + length c.part.reports
 
@@ -162,7 +162,7 @@ module _ (c : SoFar) where
   is_one_too_many meanings.Sync = nat_le 1000 (length c.ended)
   is_one_too_many l = false
 
-  -- the faults that are tried before it is asked what is said, and whether a line of this form has them
+  -- the faults that are tried before the line has a meaning, each with its test for a line of this form
   abbrev pub word_faults : Form → List (List ℕ) → List (Code × Bool)
   word_faults f ws =
       (B5, is_misplaced f)
@@ -171,7 +171,7 @@ module _ (c : SoFar) where
       ∷ (B3, list_any is_undeclared (field_words (fields f) ws))
       ∷ []
 
-  -- the faults of what is said, and whether line n has them
+  -- the faults that the line's meaning can have, each with its test for line n
   abbrev pub line_faults : ℕ → Meaning → List (Code × Bool)
   line_faults n l =
       (B10, is_foreign l)
@@ -179,7 +179,7 @@ module _ (c : SoFar) where
       ∷ (B7, is_one_too_many l || nat_le 100001 n)
       ∷ []
 
-  -- the first fault of line n, if it has these words
+  -- the first fault of line n, if it has this form and these words
   abbrev pub fault_as : ℕ → Option Form → List (List ℕ) → Option Code
   fault_as n None ws = Some B1
   fault_as n (Some f) ws = first_of (word_faults f ws ++ line_faults n (meaning_of c.names ws f))

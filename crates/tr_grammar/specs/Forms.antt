@@ -3,7 +3,7 @@ use Rattle.std.specs.Prelude.{ℕ, ◌==◌, Bool, true, false, ◌&&◌, if◌t
 use Rattle.std.specs.List.{find}
 use Rattle.tr_grammar.specs.Words.{is_one_of}
 
--- what stands at a place of a line
+-- an element of a line
 pub data Field : Type 0 where
   word : List ℕ → Field  -- this word
   one_of : List (List ℕ) → Field  -- one of these words
@@ -19,7 +19,7 @@ pub data Field : Type 0 where
   rows : Field  -- sixteen hex digits
   text : Field  -- the rest of the line, of at most 80 bytes
 
--- the forms of a line; those named after a widget are leaves with it, and those at the end its commands
+-- the forms of a line: a form with a widget's name declares a leaf with that widget; the last ones are commands
 pub data Form : Type 0 where
   Version : Form
   Screen : Form
@@ -92,7 +92,7 @@ pub data Form : Type 0 where
   CopyText : Form
   PasteClip : Form
 
--- ---- fields that stand in several lines
+-- ---- fields of several lines
 
 -- a byte
 abbrev pub byte : Field
@@ -106,11 +106,11 @@ extent = number 0 4096
 abbrev pub side : Field
 side = number 1 1024
 
--- where a child of a Z stands, and how far a Translate moves: along one axis
+-- a coordinate of a child of a Z, or the distance of a Translate along one axis
 abbrev pub offset : Field
 offset = signed 2048 2048
 
--- where a tile begins: along one axis
+-- a coordinate of a tile's corner
 abbrev pub shift : Field
 shift = signed 4096 4096
 
@@ -126,7 +126,7 @@ cursor_coordinate = signed 8192 8191
 abbrev pub text_row : Field
 text_row = number 0 199
 
--- a column of it
+-- a column of an editor's text
 abbrev pub text_column : Field
 text_column = number 0 80
 
@@ -134,25 +134,25 @@ text_column = number 0 80
 abbrev pub time : Field
 time = number 1 4294967295
 
--- ---- fixed words of which one stands in a line
+-- ---- lists of fixed words; a line has one word of a list
 
--- the selections: what one window at a time can own
+-- the selections; one window at a time owns each
 abbrev pub selection_words : List (List ℕ)
 selection_words = codes "key" ∷ codes "source" ∷ codes "target" ∷ []
 
--- the splits that have a tint alone
+-- the splits that have only a tint
 abbrev pub split_words : List (List ℕ)
 split_words = codes "h" ∷ codes "v" ∷ codes "z" ∷ codes "t" ∷ []
 
--- the ways in which a Pack's rows go
+-- the direction of a Pack's rows
 abbrev pub way_words : List (List ℕ)
 way_words = codes "across" ∷ codes "down" ∷ []
 
--- what a button does
+-- the kinds of a button event: the button goes down or up
 abbrev pub button_words : List (List ℕ)
 button_words = codes "down" ∷ codes "up" ∷ []
 
--- which cursors a cage holds
+-- the cursors that a cage holds
 abbrev pub cage_words : List (List ℕ)
 cage_words = codes "here" ∷ codes "gone" ∷ codes "both" ∷ []
 
@@ -230,7 +230,7 @@ fields GoTo = at_leaf ∷ word (codes "goto") ∷ text_row ∷ text_column ∷ [
 fields CopyText = at_leaf ∷ word (codes "copy") ∷ text_column ∷ text_column ∷ []
 fields PasteClip = at_leaf ∷ word (codes "paste") ∷ []
 
--- ---- what the version knows
+-- ---- the lines and kinds of a version
 
 -- the version is 2
 abbrev pub is_second : ℕ → Bool
@@ -278,7 +278,7 @@ forms =
     ∷ Offset ∷ Fix ∷ Move ∷ Lift ∷ Show ∷ Turn ∷ Reshape ∷ Resize ∷ Rescreen ∷ Sync ∷ Dump ∷ Peek ∷ Journal ∷ Where ∷ Inbox ∷ End ∷ [])
 
 module _ (version : ℕ) where
-  -- a word may stand in the place of a field, as far as it is a fixed word
+  -- a word may take the place of a field; only fixed words, kinds of pixels and the @ of a leaf are tested
   abbrev pub may_stand : Field → List ℕ → Bool
   may_stand (word t) w = bytes_eq w t
   may_stand (one_of ts) w = is_one_of ts w
@@ -286,7 +286,7 @@ module _ (version : ℕ) where
   may_stand at_leaf w = slice_index w 0 == 64
   may_stand f w = true
 
-  -- there are as many words as the fields take, and the fixed words stand in their places
+  -- the number of words is the number that the fields take, and the fixed words are in their places
   abbrev pub has_form : List Field → List (List ℕ) → Bool
   has_form [] [] = true
   has_form [] (w ∷ ws) = false
@@ -296,7 +296,7 @@ module _ (version : ℕ) where
   has_form (f ∷ fs) [] = false
   has_form (f ∷ fs) (w ∷ ws) = may_stand f w && has_form fs ws
 
-  -- the first of these forms that the words have
+  -- the first of these forms that fits the words
   abbrev pub among : List Form → List (List ℕ) → Option Form
   among fs ws = find (λ f. is_known version f && has_form (fields f) ws) fs
 
@@ -304,7 +304,7 @@ module _ (version : ℕ) where
   abbrev pub form_of : List (List ℕ) → Option Form
   form_of ws = among forms ws
 
--- each field with the words that stand there
+-- each field with its words
 abbrev pub field_words : List Field → List (List ℕ) → List (Field × List (List ℕ))
 field_words [] ws = []
 field_words (text ∷ fs) ws = (text, ws) ∷ []

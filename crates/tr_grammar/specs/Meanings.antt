@@ -1,4 +1,4 @@
--- What a line of each form says, from its words, which are counted from 0.
+-- The meaning of a line of each form, from its words, which are counted from 0.
 use Rattle.std.specs.Prelude.{ℕ, ◌+◌, pos, not, Bool, List, [], None, if◌then◌else◌, bytes_eq, codes, drop, replicate}
 use Rattle.tr_base.specs.declared.Point.{Point}
 use Rattle.tr_base.specs.declared.Size.{Size}
@@ -42,7 +42,7 @@ use Rattle.tr_journal.specs.Names.{Names}
 use Rattle.tr_grammar.specs.Names.{numbered}
 use Rattle.tr_grammar.specs.Forms.{Form, Version, Screen, Glyph, Split, Page, Border, Rigid, Translate, Pack, Solid, Board, Label, Lines, Canvas, Meter, Editor, Put, PutAt, Root, Begin, Mouse, Motion, Key, Attach, AttachAt, Detach, Tint, Widen, Offset, Fix, Move, Lift, Show, Turn, Reshape, Resize, Rescreen, Mark, Flush, Force, Take, Enclose, Free, Own, Disown, Read, Sync, Dump, Peek, Journal, Where, Inbox, End, SetTint, SetTile, SetShift, SetText, AddLine, Clear, AddRect, AddSwap, AddExchange, Undo, SetBar, InsertText, EraseByte, SplitLine, GoTo, CopyText, PasteClip}
 
--- ---- values of one word or of words in a row, of which the first has so many before it
+-- ---- values from one word or several words in a row; i is the number of words before the first of them
 
 -- a number
 abbrev pub nat : List (List ℕ) → ℕ → ℕ
@@ -52,7 +52,7 @@ nat ws i = nat_of (word_at ws i)
 abbrev pub point : List (List ℕ) → ℕ → Point
 point ws i = record { h = int_of (word_at ws i); v = int_of (word_at ws (i + 1)) }
 
--- where a child stands that no point is given for
+-- the place of a child without a point
 abbrev pub origin : Point
 origin = record { h = pos 0; v = pos 0 }
 
@@ -64,11 +64,11 @@ size ws i = record { wide = nat ws i; high = nat ws (i + 1) }
 abbrev pub lengths : List (List ℕ) → ℕ → Lengths
 lengths ws i = record { lo = nat ws i; pref = nat ws (i + 1); hi = nat ws (i + 2) }
 
--- the shape across, and then down
+-- a shape: its lengths across, then its lengths down
 abbrev pub shapes : List (List ℕ) → ℕ → Lengthwise
 shapes ws i = record { across = lengths ws i; down = lengths ws (i + 3) }
 
--- a rectangle by its edges in the west, east, north and south
+-- a rectangle from its west, east, north and south edges
 abbrev pub rect : List (List ℕ) → ℕ → Edges
 rect ws i =
     rect_of (int_of (word_at ws i)) (int_of (word_at ws (i + 1))) (int_of (word_at ws (i + 2))) (int_of (word_at ws (i + 3)))
@@ -77,22 +77,22 @@ rect ws i =
 abbrev pub eight_rows : List (List ℕ) → ℕ → List ℕ
 eight_rows ws i = hex_of 8 (word_at ws i)
 
--- a tile by its rows
+-- a tile from its rows
 abbrev pub tile : List (List ℕ) → ℕ → Pattern
 tile ws i = record { rows = eight_rows ws i }
 
--- the kind of pixels that a word stands for
+-- the kind of pixels with this name
 abbrev pub kind_by_name : List ℕ → Kind
 kind_by_name w = if bytes_eq w (codes "mono") then kinds.Mono else if bytes_eq w (codes "map4") then kinds.Map4 else kinds.Map8
 
--- the selection
+-- the selection with this name
 abbrev pub selection_of : List ℕ → Selection
 selection_of w =
     if bytes_eq w (codes "key") then selections.Key
     else if bytes_eq w (codes "source") then selections.Source
     else selections.Target
 
--- the split, of those that have a tint alone
+-- the split with this name; it has only a tint
 abbrev pub split_of : List ℕ → NodeKind
 split_of w =
     if bytes_eq w (codes "h") then nodes.H
@@ -100,16 +100,16 @@ split_of w =
     else if bytes_eq w (codes "z") then nodes.Z
     else nodes.T None
 
--- a cage of this word holds a cursor that is here, and one that is gone
+-- a cage with this word holds a cursor that is here, and one that is gone
 abbrev pub may_be_here : List ℕ → Bool
 may_be_here w = not (bytes_eq w (codes "gone"))
 
 abbrev pub may_be_gone : List ℕ → Bool
 may_be_gone w = not (bytes_eq w (codes "here"))
 
--- ---- what a line adds to the opening, and what step it is
+-- ---- the item or the step of a line
 
--- a node of this kind, with its tint in the fourth word
+-- a node of this kind, with the fourth word as its tint
 abbrev pub a_node_of : NodeKind → List (List ℕ) → Meaning
 a_node_of k ws = meanings.Item (items.Node k (nat ws 3))
 
@@ -117,7 +117,7 @@ a_node_of k ws = meanings.Item (items.Node k (nat ws 3))
 abbrev pub a_leaf_with : Widget → List (List ℕ) → Meaning
 a_leaf_with content ws = meanings.Item (items.Leaf (shapes ws 2) content)
 
--- an edit of the tree, which is the desk's
+-- an edit of the tree: a step of the desk
 abbrev pub altering : Edit → Meaning
 altering edit = meanings.Step actors.Desk (steps.Alter edit)
 
@@ -146,7 +146,7 @@ module _ (names : Names) (ws : List (List ℕ)) where
   abbrev pub acting : WidgetCmd → Meaning
   acting cmd = stepping (λ leaf. steps.Act leaf cmd)
 
-  -- what a line says that has this form and these words
+  -- the meaning of a line of this form with these words
   abbrev pub meaning_of : Form → Meaning
   meaning_of Version = meanings.Version (nat ws 1)
   meaning_of Screen = meanings.Item (items.Screen (size ws 1) (kind_by_name (word_at ws 3)))

@@ -1,4 +1,4 @@
--- What the lines so far say: the script as far as it goes.
+-- The meaning of the lines so far: the script up to the next line.
 use Rattle.std.specs.Prelude.{ℕ, List, []}
 use Rattle.tr_journal.specs.declared.Item.{Item}
 use Rattle.tr_journal.specs.declared.Actor.{Actor}
@@ -11,13 +11,13 @@ use Rattle.tr_grammar.specs.declared.places.Place.TheVariants.{Start}
 use Rattle.tr_journal.specs.Names.{Names}
 use Rattle.tr_grammar.specs.Names.{no_names}
 
--- what a contract sees of a part of a script: its reports, and then its steps, each with who makes it
+-- the model of a part of a script: its reports, then its steps, each with its actor
 pub record Part : Type 0 where
   pub reports : List Query
   pub steps : List (Actor × Step WidgetCmd)
 
--- the script so far: its version, which is 0 before it is known; where its next line stands; the names; what
--- the opening has; which glyphs were set; the parts that a sync has ended, and the one that goes on
+-- the script so far: its version (0 before the version line), the place of its next line, the names, the items of the opening,
+-- the glyphs that were set, the parts that a sync has ended, and the current part
 pub record SoFar : Type 0 where
   pub version : ℕ
   pub place : Place

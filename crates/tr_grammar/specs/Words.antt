@@ -6,15 +6,15 @@ use Rattle.std.specs.Fmt.{signed_decimal}
 use Rattle.std.specs.Str.Parse.{digits_value, signed_digits_value}
 use Rattle.hex.specs.Hex.{decode_sized}
 
--- what stands between single spaces
+-- the words of a text: the pieces between single spaces
 abbrev pub words_of : List ℕ → List (List ℕ)
 words_of text = slice_split (λ b. b == 32) text
 
--- the word with so many others before it
+-- word i, counted from 0
 abbrev pub word_at : List (List ℕ) → ℕ → List ℕ
 word_at ws i = slice_index_or ws i []
 
--- the rest of the line behind so many words
+-- the rest of the line after i words
 abbrev pub rest_after : List (List ℕ) → ℕ → List ℕ
 rest_after ws i = join_with_byte 32 (drop i ws)
 
@@ -30,7 +30,7 @@ nat_of w = digits_value 10 w
 unfoldable pub is_number : ℕ → ℕ → List ℕ → Bool
 is_number low high w = bytes_eq w (decimal (nat_of w)) && (nat_le low (nat_of w) && nat_le (nat_of w) high)
 
--- the number that a word of digits spells, behind a minus or not
+-- the number that a word of digits spells, with or without a minus
 unfoldable pub int_of : List ℕ → ℤ
 int_of w = signed_digits_value 10 w
 
@@ -39,15 +39,15 @@ unfoldable pub is_signed : ℕ → ℕ → List ℕ → Bool
 is_signed low high w =
     bytes_eq w (signed_decimal (int_of w)) && (int_le (neg_ℤ (pos low)) (int_of w) && int_le (int_of w) (pos high))
 
--- the words are numbers to 4096, none of which is less than the one before it
+-- the words are numbers to 4096, and none is less than the one before it
 abbrev pub is_shape : List ℕ → List ℕ → List ℕ → Bool
 is_shape lo pref hi = is_number 0 4096 lo && (is_number (nat_of lo) 4096 pref && is_number (nat_of pref) 4096 hi)
 
--- the word is so many bytes in hex digits, two for each
+-- the word has n bytes in hex digits, two for each byte
 unfoldable pub is_hex : ℕ → List ℕ → Bool
 is_hex n w = is_ok (decode_sized w n)
 
--- these bytes
+-- the n bytes that the word spells in hex digits
 unfoldable pub hex_of : ℕ → List ℕ → List ℕ
 hex_of n w = result_unwrap_or (decode_sized w n) []
 
@@ -59,7 +59,7 @@ byte_of w = slice_index (hex_of 1 w) 0
 unfoldable pub is_glyph_byte : List ℕ → Bool
 is_glyph_byte w = is_hex 1 w && (nat_le 32 (byte_of w) && nat_le (byte_of w) 126)
 
--- from a to z
+-- a letter from a to z
 abbrev pub is_letter : ℕ → Bool
 is_letter b = nat_le 97 b && nat_le b 122
 
@@ -67,7 +67,7 @@ is_letter b = nat_le 97 b && nat_le b 122
 abbrev pub is_name_byte : ℕ → Bool
 is_name_byte b = is_letter b || (nat_le 48 b && nat_le b 57) || b == 95
 
--- a lower-case letter and at most 15 such bytes
+-- a lower-case letter and at most 15 name bytes
 unfoldable pub is_name : List ℕ → Bool
 is_name [] = false
 is_name (b ∷ bs) = is_letter b && (nat_le (length bs) 15 && list_all is_name_byte bs)

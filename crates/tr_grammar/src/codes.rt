@@ -5,7 +5,7 @@ use std::alloc::AllocError;
 use thiserror::Error;
 use tr_base::NoMemory;
 
-/// What is wrong with a line.
+/// The fault of a line.
 #[derive(Clone, Copy, Debug, PartialEq, Eq)]
 pub enum Code {
     /// An unknown word, or a wrong count of words.
@@ -17,7 +17,7 @@ pub enum Code {
     B3,
     /// A name or a glyph is declared twice.
     B4,
-    /// The line may not stand there.
+    /// The line may not come at this place.
     B5,
     /// The tree can't take the child or the root, or has no root.
     B6,
@@ -51,7 +51,7 @@ impl Code {
     }
 }
 
-/// Why a line isn't read.
+/// Why a line wasn't read.
 #[derive(Clone, Copy, Debug, PartialEq, Eq)]
 pub enum LineRefused {
     NoMemory,
@@ -91,14 +91,14 @@ impl From<Code> for LineRefused {
     }
 }
 
-/// Why a text isn't read.
+/// Why a text wasn't read.
 #[derive(Clone, Copy, Debug, PartialEq, Eq, Error)]
 pub enum ReadRefused {
     #[error("out of memory")]
     NoMemory,
-    /// A line, counted from 1, has a fault, and no line before it has one: the number of its first
-    /// fault, which is 1 to 10. Line 0 stands for a text of over 4 MiB; where the end is missing, the
-    /// line is the one behind the last.
+    /// A line, counted from 1, has a fault, and no line before it has one. `code` is the number of its
+    /// first fault, 1 to 10. Line 0 means a text of over 4 MiB; a missing end is a fault of the line
+    /// after the last.
     #[error("line {line} has the fault B{code}")]
     Refused { line: u32, code: u8 },
 }

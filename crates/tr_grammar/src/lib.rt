@@ -1,7 +1,6 @@
-//! The grammar of scripts: for each form of a line its words, values and names, what a line says, the
-//! faults that it can have, in their order, and what a whole text says, or where its first fault is.
-//! These are definitions, in `specs/`, for a reader of scripts; here stand only the types that they
-//! speak of.
+//! The grammar of scripts: for each form of a line its words, values, names and meaning, the faults that
+//! it can have, in their order, and for a whole text its script, or the place of its first fault. The
+//! definitions are in `specs/`, for a reader of scripts; this crate has only their types.
 #![tactic(auto)]
 
 mod codes;

@@ -1,2 +1,2 @@
-/// How many bytes a script may have: 4 MiB.
+/// The greatest length of a script in bytes: 4 MiB.
 pub const LONGEST_SCRIPT: usize = 4_194_304;

@@ -1,7 +1,7 @@
 use tr_journal::{Actor, Item, Query, Step};
 use tr_widget::{Widget, WidgetCmd};
 
-/// What a line says.
+/// The meaning of a line.
 #[derive(Drop)]
 pub enum Meaning {
     /// The script is of this version, 1 or 2.

@@ -1,4 +1,4 @@
-/// Where the next line of a script stands.
+/// The place of the next line of a script.
 #[derive(Clone, Copy)]
 pub enum Place {
     /// Before the version line.

@@ -1,9 +1,9 @@
 -- Private contracts alone cite this file.
--- How great sums of wishes can be.
+-- Bounds of sums of wishes.
 use Rattle.std.specs.Prelude.{ℕ, ◌≤◌}
 use Rattle.tr_hv.specs.declared.places.Wishes.{Wishes}
 
--- each of the three is at most so great
+-- each of the three is at most `most`
 pub record AreAtMost (most : ℕ) (w : Wishes) : Type 0 where
   pub lo : w.lo ≤ most
   pub pref : w.pref ≤ most

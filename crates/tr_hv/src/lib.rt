@@ -1,4 +1,4 @@
-//! Shapes and places of the nodes of the window tree whose children stand side by side: an H, from
+//! Shapes and places of the nodes of the window tree whose children lie side by side: an H, from
 //! west to east, and a V, from north to south.
 #![tactic(auto)]
 

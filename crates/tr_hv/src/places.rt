@@ -10,8 +10,8 @@ use tr_base::{
     sides_along, sums,
 };
 
-/// The shape of a V, or of an H where `vertical` is false: along it the sums of the children's
-/// lengths, which stop at 4096, and beside it the greatest ones. Without children it is 0.
+/// The shape of a V, or of an H if `vertical` is false: along it the sums of the children's lengths,
+/// which stop at 4096, and across it the greatest ones. Without children it is 0.
 pub fn shape(vertical: bool, children: &[Shapes]) -> Shapes
     ensures { result ≡ hv_shape vertical children.now }
 {
@@ -22,9 +22,9 @@ pub fn shape(vertical: bool, children: &[Shapes]) -> Shapes
     )
 }
 
-/// Where a V, or an H where `vertical` is false, has its children. First each gets its `lo` as far
-/// as length is left, then what it lacks to its `pref`, then what it lacks to its `hi`. They stand
-/// without space between them, and what is left over is the node's own.
+/// The places of the children of a V, or of an H if `vertical` is false. First each child gets its `lo`
+/// as far as length is left, then the rest of its `pref`, then the rest of its `hi`. They lie side by
+/// side without space between them, and the node keeps the length that is left over.
 pub fn place(
     alloc: Global,
     vertical: bool,
@@ -44,8 +44,8 @@ pub fn place(
     Ok(places)
 }
 
-/// The same, into room that the caller lends: as many rectangles as there are children, whatever
-/// they were. It takes no memory.
+/// The same places, put into a slice of the caller: it has as many rectangles as there are children, of
+/// any value. Nothing is allocated.
 pub fn place_into(vertical: bool, rect: Rect, children: &[Shapes], rects: &mut [Rect])
     requires domain { IsDomain rect }
     requires count { length children.now ≤ 255 }
@@ -67,8 +67,8 @@ pub fn place_into(vertical: bool, rect: Rect, children: &[Shapes], rects: &mut [
     }
 }
 
-/// A child's wishes: its `lo`, what it then lacks to its `pref`, and what it then lacks to its
-/// `hi`. Or sums of the wishes of some children, each group by itself.
+/// A child's wishes: its `lo`, the rest of its `pref`, and the rest of its `hi`. Or, for each of the
+/// three, the sum over some children.
 #[derive(Clone, Copy, Debug, PartialEq, Eq)]
 struct Wishes {
     lo: u32,
@@ -135,7 +135,7 @@ fn first_before(all: &Wishes) -> Wishes
     }
 }
 
-/// What a child's wishes get of the room, after the sums of wishes that come before each of them.
+/// The part of the room for a child's wishes, after the sums of wishes that come before each of them.
 fn granted(room: u32, before: &Wishes, wishes: &Wishes) -> u32
     requires { AreAtMost longest wishes.now }
     ensures { result ≡ min wishes.now.lo (room - before.now.lo)

@@ -6,7 +6,7 @@ use std::marker::Model;
 use thiserror::Error;
 use tr_base::{Event, NoMemory};
 
-/// How many events an inbox holds at most.
+/// The most events in an inbox.
 pub const CAPACITY: usize = 64;
 
 /// The inbox was full, and the event is lost.
@@ -19,8 +19,8 @@ pub struct Dropped;
 #[error("no event waits")]
 pub struct Empty;
 
-/// The events that wait for one window, the oldest first, and how many were dropped because it was
-/// full. Its block is allocated once, so that only `new` can want memory.
+/// The waiting events of one window, the oldest first, and the number of events that were dropped
+/// because it was full. Its block is allocated once, so that only `new` can run out of memory.
 #[derive(Debug, Drop)]
 pub struct Inbox {
     events: HeapCircularBuffer<Event>,
@@ -39,7 +39,7 @@ impl Model for Inbox {
 }
 
 impl Inbox {
-    /// An inbox in which nothing waits and of which nothing was dropped.
+    /// An inbox in which no event waits and none was dropped.
     pub fn new(alloc: Global) -> Result<Inbox, NoMemory>
         ensures { IfOk result (λ inbox. inbox ≡ record { events = []; dropped = 0 }) }
     {
@@ -49,7 +49,7 @@ impl Inbox {
         })
     }
 
-    /// Puts the event behind those that wait. A full inbox drops it instead, and counts it.
+    /// Puts the event after those that wait. A full inbox drops it instead, and counts it.
     pub fn put(&mut self, event: Event) -> Result<(), Dropped>
         ensures full { IsErr result ↔ (length self.old.events ≡ CAPACITY) }
         ensures ok { OnOk result (self.new ≡ record self.old { events = self.old.events ++ event ∷ [] }) }
@@ -74,7 +74,7 @@ impl Inbox {
         self.events.pop_front().ok_or(Empty)
     }
 
-    /// How many events wait.
+    /// The number of events that wait.
     pub fn waiting(&self) -> usize
         ensures count { result ≡ length self.now.events }
         ensures limit { result ≤ CAPACITY }
@@ -82,7 +82,7 @@ impl Inbox {
         self.events.len()
     }
 
-    /// The event that waits behind `i` others.
+    /// The event with `i` others before it.
     pub fn get(&self, i: usize) -> Event
         requires { i < length self.now.events }
         ensures { slice_get self.now.events i ≡ Some result }
@@ -90,7 +90,7 @@ impl Inbox {
         *self.events.get(i).unwrap()
     }
 
-    /// How many events were dropped. The count stops at 2^32 - 1.
+    /// The number of events that were dropped. It stops at 2^32 - 1.
     pub fn dropped(&self) -> u32
         ensures { result ≡ self.now.dropped }
     {

@@ -1,4 +1,5 @@
-//! Inboxes: the events that wait for a window until its client takes them, and what a step sent.
+//! Inboxes: the events that wait for a window until its client takes them, and the events that a step
+//! sent.
 #![tactic(auto)]
 
 mod deliveries;

@@ -1,4 +1,4 @@
--- Which journals the parts of a script may lead to, where many actors take turns.
+-- The journals that the parts of a script may lead to while many actors take turns.
 use Rattle.std.specs.Prelude.{◌≡◌, ⊤, Bool, true, false, if◌then◌else◌, List, [], ◌∷◌, ◌++◌, map}
 use Rattle.tr_base.specs.declared.Point.{Point}
 use Rattle.tr_base.specs.declared.LeafId.{LeafId}
@@ -15,7 +15,7 @@ use Rattle.tr_journal.specs.Journals.{JournalLine}
 use Rattle.tr_machine.specs.States.{State, leaf_batch, start}
 use Rattle.tr_machine.specs.Replays.{next}
 
--- a part of a script: its reports, and then its steps, each with who makes it
+-- a part of a script: its reports, and then its steps, each with its actor
 pub record Part (M : Type 0) : Type 0 where
   pub reports : List Query
   pub steps : List (Actor × Step M)
@@ -31,7 +31,7 @@ abbrev pub is_sync : {M : Type 0} → Step M → Bool
 is_sync Sync = true
 is_sync step = false
 
--- lines cut at each sync, where the first piece begins with some others
+-- lines cut at each sync; the first piece begins with the lines `before`
 abbrev pub stretches_from : {M : Type 0} → List (JournalLine M) → List (JournalLine M) → List (List (JournalLine M))
 stretches_from before [] = before ∷ []
 stretches_from before (line ∷ lines) =
@@ -41,14 +41,14 @@ stretches_from before (line ∷ lines) =
 abbrev pub stretches : {M : Type 0} → List (JournalLine M) → List (List (JournalLine M))
 stretches lines = stretches_from [] lines
 
--- behind a line of a leaf or of the desk stands none of the player
+-- no line of the player comes after a line of a leaf or of the desk
 abbrev pub IsPlayerFirst : {M : Type 0} → List (JournalLine M) → Type 0
 IsPlayerFirst [] = ⊤
 IsPlayerFirst (line ∷ lines) =
     (is_maker line.entry.actor ≡ true → steps_in actors.Player lines ≡ []) × IsPlayerFirst lines
 
 -- A stretch of a journal is one of a part: the steps of each leaf and of the desk are those of the part, each once and in their order; the
--- player's are the part's reports, in their order, and stand before all of those. The painter's may stand anywhere.
+-- player's are the part's reports, in their order, and come before all of those. The painter's may come anywhere.
 pub record IsStretch {M : Type 0} (part : Part M) (lines : List (JournalLine M)) : Type 0 where
   pub steps : (actor : Actor) → is_maker actor ≡ true → steps_in actor lines ≡ steps_of actor part.steps
   pub reports : steps_in actors.Player lines ≡ map Report part.reports
@@ -68,13 +68,13 @@ module _ {C M : Type 0} (client : Ghosts C M) where
     pub good : (p : Point) → m.bad p ≡ false
     pub batches : (leaf : LeafId) → leaf_batch client m leaf ≡ []
 
-  -- whenever the screen is dumped it is settled, from a state on
+  -- from a state on, the screen is settled at each dump
   abbrev pub AreDumpsSettled : State C M → List (JournalLine M) → Type 0
   AreDumpsSettled m [] = ⊤
   AreDumpsSettled m (line ∷ lines) =
       (line.entry.step ≡ Report Dump → IsSettled m) × AreDumpsSettled (next client m line.entry.step) lines
 
-  -- A journal interleaves the parts of a script: its stretches are theirs, one by one, and the screen is settled whenever it is dumped.
+  -- A journal interleaves the parts of a script: its stretches are theirs, one by one, and the screen is settled at each dump.
   pub record Interleaves (items : List (Item C)) (parts : List (Part M)) (lines : List (JournalLine M)) : Type 0 where
     pub stretches : AreStretches parts (stretches lines)
     pub dumps : AreDumpsSettled (start items) lines

@@ -1,4 +1,4 @@
--- What lines of a journal are while the parts of a script are played one after another.
+-- Lines of a journal while the parts of a script are played one after another.
 use Rattle.std.specs.Prelude.{◌≡◌, ⊤, false, List, [], ◌∷◌, map}
 use Rattle.tr_client.specs.declared.clients.Client.{Ghosts}
 use Rattle.tr_journal.specs.declared.steps.Actor.TheVariants.{Player}
@@ -27,13 +27,13 @@ module _ {C M : Type 0} (client : Ghosts C M) where
     pub player : steps_in Player lines ≡ map Report queries
     pub dumps : AreDumpsSettled client m lines
 
-  -- what the lines of a part are, without the sync before it
+  -- the lines are those of a part, without the sync before it
   pub record IsPart (m : State C M) (part : Part M) (lines : List (JournalLine M)) : Type 0 where
     pub stretch : IsStretch part lines
     pub syncs : HasNoSync lines
     pub dumps : AreDumpsSettled client m lines
 
-  -- what the lines of parts in a row are
+  -- the lines are those of parts in a row
   pub record AreParts (m : State C M) (parts : List (Part M)) (lines : List (JournalLine M)) : Type 0 where
     pub stretches : AreStretches parts (stretches lines)
     pub dumps : AreDumpsSettled client m lines

@@ -1,3 +1,3 @@
-//! Orders of steps: which journals the parts of a script may lead to where many actors take turns. These
-//! are definitions, in `specs/`, and what follows from them, in `proofs/`; nothing here runs.
+//! Orders of steps: the journals that the parts of a script may lead to while many actors take turns.
+//! These are definitions, in `specs/`, and facts that follow from them, in `proofs/`; nothing here runs.
 #![tactic(auto)]

@@ -1,7 +1,7 @@
--- Counts of calls and of faults, which are kept in 64 bits.
+-- Counts of calls and of faults, kept in 64 bits.
 use Rattle.std.specs.Prelude.{◌≡◌, ℕ, ◌+◌, ◌-◌, ◌^◌, ◌<◌, ◌⊎◌, min, Result, Ok, Err}
 
--- the last value of a count, at which it stands still
+-- the last value of a count: it stops there
 abbrev pub last_count : ℕ
 last_count = 2 ^ 64 - 1
 
@@ -14,6 +14,6 @@ abbrev pub faults_after : {T E : Type 0} → Result T E → ℕ → ℕ
 faults_after (Ok x) faults = faults
 faults_after (Err e) faults = next_count faults
 
--- a fault was counted between the two counts, or the later one stands at its last value
+-- a fault was counted between the two counts, or the later count is at its last value
 abbrev pub HasFault : ℕ → ℕ → Type 0
 HasFault before after = (before < after) ⊎ (after ≡ last_count)

@@ -1,21 +1,21 @@
-//! What one call of the system comes to: a function of the system's answer.
+//! The result of one system call: a function of the system's answer.
 ghost use Rattle.std.specs.Prelude.{◌≡◌};
 ghost use Rattle.tr_io.specs.Attempts as spec;
 
 use std::io;
 use std::io::ErrorKind;
 
-/// The error EBADF, which the system answers where a stream is closed.
+/// The error EBADF: the stream is closed.
 const BAD_DESCRIPTOR: i32 = 9;
 
-/// How often a call is made that signals interrupt. Every loop has to end; this one doesn't last so
-/// long.
+/// The most times that a call is made while signals interrupt it. Every loop has to end; no program
+/// runs long enough to reach this bound.
 pub(crate) const MOST_TRIES: u64 = u64::MAX;
 
-/// What one call of the system comes to.
+/// The result of one system call.
 #[derive(Clone, Copy, Debug, PartialEq, Eq)]
 pub(crate) enum Attempt {
-    /// So many bytes went over.
+    /// This many bytes were moved.
     Moved(usize),
     /// A signal came before the first byte: the call is made again.
     Again,
@@ -23,7 +23,7 @@ pub(crate) enum Attempt {
     Fault,
 }
 
-/// What a read comes to, by the system's answer. A closed input reads as empty.
+/// The result of a read, by the system's answer. A closed input reads as empty.
 pub(crate) fn read_attempt(answer: io::Result<usize>) -> Attempt
     ensures { result ≡ spec.read_attempt answer }
 {
@@ -34,8 +34,8 @@ pub(crate) fn read_attempt(answer: io::Result<usize>) -> Attempt
     }
 }
 
-/// What a write of a piece comes to, by the system's answer. To take nothing of a piece that is not
-/// empty is a fault.
+/// The result of a write of a piece, by the system's answer. If the system takes nothing of a piece
+/// that is not empty, that is a fault.
 pub(crate) fn write_attempt(answer: io::Result<usize>, piece: &[u8]) -> Attempt
     ensures { result ≡ spec.write_attempt piece.now answer }
 {
@@ -46,7 +46,7 @@ pub(crate) fn write_attempt(answer: io::Result<usize>, piece: &[u8]) -> Attempt
     }
 }
 
-/// What a call that moved nothing comes to, by the kind of the system's error.
+/// The result of a call that moved nothing, by the kind of the system's error.
 fn failed_attempt(kind: ErrorKind) -> Attempt
     ensures { result ≡ spec.failed_attempt kind }
 {

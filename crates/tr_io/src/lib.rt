@@ -1,5 +1,5 @@
-//! Where bytes come from and where they go: a source is read in pieces and a sink is written in
-//! pieces. Each of them counts its faults, so that `Failed` is answered only where there was one.
+//! Sources and sinks of bytes: a source is read in pieces, and a sink is written in pieces. Each of
+//! them counts its faults, so that `Failed` is answered only after one.
 #![tactic(auto)]
 
 mod attempts;

@@ -3,14 +3,14 @@ ghost use Rattle.tr_io.specs.Faults.{next_count, faults_after};
 
 use crate::streams::Failed;
 
-/// Which calls of a source or a sink fail.
+/// The calls of a source or a sink that fail.
 #[derive(Drop)]
 pub(crate) struct FaultPlan {
     /// The numbers of the calls that fail, counted from 1.
     pub(crate) fails: Vec<u64>,
-    /// How many calls there were. It stands still at its last value.
+    /// The number of calls. It stops at 2^64 - 1.
     pub(crate) calls: u64,
-    /// How many calls failed. It stands still at its last value.
+    /// The number of calls that failed. It stops at 2^64 - 1.
     pub(crate) faults: u64,
 }
 
@@ -27,7 +27,7 @@ impl FaultPlan {
         }
     }
 
-    /// Counts one more call, and fails where the plan says so.
+    /// Counts one more call, and fails if the plan says so.
     pub(crate) fn count_call(&mut self) -> Result<(), Failed>
         ensures planned { IsErr result ↔ Contains self.old.fails.items (next_count self.old.calls) }
         ensures fails { self.new.fails ≡ self.old.fails }

@@ -69,7 +69,7 @@ impl Sink for SteadySink {
     }
 }
 
-/// A sink in memory that takes a limited number of bytes at once, and of which chosen writes fail.
+/// A sink in memory that takes a limited number of bytes at once, and whose chosen writes fail.
 #[derive(Drop)]
 pub struct MemorySink {
     sink: SteadySink,
@@ -97,7 +97,7 @@ impl Model for MemorySink {
 
 impl MemorySink {
     /// A sink that takes at most `piece` bytes at once, at least 1. The k-th write, counted from 1,
-    /// fails where k is in `fails`.
+    /// fails if k is in `fails`.
     pub fn new(alloc: Global, piece: usize, fails: Vec<u64>) -> MemorySink
         requires { 1 ≤ piece }
         ensures { result ≡ record {
@@ -124,7 +124,7 @@ impl MemorySink {
         self.sink.written()
     }
 
-    /// How many writes failed.
+    /// The number of writes that failed.
     pub fn faults(&self) -> u64
         ensures { result ≡ self.now.faults }
     {

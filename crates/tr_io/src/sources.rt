@@ -5,11 +5,11 @@ use crate::plans::FaultPlan;
 use crate::streams::{Failed, Source};
 use std::marker::Model;
 
-/// A source of bytes in memory that never fails. Contracts see the bytes still to come.
+/// A source of bytes in memory that never fails. Its model is the bytes still to come.
 #[derive(Drop)]
 pub struct SteadySource {
     bytes: Vec<u8>,
-    /// How many bytes were read.
+    /// The number of bytes that were read.
     taken: usize,
 }
 
@@ -60,7 +60,7 @@ impl Source for SteadySource {
     }
 }
 
-/// A source of bytes in memory of which chosen reads fail.
+/// A source of bytes in memory whose chosen reads fail.
 #[derive(Drop)]
 pub struct MemorySource {
     source: SteadySource,
@@ -81,7 +81,7 @@ impl Model for MemorySource {
 }
 
 impl MemorySource {
-    /// A source of these bytes. The k-th read, counted from 1, fails where k is in `fails`.
+    /// A source of these bytes. The k-th read, counted from 1, fails if k is in `fails`.
     pub fn new(bytes: Vec<u8>, fails: Vec<u64>) -> MemorySource
         ensures { result ≡ record { left = bytes.items; reads = 0; fails = fails.items; faults = 0 } }
     {
@@ -98,7 +98,7 @@ impl MemorySource {
         self.source.left()
     }
 
-    /// How many reads failed.
+    /// The number of reads that failed.
     pub fn faults(&self) -> u64
         ensures { result ≡ self.now.faults }
     {
@@ -132,7 +132,7 @@ impl Source for MemorySource {
     }
 }
 
-/// A source of bytes in memory that gives a limited number of bytes at once, and of which chosen reads fail.
+/// A source of bytes in memory that gives a limited number of bytes at once, and whose chosen reads fail.
 #[derive(Drop)]
 pub struct PieceSource {
     source: MemorySource,
@@ -158,7 +158,7 @@ impl Model for PieceSource {
 
 impl PieceSource {
     /// A source that gives at most `piece` bytes at once, at least 1. The k-th read, counted from 1, fails
-    /// where k is in `fails`.
+    /// if k is in `fails`.
     pub fn new(bytes: Vec<u8>, piece: usize, fails: Vec<u64>) -> PieceSource
         requires { 1 ≤ piece }
         ensures { result ≡ record {
@@ -183,7 +183,7 @@ impl PieceSource {
         self.source.left()
     }
 
-    /// How many reads failed.
+    /// The number of reads that failed.
     pub fn faults(&self) -> u64
         ensures { result ≡ self.now.faults }
     {

@@ -1,4 +1,4 @@
-//! Standard input. No clause says what the system does behind a read.
+//! Standard input. No clause speaks of the effect of a read on the system.
 ghost use Rattle.std.specs.Prelude.{◌≡◌, ◌<◌, ◌≤◌, length, ◌-◌, ◌^◌, ◌++◌, ◌∷◌, [], ℕ, List, Option, Result, IfOk, IsOk, is_ok, if◌then◌else◌};
 ghost use Rattle.std.specs.Io.{ReadsAtMost, WritesAtMost};
 ghost use Rattle.std.specs.declared.io.Error.{Error};
@@ -11,11 +11,11 @@ use std::io;
 use std::io::{Read, Stdin};
 use std::marker::Model;
 
-/// Standard input, which reads as empty where it is closed. Contracts see how many faults it has
-/// had, and nothing of its bytes.
+/// Standard input, which reads as empty if it is closed. Contracts speak of the number of its faults,
+/// and not of its bytes.
 pub type StdSource = InputSource<Stdin>;
 
-/// A source over a stream of the system. It is generic for the proofs alone, as `Input` is.
+/// A source over a stream of the system. It is generic only for the proofs, as `Input` is.
 #[derive(Drop)]
 pub struct InputSource<I> {
     input: I,
@@ -61,10 +61,10 @@ impl<I: Input + Drop> Source for InputSource<I> {
     }
 }
 
-/// A stream of the system that is read. Only the proofs want this trait: by it the contract of
-/// `read_from` can speak of the system's answers, which standard input doesn't tell.
+/// A system stream for reading. Only the proofs need this trait: with it the contract of `read_from`
+/// can speak of the system's answers, which standard input doesn't tell.
 pub trait Input {
-    /// The answers that it gave, where it tells them.
+    /// The answers that the stream gave, if it tells them.
     ghost answers: { Self → Option (List (Result ℕ Error)) };
 
     fn ask(&mut self, buf: &mut [u8]) -> io::Result<usize>

@@ -1,4 +1,4 @@
-//! Standard output. No clause says what the system does behind a write.
+//! Standard output. No clause speaks of the effect of a write on the system.
 ghost use Rattle.std.specs.Prelude.{◌≡◌, ◌<◌, ◌≤◌, length, ◌-◌, ◌^◌, ◌++◌, ◌∷◌, [], ℕ, List, Option, Result, IfOk, IsOk, is_ok, if◌then◌else◌};
 ghost use Rattle.std.specs.Io.{ReadsAtMost, WritesAtMost};
 ghost use Rattle.std.specs.declared.io.Error.{Error};
@@ -13,10 +13,10 @@ use std::marker::Model;
 use tr_base::NoMemory;
 
 /// Standard output. A write to a closed pipe is a fault, and no signal ends the program. Contracts
-/// see how many faults it has had, and nothing of its bytes.
+/// speak of the number of its faults, and not of its bytes.
 pub type StdSink = OutputSink<Stdout>;
 
-/// A sink over a stream of the system. It is generic for the proofs alone, as `Output` is.
+/// A sink over a stream of the system. It is generic only for the proofs, as `Output` is.
 #[derive(Drop)]
 pub struct OutputSink<O> {
     output: O,
@@ -74,9 +74,9 @@ impl<O: Output + Drop> Sink for OutputSink<O> {
     }
 }
 
-/// A stream of the system that is written. Only the proofs want this trait, as `Input`.
+/// A system stream for writing. Only the proofs need this trait, as with `Input`.
 pub trait Output {
-    /// The answers that it gave, where it tells them.
+    /// The answers that the stream gave, if it tells them.
     ghost answers: { Self → Option (List (Result ℕ Error)) };
 
     fn ask(&mut self, piece: &[u8]) -> io::Result<usize>

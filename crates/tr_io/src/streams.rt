@@ -5,21 +5,21 @@ ghost use Rattle.tr_io.specs.Streams.{Fell, Grew};
 use thiserror::Error;
 use tr_base::NoMemory;
 
-/// The answer to a read or a write that a fault came in the way of.
+/// The answer to a read or a write that met a fault.
 #[derive(Clone, Copy, Debug, PartialEq, Eq, Error)]
 #[error("a read or a write failed")]
 pub struct Failed;
 
-/// Where bytes come from.
+/// A source of bytes.
 pub trait Source {
-    /// The bytes still to come, where the source tells them.
+    /// The bytes still to come, if the source tells them.
     ghost left: { Self → Option (List ℕ) };
 
-    /// How many faults it has had. The count stands still at 2^64 - 1.
+    /// The number of its faults so far. It stops at 2^64 - 1.
     ghost faults: { Self → ℕ };
 
-    /// Takes the next bytes into the front of the buffer, and answers how many. In a buffer that is
-    /// not empty, 0 says that there are no more.
+    /// Puts the next bytes at the front of the buffer, and answers how many. For a buffer that is not
+    /// empty, 0 says that there are no more.
     fn read(&mut self, buf: &mut [u8]) -> Result<usize, Failed>
         ensures count { IfOk result (λ n. n ≤ length buf.new) }
         ensures taken { IfOk result (λ n. Fell (left self.old) (left self.new) (take n buf.new)) }
@@ -30,15 +30,15 @@ pub trait Source {
         ensures rising { faults self.old ≤ faults self.new };
 }
 
-/// Where bytes go.
+/// A sink of bytes.
 pub trait Sink {
-    /// The bytes that it has taken, where it tells them.
+    /// The bytes that it has taken, if it tells them.
     ghost written: { Self → Option (List ℕ) };
 
-    /// How many bytes it can take with no further memory.
+    /// The number of bytes that it can take without more memory.
     ghost room: { Self → ℕ };
 
-    /// How many faults it has had. The count stands still at 2^64 - 1.
+    /// The number of its faults so far. It stops at 2^64 - 1.
     ghost faults: { Self → ℕ };
 
     /// Makes room for `n` bytes.

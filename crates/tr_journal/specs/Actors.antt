@@ -14,7 +14,7 @@ is_by actors.Desk other = is_desk other
 is_by actors.Painter other = is_painter other
 is_by actors.Player other = is_player other
 
--- a leaf's client or the desk: an actor whose steps a script has
+-- a leaf's client or the desk: an actor whose steps are in a script
 abbrev pub is_maker : Actor → Bool
 is_maker (actors.Leaf leaf) = true
 is_maker actors.Desk = true

@@ -1,4 +1,4 @@
--- What an audit compares, and the first difference that it finds.
+-- The comparison of an audit, and the first difference that it finds.
 use Rattle.std.specs.Prelude.{◌≡◌, ℕ, ◌-◌, ◌<◌, ⊤, List, Option, length, take, drop, slice_get}
 use Rattle.tr_journal.specs.declared.items.Item.{Item}
 use Rattle.tr_journal.specs.declared.steps.Actor.{Actor}
@@ -36,13 +36,13 @@ IsBefore (Leaf a) Player = ⊤
 IsBefore Desk Player = ⊤
 IsBefore a b = ⊥
 
--- An account that was kept and the steps that each actor made since, compared with the account that was found.
+-- A kept account and the steps that each actor made since, compared with the account that was found.
 module _ {C M : Type 0} (kept : Account C M) (lists : ListsView M) (found : Account C M) where
   -- the first entries that were found, as many as were kept
   abbrev pub kept_found : List (Entry M)
   kept_found = take (length kept.entries) found.entries
 
-  -- the steps of an actor that were found behind these entries
+  -- the steps of an actor that were found after these entries
   abbrev pub steps_found : Actor → List (Step M)
   steps_found actor = steps_by actor (drop (length kept.entries) found.entries)
 
@@ -52,7 +52,7 @@ module _ {C M : Type 0} (kept : Account C M) (lists : ListsView M) (found : Acco
     pub entries : kept.entries ≡ kept_found
     pub steps : (actor : Actor) → HasList (length lists.leaves) actor → list_of lists actor ≡ steps_found actor
 
-  -- nothing differs before the steps of this actor, one that has a list
+  -- nothing differs before the steps of this actor, which has a list
   pub record MatchesBefore (actor : Actor) : Type 0 where
     pub listed : HasList (length lists.leaves) actor
     pub opening : kept.opening ≡ found.opening

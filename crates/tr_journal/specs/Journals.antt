@@ -1,4 +1,4 @@
--- The lines of a journal: entries in their order, each with what its step sent.
+-- The lines of a journal: entries in their order, each with the deliveries of its step.
 use Rattle.std.specs.Prelude.{◌≡◌, ℕ, ◌+◌, ◌/◌, ◌<◌, min, List, [], ◌∷◌, length, take, drop, get_or, map, sum_by}
 use Rattle.tr_inbox.specs.declared.deliveries.Delivery.{Delivery}
 use Rattle.tr_journal.specs.declared.entries.Entry.{Entry}
@@ -8,8 +8,8 @@ pub record JournalLine (M : Type 0) : Type 0 where
   pub entry : Entry M
   pub sent : List Delivery
 
--- what a contract sees of a journal: its lines; the number of further lines, with at most 32 deliveries each, for which there is room;
--- and the same for further lines without deliveries
+-- the model of a journal: its lines; the number of further lines, with at most 32 deliveries each, for which it has room; and the
+-- number of further lines without deliveries for which it has room
 pub record JournalView (M : Type 0) : Type 0 where
   pub lines : List (JournalLine M)
   pub spare : ℕ

@@ -1,5 +1,5 @@
 -- Private contracts alone cite this file.
--- What an opening keeps beside its items.
+-- The parts of an opening beside its items.
 use Rattle.std.specs.Prelude.{◌≡◌, ℕ, suc, ◌+◌, ◌≤◌, List, [], ◌∷◌, All, is_none, map, count_by, length}
 use Rattle.tr_forest.specs.Nodes.{Nodes, leaf_count}
 use Rattle.tr_tree.specs.Trees.{Seen}

@@ -4,7 +4,7 @@ use Rattle.tr_journal.specs.declared.steps.Actor.{Actor}
 use Rattle.tr_journal.specs.declared.steps.Actor.TheVariants.{Leaf, Desk, Painter, Player}
 use Rattle.tr_journal.specs.declared.steps.Step.{Step}
 
--- what a contract sees of the lists: those of the leaves, by their numbers, and those of the desk and the player
+-- the model of the lists: those of the leaves, by their numbers, and those of the desk and the player
 pub record ListsView (M : Type 0) : Type 0 where
   pub leaves : List (List (Step M))
   pub desk : List (Step M)
@@ -14,7 +14,7 @@ pub record ListsView (M : Type 0) : Type 0 where
 abbrev pub no_steps : {M : Type 0} → ℕ → ListsView M
 no_steps leaves = record { leaves = replicate leaves []; desk = []; player = [] }
 
--- the actor has a list, if there are so many leaves; the painter has none
+-- the actor has a list, with this number of leaves; the painter has none
 abbrev pub HasList : ℕ → Actor → Type 0
 HasList leaves (Leaf leaf) = leaf.0 < leaves
 HasList leaves Desk = ⊤
@@ -28,13 +28,13 @@ list_of lists Desk = lists.desk
 list_of lists Painter = []
 list_of lists Player = lists.player
 
--- the lists with these steps in place of an actor's
+-- the lists with these steps in place of an actor's steps
 abbrev pub with_list : {M : Type 0} → ListsView M → Actor → List (Step M) → ListsView M
 with_list lists (Leaf leaf) steps = record lists { leaves = set lists.leaves leaf.0 steps }
 with_list lists Desk steps = record lists { desk = steps }
 with_list lists Painter steps = lists
 with_list lists Player steps = record lists { player = steps }
 
--- the lists with one more step, behind the others of its actor
+-- the lists with one more step, after the others of its actor
 abbrev pub with_step : {M : Type 0} → ListsView M → Actor → Step M → ListsView M
 with_step lists actor step = with_list lists actor (list_of lists actor ++ step ∷ [])

@@ -1,4 +1,4 @@
--- What the items of an opening make: a tree, a font, and the contents of the leaves.
+-- The tree, the font and the contents of the leaves that the items of an opening make.
 use Rattle.std.specs.Prelude.{◌≡◌, ◌≢◌, ℕ, ◌-◌, ◌≤◌, ◌||◌, if◌then◌else◌, List, [], ◌∷◌, ◌++◌, Option, Some, None, is_some, All, fold, length, take, slice_get, slice_set}
 use Rattle.std.specs.List.{filter_map}
 use Rattle.tr_base.specs.declared.NodeId.{NodeId}
@@ -18,7 +18,7 @@ use Rattle.tr_client.specs.declared.clients.Client.{Ghosts}
 use Rattle.tr_journal.specs.declared.items.Item.{Item}
 use Rattle.tr_journal.specs.declared.items.Item.TheVariants.{Screen, Glyph, Node, Leaf, Put, Root}
 
--- no nodes, and no root
+-- no node, and no root
 abbrev pub no_nodes : Nodes
 no_nodes = record { entries = []; root = None }
 
@@ -61,18 +61,18 @@ content_in item = None
 abbrev pub contents_of : {C : Type 0} → List (Item C) → List C
 contents_of items = filter_map content_in items
 
--- why a node can't become the root, if it can't: there is a root, or the node has a parent
+-- the reason why a node can't become the root, if it can't: there is a root, or the node has a parent
 abbrev pub root_refusal : Nodes → NodeId → Option NodeFault
 root_refusal t node = if is_some t.root || hangs t node then Some faults.Attached else None
 
--- What holds of the items of an opening: they make a tree on a screen, and each of its leaves has a content.
+-- The invariant of an opening's items: they make a tree on a screen, and each of its leaves has a content.
 pub record IsOpened {C M : Type 0} (client : Ghosts C M) (items : List (Item C)) : Type 0 where
   pub forest : IsForest (tree_of items).nodes
   pub screen : IsScreenSize (tree_of items).size
   pub leaves : length (contents_of items) ≡ leaf_count (tree_of items).nodes
   pub contents : All client.valid (contents_of items)
 
--- two lists have the same elements before a place, counted from 1, and differ at that place, where one of them may end
+-- two lists have the same elements before a place, counted from 1, and differ at that place; one of them may end there
 pub record DifferAt {A : Type 0} (xs ys : List A) (place : ℕ) : Type 0 where
   pub counted : 1 ≤ place
   pub before : take (place - 1) xs ≡ take (place - 1) ys

@@ -1,4 +1,4 @@
--- Which steps are reports.
+-- Steps that are reports.
 use Rattle.std.specs.Prelude.{Bool, true, false}
 use Rattle.tr_journal.specs.declared.steps.Step.{Step}
 use Rattle.tr_journal.specs.declared.steps.Step.TheVariants as steps

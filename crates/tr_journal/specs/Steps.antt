@@ -1,4 +1,4 @@
--- Who makes which step, with which levels held, and what its values are.
+-- The steps of each actor, the levels that they require, and the ranges of their values.
 use Rattle.std.specs.Prelude.{◌≡◌, ℕ, ℤ, pos, neg_ℤ, ◌<◌, ◌≤◌, ◌≤ℤ◌, ⊤, Bool, true, false, ◌||◌, ◌==◌, List, [], ◌∷◌, All, length}
 use Rattle.std.specs.List.{list_all, list_any}
 use Rattle.tr_base.specs.declared.LeafId.{LeafId}
@@ -87,17 +87,17 @@ covers held step = list_all (is_level_held held) (stated step)
 pub record IsLeaf (t : Nodes) (leaf : LeafId) : Type 0 where
   pub within : leaf.0 < leaf_count t
 
--- the leaf of a level, where it has one, is a leaf
+-- the leaf of a level, if it has one, is a leaf of the tree
 abbrev pub IsLevel : Nodes → Level → Type 0
 IsLevel t Mu = ⊤
 IsLevel t (Share leaf) = IsLeaf t leaf
 IsLevel t (Win leaf) = IsLeaf t leaf
 
--- so it is for each level
+-- the leaf of each level is a leaf of the tree
 abbrev pub AreLevels : Nodes → List Level → Type 0
 AreLevels t levels = All (IsLevel t) levels
 
--- there are as many nodes, and as many leaves
+-- both have the same number of nodes, and of leaves
 pub record AreAsMany (t new : Nodes) : Type 0 where
   pub nodes : length new.entries ≡ length t.entries
   pub leaves : leaf_count new ≡ leaf_count t
@@ -163,7 +163,7 @@ IsStep t steps.PaintFrame = ⊤
 IsStep t steps.Sync = ⊤
 IsStep t (steps.Report query) = IsQuery t query
 
--- a step is the actor's own: it is for that actor to make, and its numbers and values are a step's
+-- a step is the actor's own: the actor has the right to make it, and its numbers and values are those of a step
 pub record IsOwn {M : Type 0} (t : Nodes) (actor : Actor) (step : Step M) : Type 0 where
   pub may : may actor step ≡ true
   pub values : IsStep t step

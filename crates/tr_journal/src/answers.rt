@@ -61,7 +61,7 @@ pub struct Reply {
 }
 
 impl Reply {
-    /// The same reply.
+    /// A copy of the reply.
     pub fn copy(&self) -> Result<Reply, NoMemory>
         ensures { IfOk result (λ reply. reply ≡ self.now) }
     {

@@ -23,7 +23,7 @@ pub enum Item<C> {
         kind: NodeKind,
         tint: u8,
     },
-    /// A leaf, which wants these lengths, and its content. Leaves are numbered from 0, too.
+    /// A leaf that wants these lengths, and its content. Leaves are numbered from 0, too.
     Leaf {
         shapes: Shapes,
         content: C,
@@ -34,14 +34,14 @@ pub enum Item<C> {
         parent: NodeId,
         at: Point,
     },
-    /// A node is the root.
+    /// A node becomes the root.
     Root {
         node: NodeId,
     },
 }
 
 impl<C: Client> Item<C> {
-    /// The same item.
+    /// A copy of the item.
     pub(crate) fn copy(&self, alloc: Global) -> Result<Item<C>, NoMemory>
         ensures { IfOk result (λ item. item ≡ self.now) }
     {

@@ -7,14 +7,14 @@ use std::marker::Model;
 use tr_base::{Command, NoMemory};
 use tr_inbox::Delivery;
 
-/// The greatest number of deliveries of an entry for which room was reserved.
+/// The most deliveries of an entry for which room was reserved.
 pub const DELIVERIES: usize = 32;
 
 /// The entries of a run, in their order, each with the deliveries of its step.
 #[derive(Debug, Drop)]
 pub struct Journal<M: Drop> {
     entries: Vec<Entry<M>>,
-    /// Where each entry's deliveries end.
+    /// The end of each entry's deliveries in `sent`.
     ends: Vec<usize>,
     /// The deliveries of all entries, in a row.
     sent: Vec<Delivery>,
@@ -50,7 +50,7 @@ impl<M: Drop> Journal<M> {
         }
     }
 
-    /// Appends an entry, with the deliveries of its step. For want of memory the journal has the same
+    /// Appends an entry, with the deliveries of its step. If memory runs out, the journal keeps the same
     /// lines.
     pub fn push(&mut self, entry: Entry<M>, sent: &[Delivery]) -> Result<(), NoMemory>
         requires counted { entry.reply.sent ≡ length sent.now }
@@ -92,7 +92,7 @@ impl<M: Drop> Journal<M> {
     }
 
     /// Appends an entry for which room was reserved, with the deliveries of its step: at most 32 for each
-    /// entry for which there is room. It takes no memory.
+    /// entry with reserved room. Nothing is allocated.
     pub fn push_reserved(&mut self, entry: Entry<M>, sent: &[Delivery])
         requires spare { 0 < self.old.spare }
         requires counted { entry.reply.sent ≡ length sent.now }
@@ -131,7 +131,7 @@ impl<M: Drop> Journal<M> {
         Ok(())
     }
 
-    /// Adds an entry that sent nothing, for which room was reserved.
+    /// Adds an entry without deliveries, for which room was reserved.
     fn push_silent(&mut self, entry: Entry<M>)
         requires room { 0 < self.old.silent_spare }
         requires silent { entry.reply.sent ≡ 0 }
@@ -141,7 +141,7 @@ impl<M: Drop> Journal<M> {
         self.push(entry, &[]).unwrap()
     }
 
-    /// How many entries there are.
+    /// The number of entries.
     pub fn len(&self) -> usize
         ensures count { result ≡ length self.now.lines }
         ensures invariant { All IsCounted self.now.lines }
@@ -196,7 +196,7 @@ impl<M: Command> Journal<M> {
     }
 }
 
-/// The same entries.
+/// A copy of entries.
 fn copies_of<M: Command>(alloc: Global, entries: &[Entry<M>]) -> Result<Vec<Entry<M>>, NoMemory>
     ensures { IfOk result (λ copies. copies.items ≡ entries.now) }
 {
@@ -208,7 +208,7 @@ fn copies_of<M: Command>(alloc: Global, entries: &[Entry<M>]) -> Result<Vec<Entr
     Ok(copies)
 }
 
-/// Appends the same entries.
+/// Appends copies of entries.
 fn append_copies<M: Command>(
     alloc: Global,
     entries: &[Entry<M>],
@@ -222,7 +222,7 @@ fn append_copies<M: Command>(
     Ok(())
 }
 
-/// What the entry behind `k` others sent, out of what all of them sent.
+/// The deliveries of the entry with `k` others before it, out of the deliveries of all entries.
 fn part<'a>(ends: &[usize], sent: &'a [Delivery], k: usize) -> &'a [Delivery]
     requires entry { k < length ends.now }
     requires order { get_or (0 ∷ ends.now) k 0 ≤ get_or ends.now k 0 }
@@ -232,7 +232,7 @@ fn part<'a>(ends: &[usize], sent: &'a [Delivery], k: usize) -> &'a [Delivery]
     &sent[start(ends, k)..ends[k]]
 }
 
-/// Where the deliveries of the entry behind `k` others begin.
+/// The beginning of the deliveries of the entry with `k` others before it.
 fn start(ends: &[usize], k: usize) -> usize
     requires { k < length ends.now }
     ensures { result ≡ get_or (0 ∷ ends.now) k 0 }

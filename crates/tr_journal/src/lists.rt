@@ -6,8 +6,8 @@ use std::alloc::Global;
 use std::marker::Model;
 use tr_base::{LeafId, NoMemory};
 
-/// The steps of each leaf's client, of the desk and of the player, in the order in which each made
-/// them. The painter has no list.
+/// The steps of each leaf's client, of the desk and of the player, each list in the order in which
+/// the steps were made. The painter has no list.
 #[derive(Debug, Drop)]
 pub struct Lists<M: Drop> {
     leaves: Vec<List<M>>,
@@ -27,7 +27,7 @@ impl<M: Drop> Model for Lists<M> {
 }
 
 impl<M: Drop> Lists<M> {
-    /// Empty lists, for so many leaves.
+    /// Empty lists, for this many leaves.
     pub fn new(alloc: Global, leaves: u8) -> Result<Lists<M>, NoMemory>
         ensures { IfOk result (λ lists. lists ≡ no_steps leaves) }
     {
@@ -38,7 +38,7 @@ impl<M: Drop> Lists<M> {
         })
     }
 
-    /// Appends a step to its actor's list. For want of memory nothing changes.
+    /// Appends a step to its actor's list. If memory runs out, nothing changes.
     pub fn add(&mut self, actor: Actor, step: Step<M>) -> Result<(), NoMemory>
         requires { HasList (length self.old.leaves) actor }
         ensures ok { OnOk result (self.new ≡ with_step self.old actor step) }
@@ -52,7 +52,7 @@ impl<M: Drop> Lists<M> {
         }
     }
 
-    /// Replaces the steps of an actor by these. It takes no memory.
+    /// Replaces the steps of an actor by these. Nothing is allocated.
     pub fn put(&mut self, actor: Actor, steps: Vec<Step<M>>)
         requires { HasList (length self.old.leaves) actor }
         ensures { self.new ≡ with_list self.old actor steps.items }
@@ -79,7 +79,7 @@ impl<M: Drop> Lists<M> {
         }
     }
 
-    /// How many leaves have a list. The leaves with lower numbers have one.
+    /// The number of leaves with a list: the leaves with lower numbers.
     pub fn leaves(&self) -> u8
         ensures { result ≡ length self.now.leaves }
     {
@@ -112,7 +112,7 @@ impl<M: Drop> List<M> {
         }
     }
 
-    /// Adds a step behind the others.
+    /// Adds a step after the others.
     fn add(&mut self, step: Step<M>) -> Result<(), NoMemory>
         ensures ok { OnOk result (self.new ≡ self.old ++ step ∷ []) }
         ensures err { OnErr result (self.new ≡ self.old) }
@@ -128,7 +128,7 @@ impl<M: Drop> List<M> {
     }
 }
 
-/// So many lists without a step.
+/// This many lists without a step.
 fn empty_lists<M: Drop>(alloc: Global, count: u8) -> Result<Vec<List<M>>, NoMemory>
     ensures { IfOk result (λ lists. lists.items ≡ replicate count []) }
 {
@@ -139,7 +139,7 @@ fn empty_lists<M: Drop>(alloc: Global, count: u8) -> Result<Vec<List<M>>, NoMemo
     Ok(lists)
 }
 
-/// Adds a step behind the others of a leaf's client.
+/// Adds a step after the others of a leaf's client.
 fn add_at<M: Drop>(lists: &mut Vec<List<M>>, leaf: LeafId, step: Step<M>) -> Result<(), NoMemory>
     requires { leaf.0 < length lists.old.items }
     ensures ok { OnOk result (lists.new.items ≡

@@ -12,14 +12,14 @@ use tr_client::Client;
 use tr_forest::{Edit, EditRefused, NodeFault, NodeKind};
 use tr_tree::Tree;
 
-/// How many items there is room for before one is added: that one, and a Put for each of 256 nodes.
+/// The reserved room before an item is added: for that item, and for a Put of each of 256 nodes.
 const ROOM: usize = 257;
 
 /// A window without points.
 const NOTHING: Size = Size { wide: 0, high: 0 };
 
-/// What a screen starts with: the items that make its tree, its font and the contents of its
-/// windows, in their order.
+/// The start of a screen: the items that make its tree, its font and the contents of its windows, in
+/// their order.
 #[derive(Drop)]
 pub struct Opening<C: Client> {
     items: Vec<Item<C>>,
@@ -42,7 +42,7 @@ impl<C: Client> Model for Opening<C> {
 }
 
 impl<C: Client> Opening<C> {
-    /// An opening with nothing but a screen, of 1 to 1024 points each way.
+    /// An opening with only a screen, of 1 to 1024 points each way.
     pub fn new(alloc: Global, size: Size, kind: Kind) -> Result<Opening<C>, NoMemory>
         requires { IsScreenSize size }
         ensures { IfOk result (λ o. o ≡ Item.Screen size kind ∷ []) }
@@ -105,7 +105,7 @@ impl<C: Client> Opening<C> {
         ensures ok { OnOk result (self.new ≡ self.old ++ Item.Leaf shapes content ∷ []) }
         ensures err { OnErr result (self.new ≡ self.old) }
     {
-        // It tells that this is a content.
+        // Tells the prover that this is a content.
         let _kept = content.keeps(NOTHING, NOTHING);
         make_room(&mut self.items)?;
         self.leaves.reserve(1)?;
@@ -225,7 +225,7 @@ impl<C: Client> Opening<C> {
     }
 }
 
-/// Takes the memory for one item more, and for a Put of each node that has no parent yet.
+/// Takes the memory for one more item, and for a Put of each node that has no parent yet.
 fn make_room<C: Client>(items: &mut Vec<Item<C>>) -> Result<(), NoMemory>
     ensures ok { OnOk result (vec_len items.new + ROOM ≤ vec_capacity items.new) }
     ensures items { items.new.items ≡ items.old.items }
@@ -236,7 +236,7 @@ fn make_room<C: Client>(items: &mut Vec<Item<C>>) -> Result<(), NoMemory>
     Ok(())
 }
 
-/// The kind, for the borrow checker: it is lent, so that it can be used again.
+/// A copy of a lent kind. The borrow checker needs it, so that the kind can be used again.
 fn same_kind(kind: &NodeKind) -> NodeKind
     ensures { result ≡ kind.now }
 {
@@ -264,7 +264,7 @@ fn content_of<C: Client>(item: &Item<C>) -> &C
     }
 }
 
-/// The same items once more, with room for one more and for a Put of each node.
+/// A copy of items, with room for one more and for a Put of each node.
 fn copies_of<C: Client>(items: &Vec<Item<C>>) -> Result<Vec<Item<C>>, NoMemory>
     ensures items { IfOk result (λ copies. copies.items ≡ items.now.items) }
     ensures room { IfOk result (λ copies. vec_len copies + ROOM ≤ vec_capacity copies) }

@@ -1,10 +1,10 @@
-/// How far a screen lags behind.
+/// The lag of a screen.
 #[derive(Clone, Copy, Debug, PartialEq, Eq)]
 pub struct Peek3 {
-    /// How many points are bad.
+    /// The number of bad points.
     pub bad: u32,
-    /// How many paint commands wait for all leaves. The count stops at 2^64 - 1.
+    /// The number of paint commands that wait for all leaves. It stops at 2^64 - 1.
     pub waiting: u64,
-    /// How many points are good but don't have their right colour.
+    /// The number of points that are good but don't have their right colour.
     pub stale: u32,
 }

@@ -68,7 +68,7 @@ pub fn are_levels(tree: &Tree, held: &Held) -> bool
     has_leaf_of(tree, share) && has_leaf_of(tree, win)
 }
 
-/// Whether the leaf, where there is one, is a leaf of the tree.
+/// Whether the leaf, if there is one, is a leaf of the tree.
 fn has_leaf_of(tree: &Tree, leaf: Option<LeafId>) -> bool
     ensures { IsTrue result ↔ IfSome leaf (λ leaf. IsLeaf tree.now.nodes leaf) }
 {

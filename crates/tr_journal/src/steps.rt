@@ -6,7 +6,7 @@ use tr_base::{Command, LeafId, NoMemory, Point, Rect, Selection};
 use tr_cage::Cage;
 use tr_forest::Edit;
 
-/// Who makes a step.
+/// The maker of a step.
 #[derive(Clone, Copy, Debug, PartialEq, Eq)]
 pub enum Actor {
     /// The client of a leaf's window.
@@ -19,12 +19,12 @@ pub enum Actor {
     Player,
 }
 
-/// What a report is about.
+/// The subject of a report.
 #[derive(Clone, Copy, Debug, PartialEq, Eq)]
 pub enum Query {
     /// All pixels of the screen.
     Dump,
-    /// How far the screen lags behind.
+    /// The lag of the screen.
     Peek,
     /// The journal so far.
     Journal,

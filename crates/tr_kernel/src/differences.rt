@@ -1,4 +1,4 @@
-//! Where two rows differ, 64 pixels at a time.
+//! The places at which two rows differ, found 64 pixels at a time.
 ghost use Rattle.std.specs.Prelude.{◌≡◌, ◌+◌, ◌≤◌, ◌==◌, not, length, map, count_by, IfSome, IfNone};
 ghost use Rattle.std.specs.List.{zip};
 ghost use Rattle.std.specs.Simd.Lanes.{chunk, mask_l};
@@ -20,8 +20,8 @@ fn differ_from(a: &[u8], b: &[u8], at: usize) -> bool
         .any()
 }
 
-/// Bit k says whether the rows differ at `at + k`. Inlined, it would be worked out for each 64
-/// pixels of a row, and not only where they differ: equal rows were compared at 22 in place of 31
+/// Bit k is set if the rows differ at `at + k`. Inlined, it would be computed for each 64 pixels
+/// of a row, and not only for those that differ: equal rows were compared at 22 in place of 31
 /// billion bytes a second (`bench_rows`).
 #[inline(never)]
 fn differences_at(a: &[u8], b: &[u8], at: usize) -> u64
@@ -75,7 +75,7 @@ pub fn last_difference(a: &[u8], b: &[u8]) -> Option<usize>
     None
 }
 
-/// At how many places the rows differ.
+/// The number of places at which the rows differ.
 pub fn count_row(a: &[u8], b: &[u8]) -> usize
     requires { length a.now ≡ length b.now }
     ensures { result ≡ count_by differ (zip a.now b.now) }

@@ -7,8 +7,8 @@ ghost use Rattle.tr_kernel.specs.Steps.{flipped, stepped, stepped_by, AreStill};
 use std::simd::prelude::*;
 use tr_base::{Kind, Op, resolved};
 
-/// An operation with no test: the pixels `x` and `y` change places, then all bits go but those of
-/// `kept`, and those of `written` come.
+/// An operation with no test: the pixels `x` and `y` are exchanged, then only the bits of `kept` stay,
+/// and those of `written` are set.
 #[derive(Clone, Copy)]
 pub(crate) struct Step {
     pub x: u8,
@@ -17,7 +17,7 @@ pub(crate) struct Step {
     pub written: u8,
 }
 
-/// What is done to a pixel whose bit is set, and to one whose bit isn't.
+/// The step for a pixel whose bit is set, and the step for a pixel whose bit isn't.
 #[derive(Clone, Copy)]
 pub(crate) struct Steps {
     pub one: Step,
@@ -77,7 +77,7 @@ impl Steps {
         self.one.kept == 0 && self.zero.kept == 0
     }
 
-    /// The same, of steps that only write.
+    /// The same, for steps that only write.
     #[inline(always)]
     pub fn overwriting(self) -> Steps
         requires one { self.one.kept ≡ 0 }
@@ -91,9 +91,9 @@ impl Steps {
         }
     }
 
-    /// What becomes of 16 pixels, where `bits` has a byte for each that isn't 0 where its bit is
-    /// set. What doesn't depend on the pixels is computed before a loop that calls this, since it
-    /// has no branch: `EXCHANGES` is known when it is compiled.
+    /// The new values of 16 pixels. A pixel's bit is set if its byte of `bits` isn't 0. The compiler
+    /// moves the parts that don't depend on the pixels out of a loop that calls this, since there is no
+    /// branch: `EXCHANGES` is known at compile time.
     #[inline(always)]
     pub fn lanes<const EXCHANGES: bool>(self, old: u8x16, bits: u8x16) -> u8x16
         requires { OnFalse EXCHANGES (AreStill self) }
@@ -113,7 +113,7 @@ impl Steps {
     }
 }
 
-/// Where a pixel is that of x, it becomes that of y, and the other way round.
+/// Each pixel x becomes y, and each pixel y becomes x.
 #[inline(always)]
 fn exchanged_lanes<const EXCHANGES: bool>(old: u8x16, x: u8x16, y: u8x16) -> u8x16
     requires { OnFalse EXCHANGES (x ≡ y) }

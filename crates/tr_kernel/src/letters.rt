@@ -16,7 +16,7 @@ pub struct Letters<'a> {
     pub phase: usize,
 }
 
-/// The colour of a bit that isn't set, and the bits in which that of one that is set differs from it.
+/// The colour of a bit that isn't set, and the bits by which the colour of a set bit differs from it.
 #[derive(Clone, Copy)]
 pub(crate) struct Inks {
     pub zero: u8,
@@ -46,7 +46,7 @@ pub fn letter_row(row: &mut [u8], letters: &Letters<'_>, one: u8, zero: u8)
     );
 }
 
-/// Writes letters from a row of all glyphs: what there is of the first one, and then from its edge on.
+/// Writes letters from a row of all glyphs: the part of the first one, and then the others from its edge on.
 fn write_letters(row: &mut [u8], source: &[u8], text: &[u8], phase: usize, inks: Inks)
     requires source { length source.now ≡ 760 }
     requires printable { AllPass is_printable text.now }
@@ -65,7 +65,7 @@ fn write_letters(row: &mut [u8], source: &[u8], text: &[u8], phase: usize, inks:
     write_from_edge(rest, source, &text[1..], inks);
 }
 
-/// The same, where the first pixel has the first column: whole letters, and what there is of the last one.
+/// The same, if the first pixel has the first column: whole letters, and the part of the last one.
 fn write_from_edge(row: &mut [u8], source: &[u8], text: &[u8], inks: Inks)
     requires source { length source.now ≡ 760 }
     requires printable { AllPass is_printable text.now }
@@ -106,7 +106,7 @@ fn letter_pixels(source: &[u8], place: usize, inks: Inks) -> u8x8
     (u8x8::from_slice(&source[place..]) & u8x8::splat(inks.change)) ^ u8x8::splat(inks.zero)
 }
 
-/// Writes the first pixels, of which there are enough.
+/// Writes the first pixels. There are enough for the row.
 fn write_part(row: &mut [u8], pixels: &[u8], inks: Inks)
     requires { length row.old ≤ length pixels.now }
     ensures { (k : ℕ) → k < length row.old →
@@ -117,7 +117,7 @@ fn write_part(row: &mut [u8], pixels: &[u8], inks: Inks)
     }
 }
 
-/// Where the pixels of a letter lie in a row of all glyphs.
+/// The index of a letter's pixels in a row of all glyphs.
 #[inline(always)]
 fn place_of(byte: u8) -> usize
     requires first { 32 ≤ byte }

@@ -1,5 +1,5 @@
 //! Work on rows of pixels, by lanes: fills, copies, exchanges, painting through a pattern of bits,
-//! and comparisons. A row is a slice of bytes, a pixel each.
+//! and comparisons. A row is a slice of bytes, one for each pixel.
 #![tactic(auto)]
 
 mod differences;

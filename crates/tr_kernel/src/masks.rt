@@ -14,10 +14,10 @@ use tr_base::{Kind, Pair};
 
 const LANES: usize = 16;
 
-/// The operations of a picture of two colours, made ready for rows of pixels of a kind.
+/// The operations of a picture of two colours, prepared for rows of pixels of a kind.
 #[derive(Drop)]
 pub struct Mask {
-    // What contracts see of a mask; only the steps are used.
+    // The model of a mask; only the steps are used.
     ops: Pair,
     kind: Kind,
     steps: Steps,
@@ -34,8 +34,8 @@ impl Model for Mask {
     ghost invariant = { λ m. AreStepsOf (record { ops = m.ops; kind = m.kind }) m.steps };
 }
 
-/// Paints a row of pixels of the kind: each takes `ops.one` where its bit is 1, and else `ops.zero`.
-/// The bits are those of `bits`, the highest first, again and again; the first pixel has the bit
+/// Paints a row of pixels of the kind: each takes `ops.one` if its bit is 1, and else `ops.zero`.
+/// The bits are those of `bits`, the highest first, repeated; the first pixel has the bit
 /// `phase`.
 pub fn mask_row(row: &mut [u8], bits: u8, phase: u8, ops: Pair, kind: Kind)
     requires { phase < 8 }
@@ -61,7 +61,7 @@ impl Mask {
         }
     }
 
-    /// Paints a row by the bits of one byte, the highest first, again and again; the first pixel has
+    /// Paints a row by the bits of one byte, the highest first, repeated; the first pixel has
     /// the bit `phase`.
     pub fn row(&self, row: &mut [u8], bits: u8, phase: u8)
         requires { phase < 8 }
@@ -87,8 +87,8 @@ impl Mask {
     }
 }
 
-/// Paints a row by the bits of these bytes: those of the first, and then those of whole ones, which
-/// is faster.
+/// Paints a row by the bits of these bytes: first those of the first byte, and then those of whole
+/// bytes, which is faster.
 fn paint_cells(row: &mut [u8], steps: Steps, cells: &[u8], phase: u8)
     requires phase { phase < 8 }
     requires enough { length row.old + phase ≤ 8 * length cells.now }
@@ -114,7 +114,7 @@ fn paint<P: Pattern>(row: &mut [u8], steps: Steps, pattern: &P)
     if steps.exchange() {
         paint_by::<P, true>(row, steps, pattern);
     } else if steps.overwrite() {
-        // The same steps, as the compiler sees that they don't read the row.
+        // The same steps, but the compiler sees that they don't read the row.
         paint_by::<P, false>(row, steps.overwriting(), pattern);
     } else {
         paint_by::<P, false>(row, steps, pattern);

@@ -9,27 +9,27 @@ const BITS: [u8; 24] = [
     128, 64, 32, 16, 8, 4, 2, 1, 128, 64, 32, 16, 8, 4, 2, 1, 128, 64, 32, 16, 8, 4, 2, 1,
 ];
 
-/// Which of three bytes each place lies in.
+/// The number of the byte, among three, in which each place lies.
 const CELLS: [u8; 24] = [
     0, 0, 0, 0, 0, 0, 0, 0, 1, 1, 1, 1, 1, 1, 1, 1, 2, 2, 2, 2, 2, 2, 2, 2,
 ];
 
 /// A bit for each pixel of a row.
 pub(crate) trait Pattern {
-    /// It has a bit for this pixel.
+    /// The pattern has a bit for this pixel.
     ghost Reaches: { Self → ℕ → Type 0 };
 
     /// The bit of a pixel.
     ghost bit_for: { Self → ℕ → Bool };
 
-    /// For each of the 16 pixels from `at` on a byte that isn't 0 where the pixel's bit is set.
+    /// A byte for each of the 16 pixels from `at` on: it isn't 0 if the pixel's bit is set.
     fn bits_at(&self, at: usize) -> u8x16
         requires { Reaches self.now at }
         ensures lanes { length result ≡ 16 }
         ensures bits { (k : ℕ) → k < 16 → Reaches self.now (at + k) →
             (slice_index result k == 0) ≡ not (bit_for self.now (at + k)) };
 
-    /// The same for 16 pixels that follow whole bytes, and all have a bit.
+    /// The same for 16 pixels that follow whole bytes and all have a bit.
     fn whole_bits_at(&self, at: usize) -> u8x16
         requires even { at % 8 ≡ 0 }
         requires reached { (k : ℕ) → k < 16 → Reaches self.now (at + k) }
@@ -38,7 +38,7 @@ pub(crate) trait Pattern {
             (slice_index result k == 0) ≡ not (bit_for self.now (at + k)) };
 }
 
-/// The bits of one byte, again and again. The first pixel has the bit `phase`.
+/// The bits of one byte, repeated. The first pixel has the bit `phase`.
 #[derive(Clone, Copy)]
 pub(crate) struct Byte {
     pub bits: u8,
@@ -95,7 +95,7 @@ impl Pattern for Cells<'_> {
     }
 }
 
-/// The same, where the first pixel has the first bit: then 16 pixels have two bytes.
+/// The same, if the first pixel has the first bit: then 16 pixels have two bytes.
 #[derive(Clone, Copy)]
 pub(crate) struct WholeCells<'a> {
     pub cells: &'a [u8],

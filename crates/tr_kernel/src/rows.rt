@@ -1,4 +1,4 @@
-//! Whole rows: a call of std where it has one, and a plain loop, which compiles to vector code.
+//! Whole rows: by a call of std if it has one, and else by a plain loop, which compiles to vector code.
 ghost use Rattle.std.specs.Prelude.{◌≡◌, ◌<◌, ◌+◌, ◌≤◌, ℕ, length, map, replicate, slice_index};
 ghost use Rattle.tr_base.specs.Ops as spec;
 ghost use Rattle.tr_kernel.specs.Rows.{copied_within};

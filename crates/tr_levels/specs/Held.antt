@@ -5,7 +5,7 @@ use Rattle.tr_base.specs.declared.ids.LeafId.{LeafId}
 use Rattle.tr_levels.specs.declared.levels.Level.{Level}
 use Rattle.tr_levels.specs.declared.levels.Level.TheVariants.{Mu, Share, Win}
 
--- the levels of the tree's lock, of a share and of a window, where they are held
+-- the levels of the tree's lock, of a share and of a window, each if it is held
 abbrev pub levels_of : Bool → Option LeafId → Option LeafId → List Level
 levels_of mu share win =
     (if mu then Mu ∷ [] else []) ++ map Share (option_to_list share) ++ map Win (option_to_list win)

@@ -36,7 +36,7 @@ IsTreeLock (Win leaf) = ⊥
 abbrev pub HoldsNoLeaf : List Level → Type 0
 HoldsNoLeaf held = All IsTreeLock held
 
--- each command has the levels that its caller held, among them no share and no window
+-- each command has the levels that its caller held; among them are no share and no window
 pub record HaveLevels {M : Type 0} (commands : List M) (levels : List (List Level)) : Type 0 where
   pub counts : length levels ≡ length commands
   pub free : All HoldsNoLeaf levels

@@ -6,8 +6,8 @@ use crate::levels::Level;
 use std::marker::Model;
 use tr_base::LeafId;
 
-/// The levels that a thread holds, in the order in which it took them: at most one of each sort, the
-/// tree's lock first, then a share, then a window.
+/// The levels that a thread holds, in the order in which it took them: at most one of each sort, first
+/// the tree's lock, then a share, then a window.
 #[derive(Clone, Copy, Debug, PartialEq, Eq)]
 pub struct Held {
     mu: bool,
@@ -29,7 +29,7 @@ impl Model for Held {
 }
 
 impl Held {
-    /// Nothing is held.
+    /// No level.
     pub fn none() -> Held
         ensures { result ≡ [] }
     {
@@ -40,7 +40,7 @@ impl Held {
         }
     }
 
-    /// Whether the level may be taken: none of its sort or of a later one is held.
+    /// Whether the level may be taken: no level of its sort or of a later one is held.
     pub fn admits(&self, level: Level) -> bool
         ensures { IsTrue result ↔ Admits self.now level }
     {
@@ -51,7 +51,7 @@ impl Held {
         }
     }
 
-    /// What is held once the level is taken, too.
+    /// The levels after this one is taken too.
     pub fn with(&self, level: Level) -> Held
         requires { Admits self.now level }
         ensures held { result ≡ self.now ++ level ∷ [] }

@@ -3,8 +3,8 @@ ghost use Rattle.std.specs.Prelude.{◌≡◌, []};
 use crate::held_levels::Held;
 use std::marker::Model;
 
-/// The token of a thread, which says what the thread holds. It must be spent, and `end` asks that
-/// nothing is held.
+/// The token of a thread: it says which levels the thread holds. It must be spent, and `end` requires
+/// that no level is held.
 pub struct Ladder {
     held: Held,
 }
@@ -19,21 +19,21 @@ impl Model for Ladder {
 }
 
 impl Ladder {
-    /// The token of a thread that holds nothing.
+    /// The token of a thread that holds no level.
     pub fn ground() -> Ladder
         ensures { result ≡ [] }
     {
         Ladder { held: Held::none() }
     }
 
-    /// What the thread holds.
+    /// The levels that the thread holds.
     pub fn held(&self) -> Held
         ensures { result ≡ self.now }
     {
         self.held
     }
 
-    /// Spends the token of a thread that holds nothing.
+    /// Spends the token of a thread that holds no level.
     pub fn end(self)
         requires { self ≡ [] }
     {

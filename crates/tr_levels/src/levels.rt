@@ -3,8 +3,8 @@ ghost use Rattle.tr_levels.specs.Levels.{IsBelow};
 
 use tr_base::LeafId;
 
-/// What a thread can hold. The order is the tree's lock, then shares by their leaves' numbers, then
-/// windows by theirs.
+/// A level that a thread can hold. The order is the tree's lock, then shares by their leaves' numbers,
+/// then windows by theirs.
 #[derive(Clone, Copy, Debug, PartialEq, Eq, PartialOrd, Ord)]
 pub enum Level {
     /// The tree's lock.

@@ -12,19 +12,19 @@ use Rattle.tr_machine.specs.Windows.{Window, content, updated}
 use Rattle.tr_machine.specs.States.{State, leaf_batch, window_of}
 
 module _ {C M : Type 0} (client : Ghosts C M) where
-  -- what a window keeps of its points when its size changes
+  -- the points that a window keeps when its size changes
   abbrev pub keeps_in : Option (Window C M) → Size → Size → Edges
   keeps_in None from to = empty_rect
   keeps_in (Some w) from to = client.keeps (content client w) from to
 
-  -- what the windows keep, and the commands that wait for them
+  -- the points that the windows keep, and the commands that wait for them
   abbrev pub keeping : State C M → Keeping
   keeping m = record {
     keeps = λ leaf from to. keeps_in (window_of m leaf) from to;
     batch = λ leaf. leaf_batch client m leaf;
   }
 
-  -- a window whose size or kind of pixels changes is to show its content from then on, and nothing waits for it
+  -- a window whose size or kind of pixels changes shows its content from then on, and no command waits for it
   abbrev pub refitted : Seen → Seen → LeafId → Window C M → Window C M
   refitted was is leaf w = if is_reshaped was is leaf then updated client w else w
 
@@ -33,7 +33,7 @@ module _ {C M : Type 0} (client : Ghosts C M) where
   refitted_from n was is [] = []
   refitted_from n was is (w ∷ ws) = refitted was is (record { 0 = n }) w ∷ refitted_from (suc n) was is ws
 
-  -- an edit that isn't refused: the tree is the edited one, a point is good where it was good and shows what it showed, and the windows
+  -- an edit that isn't refused: the tree is the edited one, a point is good if it was good and shows the same as before, and the windows
   -- are told
   abbrev pub altered : Edit → State C M → State C M
   altered edit m =

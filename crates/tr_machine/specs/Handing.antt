@@ -9,7 +9,7 @@ use Rattle.tr_journal.specs.declared.steps.Step.{Step}
 use Rattle.tr_journal.specs.declared.steps.Step.TheVariants.{Act}
 use Rattle.tr_journal.specs.declared.entries.Entry.{Entry}
 
--- the steps of commands in a row, each with what was held where its command was posted, and the window
+-- the steps of commands in a row, each with the levels held when its command was posted, and the window's level
 abbrev pub act_steps : {M : Type 0} → LeafId → List M → List (List Level) → List (List Level × Step M)
 act_steps leaf (cmd ∷ cmds) (level ∷ levels) = (level ++ Win leaf ∷ [], Act leaf cmd) ∷ act_steps leaf cmds levels
 act_steps leaf cmds levels = []

@@ -1,4 +1,4 @@
--- The machine: what each step makes of a state, what it answers, and what it sends.
+-- The machine: the effect of each step on a state, its answer, and its deliveries.
 use Rattle.std.specs.Prelude.{List, [], Option, Some, None}
 use Rattle.tr_base.specs.declared.LeafId.{LeafId}
 use Rattle.tr_base.specs.declared.Event.{Event}
@@ -22,13 +22,13 @@ use Rattle.tr_machine.specs.States.{State, content_of}
 use Rattle.tr_machine.specs.Paintings.{acted, marked, flushed, repainted, framed}
 use Rattle.tr_machine.specs.Edits.{altered}
 
--- what becomes of a step: the next state, the answer, and what was sent
+-- the outcome of a step: the next state, the answer, and the deliveries
 pub record Outcome (C M : Type 0) : Type 0 where
   pub state : State C M
   pub answer : Answer
   pub sent : List Delivery
 
--- the step only answers
+-- the outcome of a step that sends nothing: this state, and this answer
 abbrev pub answered : {C M : Type 0} → Answer → State C M → Outcome C M
 answered answer m = record { state = m; answer = answer; sent = [] }
 
@@ -36,7 +36,7 @@ answered answer m = record { state = m; answer = answer; sent = [] }
 abbrev pub done : {C M : Type 0} → State C M → Outcome C M
 done m = answered answers.Done m
 
--- the step is done, and has sent what it has sent
+-- the step is done, and sends these deliveries
 abbrev pub delivered : {C M : Type 0} → State C M → Sending → Outcome C M
 delivered m s = record { state = record m { mail = s.mail }; answer = answers.Done; sent = s.sent }
 
@@ -51,7 +51,7 @@ module _ {C M : Type 0} (client : Ghosts C M) where
   obeyed leaf None m = m
   obeyed leaf (Some cmd) m = acted leaf cmd m
 
-  -- the command that the event asks of a content, if there is a content
+  -- the command that the event asks for in a content, if there is a content
   abbrev pub asked_of : Option C → Event → Option M
   asked_of None event = None
   asked_of (Some content) event = client.answer content event

@@ -11,11 +11,11 @@ use Rattle.tr_surface.specs.Surfaces.{is_frame}
 use Rattle.tr_machine.specs.Windows.{Command, Mark, updated, with_change}
 use Rattle.tr_machine.specs.States.{State, base, leaf_batch, look, with_window}
 
--- a client's command changes its leaf's content, and what that paints waits
+-- a client's command changes its leaf's content, and its paint commands wait
 abbrev pub acted : {C M : Type 0} → LeafId → M → State C M → State C M
 acted leaf cmd m = with_window leaf (with_change (Command cmd)) m
 
--- a part of a leaf's window is to be painted again
+-- a part of a leaf's window must be painted again
 abbrev pub marked : {C M : Type 0} → LeafId → Edges → State C M → State C M
 marked leaf clip m = with_window leaf (with_change (Mark clip)) m
 
@@ -24,7 +24,7 @@ abbrev pub is_visible : {C M : Type 0} → State C M → LeafId → Point → Bo
 is_visible m leaf p = is_in_leaf leaf (spot m.tree p)
 
 module _ {C M : Type 0} (client : Ghosts C M) where
-  -- a leaf's batch is executed: of its visible points those are bad then whose colour isn't known after it
+  -- a leaf's batch is executed: a visible point of it is bad then if its colour isn't known after the batch
   abbrev pub flushed : LeafId → State C M → State C M
   flushed leaf m = record (with_window leaf (updated client) m) {
     bad = λ p.
@@ -33,7 +33,7 @@ module _ {C M : Type 0} (client : Ghosts C M) where
         else m.bad p;
   }
 
-  -- it is executed, and then each visible point of the leaf that is bad is painted
+  -- a leaf's batch is executed, and then each bad visible point of the leaf is painted
   abbrev pub repainted : LeafId → State C M → State C M
   repainted leaf m =
       let done = flushed leaf m in

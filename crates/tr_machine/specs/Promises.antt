@@ -1,4 +1,4 @@
--- What holds of each state of the machine, and of a screen that shows it.
+-- The properties of each state of the machine, and of a screen that shows it.
 use Rattle.std.specs.Prelude.{◌≡◌, ◌≢◌, true, false, ◌⊎◌, Some, IfSome, length}
 use Rattle.tr_base.specs.declared.Point.{Point}
 use Rattle.tr_base.specs.declared.LeafId.{LeafId}
@@ -28,24 +28,24 @@ module _ {C M : Type 0} (client : Ghosts C M) where
     pub kind : screen.kind ≡ m.tree.kind
     pub good : (p : Point) → is_on m.tree p ≡ true → m.bad p ≡ false → pixel_of screen p ≡ shown client m p
 
-  -- a paint command waits for the leaf whose visible point this is, and touches it
+  -- a paint command waits for the leaf that has this visible point, and touches the point
   pub record IsAwaited (m : State C M) (p : Point) : Type 0 where
     pub leaf : LeafId
     pub visible : is_visible m leaf p ≡ true
     pub touched : touches (leaf_batch client m leaf) (in_leaf m.tree leaf p) ≡ true
 
-  -- Each pixel that isn't the one wanted lies in the bad region, or in the area of a waiting command of its leaf.
+  -- Each pixel that isn't the wanted one lies in the bad region, or in the area of a waiting command of its leaf.
   pub record Lags (m : State C M) (screen : Picture) : Type 0 where
     pub each : (p : Point) → is_on m.tree p ≡ true → pixel_of screen p ≢ want client m p → (m.bad p ≡ true) ⊎ IsAwaited m p
 
-  -- A window's batch leads from the shown picture to the present one, whatever part of the first is known.
+  -- A window's batch leads from the shown picture to the present one, for any known part of the first.
   abbrev pub Leads : State C M → LeafId → Window C M → Type 0
   Leads m leaf w =
       let size = leaf_size m.tree leaf in
       IsPatch (look m) size (batch client (look m) size w)
       (client.pic (look m) size w.shown) (client.pic (look m) size (content client w))
 
-  -- What each step keeps of a state whose contents and commands are valid: it has a window for each leaf, each batch leads to its
+  -- The invariant of a state whose contents and commands are valid: it has a window for each leaf, each batch leads to its
   -- content, and bad points lie on the screen.
   pub record IsSound (m : State C M) : Type 0 where
     pub windows : length m.windows ≡ leaf_count m.tree.nodes

@@ -21,7 +21,7 @@ module _ {C M : Type 0} (client : Ghosts C M) where
   abbrev pub next : State C M → Step M → State C M
   next m step = (machine.step client m step).state
 
-  -- the line of a journal that a step makes: by whom, with which levels held, what it answers, and what it sends
+  -- the line of a step in a journal: its actor, the levels held, its answer, and its deliveries
   abbrev pub line_of_step : State C M → Actor → List Level → Step M → JournalLine M
   line_of_step m actor level step =
       let out = machine.step client m step in
@@ -35,12 +35,12 @@ module _ {C M : Type 0} (client : Ghosts C M) where
         sent = out.sent;
       }
 
-  -- the lines that steps in a row make, all by one actor, each with its levels held
+  -- the lines of steps in a row, all by one actor, each with its levels held
   abbrev pub lines_by : Actor → State C M → List (List Level × Step M) → List (JournalLine M)
   lines_by actor m [] = []
   lines_by actor m (made ∷ later) = line_of_step m actor made.0 made.1 ∷ lines_by actor (next m made.1) later
 
-  -- those of steps with the same levels held
+  -- the lines of steps with the same levels held
   abbrev pub lines_of_steps : Actor → List Level → State C M → List (Step M) → List (JournalLine M)
   lines_of_steps actor level m steps = lines_by actor m (under level steps)
 
@@ -54,17 +54,17 @@ module _ {C M : Type 0} (client : Ghosts C M) where
   replay_from m [] = m
   replay_from m (line ∷ lines) = replay_from (next m line.entry.step) lines
 
-  -- the state after a journal, by its opening
+  -- the state after a journal, from its opening
   abbrev pub replay : List (Item C) → List (JournalLine M) → State C M
   replay items lines = replay_from (start items) lines
 
-  -- a line that the machine makes: its actor may make its step, with the levels that were held, and its answer and what it sent are the
+  -- a line of the machine: its actor may make its step with the held levels, and its answer and deliveries are the
   -- machine's
   pub record IsLegalLine (t : Nodes) (m : State C M) (line : JournalLine M) : Type 0 where
     pub allowed : IsFor t line.entry.actor line.entry.level line.entry.step
     pub made : line ≡ line_of_step m line.entry.actor line.entry.level line.entry.step
 
-  -- each line is one that the machine makes, from a state on
+  -- each line is one of the machine, from a state on
   abbrev pub IsLegalFrom : Nodes → State C M → List (JournalLine M) → Type 0
   IsLegalFrom t m [] = ⊤
   IsLegalFrom t m (line ∷ lines) = IsLegalLine t m line × IsLegalFrom t (next m line.entry.step) lines

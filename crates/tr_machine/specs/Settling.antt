@@ -1,4 +1,4 @@
--- The steps after which nothing waits and no point is bad.
+-- The steps after which no command waits and no point is bad.
 use Rattle.std.specs.Prelude.{ℕ, zero, suc, Bool, not, ◌&&◌, ◌||◌, ◌==◌, if◌then◌else◌, List, [], ◌∷◌, ◌++◌, length}
 use Rattle.tr_base.specs.declared.LeafId.{LeafId}
 use Rattle.tr_client.specs.declared.clients.Client.{Ghosts}
@@ -28,16 +28,16 @@ module _ {C M : Type 0} (client : Ghosts C M) where
   is_unsettled m leaf =
       not (length (leaf_batch client m leaf) == 0) || any_on m.tree.size (λ p. m.bad p && is_visible m leaf p)
 
-  -- a leaf is repainted, if it must be
+  -- a leaf is repainted, if it is unsettled
   abbrev pub repaint_steps : State C M → LeafId → List (Step M)
   repaint_steps m leaf = if is_unsettled m leaf then Repaint leaf ∷ [] else []
 
-  -- of the first n leaves those are repainted that must be, in the order of their numbers
+  -- each unsettled one of the first n leaves is repainted, in the order of their numbers
   abbrev pub repaints_below : ℕ → State C M → List (Step M)
   repaints_below zero m = []
   repaints_below (suc n) m = repaints_below n m ++ repaint_steps m (record { 0 = n })
 
-  -- all leaves that must be, then the frames
+  -- each unsettled leaf is repainted, then the frames are painted
   abbrev pub settling : State C M → List (Step M)
   settling m = repaints_below (length m.windows) m ++ frame_steps m
 

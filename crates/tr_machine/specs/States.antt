@@ -18,7 +18,7 @@ use Rattle.tr_journal.specs.Openings.{tree_of, font_of, contents_of}
 use Rattle.tr_machine.specs.Windows as windows
 use Rattle.tr_machine.specs.Windows.{Window, fresh}
 
--- the tree of windows, the font, which points of the screen are bad, the input devices with what waits for each leaf, and the
+-- the tree of windows, the font, the bad points of the screen, the input devices with the waiting events of each leaf, and the
 -- windows of the leaves, by their numbers
 pub record State (C M : Type 0) : Type 0 where
   pub tree : Seen
@@ -27,7 +27,7 @@ pub record State (C M : Type 0) : Type 0 where
   pub mail : Mails
   pub windows : List (Window C M)
 
--- the state at the start: every point of the screen is bad, nothing waits, and each window shows its first content
+-- the first state: every point of the screen is bad, no event and no command waits, and each window shows its first content
 abbrev pub start : {C M : Type 0} → List (Item C) → State C M
 start items = record {
   tree = tree_of items;
@@ -37,7 +37,7 @@ start items = record {
   windows = map fresh (contents_of items);
 }
 
--- what painting depends on: the kind of the pixels, and the font
+-- the look of a state: the kind of the pixels, and the font
 abbrev pub look : {C M : Type 0} → State C M → Look
 look m = look_of m.tree.kind m.font
 
@@ -45,13 +45,13 @@ look m = look_of m.tree.kind m.font
 abbrev pub window_of : {C M : Type 0} → State C M → LeafId → Option (Window C M)
 window_of m leaf = slice_get m.windows leaf.0
 
--- a list with something made of the element behind i others
+-- a list with a change of the element after i others
 abbrev pub changed_at : {A : Type 0} → ℕ → (A → A) → List A → List A
 changed_at i change [] = []
 changed_at zero change (x ∷ xs) = change x ∷ xs
 changed_at (suc i) change (x ∷ xs) = x ∷ changed_at i change xs
 
--- the state with something made of a leaf's window
+-- the state with a change of a leaf's window
 abbrev pub with_window : {C M : Type 0} → LeafId → (Window C M → Window C M) → State C M → State C M
 with_window leaf change m = record m { windows = changed_at leaf.0 change m.windows }
 
@@ -73,7 +73,7 @@ module _ {C M : Type 0} (client : Ghosts C M) where
   abbrev pub shown_at : State C M → LeafId → Point → Option ℕ
   shown_at m leaf q = option_map (λ w. client.pic (look m) (leaf_size m.tree leaf) w.shown q) (window_of m leaf)
 
-  -- what there is of a leaf before its batch: its visible points, in its own coordinates, and the shown colour of those that aren't bad
+  -- the base of a leaf's batch: its visible points, in its own coordinates, and the shown colour of those that aren't bad
   abbrev pub base : State C M → LeafId → Base
   base m leaf = record {
     visible = λ q. is_in_leaf leaf (spot m.tree (screen_point (leaf_corner m.tree leaf) q));

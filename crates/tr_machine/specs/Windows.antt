@@ -1,4 +1,4 @@
--- A window: what its pixels show, and what was made of it since.
+-- A window: the content that its pixels show, and the changes since.
 use Rattle.std.specs.Prelude.{List, [], ◌∷◌, ◌++◌, fold}
 use Rattle.tr_base.specs.declared.Size.{Size}
 use Rattle.tr_base.specs.Rects.{Edges, meet_of, whole_of}
@@ -8,26 +8,26 @@ use Rattle.tr_paint.specs.Batches.{kept}
 use Rattle.tr_paint.specs.Traces.{Look}
 use Rattle.tr_client.specs.declared.clients.Client.{Ghosts}
 
--- what is made of a window: a command of its client, or a mark, which says that a part of it is to be painted again
+-- a change of a window: a command of its client, or a mark, which says that a part of it must be painted again
 pub data Change (M : Type 0) : Type 0 where
   Command : M → Change M
   Mark : Edges → Change M
 
--- a window: the content that its pixels show where they are good, and what was made of it since, in order
+-- a window: the content that its good pixels show, and the changes since, in order
 pub record Window (C M : Type 0) : Type 0 where
   pub shown : C
   pub made : List (Change M)
 
--- a window of which nothing was made yet
+-- a window without changes
 abbrev pub fresh : {C M : Type 0} → C → Window C M
 fresh content = record { shown = content; made = [] }
 
--- something more is made of a window
+-- a window with one more change
 abbrev pub with_change : {C M : Type 0} → Change M → Window C M → Window C M
 with_change change w = record w { made = w.made ++ change ∷ [] }
 
 module _ {C M : Type 0} (client : Ghosts C M) where
-  -- the content after a change: a mark leaves it
+  -- the content after a change: a mark doesn't change it
   abbrev pub changed_content : C → Change M → C
   changed_content content (Command cmd) = client.next content cmd
   changed_content content (Mark clip) = content
@@ -51,6 +51,6 @@ module _ {C M : Type 0} (client : Ghosts C M) where
   abbrev pub batch : Look → Size → Window C M → List Paint
   batch look size w = paints_from look size w.shown w.made
 
-  -- the window once it is to show its content: nothing was made of that yet
+  -- the window after an update: it shows its content, without changes since
   abbrev pub updated : Window C M → Window C M
   updated w = fresh (content w)

@@ -1,14 +1,14 @@
-//! The machine: what the state of a window system is, what each step makes of it, answers and sends,
-//! and what a run of steps is by a replay of its journal. These are definitions, in `specs/`, and what
-//! follows from them, in `proofs/`; nothing here runs. They are best read in this order:
+//! The machine: the state of a window system, the effect of each step on it with the step's answer and
+//! deliveries, and the replay of a journal as a run of steps. These are definitions, in `specs/`, and
+//! facts that follow from them, in `proofs/`; nothing here runs. They are best read in this order:
 //!
-//! 1. `Windows`, `States`: what a window is, and what a state has;
+//! 1. `Windows`, `States`: a window, and the parts of a state;
 //! 2. `Paintings`: commands, marks, flushes, repaints and frames;
-//! 3. `TreeSteps` of `tr_surface`, and `Edits`: what becomes of points and windows when the tree is edited;
-//! 4. `Deliveries` of `tr_mail`: whom each event goes to;
+//! 3. `TreeSteps` of `tr_surface`, and `Edits`: points and windows after an edit of the tree;
+//! 4. `Deliveries` of `tr_mail`: the receivers of each event;
 //! 5. `Machines`: a line for each step;
-//! 6. `Replays`: the line of a step in a journal, and which journals are the machine's;
-//! 7. `Pictures`, `Settling`: the picture that a screen is to show, and the steps that bring it there;
-//! 8. `Promises`: what holds of each state, and of a screen that shows it;
-//! 9. `Handing`, `Sharing`: what is handed over, and what is painted apart, by threads.
+//! 6. `Replays`: the line of a step in a journal, and the journals of the machine;
+//! 7. `Pictures`, `Settling`: the picture that a screen must show, and the steps that bring it there;
+//! 8. `Promises`: the properties of each state, and of a screen that shows it;
+//! 9. `Handing`, `Sharing`: commands handed over, and pixels painted apart, by threads.
 #![tactic(auto)]

@@ -1,5 +1,5 @@
 -- Private contracts alone cite this file.
--- Which cages are bounded.
+-- Bounded cages.
 use Rattle.std.specs.Prelude.{◌≡◌, Bool, true, false}
 use Rattle.tr_base.specs.declared.LeafId.{LeafId}
 use Rattle.tr_cage.specs.declared.Cage.{Cage}

@@ -1,4 +1,4 @@
--- Whom each event goes to, by the tree of windows, the cages, the focus of the mouse and the owners of selections.
+-- The receivers of each event, by the tree of windows, the cages, the mouse focus and the owners of selections.
 use Rattle.std.specs.Prelude.{ℕ, zero, suc, Bool, not, ◌&&◌, if◌then◌else◌, List, [], ◌∷◌, length, Option, Some, None}
 use Rattle.tr_base.specs.declared.Point.{Point}
 use Rattle.tr_base.specs.declared.LeafId.{LeafId}
@@ -15,7 +15,7 @@ use Rattle.tr_spot.specs.Spots.{spot, is_in_leaf}
 use Rattle.tr_spot.specs.Leaves.{leaf_size, in_leaf, same_size}
 use Rattle.tr_mail.specs.Mails.{Mails, Sending, unsent, send, send_input, inbox_of, with_inbox}
 
--- a button goes down or up: its leaf is told where the cursor is
+-- a button goes down or up: its leaf is told the cursor's place
 abbrev pub moused : Seen → ℕ → ℕ → Bool → Mails → Sending
 moused t time button down m =
     let at = m.desk.cursor in
@@ -36,11 +36,11 @@ is_gone t cursor leaf = not (is_in_leaf leaf (spot t cursor))
 abbrev pub is_caged : Seen → Devices → LeafId → Bool
 is_caged t d leaf = cage_holds (state_of d leaf).cage (in_leaf t leaf d.cursor) (is_gone t d.cursor leaf)
 
--- a leaf has another cage
+-- a leaf gets another cage
 abbrev pub with_cage : LeafId → Cage → Mails → Mails
 with_cage leaf cage m = record m { desk = with_state leaf (record (state_of m.desk leaf) { cage = cage }) m.desk }
 
--- a leaf whose cage doesn't hold the cursor is told where that is, and its cage becomes everywhere, so that it is told once
+-- a leaf whose cage doesn't hold the cursor is told the cursor's place, and its cage becomes everywhere, so that it is told once
 abbrev pub tell : Seen → LeafId → Sending → Sending
 tell t leaf s =
     let d = s.mail.desk in
@@ -53,7 +53,7 @@ unfoldable pub tell_below : ℕ → Seen → Sending → Sending
 tell_below zero t s = s
 tell_below (suc n) t s = tell t (record { 0 = n }) (tell_below n t s)
 
--- each leaf that must be told where the cursor is
+-- each leaf whose cage doesn't hold the cursor is told the cursor's place
 abbrev pub told : Seen → Sending → Sending
 told t s = tell_below (length s.mail.inboxes) t s
 
@@ -69,12 +69,12 @@ caged t leaf cage m = told t (unsent (with_cage leaf cage m))
 abbrev pub is_reshaped : Seen → Seen → LeafId → Bool
 is_reshaped was is leaf = not (same_size (leaf_size was leaf) (leaf_size is leaf) && same_kind was.kind is.kind)
 
--- such a leaf is told its size and kind
+-- a leaf whose window is reshaped is told its size and kind
 abbrev pub reshape : Seen → Seen → LeafId → Sending → Sending
 reshape was is leaf s =
     if is_reshaped was is leaf then send leaf (events.Reshape (leaf_size is leaf) is.kind) s else s
 
--- the first n leaves, in the order of their numbers
+-- each reshaped one of the first n leaves is told, in the order of their numbers
 unfoldable pub reshape_below : ℕ → Seen → Seen → Sending → Sending
 reshape_below zero was is s = s
 reshape_below (suc n) was is s = reshape was is (record { 0 = n }) (reshape_below n was is s)
@@ -83,7 +83,7 @@ reshape_below (suc n) was is s = reshape was is (record { 0 = n }) (reshape_belo
 abbrev pub tree_edited : Seen → Seen → Mails → Sending
 tree_edited was is m = told is (reshape_below (length m.inboxes) was is (unsent m))
 
--- the old owner of a selection, if it is another leaf, is told that it lost it
+-- the previous owner of a selection, if it is another leaf, is told that it lost it
 abbrev pub send_lost : Option LeafId → Selection → Sending → Sending
 send_lost None selection s = s
 send_lost (Some leaf) selection s = send leaf (events.Lost selection) s
@@ -103,7 +103,7 @@ abbrev pub first : List Event → Option Event
 first [] = None
 first (event ∷ later) = Some event
 
--- all but the first
+-- all events but the first
 abbrev pub later : List Event → List Event
 later [] = []
 later (event ∷ events) = events
@@ -112,6 +112,6 @@ later (event ∷ events) = events
 abbrev pub front_of : Mails → LeafId → Option Event
 front_of m leaf = first (inbox_of m leaf).events
 
--- it is taken out
+-- the event that has waited longest for a leaf is taken out
 abbrev pub front_taken : LeafId → Mails → Mails
 front_taken leaf m = with_inbox leaf (record (inbox_of m leaf) { events = later (inbox_of m leaf).events }) m

@@ -14,9 +14,9 @@ use tr_spot::{in_leaf, spot_at};
 use tr_tree::Tree;
 
 impl Mail {
-    /// A button, from 1 to 5, goes down or up: the window that gets the event is told where the
-    /// cursor is. From the first button that goes down to the last one that goes up this is the
-    /// window under the cursor at the first one.
+    /// A button, from 1 to 5, goes down or up: the window that gets the event is told the cursor's
+    /// place. From the first button that goes down to the last one that goes up this is the window
+    /// under the cursor at the first one.
     pub fn mouse(
         &mut self,
         tree: &Tree,
@@ -72,8 +72,8 @@ impl Mail {
         Ok(())
     }
 
-    /// A leaf takes a selection, at the time of the last event, which reached it: the owner before
-    /// it, where that is another leaf, is told.
+    /// A leaf takes a selection, at the time of the last event, which reached it. The previous owner,
+    /// if that is another leaf, is told.
     pub fn own(
         &mut self,
         leaf: LeafId,

@@ -1,5 +1,5 @@
-//! What waits for each window, and whom each event goes to: the input devices together with all
-//! inboxes.
+//! The waiting events of each window, and the receivers of each event: the input devices together with
+//! all inboxes.
 #![tactic(auto)]
 
 mod deliveries;

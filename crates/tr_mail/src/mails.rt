@@ -9,12 +9,12 @@ use tr_base::{Event, LeafId, NoMemory};
 use tr_desk::Desk;
 use tr_inbox::{CAPACITY, Inbox};
 
-/// The input devices, and what waits for each leaf. Only `new` can want memory.
+/// The input devices, and the waiting events of each leaf. Only `new` can run out of memory.
 #[derive(Debug, Drop)]
 pub struct Mail {
     pub(crate) desk: Desk,
     pub(crate) inboxes: Vec<Inbox>,
-    /// Whether some leaf's cage may be bounded, so that a motion asks no leaf where none is.
+    /// Whether some leaf's cage may be bounded. If not, a motion asks no leaf.
     pub(crate) may_be_bounded: bool,
 }
 
@@ -32,7 +32,7 @@ impl Model for Mail {
 }
 
 impl Mail {
-    /// The mail of at most 32 leaves, before anything happened.
+    /// The mail of at most 32 leaves, before any event.
     pub fn new(alloc: Global, leaves: u8) -> Result<Mail, NoMemory>
         requires { leaves ≤ 32 }
         ensures { IfOk result (λ mail. mail ≡ no_mail leaves) }
@@ -44,14 +44,14 @@ impl Mail {
         })
     }
 
-    /// The input devices, and what windows own.
+    /// The input devices, and the owners of selections.
     pub fn desk(&self) -> &Desk
         ensures { result.now ≡ self.now.desk }
     {
         &self.desk
     }
 
-    /// What waits for a leaf.
+    /// The waiting events of a leaf.
     pub fn inbox(&self, leaf: LeafId) -> &Inbox
         requires { leaf.0 < length self.now.inboxes }
         ensures { result.now ≡ inbox_of self.now leaf }
@@ -67,7 +67,7 @@ impl Mail {
         front_of(self.inbox(leaf))
     }
 
-    /// Takes the event out that has waited longest for a leaf.
+    /// Takes out the event that has waited longest for a leaf.
     pub fn take(&mut self, leaf: LeafId) -> Option<Event>
         requires { leaf.0 < length self.old.inboxes }
         ensures event { result ≡ front_of self.old leaf }
@@ -76,13 +76,13 @@ impl Mail {
         take_at(&mut self.inboxes, leaf)
     }
 
-    /// How many leaves there are.
+    /// The number of leaves.
     pub fn leaves(&self) -> u8
         ensures count { result ≡ length self.now.inboxes }
         ensures desk { IsDesk self.now.desk }
         ensures invariant { IsMail self.now }
     {
-        // Called for what it tells the prover: that whoever has the mouse or a selection is a leaf.
+        // Tells the prover that the mouse focus and each owner of a selection are leaves.
         let _ = self.desk.leaves();
         self.inboxes.len() as u8
     }
@@ -119,7 +119,7 @@ fn put_into(inbox: &mut Inbox, event: Event) -> bool
     is_full
 }
 
-/// Takes the event out that has waited longest for a leaf.
+/// Takes out the event that has waited longest for a leaf.
 fn take_at(inboxes: &mut Vec<Inbox>, leaf: LeafId) -> Option<Event>
     requires { leaf.0 < length inboxes.old.items }
     ensures event { result ≡ first (get_or inboxes.old.items leaf.0 nothing).events }

@@ -5,11 +5,11 @@ use std::marker::Model;
 use tr_base::NoMemory;
 use tr_inbox::Delivery;
 
-/// How many deliveries an outbox holds at most.
+/// The most deliveries in an outbox.
 const MOST: usize = 64;
 
-/// What one step sent, in order: at most 64 deliveries. Its block is allocated once, so that only
-/// `new` can want memory. A call of `Mail` that sends takes out what the step before it sent.
+/// The deliveries of one step, in order: at most 64. Its block is allocated once, so that only `new`
+/// can run out of memory. A call of `Mail` that sends first takes out the deliveries of the step before.
 #[derive(Debug, Drop)]
 pub struct Outbox {
     deliveries: Vec<Delivery>,
@@ -27,7 +27,7 @@ impl Model for Outbox {
 }
 
 impl Outbox {
-    /// An outbox of which nothing was sent.
+    /// An outbox without a delivery.
     pub fn new(alloc: Global) -> Result<Outbox, NoMemory>
         ensures { IfOk result (λ out. out ≡ []) }
     {
@@ -36,14 +36,14 @@ impl Outbox {
         })
     }
 
-    /// Takes everything out.
+    /// Removes all deliveries.
     pub fn clear(&mut self)
         ensures { self.new ≡ [] }
     {
         self.deliveries.clear();
     }
 
-    /// Something more was sent.
+    /// Adds a delivery.
     pub fn push(&mut self, delivery: Delivery)
         requires { length self.old < MOST }
         ensures { self.new ≡ self.old ++ delivery ∷ [] }
@@ -51,7 +51,7 @@ impl Outbox {
         self.deliveries.push_reserved(delivery);
     }
 
-    /// What was sent, in order.
+    /// The deliveries, in order.
     pub fn as_slice(&self) -> &[Delivery]
         ensures deliveries { result.now ≡ self.now }
         ensures limit { length self.now ≤ MOST }
@@ -59,7 +59,7 @@ impl Outbox {
         self.deliveries.as_slice()
     }
 
-    /// How much was sent.
+    /// The number of deliveries.
     pub fn len(&self) -> usize
         ensures count { result ≡ length self.now }
         ensures limit { result ≤ MOST }

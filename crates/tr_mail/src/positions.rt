@@ -18,7 +18,7 @@ use tr_spot::{in_leaf, leaf_size, spot_at};
 use tr_tree::Tree;
 
 impl Mail {
-    /// The cursor moves. Each window whose cage doesn't hold it is told where it is.
+    /// The cursor moves. Each window whose cage doesn't hold the cursor is told the cursor's place.
     pub fn motion(
         &mut self,
         tree: &Tree,
@@ -44,8 +44,8 @@ impl Mail {
         Ok(())
     }
 
-    /// A leaf asks for another cage. Each window whose cage doesn't hold the cursor is told where
-    /// it is.
+    /// A leaf asks for another cage. Each window whose cage doesn't hold the cursor is told the
+    /// cursor's place.
     pub fn set_cage(&mut self, tree: &Tree, leaf: LeafId, cage: Cage, out: &mut Outbox)
         requires root { spots.HasRoot tree.now }
         requires leaves { leaf_count tree.now.nodes ≡ length self.old.inboxes }
@@ -59,8 +59,8 @@ impl Mail {
         self.tell_all(tree, out);
     }
 
-    /// The tree was edited: each window that has another size or kind of pixels is told so, and
-    /// then each window whose cage doesn't hold the cursor where that is.
+    /// The tree was edited: each window that has another size or kind of pixels is told so, and then
+    /// each window whose cage doesn't hold the cursor is told the cursor's place.
     pub fn edited(&mut self, was: &Tree, is: &Tree, out: &mut Outbox)
         requires root { spots.HasRoot is.now }
         requires before { leaf_count was.now.nodes ≡ length self.old.inboxes }
@@ -68,15 +68,15 @@ impl Mail {
         ensures sent { record { mail = self.new; sent = out.new } ≡ spec.tree_edited was.now is.now self.old }
         ensures few { length out.new ≤ length self.old.inboxes + length self.old.inboxes }
     {
-        // Called for what it tells the prover: that there are at most 32 leaves.
+        // Tells the prover that there are at most 32 leaves.
         let _ = self.leaves();
         out.clear();
         self.reshape_all(was, is, out);
         self.tell_all(is, out);
     }
 
-    /// Tells each leaf, in the order of their numbers, where the cursor is, if its cage doesn't hold
-    /// it. The cursor's spot is found once, and only where some cage may be bounded.
+    /// Tells each leaf, in the order of their numbers, the cursor's place, if its cage doesn't hold it.
+    /// The cursor's spot is found once, and only if some cage may be bounded.
     fn tell_all(&mut self, tree: &Tree, out: &mut Outbox)
         requires root { spots.HasRoot tree.now }
         requires leaves { leaf_count tree.now.nodes ≡ length self.old.inboxes }
@@ -95,7 +95,7 @@ impl Mail {
         self.may_be_bounded = self.is_any_bounded();
     }
 
-    /// Whether some leaf's cage is bounded. Where none is, nobody is told where the cursor is.
+    /// Whether some leaf's cage is bounded. If none is, no leaf is told the cursor's place.
     fn is_any_bounded(&self) -> bool
         ensures { result ≡ false → IsUnbounded self.now.desk }
     {
@@ -107,15 +107,15 @@ impl Mail {
         false
     }
 
-    /// Where the cursor is.
+    /// The cursor's place.
     fn cursor(&self) -> Point
         ensures { result ≡ self.now.desk.cursor }
     {
         self.desk.cursor()
     }
 
-    /// Tells a leaf where the cursor is, if its cage doesn't hold it. The cage is everywhere then, so
-    /// that the leaf is told once.
+    /// Tells a leaf the cursor's place, if its cage doesn't hold it. The cage then becomes everywhere,
+    /// so that the leaf is told once.
     fn tell(&mut self, tree: &Tree, spot: &Spot, leaf: LeafId, out: &mut Outbox)
         requires leaves { leaf_count tree.now.nodes ≡ length self.old.inboxes }
         requires spot { spot.now ≡ spots.spot tree.now self.old.desk.cursor }
@@ -141,8 +141,8 @@ impl Mail {
         self.send(leaf, Event::Position { time, at, gone }, out);
     }
 
-    /// Tells each leaf, in the order of their numbers, its size and kind of pixels, if these are
-    /// others than they were.
+    /// Tells each leaf, in the order of their numbers, its size and kind of pixels, if one of them has
+    /// changed.
     fn reshape_all(&mut self, was: &Tree, is: &Tree, out: &mut Outbox)
         requires before { leaf_count was.now.nodes ≡ length self.old.inboxes }
         requires leaves { leaf_count is.now.nodes ≡ length self.old.inboxes }
@@ -158,7 +158,7 @@ impl Mail {
         }
     }
 
-    /// Tells a leaf its size and kind of pixels, if these are others than they were.
+    /// Tells a leaf its size and kind of pixels, if one of them has changed.
     fn reshape(&mut self, was: &Tree, is: &Tree, leaf: LeafId, out: &mut Outbox)
         requires before { leaf_count was.now.nodes ≡ length self.old.inboxes }
         requires leaves { leaf_count is.now.nodes ≡ length self.old.inboxes }
@@ -178,7 +178,7 @@ impl Mail {
     }
 }
 
-/// Whether the cage isn't everywhere. It is asked before the cursor's position in the leaf is computed.
+/// Whether the cage isn't everywhere. This is tested before the cursor's position in the leaf is computed.
 fn is_bounded(cage: &Cage) -> bool
     ensures { result ≡ is_bounded cage.now }
 {
@@ -198,7 +198,7 @@ fn is_in_leaf(leaf: LeafId, spot: &Spot) -> bool
     }
 }
 
-/// Whether a leaf has another size or kind of pixels than it had.
+/// Whether a leaf's size or kind of pixels has changed.
 pub fn is_reshaped(was: &Tree, is: &Tree, leaf: LeafId) -> bool
     requires before { leaf.0 < leaf_count was.now.nodes }
     requires leaf { leaf.0 < leaf_count is.now.nodes }
@@ -209,8 +209,8 @@ pub fn is_reshaped(was: &Tree, is: &Tree, leaf: LeafId) -> bool
     !(is_as_large(from, to) && same_kind(was.kind(), is.kind()))
 }
 
-/// Whether the rectangles of two windows have the same size. Most windows lie where they lay, so their
-/// edges are compared first.
+/// Whether the rectangles of two windows have the same size. Most windows stay in place, so the edges
+/// are compared first.
 fn is_as_large(a: Rect, b: Rect) -> bool
     requires a { IsDomain a }
     requires b { IsDomain b }

@@ -1,5 +1,5 @@
 -- Private contracts alone cite this file.
--- How the code reads a stream: byte by byte, and why this is the reading by records.
+-- The code's reading of a stream, byte by byte, and why it is the reading by records.
 use Rattle.std.specs.Prelude.{◌≡◌, ℕ, ◌+◌, ◌*◌, ◌<◌, ◌≤◌, ◌==◌, List, [], ◌∷◌, ◌++◌, length, drop, Option, Some, None, is_some, nat_lt, if◌then◌else◌}
 use Rattle.tr_base.specs.Rects.{IsScreenSize}
 use Rattle.tr_screen.specs.Pictures.{Picture}
@@ -17,8 +17,8 @@ use Rattle.tr_mirror.specs.Changes.{change_with}
 abbrev pub at_first : Reading
 at_first = record { standing = stream_start; changed = Nothing; begun = []; fed = 0; fault = None }
 
--- The fault that the last of a record's bytes so far shows. M1 is tested at the first byte; M5, M3 and M2 at the end of the
--- header; and M2 for the pixels at the end of the record.
+-- The fault that the newest byte of a record shows. M1 is tested at the first byte; M5, M3 and M2 at the end of the header; and M2
+-- of the pixels at the end of the record.
 unfoldable pub record_fault : Standing → List ℕ → Option StreamFault
 record_fault s bytes =
     if length bytes == 1 then (if is_unknown bytes then Some Unknown else None)
@@ -31,7 +31,7 @@ abbrev pub failed : Reading → StreamFault → Reading
 failed m fault =
     record { standing = m.standing; changed = m.changed; begun = []; fed = m.fed; fault = Some (record { place = m.fed; fault = fault }) }
 
--- what the records of a group have changed: a record behind a Cut begins a new one
+-- the change of a group before its next record: a record after a Cut begins a new group
 abbrev pub change_before : Standing → Change → Change
 change_before s changed = if s.within then changed else Nothing
 
@@ -53,7 +53,7 @@ abbrev pub judged : Reading → List ℕ → Option StreamFault → Reading
 judged m bytes (Some fault) = failed m fault
 judged m bytes None = if length bytes == record_len bytes then record_taken m bytes else unfinished m bytes
 
--- the reading once a record has begun with these bytes
+-- the reading after a record has begun with these bytes
 unfoldable pub tried : Reading → List ℕ → Reading
 tried m bytes = judged m bytes (record_fault m.standing bytes)
 
@@ -71,25 +71,25 @@ abbrev pub shown_from : Reading → List ℕ → List Picture
 shown_from m [] = []
 shown_from m (byte ∷ bytes) = cut_between m.standing (after_byte m byte).standing ++ shown_from (after_byte m byte) bytes
 
--- how many bytes a record must have before the next faults are tested, if these have come
+-- the number of bytes of a record at which the next faults are tested, if these bytes have come
 abbrev pub try_len : List ℕ → ℕ
 try_len bytes =
     if length bytes == 0 then 1
     else if nat_lt (length bytes) (header_len bytes) then header_len bytes
     else record_len bytes
 
--- the most bytes that whole records have, by where they leave a stream: a group has at most 1,055,755
+-- the most bytes of whole records, by the state after them: a group has at most 1,055,755
 abbrev pub spent : Standing → ℕ
 spent s = 1055755 * s.cuts + (if s.within then 6 + 1031 * s.south else 0)
 
--- what is known of whole records: they have no more bytes than 64 groups can have, and a screen has a possible size
+-- bounds of whole records: they have no more bytes than 64 groups can have, and a screen has a possible size
 pub record IsBounded (s : Standing) (fed : ℕ) : Type 0 where
   pub cuts : s.cuts ≤ most_groups
   pub spent : fed ≤ spent s
   pub south : s.south ≤ 1024
   pub sized : (p : Picture) → s.screen ≡ Some p → IsScreenSize p.size
 
--- What every reading has: the record that has begun isn't whole, and its header, if that is whole, has no fault
+-- A property of every reading: the record that has begun isn't whole, and its header, if that is whole, has no fault
 pub record IsReading (m : Reading) : Type 0 where
   pub short : length m.begun < try_len m.begun
   pub sound : 0 < length m.begun → header_len m.begun ≤ length m.begun → header_fault m.standing (header_of m.begun) ≡ None

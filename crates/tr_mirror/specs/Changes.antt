@@ -1,4 +1,4 @@
--- Which part of the screen a group of records changes.
+-- The part of the screen that a group of records changes.
 use Rattle.std.specs.Prelude.{◌≡◌, ℕ, ◌+◌, ◌<◌, ◌≤◌, ◌||◌, min, max, Bool, true, false, List, [], ◌∷◌, if◌then◌else◌, slice_index}
 use Rattle.tr_screen.specs.Pictures.{Picture, row_of}
 use Rattle.tr_mirror.specs.declared.changes.Bounds.{Bounds}
@@ -16,7 +16,7 @@ pub record Has (b : Bounds) (h v : ℕ) : Type 0 where
   pub north : b.north ≤ v
   pub south : v < b.south
 
--- the least rectangle round two
+-- the least rectangle around two
 abbrev pub around_of : Bounds → Bounds → Bounds
 around_of a b = record {
   west = min a.west b.west;
@@ -29,32 +29,32 @@ around_of a b = record {
 abbrev pub bounds_of : Segment → Bounds
 bounds_of segment = record { west = segment.west; east = segment.west + segment.count; north = segment.v; south = segment.v + 1 }
 
--- they lie on the largest screen
+-- the pixels of a segment lie on the largest screen
 pub record IsOnLargest (segment : Segment) : Type 0 where
   pub row : segment.v < 1024
   pub columns : segment.west + segment.count ≤ 1024
 
--- the pixels that a record writes lie on it
+-- the pixels that a record writes lie on the largest screen
 abbrev pub WritesOnLargest : Header → Type 0
 WritesOnLargest (headers.Screen wide high kind) = Unit {0}
 WritesOnLargest (headers.Run segment) = IsOnLargest segment
 WritesOnLargest (headers.Fill segment) = IsOnLargest segment
 WritesOnLargest (headers.Cut number) = Unit {0}
 
--- with a rectangle more
+-- a change and one rectangle more
 abbrev pub joined_of : Bounds → Change → Change
 joined_of b changes.Nothing = changes.Within b
 joined_of b (changes.Within more) = changes.Within (around_of b more)
 joined_of b changes.Screen = changes.Screen
 
--- with a record more
+-- a change and one record more
 abbrev pub change_with : Header → Change → Change
 change_with (headers.Screen wide high kind) change = changes.Screen
 change_with (headers.Run segment) change = joined_of (bounds_of segment) change
 change_with (headers.Fill segment) change = joined_of (bounds_of segment) change
 change_with (headers.Cut number) change = change
 
--- what records change: all, if one is a Screen; else the least rectangle that has the pixels of all Runs and Fills; or nothing
+-- the change by records: all if one is a Screen, else the least rectangle with the pixels of all Runs and Fills, or nothing
 abbrev pub change_by : List Record → Change
 change_by [] = changes.Nothing
 change_by (r ∷ rs) = change_with r.header (change_by rs)
@@ -71,7 +71,7 @@ has_inner_cut [] = false
 has_inner_cut (r ∷ []) = false
 has_inner_cut (r ∷ q ∷ rs) = is_cut r.header || has_inner_cut (q ∷ rs)
 
--- the last group that has begun: the records behind the last Cut that another record follows
+-- the last group that has begun: the records after the last Cut that another record follows
 abbrev pub last_group : List Record → List Record
 last_group [] = []
 last_group (r ∷ rs) = if has_inner_cut (r ∷ rs) then last_group rs else r ∷ rs

@@ -1,4 +1,4 @@
--- What the laws of streams say: the first fault is the table's, and a stream is a row of groups.
+-- The laws of streams: the first fault is the one in the table, and a stream is a sequence of groups.
 use Rattle.std.specs.Prelude.{◌≡◌, ℕ, ◌+◌, ◌<◌, ◌≤◌, ◌⊎◌, true, List, [], ◌∷◌, ◌++◌, length, Option, Some, None, replicate, slice_index}
 use Rattle.std.specs.List.{flat_map, list_all}
 use Rattle.tr_base.specs.Rects.{IsScreenSize}
@@ -17,7 +17,7 @@ use Rattle.tr_mirror.specs.Streams.{screen_record, cut_record}
 
 -- ---- the table of faults
 
--- M1, M2, M3 or M5: the first record that isn't whole and right shows this fault
+-- M1, M2, M3 or M5: the first record with a fault shows this one
 pub record IsFirstFault (stream : List ℕ) (fault : MirrorFault) : Type 0 where
   pub records : List Record
   pub rest : List ℕ
@@ -25,7 +25,7 @@ pub record IsFirstFault (stream : List ℕ) (fault : MirrorFault) : Type 0 where
   pub place : fault.place ≡ length (spelled records)
   pub shows : front_fault (after_records stream_start records) rest ≡ Some fault.fault
 
--- M4: the stream ends within a record, which shows no fault so far, or within a group
+-- M4: the stream ends within a record that shows no fault so far, or within a group
 pub record IsUnfinished (stream : List ℕ) (fault : MirrorFault) : Type 0 where
   pub records : List Record
   pub rest : List ℕ
@@ -36,7 +36,7 @@ pub record IsUnfinished (stream : List ℕ) (fault : MirrorFault) : Type 0 where
   pub place : fault.place ≡ length (spelled records)
   pub is : fault.fault ≡ Unfinished
 
--- byte 0 M5: the stream is too long, whatever is in it
+-- byte 0 M5: the stream is too long, with any bytes
 pub record IsTooLong (stream : List ℕ) (fault : MirrorFault) : Type 0 where
   pub long : longest_stream < length stream
   pub place : fault.place ≡ 0
@@ -49,10 +49,11 @@ IsFaultOf stream fault =
 
 -- ---- the grammar of groups
 
+-- each pixel is a value of the picture's kind
 abbrev pub ArePixelsOf : Picture → List ℕ → Type 0
 ArePixelsOf p pixels = list_all (has_pixel p.kind) pixels ≡ true
 
--- pixels side by side on the screen, in row `v` or south of it
+-- a segment of at least one pixel on the screen, in row `v` or south of it
 pub record IsOnScreen (p : Picture) (v : ℕ) (segment : Segment) : Type 0 where
   pub later : v ≤ segment.v
   pub row : segment.v < p.size.high
@@ -65,7 +66,7 @@ IsRowRecord p v (Run segment) pixels = IsOnScreen p v segment × (length pixels 
 IsRowRecord p v (Fill segment) pixels = IsOnScreen p v segment × (length pixels ≡ 1) × ArePixelsOf p pixels
 IsRowRecord p v header pixels = ⊥
 
--- the row behind that of a Run or a Fill
+-- the row after that of a Run or a Fill
 abbrev pub row_behind : Header → ℕ
 row_behind (Run segment) = segment.v + 1
 row_behind (Fill segment) = segment.v + 1
@@ -81,18 +82,18 @@ drawn_by p (Run segment) pixels = pixels_written p segment.v segment.west pixels
 drawn_by p (Fill segment) pixels = pixels_written p segment.v segment.west (replicate segment.count (slice_index pixels 0))
 drawn_by p header pixels = p
 
--- the picture with all of them
+-- the picture after all of them
 abbrev pub with_rows_drawn : Picture → List Record → Picture
 with_rows_drawn p [] = p
 with_rows_drawn p (r ∷ rs) = with_rows_drawn (drawn_by p r.header r.pixels) rs
 
--- what a group begins with: a Screen, which is blank then, or nothing, and the screen of the last cut
+-- the start of a group: a Screen, after which the picture is blank, or no record, and the picture of the last cut
 abbrev pub BeginsWith : Option Picture → List Record → Picture → Type 0
 BeginsWith last [] base = last ≡ Some base
 BeginsWith last (r ∷ []) base = (r ≡ screen_record base) × (base ≡ blank_of base.size base.kind) × IsScreenSize base.size
 BeginsWith last (r ∷ q ∷ more) base = ⊥
 
--- a group that leads from the screen of the last cut, if there is one, to the screen `now`
+-- a group from the screen of the last cut, if there is one, to the screen `now`
 pub record IsGroupTo (last : Option Picture) (number : ℕ) (group : List Record) (now : Picture) : Type 0 where
   pub first : List Record
   pub base : Picture
@@ -102,13 +103,13 @@ pub record IsGroupTo (last : Option Picture) (number : ℕ) (group : List Record
   pub leads : now ≡ with_rows_drawn base rows
   pub parts : group ≡ first ++ (rows ++ cut_record number ∷ [])
 
--- groups with these numbers on, and the screens to which they lead
+-- groups, numbered from `number` on, and their screens
 abbrev pub AreGroups : Option Picture → ℕ → List (List Record) → List Picture → Type 0
 AreGroups last number [] [] = Unit {0}
 AreGroups last number (group ∷ groups) (now ∷ screens) = IsGroupTo last number group now × AreGroups (Some now) (number + 1) groups screens
 AreGroups last number groups screens = ⊥
 
--- the stream is at most 64 groups, which lead to these screens
+-- the stream is at most 64 groups, and these are their screens
 pub record IsRowOfGroups (stream : List ℕ) (screens : List Picture) : Type 0 where
   pub groups : List (List Record)
   pub are_groups : AreGroups None 1 groups screens

@@ -7,7 +7,7 @@ use Rattle.tr_mirror.specs.Records.{is_unknown}
 use Rattle.tr_mirror.specs.Readings.{Reading, cut_between, is_between}
 use Rattle.tr_mirror.specs.Automata.{after_bytes, shown_from}
 
--- if what was read counts a cut, it ends with it: there is a screen, nothing has begun behind it, and there is no fault
+-- if the bytes count a cut, they end with it: there is a screen, no record has begun after it, and there is no fault
 pub record EndsAtCut (old new : Reading) : Type 0 where
   pub screen : new.standing.cuts ≢ old.standing.cuts → IsSome new.standing.screen
   pub between : new.standing.cuts ≢ old.standing.cuts → is_between new ≡ true

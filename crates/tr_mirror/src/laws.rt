@@ -17,18 +17,18 @@ pub fn faults_are_the_tables()
     ensures so_far { (stream : List ℕ) (fault : MirrorFault) → IsBytes stream →
         (fault_in stream ≡ Some fault) ↔ IsFirstFault stream fault }
 
-    // Behind a fault more bytes change nothing: neither it nor the state after the records before it.
+    // After a fault more bytes change nothing: neither it nor the state after the records before it.
     ensures stays { (stream more : List ℕ) → IsSome (fault_in stream) →
         reading_of (stream ++ more) ≡ reading_of stream }
 {}
 
-/// A stream is a row of groups, 64 at most, which lead from screen to screen.
+/// A stream is a sequence of at most 64 groups, each from one screen to the next.
 pub fn streams_are_groups()
     ensures { (stream : List ℕ) (screens : List Picture) → IsBytes stream →
         (IsStream stream × (screens_shown stream ≡ screens)) ↔ IsRowOfGroups stream screens }
 {}
 
-/// Of at most 64 screens: a reader finds no fault in their stream, and has these screens at its cuts.
+/// The stream of at most 64 screens has no fault, and a reader has these screens at its cuts.
 pub fn shows_what_was_written()
     ensures { (screens : List Picture) → length screens ≤ most_groups → All IsShowable screens →
         IsStream (stream_of screens) × (screens_shown (stream_of screens) ≡ screens) }

@@ -49,7 +49,7 @@ impl Mirror {
     /// Reads the next piece of a stream. After a fault each later call returns the same fault, and changes
     /// nothing.
     pub fn feed(&mut self, piece: &[u8]) -> Result<(), MirrorFault>
-        // However a stream is cut into pieces, it has one reading: that of its records.
+        // A stream has one reading, in any pieces: that of its records.
         ensures stream { (stream : List ℕ) → self.old ≡ reading_of stream →
             self.new ≡ reading_of (stream ++ piece.now) }
         ensures outcome { result ≡ outcome_of self.new.fault }
@@ -66,8 +66,8 @@ impl Mirror {
     }
 
     /// Reads the next piece of a stream up to the last byte of its first cut, or to its end if it has none,
-    /// and returns how many bytes it read. A fault behind a cut is an answer of the next call. After a fault
-    /// each later call returns the same fault, and changes nothing.
+    /// and returns the number of bytes that it read. A fault after a cut is an answer of the next call. After
+    /// a fault each later call returns the same fault, and changes nothing.
     pub fn feed_to_cut(&mut self, piece: &[u8]) -> Result<usize, MirrorFault>
         ensures count { IfOk result (λ n. n ≤ length piece.now) }
         ensures some { 0 < length piece.now → IfOk result (λ n. 0 < n) }
@@ -76,7 +76,7 @@ impl Mirror {
         ensures bound { self.new.fed + length self.new.begun ≤ longest_stream }
         ensures fine { OnOk result (self.new.fault ≡ None) }
 
-        // What was read ends one cut at most, and the reading stops for nothing else.
+        // The bytes that were read end one cut at most, and the reading stops for nothing else.
         ensures shows { (stream : List ℕ) → self.old ≡ reading_of stream → IfOk result (λ n.
             screens_shown (stream ++ take n piece.now)
             ≡ screens_shown stream ++ cut_between self.old.standing self.new.standing) }
@@ -133,7 +133,7 @@ impl Mirror {
         self.reader.is_between()
     }
 
-    /// How many whole groups were read.
+    /// The number of whole groups that were read.
     pub fn cuts(&self) -> u32
         ensures value { result ≡ self.now.standing.cuts }
         ensures stream { (stream : List ℕ) → self.now ≡ reading_of stream →
@@ -142,7 +142,7 @@ impl Mirror {
         self.reader.replica().cuts()
     }
 
-    /// The screen, if a Screen came: that of the last cut, changed by the whole records behind the cut.
+    /// The screen, if a Screen came: that of the last cut, changed by the whole records after the cut.
     pub fn screen(&self) -> Option<&Pixels>
         ensures value { option_copied result ≡ self.now.standing.screen }
         ensures stream { (stream : List ℕ) → self.now ≡ reading_of stream →
@@ -151,8 +151,8 @@ impl Mirror {
         self.reader.replica().screen()
     }
 
-    /// What the last group that has begun changes on the screen of the cut before it. It costs nothing: it is
-    /// kept as records arrive.
+    /// The change by the last group that has begun, from the screen of the cut before it. It costs nothing:
+    /// it is kept as records arrive.
     pub fn changed(&self) -> Change
         ensures value { result ≡ self.now.changed }
 

@@ -17,11 +17,11 @@ use std::alloc::Global;
 use std::marker::Model;
 use tr_base::NoMemory;
 
-/// How far a stream is read.
+/// The state of a reader of a stream.
 #[derive(Debug, Drop)]
 pub struct Reader {
     replica: Replica,
-    // what the records of the last group change
+    // the change by the records of the last group
     changed: Change,
     begun: Begun,
     fed: u64,
@@ -42,7 +42,7 @@ impl Model for Reader {
     } };
 }
 
-/// How many bytes the record has that begins with these.
+/// The length of the record that begins with these bytes.
 fn record_len(bytes: &[u8]) -> usize
     requires some { 0 < length bytes.now }
     requires whole { header_len bytes.now ≤ length bytes.now }
@@ -51,7 +51,7 @@ fn record_len(bytes: &[u8]) -> usize
     header_len(bytes) + pixel_count(header_of(bytes))
 }
 
-/// At how many bytes of a record, of which these have come, the next faults are tried.
+/// The number of bytes of a record at which the next faults are tested, if these bytes have come.
 fn try_len(bytes: &[u8]) -> usize
     ensures { result ≡ spec.try_len bytes.now }
 {
@@ -64,7 +64,7 @@ fn try_len(bytes: &[u8]) -> usize
     }
 }
 
-/// Whether the record is whole that has these bytes so far.
+/// Whether these bytes are a whole record.
 fn is_whole(bytes: &[u8]) -> bool
     requires { 0 < length bytes.now }
     ensures { result ≡ (length bytes.now == record_len bytes.now) }
@@ -72,7 +72,7 @@ fn is_whole(bytes: &[u8]) -> bool
     header_len(bytes) <= bytes.len() && bytes.len() == record_len(bytes)
 }
 
-/// The fault that the last of a record's bytes so far shows.
+/// The fault that the newest byte of a record shows.
 #[tactic(auto, unfolding(crate::specs::Automata::record_fault))]
 fn fault_of(replica: &Replica, bytes: &[u8]) -> Option<StreamFault>
     requires { 0 < length bytes.now }
@@ -94,7 +94,7 @@ fn fault_of(replica: &Replica, bytes: &[u8]) -> Option<StreamFault>
     }
 }
 
-/// How many bytes the record has that stands at the front of a piece, where it is whole.
+/// The length of the record at the front of a piece, if it is whole.
 fn whole_len(piece: &[u8]) -> Option<usize>
     requires { 0 < length piece.now }
     ensures within { IfSome result (λ n. n ≤ length piece.now) }
@@ -193,7 +193,7 @@ impl Reader {
         !self.replica.is_within() && self.begun.as_slice().is_empty()
     }
 
-    /// Whether there was no fault, and just so many cuts.
+    /// Whether there was no fault, and this is the number of cuts.
     pub fn goes_on(&self, cuts: u32) -> bool
         ensures { IsTrue result ↔ ((self.now.fault ≡ None) × (self.now.standing.cuts ≡ cuts)) }
     {
@@ -222,8 +222,8 @@ impl Reader {
         }
     }
 
-    /// How many bytes the record has that stands at the front of a piece, where none has begun, and
-    /// this one is whole and has no fault.
+    /// The length of the record at the front of a piece, if no record has begun, and this one is whole and
+    /// has no fault.
     fn faultless_front(&self, piece: &[u8]) -> Option<usize>
         requires { 0 < length piece.now }
         ensures within { IfSome result (λ n. n ≤ length piece.now) }
@@ -237,7 +237,7 @@ impl Reader {
         is_faultless(&self.replica, &piece[..len]).then_some(len)
     }
 
-    /// Puts a whole record on of which nothing was read before.
+    /// Applies a whole record, all in one piece.
     fn take_whole(&mut self, whole: &[u8])
         requires begun { self.old.begun ≡ [] }
         requires bounded { IsBounded self.old.standing self.old.fed }
@@ -250,7 +250,7 @@ impl Reader {
         self.fed += whole.len() as u64;
     }
 
-    /// Takes bytes from the front of a piece, up to the next place where faults are tried. It gives
+    /// Takes bytes from the front of a piece, up to the next place where faults are tested. It returns
     /// the rest of the piece.
     fn take_part<'a>(&mut self, piece: &'a [u8]) -> &'a [u8]
         requires some { 0 < length piece.now }
@@ -268,7 +268,7 @@ impl Reader {
         rest
     }
 
-    /// Adds bytes to the record that has begun, and tries it.
+    /// Adds bytes to the record that has begun, and tests it.
     #[tactic(auto, unfolding(crate::specs::Automata::tried))]
     fn gather(&mut self, front: &[u8])
         requires some { 0 < length front.now }
@@ -297,7 +297,7 @@ impl Reader {
         });
     }
 
-    /// Adds what the next record changes. A record behind a Cut begins with nothing.
+    /// Adds the change by the next record. A record after a Cut begins with no change.
     fn note(&mut self, header: Header)
         requires bounded { IsBounded self.old.standing self.old.fed }
         requires sound { header_fault self.old.standing header ≡ None }
@@ -313,7 +313,7 @@ impl Reader {
         self.changed = before.with(header);
     }
 
-    /// Puts the record on that has begun and is whole.
+    /// Applies the record that has begun and is whole.
     fn take_record(&mut self)
         requires some { 0 < length self.old.begun }
         requires whole { length self.old.begun ≡ record_len self.old.begun }

@@ -12,7 +12,7 @@ use std::marker::Model;
 use tr_base::NoMemory;
 use tr_screen::Screen;
 
-/// A writer of a stream. It keeps the screen that it sent last, and counts the cuts.
+/// A writer of a stream. It keeps the last screen that it sent, and counts the cuts.
 #[derive(Debug, Drop)]
 pub struct Writer {
     last: Option<Screen>,
@@ -43,14 +43,14 @@ impl Writer {
         }
     }
 
-    /// How many cuts the stream has so far.
+    /// The number of cuts of the stream so far.
     pub fn cuts(&self) -> u32
         ensures { result ≡ self.now.cuts }
     {
         self.cuts
     }
 
-    /// Whether the stream has all 64 cuts, so that a longer session goes on by a new one: `restart`.
+    /// Whether the stream has all 64 cuts. A longer session continues in a new one: `restart`.
     pub fn is_full(&self) -> bool
         ensures value { IsTrue result ↔ (self.now.cuts ≡ most_groups) }
         ensures invariant { self.now.cuts ≤ most_groups }
@@ -58,9 +58,9 @@ impl Writer {
         self.cuts == MOST_GROUPS
     }
 
-    /// Appends to `out` the group by which a reader gets from the screen that was sent last to this one.
-    /// `out` may be empty: what was sent before need not be kept. Each pixel must be a value of the screen's
-    /// kind (`has_its_pixels` tests it). For want of memory nothing changes.
+    /// Appends to `out` the group that leads a reader from the last sent screen to this one. `out` may be
+    /// empty: earlier bytes need not be kept. Each pixel must be a value of the screen's kind
+    /// (`has_its_pixels` tests it). For want of memory nothing changes.
     pub fn append(&mut self, now: &Screen, out: &mut Vec<u8>) -> Result<(), NoMemory>
         requires room { self.old.cuts < most_groups }
         requires pixels { HasItsPixels now.now }
@@ -68,7 +68,7 @@ impl Writer {
             ++ spelled (group_of self.old.last now.now (self.old.cuts + 1))) }
         ensures next { OnOk result (self.new ≡ record { last = Some now.now; cuts = self.old.cuts + 1 }) }
 
-        // Behind what was sent the new bytes make a stream that shows one screen more.
+        // After the sent bytes the new ones make a stream that shows one screen more.
         ensures sent { OnOk result ((stream added : List ℕ) (screens : List Picture) →
             HasSent self.old stream screens → out.new.items ≡ out.old.items ++ added →
             HasSent self.new (stream ++ added) (screens ++ now.now ∷ [])) }
@@ -92,12 +92,12 @@ impl Writer {
     }
 }
 
-/// The same screen again.
+/// A copy of a screen.
 fn copy_of(screen: &Screen) -> Result<Screen, NoMemory>
     ensures { IfOk result (λ copy. copy ≡ screen.now) }
 {
     let copy = screen.resized(screen.size(), screen.kind())?;
-    // Called for what it tells the prover: that the copy is a picture.
+    // Called for its clause: the copy is a picture.
     let _ = copy.size();
     Ok(copy)
 }

@@ -1,10 +1,10 @@
 -- Private contracts alone cite this file.
--- The buffer by which a text goes to a sink.
+-- The buffer between a text and its sink.
 use Rattle.std.specs.Prelude.{◌≡◌, ℕ, List, [], All, vec_len}
 use Rattle.tr_output.specs.declared.buffers.Buffer.{Buffer}
 use Rattle.tr_output.specs.Lines.{IsLine}
 
--- a new buffer: nothing is to be written, and its eight lines are those of no pixels, whatever pixels are kept
+-- a new buffer: no bytes wait, and its eight lines are of no pixels, for all kept pixels
 pub record IsFresh (buffer : Buffer) : Type 0 where
   pub bytes : buffer.bytes.items ≡ []
   pub lines : (pixels : List ℕ) → All (IsLine pixels) buffer.lines.items

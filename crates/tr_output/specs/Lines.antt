@@ -1,10 +1,10 @@
 -- Private contracts alone cite this file.
--- Lines that were spelled, and are kept in case they come again.
+-- Spelled lines that are kept for equal rows.
 use Rattle.std.specs.Prelude.{◌≡◌, ℕ, ◌+◌, ◌*◌, ◌≤◌, List, length, take, slice_range}
 use Rattle.tr_output.specs.declared.lines.Line.{Line}
 use Rattle.tr_output.specs.Texts.{row_text}
 
--- the front of the text is the line of the row that it is kept for
+-- the text begins with the line of its row
 pub record IsLine (pixels : List ℕ) (line : Line) : Type 0 where
   pub long : length line.text.items ≡ 2049
   pub wide : line.wide ≤ 1024

@@ -1,5 +1,5 @@
 -- Private contracts alone cite this file.
--- The pieces of a text, over the pixels that are kept for it.
+-- The pieces of a text; their rows are among the kept pixels.
 use Rattle.std.specs.Prelude.{◌≡◌, ⊤, ℕ, ◌+◌, ◌≤◌, List, length, slice_range}
 use Rattle.std.specs.List.{flat_map}
 use Rattle.tr_output.specs.declared.pieces.Piece.{Piece}
@@ -15,12 +15,12 @@ piece_text pixels (Row start wide) = row_text (slice_range pixels start (start +
 abbrev pub pieces_text : List ℕ → List Piece → List ℕ
 pieces_text pixels pieces = flat_map (piece_text pixels) pieces
 
--- a row's pixels are among so many, and are no more than a screen is wide
+-- a row is within this many kept pixels, and is no wider than a screen
 abbrev pub IsWithin : ℕ → Piece → Type 0
 IsWithin many (Bytes bytes) = ⊤
 IsWithin many (Row start wide) = (start + wide ≤ many) × (wide ≤ 1024)
 
--- the pixels of this row are kept from this place on
+-- the pixels of this row are kept from `start` on
 pub record IsKeptAt (pixels : List ℕ) (start : ℕ) (row : List ℕ) : Type 0 where
   pub within : start + length row ≤ length pixels
   pub same : slice_range pixels start (start + length row) ≡ row

@@ -1,5 +1,5 @@
 -- Private contracts alone cite this file.
--- What becomes of bytes that go to a sink by way of a buffer.
+-- The writing of bytes to a sink by way of a buffer.
 use Rattle.std.specs.Prelude.{◌≡◌, ℕ, ◌+◌, ◌≤◌, List, ◌++◌, length}
 use Rattle.tr_io.specs.declared.streams.Sink.{Ghosts}
 use Rattle.tr_io.specs.Faults.{HasFault}

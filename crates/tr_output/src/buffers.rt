@@ -1,4 +1,4 @@
-//! How a text goes to a sink: by way of a buffer of fixed size.
+//! Writing to a sink by way of a buffer of fixed size.
 ghost use Rattle.std.specs.Prelude.{◌≡◌, ◌+◌, ◌*◌, ◌≤◌, ◌++◌, List, ℕ, [], All, IfOk, OnOk, OnErr};
 ghost use Rattle.std.specs.Prelude.{length, slice_range, vec_len, vec_capacity};
 ghost use Rattle.tr_io.specs.Faults.{HasFault};
@@ -16,10 +16,10 @@ use std::alloc::Global;
 use tr_base::NoMemory;
 use tr_io::{Failed, Sink};
 
-/// How many bytes are written at once.
+/// The number of bytes in one write.
 const ROOM: usize = 64 * 1024;
 
-/// Bytes that wait to be written, and the lines that were spelled last.
+/// Bytes that wait to be written, and the last spelled lines.
 #[derive(Drop)]
 pub(crate) struct Buffer {
     bytes: Vec<u8>,
@@ -147,7 +147,7 @@ fn put_pieces<K: Sink>(
     Ok(())
 }
 
-/// Writes pieces and what comes behind them.
+/// Writes pieces and the bytes after them.
 pub(crate) fn write_pieces<K: Sink>(
     sink: &mut K,
     buffer: &mut Buffer,

@@ -2,7 +2,7 @@ use thiserror::Error;
 use tr_base::NoMemory;
 use tr_io::Failed;
 
-/// Why a text isn't written, or not all of it.
+/// The cause of a text that isn't written, or not all of it.
 #[derive(Clone, Copy, Debug, PartialEq, Eq, Error)]
 pub enum WriteRefused {
     /// Nothing was written.

@@ -13,11 +13,11 @@ use tr_base::NoMemory;
 use tr_io::{Failed, Sink};
 use tr_screen::Screen;
 
-/// A text up to the last row of pixels that is in it. Contracts see its bytes.
+/// A text up to its last row of pixels. Its model is its bytes.
 #[derive(Drop)]
 pub(crate) struct Kept {
     pieces: Vec<Piece>,
-    /// The pixels of the rows. Rows that were found to be equal share theirs.
+    /// The pixels of the rows. Equal rows share theirs.
     pixels: Vec<u8>,
     dumps: Dumps,
 }
@@ -35,7 +35,7 @@ impl Model for Kept {
 }
 
 impl Kept {
-    /// No bytes.
+    /// An empty text.
     pub(crate) fn new(alloc: Global) -> Kept
         ensures { result ≡ [] }
     {
@@ -49,8 +49,8 @@ impl Kept {
         }
     }
 
-    /// Moves the bytes of `tail` behind the text, and appends to them a line, and then a line for each row of
-    /// a screen. All memory is taken before anything changes.
+    /// Appends the bytes of `tail` to the text, and then to `tail` a line, and then a line for each row of a
+    /// screen. All memory is taken before anything changes.
     pub(crate) fn append_screen(
         &mut self,
         alloc: Global,
@@ -97,7 +97,7 @@ impl Kept {
         write_pieces(sink, buffer, &self.pieces, &self.pixels, tail)
     }
 
-    /// How many bytes the text has, at most 2^64 - 1.
+    /// The number of bytes of the text, at most 2^64 - 1.
     pub(crate) fn len(&self) -> usize
         ensures { result ≡ min (length self.now) usize.MAX }
     {

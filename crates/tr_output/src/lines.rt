@@ -1,4 +1,4 @@
-//! The lines that were spelled last.
+//! The last spelled lines.
 ghost use Rattle.std.specs.Prelude.{◌≡◌, ℕ, ◌+◌, ◌*◌, ◌<◌, ◌≤◌, List, All, IfOk, length, take, slice_range, vec_len};
 ghost use Rattle.tr_output.specs.Lines.{IsLine};
 ghost use Rattle.tr_output.specs.Texts.{row_text};
@@ -6,13 +6,13 @@ ghost use Rattle.tr_output.specs.Texts.{row_text};
 use std::alloc::Global;
 use tr_base::NoMemory;
 
-/// How many of them are kept. In a tiled window a row comes again after eight.
+/// The number of kept lines. In a tiled window every eighth row is equal.
 pub(crate) const LINES: usize = 8;
 
-/// How many bytes the line of the longest row has.
+/// The number of bytes of the longest line.
 const LONGEST: usize = 2 * 1024 + 1;
 
-/// The line of a row: where its pixels begin, how many there are, and, in front, its text.
+/// The line of a row: the place of its pixels, their number, and its text in front.
 #[derive(Drop)]
 pub(crate) struct Line {
     start: usize,
@@ -32,7 +32,7 @@ impl Line {
         })
     }
 
-    /// Spells the row that begins there, unless its line is there.
+    /// Spells the row that begins at `start`, unless its line is there.
     pub(crate) fn spell(&mut self, pixels: &[u8], start: usize, wide: usize)
         requires wide { wide ≤ 1024 }
         requires within { start + wide ≤ length pixels.now }
@@ -50,7 +50,7 @@ impl Line {
     }
 }
 
-/// Spells a row in the front of a text.
+/// Spells a row at the front of a text.
 fn spell_row(row: &[u8], text: &mut [u8])
     requires { 2 * length row.now < length text.old }
     ensures { take (2 * length row.now + 1) text.new ≡ row_text row.now }

@@ -13,12 +13,12 @@ use tr_base::NoMemory;
 use tr_io::Sink;
 use tr_screen::Screen;
 
-/// A text that is kept until it is written. Contracts see its bytes.
+/// A text that is kept until it is written. Its model is its bytes.
 #[derive(Drop)]
 pub struct Output {
     alloc: Global,
     kept: Kept,
-    /// The bytes behind the last row of pixels. Callers append to it.
+    /// The bytes after the last row of pixels. Callers append to it.
     pub tail: Vec<u8>,
 }
 
@@ -31,14 +31,14 @@ impl Model for Output {
 }
 
 impl Output {
-    /// No bytes.
+    /// An empty text.
     pub fn new(alloc: Global) -> Output
         ensures { result ≡ [] }
     {
         Output::of(alloc, Vec::new(alloc))
     }
 
-    /// These bytes.
+    /// A text of these bytes.
     pub fn of(alloc: Global, bytes: Vec<u8>) -> Output
         ensures { result ≡ bytes.items }
     {
@@ -49,7 +49,7 @@ impl Output {
         }
     }
 
-    /// Where its memory comes from.
+    /// The allocator of its memory.
     pub fn alloc(&self) -> Global {
         self.alloc
     }
@@ -90,7 +90,7 @@ impl Output {
         Ok(())
     }
 
-    /// How many bytes there are, at most 2^64 - 1.
+    /// The number of bytes, at most 2^64 - 1.
     fn len(&self) -> usize
         ensures { result ≡ min (length self.now) usize.MAX }
     {

@@ -1,4 +1,4 @@
-//! The pieces of a text, and which row is kept already.
+//! The pieces of a text, and the search for a row that is kept already.
 ghost use Rattle.std.specs.Prelude.{◌≡◌, ℕ, ◌+◌, ◌*◌, ◌<◌, ◌≤◌, List, ◌++◌, true, min};
 ghost use Rattle.std.specs.Prelude.{All, IfSome, length, vec_len, vec_capacity};
 ghost use Rattle.std.specs.List.{flat_map};
@@ -13,19 +13,19 @@ use tr_screen::Screen;
 pub(crate) enum Piece {
     /// Bytes.
     Bytes(Vec<u8>),
-    /// The line of a row of pixels: where these begin among all that are kept, and how many there are.
+    /// The line of a row of pixels: the place of its first pixel among the kept ones, and its width.
     Row { start: usize, wide: usize },
 }
 
-/// At which pieces the rows of the present dump begin, and those of the last one. These are hints: a row that
-/// is kept there is taken only if all its pixels are the same.
+/// The first pieces of the rows of the present dump and of the last one. These are hints: a row that is
+/// kept there is taken only if all its pixels are the same.
 #[derive(Clone, Copy)]
 pub(crate) struct Dumps {
     pub(crate) present: usize,
     pub(crate) last: usize,
 }
 
-/// Where the pixels of a piece begin, if it is a row.
+/// The place of a piece's first pixel, if it is a row.
 fn start_of(pieces: &[Piece], index: usize) -> Option<usize> {
     match pieces.get(index) {
         Some(Piece::Row { start, .. }) => Some(*start),
@@ -43,7 +43,7 @@ fn is_kept_at(pixels: &[u8], start: usize, row: &[u8]) -> bool
     first_difference(&pixels[start..start + row.len()], row).is_none()
 }
 
-/// Where a row's pixels are kept, if they are those of one of these pieces.
+/// The place of a row's pixels, if one of these pieces has them.
 fn place_among(pieces: &[Piece], pixels: &[u8], tries: &[usize], row: &[u8]) -> Option<usize>
     ensures { IfSome result (λ start. IsKeptAt pixels.now start row.now) }
 {
@@ -58,8 +58,8 @@ fn place_among(pieces: &[Piece], pixels: &[u8], tries: &[usize], row: &[u8]) -> 
     None
 }
 
-/// Where the pixels of the next row are kept, if it equals the row above, as where one colour is, the same
-/// row of the last dump, or the eighth row above, as in a tiled window.
+/// The place of the next row's pixels, if it equals the row above (as in one colour), the same row of the
+/// last dump, or the eighth row above (as in a tiled window).
 fn place_of(pieces: &[Piece], pixels: &[u8], dumps: &Dumps, row: &[u8]) -> Option<usize>
     ensures { IfSome result (λ start. IsKeptAt pixels.now start row.now) }
 {
@@ -69,7 +69,7 @@ fn place_of(pieces: &[Piece], pixels: &[u8], dumps: &Dumps, row: &[u8]) -> Optio
     place_among(pieces, pixels, &tries, row)
 }
 
-/// Appends the line of a row, for which there is room.
+/// Appends the line of a row. There is room for it.
 fn push_row(pieces: &mut Vec<Piece>, pixels: &mut Vec<u8>, dumps: &Dumps, row: &[u8])
     requires wide { length row.now ≤ 1024 }
     requires room { vec_len pieces.old < vec_capacity pieces.old }
@@ -93,7 +93,7 @@ fn push_row(pieces: &mut Vec<Piece>, pixels: &mut Vec<u8>, dumps: &Dumps, row: &
     pieces.push_reserved(Piece::Row { start, wide });
 }
 
-/// Appends the lines of all rows, for which there is room.
+/// Appends the lines of all rows. There is room for them.
 pub(crate) fn push_rows(
     pieces: &mut Vec<Piece>,
     pixels: &mut Vec<u8>,
@@ -113,7 +113,7 @@ pub(crate) fn push_rows(
     }
 }
 
-/// How many bytes the text of a piece has.
+/// The number of bytes of a piece's text.
 fn len_of(piece: &Piece, many: usize) -> usize
     requires { IsWithin many piece.now }
     ensures { (pixels : List ℕ) → length pixels ≡ many → result ≡ length (piece_text pixels piece.now) }
@@ -124,7 +124,7 @@ fn len_of(piece: &Piece, many: usize) -> usize
     }
 }
 
-/// How many bytes the text of pieces has, over so many pixels, at most 2^64 - 1.
+/// The number of bytes of the text of pieces over this many pixels, at most 2^64 - 1.
 pub(crate) fn len_of_all(pieces: &[Piece], many: usize) -> usize
     requires { All (IsWithin many) pieces.now }
     ensures { (pixels : List ℕ) → length pixels ≡ many →

@@ -20,7 +20,7 @@ pub fn write_all<K: Sink>(sink: &mut K, text: &[u8]) -> Result<(), Failed>
     Ok(())
 }
 
-/// Writes once, from the byte at `start` on, and answers how many bytes the sink took.
+/// Writes once, from the byte at `start` on, and answers the number of bytes that the sink took.
 fn write_from<K: Sink>(sink: &mut K, text: &[u8], start: usize) -> Result<usize, Failed>
     requires start { start < length text.now }
     requires room { length text.now ≤ K.room sink.old + start }

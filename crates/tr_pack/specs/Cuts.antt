@@ -1,9 +1,9 @@
--- How the children of a packing node are cut into rows.
+-- The cut of a packing node's children into rows.
 use Rattle.std.specs.Prelude.{◌≡◌, ℕ, ◌+◌, ◌-◌, ◌*◌, ◌<◌, ◌≤◌, min, Bool, not, List, [], ◌∷◌, ◌++◌, map, take, length, sum_by, nat_le, if◌then◌else◌}
 use Rattle.tr_base.specs.declared.shapes.Shapes.{Shapes}
 use Rattle.tr_base.specs.Layouts.{along}
 
--- how long a child is along its row, and how far it reaches beside it
+-- the length of a child along its row, and its depth across the row
 pub record Extent : Type 0 where
   pub long : ℕ
   pub deep : ℕ
@@ -12,7 +12,7 @@ pub record Extent : Type 0 where
 abbrev pub extent_of : Bool → ℕ → Shapes → Extent
 extent_of down room c = record { long = min (along down c).pref room; deep = (along (not down) c).pref }
 
--- the extents of all children, where the rows go across or down
+-- the extents of all children, for rows that go across or down
 abbrev pub extents : Bool → ℕ → List Shapes → List Extent
 extents down room cs = map (extent_of down room) cs
 
@@ -25,7 +25,7 @@ pub record IsRow (room gap : ℕ) (row : List Extent) : Type 0 where
   pub some : 1 ≤ length row
   pub fits : 2 ≤ length row → row_length gap row ≤ room
 
--- the first child of the next row would not have fitted behind this one
+-- the first child of the next row would not have fitted after this row
 abbrev pub IsFull : ℕ → ℕ → List Extent → List (List Extent) → Type 0
 IsFull room gap row [] = Unit {0}
 IsFull room gap row (next ∷ rows) = room < row_length gap (row ++ take 1 next)
@@ -45,7 +45,7 @@ pub record IsRowCut (room gap : ℕ) (children : List Extent) (rows : List (List
   pub whole : joined rows ≡ children
   pub right : AreRows room gap rows
 
--- the rows of some children, the first of which go on with a row that was begun
+-- the rows of some children: the first of them continue a row that was begun
 abbrev pub cut_from : ℕ → ℕ → List Extent → List Extent → List (List Extent)
 cut_from room gap row [] = row ∷ []
 cut_from room gap row (x ∷ xs) =

@@ -1,5 +1,5 @@
 -- Private contracts alone cite this file.
--- Where the next child goes while children are placed one after another.
+-- The place of the next child while children are placed one after another.
 use Rattle.std.specs.Prelude.{ℕ, ◌+◌, min, max, nat_le, if◌then◌else◌}
 use Rattle.tr_pack.specs.declared.packs.Pen.{Pen}
 

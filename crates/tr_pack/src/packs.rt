@@ -11,8 +11,8 @@ use tr_base::{
     shapes_of, sides_along, sums,
 };
 
-/// The shape of a node that packs its children in rows, which go across, or down where `down` is
-/// true, with `gap` points between neighbours. Without children it is 0.
+/// The shape of a node that packs its children in rows, which go across, or down if `down` is true, with
+/// `gap` points between neighbours. Without children it is 0.
 pub fn pack_shape(down: bool, gap: u8, children: &[Shapes]) -> Shapes
     requires { length children.now ≤ 255 }
     ensures { result ≡ pack_shape down gap children.now }
@@ -24,10 +24,10 @@ pub fn pack_shape(down: bool, gap: u8, children: &[Shapes]) -> Shapes
     )
 }
 
-/// Where a node that packs its children in rows has them. A row takes children as long as they
-/// fit, one at least, and is as deep as its deepest child. The rows go across, one below another,
-/// or down, one east of another, with `gap` points between neighbours in a row and between rows.
-/// The node cuts what reaches past it.
+/// The places of the children of a node that packs them in rows. A row takes children as long as they
+/// fit, one at least, and is as deep as its deepest child. The rows go across, one below another, or
+/// down, one east of another, with `gap` points between neighbours in a row and between rows. The node
+/// cuts everything that reaches past it.
 pub fn pack_place(
     alloc: Global,
     rect: Rect,
@@ -38,7 +38,7 @@ pub fn pack_place(
     requires { IsDomain rect }
     ensures places { IfOk result (λ v. v.items ≡ pack_places down gap rect children.now) }
 
-    // The rows are the right cut, and whatever cut is right gives these rectangles.
+    // The rows are the right cut, and every right cut gives these rectangles.
     ensures cut { let room = room_of down rect in let xs = extents down room children.now in
         OnOk result (IsRowCut room gap xs (cut room gap xs)) }
     ensures only { let room = room_of down rect in let xs = extents down room children.now in
@@ -55,17 +55,17 @@ pub fn pack_place(
     Ok(places)
 }
 
-/// Which way the rows of a packing node go, and how many points lie between neighbours.
+/// The direction of a packing node's rows, and the number of points between neighbours.
 #[derive(Clone, Copy, Debug, PartialEq, Eq)]
 pub struct Rows {
     /// The rows go down, one east of another, and not across, one below another.
     pub down: bool,
-    /// Between neighbours in a row, and between rows.
+    /// The points between neighbours in a row, and between rows.
     pub gap: u8,
 }
 
-/// The same as `pack_place`, into room that the caller lends: as many rectangles as there are
-/// children, whatever they were. It takes no memory.
+/// The same as `pack_place`, put into a slice of the caller: it has as many rectangles as there are
+/// children, of any value. Nothing is allocated.
 pub fn pack_place_into(rect: Rect, rows: Rows, children: &[Shapes], rects: &mut [Rect])
     requires domain { IsDomain rect }
     requires room { length rects.old ≡ length children.now }
@@ -90,14 +90,14 @@ pub fn pack_place_into(rect: Rect, rows: Rows, children: &[Shapes], rects: &mut 
     }
 }
 
-/// Where the next child would stand.
+/// The place for the next child.
 #[derive(Clone, Copy, Debug, PartialEq, Eq)]
 struct Pen {
-    /// How far along its row.
+    /// Its distance along its row.
     along: u32,
-    /// Where that row begins.
+    /// The beginning of that row.
     start: u32,
-    /// How deep the row is so far.
+    /// The depth of the row so far.
     deep: u32,
 }
 

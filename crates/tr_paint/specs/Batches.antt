@@ -6,7 +6,7 @@ use Rattle.tr_base.specs.Rects.{has_point}
 use Rattle.tr_paint.specs.declared.paints.Paint.{Paint}
 use Rattle.tr_paint.specs.Paints.{IsNearPaint, area, has_area}
 
--- the command, or none if its area is empty
+-- the command in a list, or an empty list if its area is empty
 abbrev pub kept : Paint → List Paint
 kept c = if has_area c then c ∷ [] else []
 

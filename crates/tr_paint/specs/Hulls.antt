@@ -1,4 +1,4 @@
--- Rectangles round points.
+-- Rectangles that contain points.
 use Rattle.std.specs.Prelude.{◌≡◌, Bool, true}
 use Rattle.tr_base.specs.declared.Point.{Point}
 use Rattle.tr_base.specs.Rects.{Edges, has_point}

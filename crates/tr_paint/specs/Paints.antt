@@ -1,4 +1,4 @@
--- Paint commands: where each paints, and with which operation.
+-- Paint commands: the area of each, and its operation at each point.
 use Rattle.std.specs.Prelude.{ℕ, ◌*◌, ◌/◌, ℤ, pos, neg_ℤ, ◌+ℤ◌, ◌-ℤ◌, ◌≤ℤ◌, Bool, true, false, ◌&&◌, if◌then◌else◌, int_lt, List, length, slice_index, unsigned_abs}
 use Rattle.tr_base.specs.declared.Point.{Point}
 use Rattle.tr_base.specs.declared.Pair.{Pair}
@@ -42,7 +42,7 @@ IsNearPaint (Spoil clip) = IsNearRect clip
 abbrev pub cells_of : Point → ℕ → Edges
 cells_of at n = rect_of at.h (at.h +ℤ pos (8 * n)) at.v (at.v +ℤ pos 8)
 
--- the points that a command can touch: its clip, or the part of it that lies in the cells of the command's text, or in its picture
+-- the points that a command can touch: its clip, or the part of the clip in the cells of the command's text, or in its picture
 abbrev pub area : Paint → Edges
 area (Tint clip op) = clip
 area (Texture clip ops tile delta) = clip
@@ -63,7 +63,7 @@ chosen ops bit = if bit then ops.one else ops.zero
 abbrev pub both_opaque : Pair → Bool
 both_opaque ops = opaque ops.zero && opaque ops.one
 
--- the pixels that a command leaves are independent of those before
+-- the pixels after a command don't depend on those before it
 abbrev pub is_opaque : Paint → Bool
 is_opaque (Tint clip op) = opaque op
 is_opaque (Texture clip ops tile delta) = both_opaque ops
@@ -72,13 +72,13 @@ is_opaque (Text clip at ops text) = both_opaque ops
 is_opaque (Scroll clip delta) = false
 is_opaque (Spoil clip) = false
 
--- the bit of a text at a point of its cells, which begin at `at`: that of the byte's glyph whose cell has the point
+-- the bit of a text at a point of its cells, which begin at `at`: a bit of the glyph whose cell has the point
 abbrev pub text_bit : List (List ℕ) → Point → List ℕ → Point → Bool
 text_bit font at text q =
     let h = unsigned_abs (q.h -ℤ at.h) in
     glyph_bit font (slice_index text (h / 8)) h (unsigned_abs (q.v -ℤ at.v))
 
--- the operation of a command at a point of its area, by the font; Scroll and Spoil have none
+-- the operation of a command at a point of its area, for a font; Scroll and Spoil have none
 abbrev pub op_at : List (List ℕ) → Paint → Point → Op
 op_at font (Tint clip op) q = op
 op_at font (Texture clip ops tile delta) q = chosen ops (tile_bit tile (q.h -ℤ delta.h) (q.v -ℤ delta.v))

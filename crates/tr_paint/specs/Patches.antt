@@ -1,4 +1,4 @@
--- Patches: batches that lead from one picture of a window to another, whatever part of the first is known.
+-- Patches: batches that lead from one picture of a window to another, even if only a part of the first is known.
 use Rattle.std.specs.Prelude.{◌≡◌, ℕ, true, List, IfSome}
 use Rattle.tr_base.specs.declared.Point.{Point}
 use Rattle.tr_base.specs.declared.Size.{Size}

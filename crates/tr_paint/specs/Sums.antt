@@ -1,4 +1,4 @@
--- What is known of the commands of a batch without a walk over them.
+-- Sums over the commands of a batch, kept so that no walk over the commands is needed.
 use Rattle.std.specs.Prelude.{◌≡◌, ⊤, ℕ, ◌-◌, ◌*◌, ◌^◌, Bool, true, false, List, min, sum_by, All}
 use Rattle.std.specs.List.{list_any}
 use Rattle.tr_base.specs.Rects.{Edges, has_point, sides_of}
@@ -11,7 +11,7 @@ use Rattle.tr_paint.specs.Paints.{IsNearPoint, IsNearRect, area}
 use Rattle.tr_paint.specs.Batches.{touches, IsBatch}
 use Rattle.tr_paint.specs.Hulls.{HasAll}
 
--- how many points a rectangle has
+-- the number of points of a rectangle
 abbrev pub points_in : Edges → ℕ
 points_in e = (sides_of e).0 * (sides_of e).1
 
@@ -37,7 +37,7 @@ is_spoil c = false
 abbrev pub has_spoil : List Paint → Bool
 has_spoil commands = list_any is_spoil commands
 
--- a command is no scroll, or it is one that the summary allows: none, one with this clip and delta, or any
+-- a command isn't a scroll, or it is one that the summary allows: none, the one with this clip and delta, or any
 abbrev pub IsOneOf : Scrolls → Paint → Type 0
 IsOneOf Absent (Scroll clip delta) = ⊥
 IsOneOf (Alike clip delta) (Scroll c d) = (c ≡ clip) × (d ≡ delta)
@@ -47,12 +47,12 @@ IsOneOf scrolls c = ⊤
 abbrev pub AreScrolls : Scrolls → List Paint → Type 0
 AreScrolls scrolls commands = All (IsOneOf scrolls) commands
 
--- if scrolls are alike, their coordinates are near
+-- if all scrolls are the same, their coordinates are near
 abbrev pub AreNear : Scrolls → Type 0
 AreNear (Alike clip delta) = IsNearRect clip × IsNearPoint delta
 AreNear scrolls = ⊤
 
--- a rectangle is the least one round all points that commands touch: it has them all, and any other that has them has its points
+-- the least rectangle that contains all points that commands touch: it has them all, and any other that has them has its points
 pub record IsHull (e : Edges) (commands : List Paint) : Type 0 where
   pub touched : HasAll e (touches commands)
   pub least : (outer : Edges) → HasAll outer (touches commands) → HasAll outer (has_point e)

@@ -1,4 +1,4 @@
--- What paint commands do at a point of a window, and what is known of its colour after them.
+-- The deeds of paint commands at a point of a window, and the colour of the point after them, if it is known.
 use Rattle.std.specs.Prelude.{ℕ, Bool, if◌then◌else◌, List, [], ◌∷◌, Option, Some, None}
 use mathlib.Core.List.{reverse}
 use Rattle.std.specs.Option.{option_map}
@@ -11,7 +11,7 @@ use Rattle.tr_paint.specs.declared.paints.Paint.{Paint}
 use Rattle.tr_paint.specs.declared.paints.Paint.TheVariants.{Scroll, Spoil}
 use Rattle.tr_paint.specs.Paints.{area, is_opaque, op_at}
 
--- what determines the picture beside the commands: the kind of the pixels, and the glyphs of the font
+-- the two inputs of the picture besides the commands: the kind of the pixels, and the glyphs of the font
 pub record Look : Type 0 where
   pub kind : Kind
   pub font : List (List ℕ)
@@ -20,7 +20,7 @@ pub record Look : Type 0 where
 abbrev pub look_of : Kind → List (List ℕ) → Look
 look_of kind font = record { kind = kind; font = font }
 
--- what one command does at one point
+-- the effect of one command at one point
 pub data Deed : Type 0 where
   -- keeps its pixel
   Keep : Deed
@@ -33,22 +33,22 @@ pub data Deed : Type 0 where
   -- applies an operation to its pixel
   Change : Op → Deed
 
--- the deed of a command at a point of its area: an opaque one gives a pixel, another one changes what is there
+-- the deed of a command at a point of its area: an opaque command gives a pixel, and another one changes the old pixel
 abbrev pub deed_within : Look → Paint → Point → Deed
 deed_within look (Scroll clip delta) q = From (before_shift q delta)
 deed_within look (Spoil clip) q = Lose
 deed_within look c q = if is_opaque c then Value (eff look.kind (op_at look.font c q) 0) else Change (op_at look.font c q)
 
--- the deed of a command at a point: outside its area it keeps each pixel
+-- the deed of a command at a point: a point outside its area keeps its pixel
 abbrev pub deed : Look → Paint → Point → Deed
 deed look c q = if has_point (area c) q then deed_within look c q else Keep
 
--- the state before the commands: which points are visible, and the pixels of those that are known
+-- the state before the commands: the visible points, and the pixels of the known ones
 pub record Base : Type 0 where
   pub visible : Point → Bool
   pub known : Point → Option ℕ
 
--- the colour of a point after a deed, by the colours before it
+-- the colour of a point after a deed, from the colours before it
 abbrev pub after_deed : Kind → Deed → (Point → Option ℕ) → Point → Option ℕ
 after_deed kind Keep before q = before q
 after_deed kind Lose before q = None
@@ -65,6 +65,6 @@ trace look base (c ∷ before) q = if base.visible q then after_deed look.kind (
 abbrev pub after : Look → Base → List Paint → Point → Option ℕ
 after look base batch q = trace look base (reverse batch) q
 
--- the base for the commands behind a batch: the points that are known after it
+-- the base for the commands after a batch: the points that are known after it
 abbrev pub left_by : Look → Base → List Paint → Base
 left_by look base batch = record { visible = base.visible; known = λ q. after look base batch q }

@@ -11,8 +11,8 @@ use std::alloc::Global;
 use std::marker::Model;
 use tr_base::{NoMemory, Point, Rect};
 
-/// Paint commands in the order in which they are executed. Contracts see them as a list. Each has an area
-/// that isn't empty. A batch also keeps sums over all of its commands, so that no call walks over them for
+/// Paint commands in the order of their execution. The model is a list. Each command has an area that
+/// isn't empty. A batch also keeps sums over all of its commands, so that no call walks over them for
 /// these.
 #[derive(Debug, Drop)]
 pub struct Batch {
@@ -43,7 +43,7 @@ impl Batch {
         }
     }
 
-    /// Appends a command, unless its area is empty. For want of memory nothing changes.
+    /// Appends a command, unless its area is empty. If memory runs out, nothing changes.
     pub fn push(&mut self, paint: Paint) -> Result<(), NoMemory>
         requires { IsNearPaint paint }
         ensures ok { OnOk result (self.new ≡ self.old ++ spec.kept paint) }
@@ -64,7 +64,7 @@ impl Batch {
         ensures ok { OnOk result (self.new ≡ self.old ++ other.now) }
         ensures err { OnErr result (self.new ≡ self.old) }
 
-        // Two batches in a row do what the second does over what the first leaves.
+        // Two batches in a row do the same as the second one over the result of the first.
         ensures in_a_row { (look : Look) (base : Base) (q : Point) →
             after look base (self.old ++ other.now) q ≡ after look (left_by look base self.old) other.now q }
     {
@@ -74,7 +74,7 @@ impl Batch {
         Ok(())
     }
 
-    /// Appends the commands of another batch, all of them or none. It moves them, and doesn't copy their
+    /// Appends the commands of another batch, all of them or none. It moves them, without a copy of their
     /// texts and pixels.
     pub fn extend(&mut self, other: Batch) -> Result<(), NoMemory>
         ensures ok { OnOk result (self.new ≡ self.old ++ other) }
@@ -86,7 +86,7 @@ impl Batch {
         Ok(())
     }
 
-    /// Makes room for so many more commands.
+    /// Makes room for `more` commands.
     pub fn reserve(&mut self, more: usize) -> Result<(), NoMemory>
         ensures { self.new ≡ self.old }
     {
@@ -94,7 +94,7 @@ impl Batch {
         Ok(())
     }
 
-    /// How many commands it has.
+    /// The number of its commands.
     pub fn len(&self) -> usize
         ensures { result ≡ length self.now }
     {
@@ -136,7 +136,7 @@ impl Batch {
         false
     }
 
-    /// The least rectangle round all points that its commands touch.
+    /// The least rectangle that contains all points that its commands touch.
     pub fn hull(&self) -> Rect
         ensures { IsHull result self.now }
     {
@@ -174,8 +174,8 @@ impl Batch {
         self.sums = Sums::none();
     }
 
-    /// Removes all commands behind the first `count`. It walks over these to renew the sums; callers need
-    /// it only if memory runs out in the middle of a patch.
+    /// Removes all commands after the first `count`. It walks over these to compute the sums again; callers
+    /// need it only if memory runs out in the middle of a patch.
     pub fn truncate(&mut self, count: usize)
         ensures { self.new ≡ take count self.old }
     {
@@ -194,7 +194,7 @@ impl Batch {
     }
 }
 
-/// The same commands.
+/// A copy of the commands.
 fn copies_of(paints: &Vec<Paint>) -> Result<Vec<Paint>, NoMemory>
     ensures { IfOk result (λ copies. copies.items ≡ paints.now.items) }
 {

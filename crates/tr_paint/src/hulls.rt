@@ -4,7 +4,7 @@ ghost use Rattle.tr_paint.specs.Hulls.{HasAll};
 
 use tr_base::{Rect, greater, lesser};
 
-/// The least rectangle round the points of both.
+/// The least rectangle that contains the points of both.
 pub fn hull(a: &Rect, b: &Rect) -> Rect
     ensures first { HasAll result (has_point a.now) }
     ensures second { HasAll result (has_point b.now) }
@@ -20,7 +20,7 @@ pub fn hull(a: &Rect, b: &Rect) -> Rect
     least_round(a, b)
 }
 
-/// The least rectangle round two that hold points.
+/// The least rectangle that contains two rectangles with points.
 fn least_round(a: &Rect, b: &Rect) -> Rect
     requires one { a.now ≢ empty_rect }
     requires other { b.now ≢ empty_rect }
@@ -29,7 +29,7 @@ fn least_round(a: &Rect, b: &Rect) -> Rect
     ensures least { (e : Edges) → HasAll e (has_point a.now) → HasAll e (has_point b.now) →
         HasAll e (has_point result) }
 {
-    // Called for what they tell the prover: that the edges are those of rectangles.
+    // These calls tell the prover that the edges are those of rectangles.
     let _ = a.is_empty();
     let _ = b.is_empty();
     Rect::edges(

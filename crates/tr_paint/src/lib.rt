@@ -1,4 +1,4 @@
-//! Paint commands, and batches of them. A client never touches the screen: it hands over a batch, which is
+//! Paint commands, and batches of them. A client never touches the screen: it sends a batch, which is
 //! executed later, clipped to the points that are visible then.
 //!
 //! All coordinates are relative to the north-west corner of the client's window.

@@ -3,7 +3,7 @@ ghost use Rattle.tr_paint.specs.Paints as spec;
 
 use tr_base::{Line, NoMemory, Op, Pair, Pixmap, Point, Rect, Tile, moved, opaque, whole};
 
-/// How far a coordinate of a paint command may be from 0.
+/// The greatest distance of a paint command's coordinate from 0.
 pub const NEAR: i32 = 16_384;
 
 /// The side of a text's cell.
@@ -18,8 +18,8 @@ pub enum Paint {
         clip: Rect,
         op: Op,
     },
-    /// Applies the operation for the tile's bit, where the tile is repeated in all directions from
-    /// `delta` on.
+    /// Applies the operation for the tile's bit. The tile is repeated in all directions from `delta`
+    /// on.
     Texture {
         clip: Rect,
         ops: Pair,
@@ -53,8 +53,8 @@ pub enum Paint {
 }
 
 impl Paint {
-    /// The points that it can touch: its clip, or the part of it that lies in the cells of its text, of 8
-    /// by 8 points each, or in its picture.
+    /// The points that it can touch: its clip, or the part of the clip in the cells of its text, of 8 by 8
+    /// points each, or in its picture.
     pub fn area(&self) -> Rect
         requires { spec.IsNearPaint self.now }
         ensures value { result ≡ spec.area self.now }
@@ -70,7 +70,7 @@ impl Paint {
         }
     }
 
-    /// Whether the pixels that it leaves are independent of those before.
+    /// Whether the pixels after it don't depend on those before it.
     pub fn is_opaque(&self) -> bool
         ensures { result ≡ spec.is_opaque self.now }
     {
@@ -144,7 +144,7 @@ fn cells(at: Point, text: &Line) -> Rect
     Rect::edges(at.h, east, at.v, south)
 }
 
-/// How wide the cells of a text are together.
+/// The total width of a text's cells.
 fn wide_of(text: &Line) -> i32
     ensures value { result ≡ pos (8 * length text.now) }
     ensures limit { result ≤ℤ pos 640 }

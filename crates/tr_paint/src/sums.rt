@@ -19,12 +19,12 @@ pub enum Scrolls {
     Various,
 }
 
-/// What is known of the commands of a batch without a walk over them.
+/// Sums over the commands of a batch, kept so that no walk over the commands is needed.
 #[derive(Clone, Copy, Debug)]
 pub(crate) struct Sums {
-    /// The least rectangle round all points that they touch.
+    /// The least rectangle that contains all points that they touch.
     pub hull: Rect,
-    /// The sum of their areas, each by its weight, which stops at 2^64 - 1.
+    /// The sum of their areas, each times its weight. It stops at 2^64 - 1.
     pub cost: u64,
     /// Whether one of them is a spoil.
     pub spoils: bool,
@@ -58,7 +58,7 @@ impl Sums {
         }
     }
 
-    /// The sums of commands with others behind them.
+    /// The sums of commands followed by others.
     pub fn with(&self, behind: &Sums) -> Sums
         ensures { (front back : List Paint) → spec.AreSums self.now front → spec.AreSums behind.now back →
             spec.AreSums result (front ++ back) }
@@ -72,7 +72,7 @@ impl Sums {
     }
 }
 
-/// The sums of commands, by a walk over them.
+/// The sums of commands, computed by a walk over them.
 pub(crate) fn sums_of(paints: &[Paint]) -> Sums
     requires { IsBatch paints.now }
     ensures { spec.AreSums result paints.now }
@@ -84,7 +84,7 @@ pub(crate) fn sums_of(paints: &[Paint]) -> Sums
     sums
 }
 
-/// How many points a rectangle has.
+/// The number of points of a rectangle.
 pub fn points_in(rect: &Rect) -> u64
     ensures { result ≡ spec.points_in rect.now }
 {
@@ -92,7 +92,7 @@ pub fn points_in(rect: &Rect) -> u64
     u64::from(wide) * u64::from(high)
 }
 
-/// What a point of a command's area costs, as measured, beside a point that is filled.
+/// The measured cost of a point of a command's area, relative to the cost of a filled point.
 fn weight(paint: &Paint) -> u64
     ensures { result ≡ spec.weight paint.now }
 {
@@ -110,7 +110,7 @@ fn either(a: bool, b: bool) -> bool
     a || b
 }
 
-/// What is known of the scrolls where this is the one command.
+/// The summary of the scrolls of this one command.
 fn scrolls_of(paint: &Paint) -> Scrolls
     requires { IsNearPaint paint.now }
     ensures one { spec.IsOneOf result paint.now }
@@ -125,7 +125,7 @@ fn scrolls_of(paint: &Paint) -> Scrolls
     }
 }
 
-/// What is known of the scrolls that some commands and others have.
+/// The summary of the scrolls of some commands and others.
 fn both_scrolls(some: &Scrolls, others: &Scrolls) -> Scrolls
     ensures some { (c : Paint) → spec.IsOneOf some.now c → spec.IsOneOf result c }
     ensures others { (c : Paint) → spec.IsOneOf others.now c → spec.IsOneOf result c }

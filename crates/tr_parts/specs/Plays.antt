@@ -1,4 +1,4 @@
--- What becomes of the parts of a script that many actors play.
+-- The result of a script's parts that many actors play.
 use Rattle.std.specs.Prelude.{◌≡◌, ℕ, List, [], codes}
 use Rattle.tr_client.specs.declared.clients.Client.{Ghosts}
 use Rattle.tr_journal.specs.declared.items.Item.{Item}
@@ -23,6 +23,6 @@ module _ {C M : Type 0} (client : Ghosts C M) where
   abbrev pub journal_texts : (M → List ℕ) → Names → List (Item C) → List (JournalLine M) → List ℕ
   journal_texts words names items lines = texts_from client words names Serial [] (start items) lines
 
--- the last line, where the journal is that of the threads
+-- the last line of the text, if threads played
 abbrev pub played_threads : List ℕ
 played_threads = codes "played threads\n"

@@ -1,4 +1,4 @@
--- What becomes of a run while parts are played in it.
+-- The effect of parts on a run.
 use Rattle.std.specs.Prelude.{◌≡◌, ℕ, Bool, if◌then◌else◌, List, [], ◌∷◌}
 use Rattle.tr_client.specs.declared.clients.Client.{Ghosts}
 use Rattle.tr_journal.specs.declared.steps.Actor.TheVariants.{Player}
@@ -43,7 +43,7 @@ module _ {C M : Type 0} (client : Ghosts C M) (words : M → List ℕ) where
     pub sync : Does client words old begun (if is_later then makes Player Sync ∷ [] else [])
     pub rest : HasPlayedPart begun new part
 
-  -- parts were played, of which there are some
+  -- one part or more were played
   pub record HasPlayedSome (old new : RunView C M) (parts : List (Part M)) : Type 0 where
     pub lines : List (JournalLine M)
     pub adds : AddsLines client words old new lines

@@ -1,5 +1,5 @@
 -- Private contracts alone cite this file.
--- What becomes of a stage on which many actors take turns.
+-- The effect on a stage of many actors that take turns.
 use Rattle.std.specs.Prelude.{◌≡◌, true, List, [], ◌++◌}
 use Rattle.tr_forest.specs.Nodes.{Nodes}
 use Rattle.tr_journal.specs.declared.steps.Actor.{Actor}

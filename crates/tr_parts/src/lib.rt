@@ -1,5 +1,5 @@
-//! Parts of a script that are played one after another: what the player does of each, and what all of them
-//! come to, whoever makes their steps.
+//! Parts of a script that are played one after another: the player's share of each, and the result of all of
+//! them, for any makers of their steps.
 #![tactic(auto)]
 
 mod parts;

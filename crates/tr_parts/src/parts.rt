@@ -18,8 +18,8 @@ use tr_journal::{Actor, NameOf, Query, Step};
 use tr_run::{Finished, Run};
 use tr_stage::Stage;
 
-/// The player begins a part, a later one with a sync, and makes its reports. For want of memory the first of
-/// these were made: of the next one the text may be written, and where it is a dump, the painter may have
+/// The player begins a part, a later one with a sync, and makes its reports. For want of memory only the
+/// first of these are made: the text of the next one may be added, and before a dump the painter may have
 /// made the first of the steps that settle.
 pub fn begin_part<C: Client, N: NameOf>(
     run: &mut Run<C, N>,
@@ -73,7 +73,7 @@ fn report<C: Client, N: NameOf>(run: &mut Run<C, N>, query: Query) -> Result<(),
     run.report(query)
 }
 
-/// The end of a run in which all parts were played by threads: the text gets the line that says so.
+/// The end of a run whose parts threads have played: the text gets the line that says so.
 pub fn finish<C: Client, N: NameOf>(run: Run<'_, C, N>) -> Result<Finished<C>, NoMemory>
     ensures stage { IfOk result (λ end. end.stage ≡ run.entry.stage) }
     ensures text { IfOk result (λ end. end.text ≡ run.entry.text ++ played_threads) }
@@ -84,7 +84,7 @@ pub fn finish<C: Client, N: NameOf>(run: Run<'_, C, N>) -> Result<Finished<C>, N
     Ok(end)
 }
 
-/// What holds of each stage, for what that tells the prover. It does nothing.
+/// The properties of each stage, for the prover. It does nothing.
 pub fn stands<C: Client>(stage: &Stage<C>)
     ensures stands { Stands C.Client stage.now }
     ensures like { IsOf stage.now.opening (state C.Client stage.now) }

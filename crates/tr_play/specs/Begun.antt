@@ -17,7 +17,7 @@ module _ {C M : Type 0} (client : Ghosts C M) (words : M → List ℕ) where
     pub legal : IsLegal client run.stage.opening run.stage.journal
     pub left : HasLeft run.stage part.steps d
 
-  -- the session of one of these parts found a difference, on the stage of a run that had played the parts before and begun this one
+  -- the session of one of these parts found a difference, on the stage of a run that had played the parts before it and begun this one
   pub record DiffersAmong (old : RunView C M) (parts : List (Part M)) (d : DiffersView C M) : Type 0 where
     pub before : List (Part M)
     pub part : Part M

@@ -15,7 +15,7 @@ step_at made place = (get_or made place (Player, Sync)).1
 abbrev pub steps_at : {M : Type 0} → List (Actor × Step M) → List ℕ → List (Step M)
 steps_at made places = map (step_at made) places
 
--- what a contract sees of the places of all actors' steps: the leaves' by their numbers, the desk's, and the player's
+-- the model of the places of all actors' steps: the leaves' by their numbers, the desk's, and the player's
 pub record PlacesView : Type 0 where
   pub leaves : List (List ℕ)
   pub desk : List ℕ
@@ -32,7 +32,7 @@ step_places places Desk = places.desk
 step_places places Painter = []
 step_places places Player = places.player
 
--- the places with one more, behind the others of its actor
+-- the places with one more, after the others of its actor
 abbrev pub with_place : PlacesView → Actor → ℕ → PlacesView
 with_place places (Leaf leaf) place =
     record places { leaves = set places.leaves leaf.0 (get_or places.leaves leaf.0 [] ++ place ∷ []) }
@@ -40,7 +40,7 @@ with_place places Desk place = record places { desk = places.desk ++ place ∷ [
 with_place places Painter place = places
 with_place places Player place = record places { player = places.player ++ place ∷ [] }
 
--- all are places in a part of so many steps
+-- all of these are places in a part of this number of steps
 abbrev pub are_below : ℕ → List ℕ → Type 0
 are_below steps places = All (λ place. place < steps) places
 

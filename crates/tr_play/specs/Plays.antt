@@ -1,4 +1,4 @@
--- What becomes of the parts of a script that threads play.
+-- The results of the parts of a script that threads play.
 use Rattle.std.specs.Prelude.{◌≡◌, List, [], ◌∷◌, ◌++◌, map}
 use Rattle.tr_client.specs.declared.clients.Client.{Ghosts}
 use Rattle.tr_forest.specs.Nodes.{leaf_count}
@@ -14,7 +14,7 @@ use Rattle.tr_parts.specs.Plays.{HasInterleaved}
 use Rattle.tr_server.specs.Differing.{DiffersView, IsDifference}
 use Rattle.tr_play.specs.Lists.{AreListed}
 
--- a part of a script as `Interleaves` takes it, where the type of commands is a parameter
+-- a part of a script in the form that `Interleaves` takes, with the type of commands as a parameter
 abbrev pub part_of : Seen → Part WidgetCmd
 part_of part = record { reports = part.reports; steps = part.steps }
 
@@ -22,7 +22,7 @@ part_of part = record { reports = part.reports; steps = part.steps }
 abbrev pub parts_of : List Seen → List (Part WidgetCmd)
 parts_of parts = map part_of parts
 
--- a part of which only the reports were made
+-- a part reduced to its reports, without its steps
 abbrev pub begun_part : {M : Type 0} → Part M → Part M
 begun_part part = record { reports = part.reports; steps = [] }
 
@@ -36,7 +36,7 @@ pub record HasLeft {C M : Type 0} (s : StageView C M) (steps : List (Actor × St
   pub first : IsDifference d
 
 module _ {C M : Type 0} (client : Ghosts C M) where
-  -- a session found this difference in one of the parts of a script, on a stage that had played the parts before and made this part's
+  -- a session found this difference in one of the parts of a script, on a stage that had played the parts before it and made this part's
   -- reports
   pub record DiffersInPart (items : List (Item C)) (parts : List (Part M)) (d : DiffersView C M) : Type 0 where
     pub before : List (Part M)

@@ -1,5 +1,5 @@
 -- Private contracts alone cite this file.
--- What a worker does with its pass.
+-- The work of a worker with its pass.
 use Rattle.std.specs.Prelude.{◌≡◌, ℕ, ◌<◌, ⊤, Bool, true, false, All, List, [], ◌∷◌, ◌++◌, length, slice_index_or, take, Result, OnOk, OnErr}
 use Rattle.tr_base.specs.declared.errors.NoMemory.{NoMemory}
 use Rattle.tr_forest.specs.Nodes.{Nodes}
@@ -12,7 +12,7 @@ use Rattle.tr_journal.specs.Lists.{ListsView, list_of}
 use Rattle.tr_parts.specs.Turns.{IsPartStep}
 use Rattle.tr_server.specs.Passes.{PassView}
 
--- the actor has a thread of its own, in a part with so many leaves
+-- the actor has a thread of its own, in a part with this number of leaves
 abbrev pub IsWorker : ℕ → Actor → Type 0
 IsWorker leaves (actors.Leaf leaf) = leaf.0 < leaves
 IsWorker leaves actors.Desk = ⊤
@@ -28,13 +28,13 @@ is_command step = false
 abbrev pub AreNoCommands : {M : Type 0} → List (Step M) → Type 0
 AreNoCommands list = All (λ step. is_command step ≡ false) list
 
--- a step is made with a pass, which stays its actor's: the pass has the step behind its others; without memory it has no more of them
+-- a step is made with a pass, whose actor stays: the pass has the step after its others; if memory runs out, it has the same steps
 pub record AddsStep {M A : Type 0} (before after : PassView M) (step : Step M) (answered : Result A NoMemory) : Type 0 where
   pub actor : after.actor ≡ before.actor
   pub mine : OnOk answered (after.mine ≡ before.mine ++ step ∷ [])
   pub err : OnErr answered (after.mine ≡ before.mine)
 
--- the first so many steps of a list were made with a pass
+-- some first steps of a list were made with a pass
 pub record HasWorked {M : Type 0} (before after : PassView M) (list : List (Step M)) : Type 0 where
   pub steps : ℕ
   pub actor : after.actor ≡ before.actor
@@ -49,11 +49,11 @@ pub record HasTaken {M : Type 0} (lists : ListsView M) (before after : PassView 
 abbrev pub AreReady : {M : Type 0} → Nodes → ListsView M → Type 0
 AreReady t lists = (actor : Actor) → is_maker actor ≡ true → All (λ step. IsPartStep t (actor, step)) (list_of lists actor)
 
--- these are the passes of workers, of which there are some, and the steps of each list can be made by its actor
+-- these are the passes of workers, at least one, and the steps of each list can be made by its actor
 abbrev pub CanWork : {M : Type 0} → Nodes → ListsView M → List (PassView M) → Type 0
 CanWork t lists passes = (0 < length passes) × All (λ pass. IsWorker (length lists.leaves) pass.actor) passes × AreReady t lists
 
--- with each of some passes its actor's steps were made, or the first so many of them
+-- each of some passes made its actor's steps, or some first ones of them
 abbrev pub HaveTaken : {M : Type 0} → ListsView M → List (PassView M) → List (PassView M) → Type 0
 HaveTaken {M} lists before after = (length after ≡ length before)
     × ((i : ℕ) (d : PassView M) → i < length before → HasTaken lists (slice_index_or before i d) (slice_index_or after i d))

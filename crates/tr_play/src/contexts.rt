@@ -4,7 +4,7 @@ use std::alloc::Global;
 use tr_client::Client;
 use tr_server::{Server, Session};
 
-/// What all workers of a session share.
+/// The shared data of all workers of a session.
 #[derive(Drop)]
 pub(crate) struct Context<'a, C: Client, L: Session, R, G: Gate> {
     pub(crate) rt: &'a R,

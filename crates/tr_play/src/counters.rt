@@ -3,26 +3,26 @@ use std::sync::atomic::{AtomicU64, Ordering};
 use std::thread::Parker;
 use std::time::Duration;
 
-/// How often in a row the painter may find that no worker has made a step, before it stops waiting: if no
-/// thread can be started, the workers run after the painter.
+/// The number of times in a row that the painter may find no progress of any worker, before it stops waiting:
+/// if no thread can be started, the workers run after the painter.
 const MOST_LOOKS: u32 = 50;
 
-/// How many milliseconds the painter sleeps before it looks again, if no worker wakes it.
+/// The milliseconds for which the painter sleeps before it looks again, if no worker wakes it.
 const NAP: u64 = 2;
 
-/// How many milliseconds the painter rests between two repaints, of which it so makes some sixty a second.
+/// The milliseconds for which the painter rests between two repaints: it makes about sixty a second.
 const REST: u64 = 16;
 
-/// A number of steps that is never reached: nobody waits.
+/// A number of steps that is never reached: no thread waits.
 const NEVER: u64 = u64::MAX;
 
 /// The number of steps of a part for which the painter need not wait any more. Commands are counted soon
-/// after they are made; other steps when their actor has finished, and also those that weren't made for
-/// want of memory. It is a hint for the painter: no contract rests on it.
+/// after they are made; other steps are counted when their actor has finished, even if they weren't made
+/// because memory ran out. It is a hint for the painter: no contract depends on it.
 #[derive(Drop)]
 pub(crate) struct Counter {
     made: AtomicU64,
-    /// How often a worker has reported its progress.
+    /// The number of times that a worker has reported its progress.
     notes: AtomicU64,
     /// The number of steps for which the painter waits.
     awaited: AtomicU64,
@@ -39,7 +39,7 @@ impl Counter {
         }
     }
 
-    /// A worker reports progress, and adds so many steps; with 0 it reports progress alone.
+    /// A worker reports progress, and adds this number of steps; with 0 it only reports progress.
     pub(crate) fn add(&self, steps: u64) {
         self.notes.fetch_add(1, Ordering::SeqCst);
         if steps == 0 {
@@ -56,13 +56,13 @@ impl Counter {
         self.made.load(Ordering::SeqCst)
     }
 
-    /// Whether there are at least so many steps.
+    /// Whether there are at least this many steps.
     pub(crate) fn has(&self, steps: u64) -> bool {
         self.count() >= steps
     }
 
-    /// Sleeps until there are so many steps, or until no worker reports progress any more. Returns whether
-    /// there are so many.
+    /// Sleeps until there are this many steps, or until no worker reports progress any more. Returns whether
+    /// there are this many.
     pub(crate) fn wait_for<R: Wait>(&self, rt: &R, steps: u64) -> bool {
         self.awaited.store(steps, Ordering::SeqCst);
         let made = self.sleep_until(rt, steps);
@@ -70,7 +70,7 @@ impl Counter {
         made
     }
 
-    /// Rests for a while, or until there are so many steps.
+    /// Rests for a while, or until there are this many steps.
     pub(crate) fn rest<R: Wait>(&self, rt: &R, steps: u64) {
         self.awaited.store(steps, Ordering::SeqCst);
         if !self.has(steps) {
@@ -82,7 +82,7 @@ impl Counter {
     fn sleep_until<R: Wait>(&self, rt: &R, steps: u64) -> bool {
         let mut seen = self.notes.load(Ordering::SeqCst);
         let mut looks: u32 = 0;
-        // (no run comes to the end of this range)
+        // (no run reaches the end of this range)
         for _look in 0..u64::MAX {
             if self.has(steps) {
                 return true;

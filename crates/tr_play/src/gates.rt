@@ -1,15 +1,15 @@
 use std::sync::Wait;
 use tr_journal::Actor;
 
-/// Is asked before steps of a client or of the desk, while its worker holds no lock. It may let the worker
-/// wait, so that one order of steps comes about and not another.
+/// A worker calls the gate before steps of a client or of the desk, while it holds no lock. The gate may make
+/// the worker wait, to choose one order of steps among the possible ones.
 pub trait Gate {
-    /// Is called before an actor's k-th step of a part, counted from 1. An open gate may be asked before
-    /// commands alone.
+    /// A call before an actor's k-th step of a part, counted from 1. An open gate may be called only before
+    /// commands.
     fn turn<R: Wait>(&self, rt: &R, actor: Actor, k: u32);
 
-    /// Whether it lets nobody wait before a step that is no command. Then it need not be asked there, and a
-    /// worker may make some of these steps, one after another, before it gives up the tree's lock.
+    /// Whether it makes no worker wait before a step that isn't a command. Then it need not be called there,
+    /// and a worker may make some of these steps, one after another, before it releases the tree's lock.
     fn is_open(&self) -> bool {
         false
     }

@@ -11,11 +11,11 @@ use std::marker::Model;
 use tr_base::{Command, NoMemory};
 use tr_journal::{Actor, Step};
 
-/// The most steps that a part may have, so that each place has room in 32 bits. A script has far fewer.
+/// The most steps that a part may have, so that each place fits into 32 bits. A script has far fewer.
 const MOST_STEPS: usize = u32::MAX as usize;
 
-/// The steps of a part, and where among them each actor's stand. A contract sees the lists of the actors'
-/// steps.
+/// The steps of a part, and the places of each actor's steps among them. The model is the lists of the
+/// actors' steps.
 #[derive(Drop)]
 pub(crate) struct PartLists<'a, M: Command> {
     steps: &'a [(Actor, Step<M>)],
@@ -72,7 +72,7 @@ impl<'a, M: Command> Model for List<'a, M> {
 }
 
 impl<'a, M: Command> List<'a, M> {
-    /// How many they are.
+    /// The number of steps.
     pub(crate) fn len(&self) -> usize
         ensures { result ≡ length self.now }
     {
@@ -91,7 +91,7 @@ impl<'a, M: Command> List<'a, M> {
         }
     }
 
-    /// How many of them are commands.
+    /// The number of commands among them.
     pub(crate) fn commands(&self) -> u64
         ensures { (result ≡ 0) ↔ AreNoCommands self.now }
     {
@@ -120,8 +120,8 @@ fn is_command<M: Command>(step: &Step<M>) -> bool
     matches!(step, Step::Act { .. })
 }
 
-/// The step at the k-th of these places among many. It is apart since the prover knows of a parameter, and
-/// not of a field, that a slice has room in memory.
+/// The step at the k-th of these places among many. It is a function of its own since the prover knows of a
+/// parameter, but not of a field, that a slice fits into memory.
 fn step_among<'a, M: Command>(
     steps: &'a [(Actor, Step<M>)],
     places: &[u32],
@@ -134,8 +134,8 @@ fn step_among<'a, M: Command>(
     &steps[places[k] as usize].1
 }
 
-/// The steps of each actor among these, in their order. More than `MOST_STEPS` are refused as if memory
-/// were wanting.
+/// The steps of each actor among these, in their order. More than `MOST_STEPS` steps are refused as if
+/// memory had run out.
 pub(crate) fn lists_of<'a, M: Command>(
     alloc: Global,
     steps: &'a [(Actor, Step<M>)],

@@ -18,8 +18,8 @@ use tr_levels::Ladder;
 use tr_server::{FEW_POINTS, Mu, Pass, Session};
 
 impl<C: Client, L: Session, R: Threads + Wait + Sync, G: Gate> Context<'_, C, L, R, G> {
-    /// The painter brings the screen up to date once 16 steps of the part are counted, or all, if it has
-    /// fewer; after that whenever one more is counted, but at most some sixty times a second; and for the
+    /// The painter brings the screen up to date once 16 steps of the part are counted, or all if it has
+    /// fewer; after that whenever one more is counted, but at most about sixty times a second; and for the
     /// last time when all are counted, or when it has waited in vain. It repaints once, and at most once
     /// more for each 16 steps of the part, until memory runs out.
     pub(crate) fn paint(&self, pass: &mut Pass<C, L>, steps: usize)
@@ -56,7 +56,7 @@ impl<C: Client, L: Session, R: Threads + Wait + Sync, G: Gate> Context<'_, C, L,
         requires { pass.old.actor ≡ Painter }
         ensures actor { pass.new.actor ≡ pass.old.actor }
 
-        // Then nothing waits that was handed over, no point is bad, and the screen is as if it were painted
+        // Then no command handed over waits, no point is bad, and the screen is as if painted
         // from nothing.
         ensures idle { let m = state C.Client mu.new in
             OnOk result ((leaf : LeafId) → leaf_batch C.Client m leaf ≡ []) }

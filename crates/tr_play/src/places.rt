@@ -7,8 +7,8 @@ use std::marker::Model;
 use tr_base::{LeafId, NoMemory};
 use tr_journal::Actor;
 
-/// The places at which the steps of each leaf's client, of the desk and of the player stand among those of
-/// a part, counted from 0. The painter has none.
+/// The places of the steps of each leaf's client, of the desk and of the player among those of a part,
+/// counted from 0. The painter has none.
 #[derive(Drop)]
 pub(crate) struct Places {
     leaves: Vec<Row>,
@@ -25,7 +25,7 @@ impl Model for Places {
 }
 
 impl Places {
-    /// No actor made a step yet.
+    /// The places before any step.
     pub(crate) fn new(alloc: Global, leaves: u8) -> Result<Places, NoMemory>
         ensures { IfOk result (λ places. places ≡ no_places leaves) }
     {
@@ -36,7 +36,7 @@ impl Places {
         })
     }
 
-    /// Adds a place behind the others of an actor.
+    /// Adds a place after the others of an actor.
     pub(crate) fn add(&mut self, actor: Actor, place: u32) -> Result<(), NoMemory>
         requires { HasList (length self.old.leaves) actor }
         ensures ok { OnOk result (self.new ≡ with_place self.old actor place) }
@@ -92,7 +92,7 @@ impl Model for Row {
 }
 
 impl Row {
-    /// No place.
+    /// A row without a place.
     fn new(alloc: Global) -> Row
         ensures { result ≡ [] }
     {
@@ -101,7 +101,7 @@ impl Row {
         }
     }
 
-    /// Adds a place behind the others.
+    /// Adds a place after the others.
     fn add(&mut self, place: u32) -> Result<(), NoMemory>
         ensures ok { OnOk result (self.new ≡ self.old ++ place ∷ []) }
         ensures err { OnErr result (self.new ≡ self.old) }
@@ -117,7 +117,7 @@ impl Row {
     }
 }
 
-/// So many rows without a place.
+/// This number of rows without a place.
 fn empty_rows(alloc: Global, count: u8) -> Result<Vec<Row>, NoMemory>
     ensures { IfOk result (λ rows. rows.items ≡ replicate count []) }
 {
@@ -128,7 +128,7 @@ fn empty_rows(alloc: Global, count: u8) -> Result<Vec<Row>, NoMemory>
     Ok(rows)
 }
 
-/// Adds a place behind the others of a leaf's client.
+/// Adds a place after the others of a leaf's client.
 fn add_at(rows: &mut Vec<Row>, leaf: LeafId, place: u32) -> Result<(), NoMemory>
     requires { leaf.0 < length rows.old.items }
     ensures ok { OnOk result (rows.new.items ≡

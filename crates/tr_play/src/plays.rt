@@ -23,8 +23,8 @@ use tr_widget::WidgetCmd;
 
 /// Plays the parts of a script, at least one, in a run before its first step. For each part the player
 /// makes the reports, and then threads make the steps, in some order. The run's text gets the texts of the
-/// journal's reports, and then the line that says that threads played. `Differs` says that a session found
-/// its stage to differ from what its passes say, and has that stage; after any other `Err` the stage is gone.
+/// journal's reports, and then the line that says that threads played. `Differs` means that a session found
+/// its stage to differ from its passes, and has that stage; after any other `Err` the stage is dropped.
 pub fn play<'a, C: Client<Cmd = WidgetCmd>, N: NameOf, R: Threads + Wait + Sync, G: Gate + Sync>(
     workers: &Workers<'_, R, G>,
     run: Run<'a, C, N>,

@@ -21,7 +21,7 @@ use tr_journal::Actor;
 use tr_server::{CloseRefused, Pass, Server, Session};
 use tr_stage::Stage;
 
-/// A session on a stage: each actor makes the steps of its list in a thread of its own, so many in all, and
+/// A session on a stage: each actor makes the steps of its list in a thread of its own, `steps` in all, and
 /// the painter repaints the screen meanwhile.
 pub(crate) fn session<C: Client, L: Session, R: Threads + Wait + Sync, G: Gate + Sync>(
     workers: &Workers<'_, R, G>,
@@ -56,14 +56,14 @@ pub(crate) fn session<C: Client, L: Session, R: Threads + Wait + Sync, G: Gate +
     let is_whole = are_whole(&passes.workers, lists);
     let closed = server.close(workers.rt, passes);
     if !is_whole {
-        // Said, since the prover takes apart what vanishes unsaid.
+        // Written out, since the prover takes apart a value that is dropped implicitly.
         drop(closed);
         return Err(CloseRefused::NoMemory);
     }
     closed
 }
 
-/// The same with the passes in a `Vec`, which is lent as a slice here alone: so the prover has to look at
+/// The same with the passes in a `Vec`, which is lent as a slice only here: so the prover has to consider
 /// one list of passes at a time.
 fn all_at_work<C: Client, L: Session, R: Threads + Wait + Sync, G: Gate + Sync>(
     context: &Context<'_, C, L, R, G>,
@@ -103,7 +103,7 @@ fn all_work<C: Client, L: Session, R: Threads + Wait + Sync, G: Gate + Sync>(
 }
 
 /// Two halves of the workers do their work, side by side or one after the other. It is a function of its own,
-/// since a closure's `requires` has to be that of the function around it.
+/// since a closure's `requires` must be that of the function around it.
 #[cycle(workers)]
 fn both_halves<C: Client, L: Session, R: Threads + Wait + Sync, G: Gate + Sync>(
     context: &Context<'_, C, L, R, G>,
@@ -146,7 +146,7 @@ fn has_work<C: Client, L: Session>(lists: &PartLists<'_, C::Cmd>, workers: &[Pas
     false
 }
 
-/// A worker does what is its own: the painter repaints the screen, and each other actor makes the steps of
+/// A worker does its own work: the painter repaints the screen, and each other actor makes the steps of
 /// its list.
 fn do_own<C: Client, L: Session, R: Threads + Wait + Sync, G: Gate + Sync>(
     context: &Context<'_, C, L, R, G>,
@@ -164,7 +164,7 @@ fn do_own<C: Client, L: Session, R: Threads + Wait + Sync, G: Gate + Sync>(
     }
 }
 
-/// Whether each actor but the painter made its list whole.
+/// Whether each actor but the painter made its whole list.
 fn are_whole<C: Client, L: Session>(
     workers: &Vec<Pass<C, L>>,
     lists: &PartLists<'_, C::Cmd>,
@@ -180,7 +180,7 @@ fn are_whole<C: Client, L: Session>(
     true
 }
 
-/// Whether an actor made its list whole. The painter has none.
+/// Whether an actor made its whole list. The painter has none.
 fn is_whole<C: Client, L: Session>(pass: &Pass<C, L>, lists: &PartLists<'_, C::Cmd>) -> bool
     requires { IsWorker (length lists.now.leaves) pass.now.actor }
     ensures { IsTrue result ↔ IsWhole pass.now lists.now }

@@ -17,25 +17,25 @@ use tr_journal::{Actor, Step};
 use tr_levels::Ladder;
 use tr_server::{Mu, Pass, Session, Window};
 
-/// How many commands may be posted with a pass before one is made under the tree's lock.
+/// The number of commands that may be posted with a pass before one is made under the tree's lock.
 const MOST_POSTED: u8 = 64;
 
-/// A worker draws before a flush only if it has posted so many commands.
+/// A worker draws before a flush only if it has posted this many commands.
 const MANY_POSTED: u8 = 8;
 
-/// So many steps a worker makes before it tells how far it has come.
+/// A worker makes this many steps before it reports its progress.
 const STEPS_A_NOTE: usize = 16;
 
 impl<C: Client, L: Session, R: Wait, G: Gate> Context<'_, C, L, R, G> {
-    /// Makes the steps of a list, one after another, until memory runs out. The painter is told of commands
-    /// as they are made, since they wait for him, and of the other steps in the end: what an edit of the
-    /// tree makes bad the next one may cover. Until then he is only told that the steps get on.
+    /// Makes the steps of a list, one after another, until memory runs out. Commands are reported to the
+    /// painter as they are made, since they wait for it, and other steps in the end: the next edit of the
+    /// tree may cover the points that one makes bad. Until then only the progress is reported.
     pub(crate) fn work(&self, pass: &mut Pass<C, L>, list: &List<'_, C::Cmd>)
         requires { All (λ step.
             IsPartStep (tree_of self.now.server.now.opening).nodes (pass.old.actor, step)) list.now }
         ensures { HasWorked pass.old pass.new list.now }
     {
-        // Where memory for all of them is wanting, it is taken as they come.
+        // If there isn't memory for all of them at once, it is taken step by step.
         let _ = pass.reserve(list.len());
         let mut left = list.len() as u64;
         for n in 0..list.len().div_ceil(STEPS_A_NOTE) {
@@ -51,7 +51,7 @@ impl<C: Client, L: Session, R: Wait, G: Gate> Context<'_, C, L, R, G> {
         self.made.add(left);
     }
 
-    /// Makes steps, one after another: under one lock, where the gate lets nobody wait and no command is
+    /// Makes steps, one after another: under one lock, if the gate makes no worker wait and no command is
     /// among them, since a command needs its window's lock alone.
     fn make_slice(
         &self,
@@ -72,7 +72,7 @@ impl<C: Client, L: Session, R: Wait, G: Gate> Context<'_, C, L, R, G> {
         }
     }
 
-    /// Makes steps, one after another. Before each the gate is asked, with no lock held.
+    /// Makes steps, one after another. The gate is called before each, with no lock held.
     fn make_each(&self, pass: &mut Pass<C, L>, list: &List<'_, C::Cmd>) -> Result<(), NoMemory>
         requires { All (λ step.
             IsPartStep (tree_of self.now.server.now.opening).nodes (pass.old.actor, step)) list.now }
@@ -185,9 +185,9 @@ impl<C: Client, L: Session, R: Wait, G: Gate> Context<'_, C, L, R, G> {
         }
     }
 
-    /// Before a flush of many commands, while others have the tree's lock, the worker draws what they leave:
-    /// under the lock the flush then only puts pixels onto the screen. Few commands take less time than a
-    /// picture, and if the lock is free, painting under it takes less time in all.
+    /// Before a flush of many commands, while another thread has the tree's lock, the worker draws their
+    /// result: under the lock the flush then only puts pixels onto the screen. Few commands take less time
+    /// than a picture, and if the lock is free, painting under it takes less time in all.
     fn draw_for(&self, window: &Window<C, L>, pass: &Pass<C, L>, step: &Step<C::Cmd>) {
         let is_flush = matches!(step, Step::Flush { .. });
         if is_flush && pass.posted() >= MANY_POSTED && self.server.is_busy() {
@@ -195,7 +195,7 @@ impl<C: Client, L: Session, R: Wait, G: Gate> Context<'_, C, L, R, G> {
         }
     }
 
-    /// The client of a window makes a command: it posts it, or, where it has posted as many as it may, makes
+    /// The client of a window makes a command: it posts it, or, if it has posted as many as it may, makes
     /// it under the tree's lock.
     fn act(&self, window: &Window<C, L>, pass: &mut Pass<C, L>, cmd: C::Cmd) -> Result<(), NoMemory>
         requires { pass.old.actor ≡ Leaf window.now }
@@ -215,7 +215,7 @@ impl<C: Client, L: Session, R: Wait, G: Gate> Context<'_, C, L, R, G> {
     }
 }
 
-/// Which step of the part the next one is that is made with a pass, counted from 1.
+/// The number in the part of the next step that is made with a pass, counted from 1.
 fn next_number<C: Client, L: Session>(pass: &Pass<C, L>) -> u32
     ensures { result ≡ min (length pass.now.mine + 1) (2 ^ 32 - 1) }
 {

@@ -20,8 +20,8 @@ use tr_parts::stands;
 use tr_server::CloseRefused;
 use tr_stage::Stage;
 
-/// What all workers share: the right to start threads and to wait, the allocator, and the gate, which they
-/// ask before each step of a client or of the desk.
+/// The shared data of all workers: the right to start threads and to wait, the allocator, and the gate, which
+/// is called before each step of a client or of the desk.
 #[derive(Drop)]
 pub struct Workers<'a, R, G> {
     pub rt: &'a R,
@@ -29,7 +29,7 @@ pub struct Workers<'a, R, G> {
     pub gate: &'a G,
 }
 
-/// The painter may repaint once more for each so many steps of a part.
+/// The painter may repaint once more for each this many steps of a part.
 pub(crate) const STEPS_A_REPAINT: usize = 16;
 
 /// Makes the steps of a part on a stage, by threads: no thread has steps of two actors. Meanwhile the painter
@@ -53,7 +53,7 @@ pub(crate) fn make_side_by_side<C: Client, R: Threads + Wait + Sync, G: Gate + S
         return Err(CloseRefused::NoMemory);
     };
     let blank = Blank::new(2 * u64::from(leaves) + 3);
-    // Called, before and after, for what it tells the prover.
+    // Tells the prover, before and after, the laws of the stage.
     stands(&stage);
     match session::<C, Brand, R, G>(workers, blank, stage, &lists, steps.len()) {
         Ok(stage) => {
@@ -64,8 +64,8 @@ pub(crate) fn make_side_by_side<C: Client, R: Threads + Wait + Sync, G: Gate + S
     }
 }
 
-/// Whether nothing waits for a window, and no point is bad. Where memory is wanted to see that, the painter
-/// is to look.
+/// Whether no command waits for a window, and no point is bad. It is false if memory runs out: then the
+/// painter has to look.
 fn is_settled<C: Client>(stage: &Stage<C>) -> bool
     ensures { IsTrue result → settling C.Client (state C.Client stage.now) ≡ [] }
 {

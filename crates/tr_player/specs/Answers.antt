@@ -1,4 +1,4 @@
--- What a call answers, and when.
+-- The answers of a call, and their causes.
 use Rattle.std.specs.Prelude.{◌≡◌, ◌≢◌, ◌⊎◌, ⊤, ℕ, ◌+◌, List, ◌++◌, take, Option, Some, None, IsSomeAnd, codes, decimal}
 use Rattle.std.specs.List.{filter}
 use Rattle.tr_io.specs.declared.streams.Source.{Ghosts as SourceGhosts}
@@ -27,56 +27,56 @@ use Rattle.tr_player.specs.declared.statuses.Status.TheVariants.{Done, Usage, Re
 use Rattle.tr_player.specs.Statuses.{code}
 use Rattle.tr_player.specs.Checks.{check_refusal}
 
--- ---- what is asked for
+-- ---- the command
 
--- what one thread can be asked for: `play` asks for many
+-- the commands of one thread: all but `play`
 abbrev pub of_one_thread : Option Command → Option Command
 of_one_thread (Some commands.Play) = None
 of_one_thread command = command
 
--- what the words after the program's name ask one thread for, if they ask for anything
+-- the command of one thread that the words after the program's name give, if they give one
 abbrev pub asked_by : List (List ℕ) → Option Command
 asked_by words = of_one_thread (command_of words)
 
--- nothing is read: nothing is asked for, or the script that a number gives
+-- the call reads nothing: there is no command, or it is `gen`
 abbrev pub ReadsNone : Option Command → Type 0
 ReadsNone None = ⊤
 ReadsNone (Some (commands.Gen number)) = ⊤
 ReadsNone (Some command) = ⊥
 
--- ---- what is read
+-- ---- the bytes that are read
 
--- the most bytes that are read: one more than a stream may have, or a script, which shows that it is too long
+-- the most bytes that are read: one more than a stream or a script may have, which shows that it is too long
 abbrev pub most_read : Command → ℕ
 most_read commands.Show = longest_stream + 1
 most_read command = most_script_bytes + 1
 
--- a fact of the bytes that are read; where the source doesn't tell what it has left, of some bytes
+-- a fact of the bytes that are read; if the source doesn't tell its remaining bytes, of some bytes
 abbrev pub OfBytesRead : Command → Option (List ℕ) → (List ℕ → Type 0) → Type 0
 OfBytesRead command left P = OfFirst (most_read command) left P
 
--- the reading came to its end: to that of the source, or to the most bytes that are read
+-- the source was read to its end, or to the most bytes that are read
 abbrev pub IsReadThrough : Command → Option (List ℕ) → Option (List ℕ) → Type 0
 IsReadThrough command before after = IsReadUpTo (most_read command) before after
 
--- the first refusal if there is one, and else the second
+-- the first refusal if there is one, else the second
 abbrev pub or_else : Option Refusal → Option Refusal → Option Refusal
 or_else (Some r) later = Some r
 or_else None later = later
 
--- why a text is refused, if it is: it is no script, or it is one that isn't checked
+-- the refusal of a text, if it has one: it is no script, or its check is beyond the limits
 abbrev pub refusal_for : Command → List ℕ → Option Refusal
 refusal_for commands.Check bytes = or_else (refusal_of bytes) (check_refusal (script_of bytes))
 refusal_for command bytes = refusal_of bytes
 
--- what is written of a script that one thread plays
+-- the text of a script that one thread plays
 abbrev pub text_for : Command → Script → List ℕ
 text_for commands.Check s = check_text s
 text_for commands.Mirror s = mirror_bytes s
 text_for command s = out_text s
 
--- What `mirror` writes of a script is a stream. Of this stream `show` writes the dumps among the reports that `serial` writes of the
--- script, in order.
+-- `mirror` writes a stream. `show` writes the dumps of this stream: they are the dumps among the reports that `serial` writes of the
+-- same script, in order.
 abbrev pub IsReadBack : Command → Script → Type 0
 IsReadBack commands.Mirror s =
     (first_fault (mirror_bytes s) ≡ None)
@@ -84,36 +84,36 @@ IsReadBack commands.Mirror s =
     × (out_text s ≡ report_texts (reports_of s))
 IsReadBack command s = ⊤
 
--- what one thread writes of a script by a command: its text, and of `mirror` a stream that can be read back; `play` asks for many threads
+-- the text that one thread writes of a script; for `mirror` it is a stream that can be read back; `play` has many threads
 abbrev pub IsWritten : Command → Script → List ℕ → Type 0
 IsWritten commands.Play s text = ⊥
 IsWritten command s text = (text ≡ text_for command s) × IsReadBack command s
 
--- what a script comes to that threads play, which `play` asks for
+-- threads played the script, as `play` does
 abbrev pub IsByThreads : Command → Script → Threaded → Type 0
 IsByThreads commands.Play s end = IsThreaded s end
 IsByThreads command s end = ⊥
 
--- ---- what is due
+-- ---- the answer that is due
 
--- what is written for words that ask for nothing
+-- the text for words that are no command
 abbrev pub usage_text : List ℕ
 usage_text = codes "usage: trestle play|serial|check|mirror|show|gen N\n"
 
--- what is written where the source had a fault
+-- the text for a fault of the source
 abbrev pub read_fault_text : List ℕ
 read_fault_text = codes "read fault\n"
 
--- what is written where the bytes are refused: the line and its fault
+-- the text for refused bytes: the line and its fault
 abbrev pub refused_text : Refusal → List ℕ
 refused_text r = codes "refused: line " ++ decimal r.line ++ codes " B" ++ decimal r.code ++ codes "\n"
 
--- what is written where the bytes are no stream: where its first fault stands, and which it is
+-- the text for bytes that are no stream: the place of their first fault, and its number
 abbrev pub faulty_text : MirrorFault → List ℕ
 faulty_text f = codes "refused: byte " ++ decimal f.place ++ codes " M" ++ decimal (fault_number f.fault) ++ codes "\n"
 
--- what a call is to answer before it is written. The last three are a script that one thread played, one that threads played, and a stream
--- that was read, with what is written of them
+-- the answer of a call before it is written. The last three are a script that one thread played, one that threads played, and a
+-- stream that was read, each with its text
 pub data Due : Type 0 where
   usage : Due
   read_fault : Due
@@ -123,7 +123,7 @@ pub data Due : Type 0 where
   threaded : Script → Threaded → Due
   shown : List ℕ → Due
 
--- the status of each of these answers
+-- the status of each answer
 abbrev pub status_of : Due → Status
 status_of usage = Usage
 status_of read_fault = ReadFault
@@ -133,7 +133,7 @@ status_of (played s text) = Done
 status_of (threaded s end) = Done
 status_of (shown text) = Done
 
--- what is written for each of them
+-- the text of each answer
 abbrev pub due_text : Due → List ℕ
 due_text usage = usage_text
 due_text read_fault = read_fault_text
@@ -143,14 +143,14 @@ due_text (played s text) = text
 due_text (threaded s end) = end.text
 due_text (shown text) = text
 
--- what became of a source in a call: the bytes that it had left and its count of faults, before and after
+-- a source before and after a call: its remaining bytes and its count of faults
 pub record SourceChange : Type 0 where
   pub left : Option (List ℕ)
   pub left_new : Option (List ℕ)
   pub faults : ℕ
   pub faults_new : ℕ
 
--- that of any source
+-- the change of any source
 abbrev pub source_change : {S : Type 0} → SourceGhosts S → S → S → SourceChange
 source_change source before after = record {
   left = source.left before;
@@ -164,8 +164,7 @@ pub record IsUnread (from : SourceChange) : Type 0 where
   pub left : from.left_new ≡ from.left
   pub faults : from.faults_new ≡ from.faults
 
--- where a script is read: a read fault is due where the source has one; else the refusal of the bytes, or what the script that they are
--- comes to
+-- the answer to a script in a source: a read fault if the source had one, else the refusal of the bytes, or the result of their script
 abbrev pub IsDueOfBytes : Command → SourceChange → Due → Type 0
 IsDueOfBytes command from read_fault = HasFault from.faults from.faults_new
 IsDueOfBytes command from (refused r) =
@@ -180,7 +179,7 @@ IsDueOfBytes command from (threaded s end) =
     × IsByThreads command s end
 IsDueOfBytes command from due = ⊥
 
--- where a stream is read: a read fault is due where the source has one; else the first fault of the bytes, or the dumps of what they show
+-- the answer to a stream in a source: a read fault if the source had one, else the first fault of the bytes, or the dumps of their screens
 abbrev pub IsDueOfStream : SourceChange → Due → Type 0
 IsDueOfStream from read_fault = HasFault from.faults from.faults_new
 IsDueOfStream from (faulty f) =
@@ -191,23 +190,23 @@ IsDueOfStream from (shown text) =
     × OfBytesRead commands.Show from.left (λ bytes. (first_fault bytes ≡ None) × (text ≡ shown_text bytes))
 IsDueOfStream from due = ⊥
 
--- an answer is due: where nothing is asked for the usage, for a number the summary of its script, and in both cases nothing is read
+-- an answer is due: the usage without a command, the summary of the script for a number; in both cases nothing is read
 abbrev pub IsDue : Option Command → SourceChange → Due → Type 0
 IsDue None from due = (due ≡ usage) × IsUnread from
 IsDue (Some (commands.Gen number)) from due = (due ≡ played (drawn number) (gen_text number)) × IsUnread from
 IsDue (Some commands.Show) from due = IsDueOfStream from due
 IsDue (Some command) from due = IsDueOfBytes command from due
 
--- ---- what becomes of it
+-- ---- the delivery of the answer
 
--- what became of a sink in a call: the bytes that it had taken and its count of faults, before and after
+-- a sink before and after a call: the bytes that it has taken and its count of faults
 pub record SinkChange : Type 0 where
   pub written : Option (List ℕ)
   pub written_new : Option (List ℕ)
   pub faults : ℕ
   pub faults_new : ℕ
 
--- that of any sink
+-- the change of any sink
 abbrev pub sink_change : {K : Type 0} → SinkGhosts K → K → K → SinkChange
 sink_change sink before after = record {
   written = sink.written before;
@@ -216,24 +215,24 @@ sink_change sink before after = record {
   faults_new = sink.faults after;
 }
 
--- a stage that has played a script on one thread
+-- a stage on which one thread has played a script
 pub record HasPlayed (s : Script) (stage : StageView Widget WidgetCmd) : Type 0 where
   pub opening : stage.opening ≡ s.opening
   pub journal : stage.journal ≡ serial_journal s
 
--- the stage that an answer hands out: that of the script that was played, and none where none was
+-- the stage in an outcome: that of the script that was played, else none
 abbrev pub IsStageOf : Due → Option (StageView Widget WidgetCmd) → Type 0
 IsStageOf (played s text) stage = IsSomeAnd stage (λ stage. HasPlayed s stage)
 IsStageOf (threaded s end) stage = stage ≡ Some end.stage
 IsStageOf due stage = stage ≡ None
 
--- the difference that an answer hands out: one that a session of threads found
+-- the difference in an outcome: one that a session of threads found
 abbrev pub IsDifferenceOf : Due → Option (DiffersView Widget WidgetCmd) → Type 0
 IsDifferenceOf (threaded s end) differs = differs ≡ end.differs
 IsDifferenceOf due differs = differs ≡ None
 
--- what became of the text that is due, by the status that is answered: it was written, or a write fault left a prefix of it, or want of
--- memory nothing; stage and difference are handed out in the first case alone
+-- the text was delivered, by the status: the sink got all of it, or a prefix and then a write fault, or nothing for want of memory;
+-- only the first outcome has a stage or a difference
 abbrev pub IsDelivered : Due → Outcome → SinkChange → Type 0
 IsDelivered due out to =
     ((out.status ≡ code (status_of due)) × IsStageOf due out.stage × Grew to.written to.written_new (due_text due)
@@ -242,7 +241,7 @@ IsDelivered due out to =
     × GrewByPrefix to.written to.written_new (due_text due) × (out.differs ≡ None))
     ⊎ ((out.status ≡ code NoMemory) × (out.stage ≡ None) × (to.written_new ≡ to.written) × (out.differs ≡ None)))
 
--- all that a call does: memory was wanted before an answer was found, or one is due and was delivered
+-- all that a call does: it found no answer for want of memory, or an answer was due and was delivered
 abbrev pub IsAnswered : Option Command → SourceChange → Outcome → SinkChange → Type 0
 IsAnswered asked from out to =
     ((out.status ≡ code NoMemory) × (out.stage ≡ None) × (to.written_new ≡ to.written) × (ReadsNone asked → IsUnread from)
@@ -251,44 +250,44 @@ IsAnswered asked from out to =
 
 -- ---- words of the clauses
 
--- a fact of an answer that no write fault and no want of memory took the place of
+-- a fact of every answer but a write fault and want of memory
 abbrev pub Yields : ℕ → Type 0 → Type 0
 Yields status P = status ≢ code WriteFault → status ≢ code NoMemory → P
 
--- where something is read, a fact of what is asked for
+-- if something is read, a fact of the command
 abbrev pub OfReader : Option Command → (Command → Type 0) → Type 0
 OfReader None P = ⊤
 OfReader (Some (commands.Gen number)) P = ⊤
 OfReader (Some command) P = P command
 
--- where a script is read, a fact of what is asked for and of the bytes that are read
+-- if a script is read, a fact of the command and of the bytes that are read
 abbrev pub OfScriptRead : Option Command → Option (List ℕ) → (Command → List ℕ → Type 0) → Type 0
 OfScriptRead None left P = ⊤
 OfScriptRead (Some (commands.Gen number)) left P = ⊤
 OfScriptRead (Some commands.Show) left P = ⊤
 OfScriptRead (Some command) left P = OfBytesRead command left (λ bytes. P command bytes)
 
--- where one thread plays a script that is read, a fact of what is asked for and of the bytes that are read
+-- if one thread plays a script that is read, a fact of the command and of the bytes that are read
 abbrev pub OfOneThread : Option Command → Option (List ℕ) → (Command → List ℕ → Type 0) → Type 0
 OfOneThread (Some commands.Play) left P = ⊤
 OfOneThread asked left P = OfScriptRead asked left P
 
--- where threads play it, a fact of the bytes
+-- if threads play a script that is read, a fact of the bytes
 abbrev pub OfThreads : Option Command → Option (List ℕ) → (List ℕ → Type 0) → Type 0
 OfThreads (Some commands.Play) left P = OfBytesRead commands.Play left P
 OfThreads asked left P = ⊤
 
--- where a stream is read, a fact of the bytes that are read
+-- if a stream is read, a fact of the bytes that are read
 abbrev pub OfStreamRead : Option Command → Option (List ℕ) → (List ℕ → Type 0) → Type 0
 OfStreamRead (Some commands.Show) left P = OfBytesRead commands.Show left P
 OfStreamRead asked left P = ⊤
 
--- where a number's script is summed up, a fact of the number
+-- if the script of a number is summed up, a fact of the number
 abbrev pub OfNumber : Option Command → (ℕ → Type 0) → Type 0
 OfNumber (Some (commands.Gen number)) P = P number
 OfNumber command P = ⊤
 
--- something is asked for, and its script, or its stream, which the source tells, isn't refused
+-- there is a command, and its script or stream, which the source tells, isn't refused
 abbrev pub IsAllowed : Option Command → Option (List ℕ) → Type 0
 IsAllowed None left = ⊥
 IsAllowed (Some (commands.Gen number)) left = ⊤

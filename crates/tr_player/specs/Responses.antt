@@ -1,5 +1,5 @@
 -- Private contracts alone cite this file.
--- The responses that the code makes, as the answers that are due.
+-- The responses of the code, as the answers that are due.
 use Rattle.std.specs.Prelude.{◌≡◌, ⊤, ℕ, List, Option, Some, None}
 use Rattle.tr_arguments.specs.declared.Command.{Command}
 use Rattle.tr_arguments.specs.declared.Command.TheVariants as commands
@@ -13,7 +13,7 @@ use Rattle.tr_player.specs.declared.responses.Response.TheVariants as responses
 use Rattle.tr_player.specs.Checks.{check_refusal}
 use Rattle.tr_player.specs.Answers.{Due, usage, read_fault, refused, faulty, played, threaded, shown, refusal_for, IsWritten, IsByThreads, usage_text, read_fault_text, refused_text, faulty_text, HasPlayed}
 
--- what is due for a text: its refusal, or what the script that it is comes to
+-- the answer to a text: its refusal, or the result of its script
 abbrev pub IsDueOfText : Command → List ℕ → Due → Type 0
 IsDueOfText command bytes (refused r) = refusal_for command bytes ≡ Some r
 IsDueOfText command bytes (played s text) =
@@ -22,18 +22,18 @@ IsDueOfText command bytes (threaded s end) =
     (refusal_for command bytes ≡ None) × (s ≡ script_of bytes) × IsByThreads command s end
 IsDueOfText command bytes due = ⊥
 
--- what is due for the bytes of a stream: its first fault, or the dumps of what it shows
+-- the answer to the bytes of a stream: its first fault, or the dumps of its screens
 abbrev pub IsDueOfShow : List ℕ → Due → Type 0
 IsDueOfShow bytes (faulty f) = first_fault bytes ≡ Some f
 IsDueOfShow bytes (shown text) = (first_fault bytes ≡ None) × (text ≡ shown_text bytes)
 IsDueOfShow bytes due = ⊥
 
--- a refusal is due where there is one
+-- the refusal if there is one, else the answer
 abbrev pub refused_or : Option Refusal → Due → Due
 refused_or (Some r) due = refused r
 refused_or None due = due
 
--- what is due for a script that one thread plays: its text, unless a check of it is beyond the limits
+-- the answer to a script that one thread plays: its text, unless a check of it is beyond the limits
 abbrev pub due_of_script : Command → Script → Due
 due_of_script commands.Check s = refused_or (check_refusal s) (played s (check_text s))
 due_of_script commands.Mirror s = played s (mirror_bytes s)

@@ -3,7 +3,7 @@ use Rattle.std.specs.Prelude.{ℕ}
 use Rattle.tr_player.specs.declared.statuses.Status.{Status}
 use Rattle.tr_player.specs.declared.statuses.Status.TheVariants.{Done, Usage, Refused, ReadFault, WriteFault, NoMemory}
 
--- the number that the process ends with
+-- the exit status of the process
 abbrev pub code : Status → ℕ
 code Done = 0
 code Usage = 2

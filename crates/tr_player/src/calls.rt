@@ -33,20 +33,20 @@ use tr_server::Differs;
 use tr_stage::Stage;
 use tr_widget::Widget;
 
-/// What a call ends in.
+/// The outcome of a call.
 #[derive(Drop)]
 pub struct Outcome {
     /// The code of a `Status`.
     pub status: u8,
-    /// The stage after all steps, where the status is 0 and a script was played.
+    /// The stage after all steps, if the status is 0 and a script was played.
     pub stage: Option<Stage<Widget>>,
-    /// What a session of threads found that found its stage other than its passes say, where the status is 0.
+    /// The difference that a session of threads found between its stage and its passes, if the status is 0.
     /// Then all was played again on one thread.
     pub differs: Option<Differs<Widget>>,
 }
 
 impl Outcome {
-    /// The status alone: stage and difference go.
+    /// The status alone: stage and difference are dropped.
     pub fn into_status(self) -> u8
         ensures { result ≡ self.status }
     {
@@ -55,12 +55,12 @@ impl Outcome {
             stage,
             differs,
         } = self;
-        // Said, here and below, since the prover takes apart what vanishes unsaid.
+        // Explicit, here and below: at an implicit drop the prover takes the value apart.
         drop((stage, differs));
         status
     }
 
-    /// The status and the stage: a difference goes.
+    /// The status and the stage: a difference is dropped.
     pub fn into_stage(self) -> (u8, Option<Stage<Widget>>)
         ensures status { result.0 ≡ self.status }
         ensures stage { result.1 ≡ self.stage }
@@ -75,15 +75,15 @@ impl Outcome {
     }
 }
 
-/// Plays a script on one thread, and writes what is due. The words are those after the program's name. For
-/// `serial` these are the reports of the script that the source has; for `check` also, after each entry of
-/// the journal but a sync's or a report's, how many points lag behind what the windows are to show; for
-/// `mirror` the stream of the screens that the script dumps; for `gen N` a summary of the script that the
-/// number gives. For `show` the source has such a stream, and its screens are dumped. Other words, and
-/// `play`, are answered with the usage. For these and for `gen` nothing is read.
+/// Plays a script on one thread, and writes the answer. The words are those after the program's name. For
+/// `serial` the text is the reports of the script in the source; for `check` also the number of points that
+/// lag behind the windows after each entry of the journal, except a sync's or a report's; for `mirror` the
+/// stream of the screens that the script dumps; for `gen N` a summary of the script of that number. For
+/// `show` the source has such a stream, and its screens are dumped. For other words, and for `play`, the
+/// answer is the usage. For these and for `gen` nothing is read.
 ///
-/// The causes are looked at in this order: usage, read fault, script, run. Want of memory may take the place
-/// of each answer before the first byte is written, and a write fault afterwards.
+/// The causes are tried in this order: usage, read fault, script, run. Want of memory may replace each
+/// answer before the first byte is written, and a write fault afterwards.
 pub fn serial_call<S: Source, K: Sink>(
     alloc: Global,
     words: &[String],
@@ -93,17 +93,17 @@ pub fn serial_call<S: Source, K: Sink>(
     ensures statuses { (status : Status) × (result.status ≡ code status) }
     ensures rising { (S.faults source.old ≤ S.faults source.new) × (K.faults sink.old ≤ K.faults sink.new) }
 
-    // All of it at once: one of the answers is due, and what became of it. The clauses below follow.
+    // All at once: one of the answers is due, and was delivered. The clauses below follow.
     ensures answered { IsAnswered (asked_by (texts_of words.now))
         (source_change S.Source source.old source.new) result (sink_change K.Sink sink.old sink.new) }
 
-    // Usage: exactly where the words are no accepted list; `play` is none here.
+    // Usage: exactly if the words are no accepted list; `play` is none here.
     ensures usage { Yields result.status
         ((result.status ≡ code Status.Usage) ↔ (asked_by (texts_of words.now) ≡ None)) }
     ensures usage_text { result.status ≡ code Status.Usage →
         Grew (K.written sink.old) (K.written sink.new) usage_text }
 
-    // Nothing is read then, nor for a number, whatever is answered.
+    // For these words, and for a number, nothing is read, with any answer.
     ensures unread { ReadsNone (asked_by (texts_of words.now)) →
         (S.left source.new ≡ S.left source.old) × (S.faults source.new ≡ S.faults source.old) }
 
@@ -113,7 +113,7 @@ pub fn serial_call<S: Source, K: Sink>(
     ensures read_fault_text { result.status ≡ code Status.ReadFault →
         Grew (K.written sink.old) (K.written sink.new) read_fault_text }
 
-    // Refused: of the answers to a script that was read, exactly where its bytes are refused, with the
+    // Refused: among the answers to a script that was read, exactly if its bytes are refused, with the
     // first fault.
     ensures refused { Yields result.status (result.status ≢ code Status.ReadFault →
         OfScriptRead (asked_by (texts_of words.now)) (S.left source.old) (λ command bytes.
@@ -134,12 +134,12 @@ pub fn serial_call<S: Source, K: Sink>(
         IsSomeAnd (first_fault bytes) (λ fault.
         Grew (K.written sink.old) (K.written sink.new) (faulty_text fault))) }
 
-    // Done and refused: the source was read to its end, or until there was too much.
+    // Done and refused: the source was read to its end, or to one byte more than the greatest length.
     ensures read_through { (result.status ≡ code Status.Done) ⊎ (result.status ≡ code Status.Refused) →
         OfReader (asked_by (texts_of words.now)) (λ command.
         IsReadThrough command (S.left source.old) (S.left source.new)) }
 
-    // Done: the source was read to its end. The script in the bytes read was played: what is written is its
+    // Done: the source was read to its end. The script in the bytes read was played: the sink got its
     // text, the stage has its opening, and the journal is the serial one.
     ensures read_to_end { result.status ≡ code Status.Done → (ReadsNone (asked_by (texts_of words.now)) → ⊥) →
         IfSome (S.left source.new) (λ rest. rest ≡ []) }
@@ -150,14 +150,14 @@ pub fn serial_call<S: Source, K: Sink>(
         OfOneThread (asked_by (texts_of words.now)) (S.left source.old) (λ command bytes.
         IsSomeAnd result.stage (λ stage. HasPlayed (script_of bytes) stage)) }
 
-    // The same of the script that a number gives.
+    // The same of the script of a number.
     ensures summed_up { result.status ≡ code Status.Done →
         OfNumber (asked_by (texts_of words.now)) (λ number.
         Grew (K.written sink.old) (K.written sink.new) (gen_text number)
         × IsSomeAnd result.stage (λ stage. HasPlayed (drawn number) stage)) }
 
-    // Of a stream the screens at its cuts are dumped. One that was written for a script shows the script's
-    // dumps.
+    // The screens at the cuts of a stream are dumped. A stream that was written for a script shows the
+    // script's dumps.
     ensures shown { result.status ≡ code Status.Done →
         OfStreamRead (asked_by (texts_of words.now)) (S.left source.old) (λ bytes.
         Grew (K.written sink.old) (K.written sink.new) (shown_text bytes)) }
@@ -165,12 +165,12 @@ pub fn serial_call<S: Source, K: Sink>(
         OfOneThread (asked_by (texts_of words.now)) (S.left source.old) (λ command bytes.
         IsReadBack command (script_of bytes)) }
 
-    // There is a stage exactly where a script was played, and never a difference.
+    // There is a stage exactly if a script was played, and never a difference.
     ensures has_stage { IsSome result.stage ↔
         ((result.status ≡ code Status.Done) × (asked_by (texts_of words.now) ≢ Some Command.Show)) }
     ensures no_difference { result.differs ≡ None }
 
-    // Write fault: only where the sink had one. What is written is a prefix of the text that is due.
+    // Write fault: only if the sink had one. The sink got a prefix of the text.
     ensures write_fault { result.status ≡ code Status.WriteFault →
         HasFault (K.faults sink.old) (K.faults sink.new) }
     ensures prefix { result.status ≡ code Status.WriteFault → (due : Due)
@@ -181,7 +181,7 @@ pub fn serial_call<S: Source, K: Sink>(
     ensures no_memory { result.status ≡ code Status.NoMemory →
         K.written sink.new ≡ K.written sink.old }
 
-    // What isn't refused is played, where no fault is counted.
+    // A script or stream that isn't refused is played, unless a fault is counted.
     ensures complete { IsAllowed (asked_by (texts_of words.now)) (S.left source.old) →
         (HasFault (S.faults source.old) (S.faults source.new) → ⊥) →
         (HasFault (K.faults sink.old) (K.faults sink.new) → ⊥) →
@@ -193,13 +193,13 @@ pub fn serial_call<S: Source, K: Sink>(
     deliver(sink, response)
 }
 
-/// Plays a script by threads where the words are `play`, and else does what `serial_call` does. For `play`
-/// a thread makes the steps of each leaf's client, one those of the desk, and one is the painter, who brings
-/// the screen up to date meanwhile; the gate is asked before each step of a script, unless it says that it
-/// lets nobody wait. What is written are the script's reports, and `played threads`. Should a session find
-/// its stage other than its passes say, all is played again on one thread, and what is written says so.
+/// Plays a script by threads if the words are `play`, else does the same as `serial_call`. For `play` one
+/// thread makes the steps of each leaf's client, one those of the desk, and the painter's thread brings
+/// the screen up to date meanwhile. It asks the gate before each step of a script, unless the gate says
+/// that it lets no thread wait. The text is the script's reports, and `played threads`. If a session finds
+/// a stage that differs from its passes, all is played again on one thread, and the text says so.
 ///
-/// The threads take locks, so with `play` it may wait; it returns where each thread does.
+/// The threads take locks, so with `play` the call may wait; it returns if each thread returns.
 pub fn trestle_call<R: Threads + Wait + Sync, S: Source, K: Sink, G: Gate + Sync>(
     rt: &R,
     alloc: Global,
@@ -211,17 +211,17 @@ pub fn trestle_call<R: Threads + Wait + Sync, S: Source, K: Sink, G: Gate + Sync
     ensures statuses { (status : Status) × (result.status ≡ code status) }
     ensures rising { (S.faults source.old ≤ S.faults source.new) × (K.faults sink.old ≤ K.faults sink.new) }
 
-    // All of it at once: one of the answers is due, and what became of it. The clauses below follow.
+    // All at once: one of the answers is due, and was delivered. The clauses below follow.
     ensures answered { IsAnswered (command_of (texts_of words.now))
         (source_change S.Source source.old source.new) result (sink_change K.Sink sink.old sink.new) }
 
-    // Usage: exactly where the words are no accepted list.
+    // Usage: exactly if the words are no accepted list.
     ensures usage { Yields result.status
         ((result.status ≡ code Status.Usage) ↔ (command_of (texts_of words.now) ≡ None)) }
     ensures usage_text { result.status ≡ code Status.Usage →
         Grew (K.written sink.old) (K.written sink.new) usage_text }
 
-    // Nothing is read then, nor for a number, whatever is answered.
+    // For these words, and for a number, nothing is read, with any answer.
     ensures unread { ReadsNone (command_of (texts_of words.now)) →
         (S.left source.new ≡ S.left source.old) × (S.faults source.new ≡ S.faults source.old) }
 
@@ -231,7 +231,7 @@ pub fn trestle_call<R: Threads + Wait + Sync, S: Source, K: Sink, G: Gate + Sync
     ensures read_fault_text { result.status ≡ code Status.ReadFault →
         Grew (K.written sink.old) (K.written sink.new) read_fault_text }
 
-    // Refused: of the answers to a script that was read, exactly where its bytes are refused, with the
+    // Refused: among the answers to a script that was read, exactly if its bytes are refused, with the
     // first fault.
     ensures refused { Yields result.status (result.status ≢ code Status.ReadFault →
         OfScriptRead (command_of (texts_of words.now)) (S.left source.old) (λ command bytes.
@@ -252,12 +252,12 @@ pub fn trestle_call<R: Threads + Wait + Sync, S: Source, K: Sink, G: Gate + Sync
         IsSomeAnd (first_fault bytes) (λ fault.
         Grew (K.written sink.old) (K.written sink.new) (faulty_text fault))) }
 
-    // Done and refused: the source was read to its end, or until there was too much.
+    // Done and refused: the source was read to its end, or to one byte more than the greatest length.
     ensures read_through { (result.status ≡ code Status.Done) ⊎ (result.status ≡ code Status.Refused) →
         OfReader (command_of (texts_of words.now)) (λ command.
         IsReadThrough command (S.left source.old) (S.left source.new)) }
 
-    // Done: the source was read to its end. The script in the bytes read was played: what is written is its
+    // Done: the source was read to its end. The script in the bytes read was played: the sink got its
     // text, the stage has its opening, and the journal is the serial one.
     ensures read_to_end { result.status ≡ code Status.Done →
         (ReadsNone (command_of (texts_of words.now)) → ⊥) →
@@ -269,14 +269,14 @@ pub fn trestle_call<R: Threads + Wait + Sync, S: Source, K: Sink, G: Gate + Sync
         OfOneThread (command_of (texts_of words.now)) (S.left source.old) (λ command bytes.
         IsSomeAnd result.stage (λ stage. HasPlayed (script_of bytes) stage)) }
 
-    // The same of the script that a number gives.
+    // The same of the script of a number.
     ensures summed_up { result.status ≡ code Status.Done →
         OfNumber (command_of (texts_of words.now)) (λ number.
         Grew (K.written sink.old) (K.written sink.new) (gen_text number)
         × IsSomeAnd result.stage (λ stage. HasPlayed (drawn number) stage)) }
 
-    // Of a stream the screens at its cuts are dumped. One that was written for a script shows the script's
-    // dumps.
+    // The screens at the cuts of a stream are dumped. A stream that was written for a script shows the
+    // script's dumps.
     ensures shown { result.status ≡ code Status.Done →
         OfStreamRead (command_of (texts_of words.now)) (S.left source.old) (λ bytes.
         Grew (K.written sink.old) (K.written sink.new) (shown_text bytes)) }
@@ -284,16 +284,15 @@ pub fn trestle_call<R: Threads + Wait + Sync, S: Source, K: Sink, G: Gate + Sync
         OfOneThread (command_of (texts_of words.now)) (S.left source.old) (λ command bytes.
         IsReadBack command (script_of bytes)) }
 
-    // `play`: threads made the steps of the script in the bytes read, in whatever order they came. The
-    // stage's journal is one of the machine and interleaves the script, and what is written is the text of
-    // this very journal.
+    // `play`: threads made the steps of the script in the bytes read, in any order. The stage's journal is
+    // one of the machine and interleaves the script, and the text is that of this very journal.
     ensures threads { result.status ≡ code Status.Done → IsNone result.differs →
         OfThreads (command_of (texts_of words.now)) (S.left source.old) (λ bytes.
         IsSomeAnd result.stage (λ stage.
         HasInterleaved widgets (script_of bytes).opening (parts_of (script_of bytes).parts) stage
         × Grew (K.written sink.old) (K.written sink.new) (threads_text (script_of bytes) stage))) }
 
-    // Where a session found its stage other than its passes say, it hands out what it found, and all was
+    // If a session found a stage that differs from its passes, the outcome has the difference, and all was
     // played again on one thread.
     ensures again { result.status ≡ code Status.Done →
         OfThreads (command_of (texts_of words.now)) (S.left source.old) (λ bytes. IfSome result.differs (λ d.
@@ -304,11 +303,11 @@ pub fn trestle_call<R: Threads + Wait + Sync, S: Source, K: Sink, G: Gate + Sync
     ensures differs { IsSome result.differs →
         (result.status ≡ code Status.Done) × (command_of (texts_of words.now) ≡ Some Command.Play) }
 
-    // There is a stage exactly where a script was played.
+    // There is a stage exactly if a script was played.
     ensures has_stage { IsSome result.stage ↔
         ((result.status ≡ code Status.Done) × (command_of (texts_of words.now) ≢ Some Command.Show)) }
 
-    // Write fault: only where the sink had one. What is written is a prefix of the text that is due.
+    // Write fault: only if the sink had one. The sink got a prefix of the text.
     ensures write_fault { result.status ≡ code Status.WriteFault →
         HasFault (K.faults sink.old) (K.faults sink.new) }
     ensures prefix { result.status ≡ code Status.WriteFault → (due : Due)
@@ -319,7 +318,7 @@ pub fn trestle_call<R: Threads + Wait + Sync, S: Source, K: Sink, G: Gate + Sync
     ensures no_memory { result.status ≡ code Status.NoMemory →
         K.written sink.new ≡ K.written sink.old }
 
-    // What isn't refused is played, where no fault is counted.
+    // A script or stream that isn't refused is played, unless a fault is counted.
     ensures complete { IsAllowed (command_of (texts_of words.now)) (S.left source.old) →
         (HasFault (S.faults source.old) (S.faults source.new) → ⊥) →
         (HasFault (K.faults sink.old) (K.faults sink.new) → ⊥) →
@@ -345,7 +344,7 @@ fn nothing() -> Outcome
     }
 }
 
-/// Writes the text of a response, and answers its status, its stage, and the difference that was found.
+/// Writes the text of a response, and answers its status, its stage, and its difference.
 fn deliver<K: Sink>(sink: &mut K, response: Response) -> Outcome
     ensures delivered { (due : Due) → IsResponse due response →
         IsDelivered due result (sink_change K.Sink sink.old sink.new) }
@@ -358,7 +357,7 @@ fn deliver<K: Sink>(sink: &mut K, response: Response) -> Outcome
     }
 }
 
-/// The answer once all is written.
+/// The answer after all is written.
 fn done(response: Response) -> Outcome
     ensures status { (due : Due) → IsResponse due response → result.status ≡ code (status_of due) }
     ensures stage { (due : Due) → IsResponse due response → IsStageOf due result.stage }
@@ -373,7 +372,7 @@ fn done(response: Response) -> Outcome
     }
 }
 
-/// The answer where not all is written: what would be handed out goes.
+/// The answer if not all is written: stage and difference are dropped.
 fn undone(response: Response, status: Status) -> Outcome
     ensures status { result.status ≡ code status }
     ensures stage { result.stage ≡ None }

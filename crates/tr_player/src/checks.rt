@@ -11,7 +11,7 @@ use tr_widget::WidgetCmd;
 /// The most steps that a check plays.
 const MOST_STEPS: usize = 2_000;
 
-/// The most pixels that the screen of a check has.
+/// The most pixels of a screen in a check.
 const MOST_PIXELS: u32 = 65_536;
 
 /// Whether a script is within the limits of a check: at most 2,000 steps, and no screen of more than
@@ -29,7 +29,7 @@ pub fn is_checkable(script: &Script) -> bool
     are_small_parts(&script.parts)
 }
 
-/// Whether there are at most so many steps.
+/// Whether there are at most `MOST_STEPS` steps.
 fn are_few(parts: &[Part]) -> bool
     ensures { result ≡ nat_le (spec.step_count parts.now) 2000 }
 {
@@ -56,7 +56,7 @@ fn are_small_parts(parts: &[Part]) -> bool
     true
 }
 
-/// Whether no step makes the screen greater than that.
+/// Whether no step makes the screen greater than the limit.
 fn are_small(steps: &[(Actor, Step<WidgetCmd>)]) -> bool
     ensures { result ≡ list_all spec.is_small_step steps.now }
 {
@@ -72,7 +72,7 @@ fn are_small(steps: &[(Actor, Step<WidgetCmd>)]) -> bool
     true
 }
 
-/// Whether a screen of this size has at most so many pixels.
+/// Whether a screen of this size has at most `MOST_PIXELS` pixels.
 fn is_small(size: Size) -> bool
     ensures { result ≡ spec.is_small size }
 {

@@ -5,7 +5,7 @@ use std::alloc::AllocError;
 use thiserror::Error;
 use tr_io::Failed;
 
-/// Why the bytes of a source were not read to their end.
+/// The cause of a source that wasn't read to its end.
 #[derive(Clone, Copy, Debug, PartialEq, Eq, Error)]
 pub enum ReadError {
     #[error("out of memory")]

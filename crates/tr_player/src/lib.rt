@@ -1,4 +1,4 @@
-//! The top call: words come in, and a script from a source; the text that is due goes out.
+//! The top call: it takes words, and a script from a source, and writes the text of the answer.
 #![tactic(auto)]
 
 mod calls;

@@ -34,20 +34,20 @@ use tr_stage::Stage;
 use tr_threads::{Threaded, threads};
 use tr_widget::Widget;
 
-/// What is written for words that ask for nothing.
+/// The text for words that are no command.
 const USAGE_TEXT: &[u8] = b"usage: trestle play|serial|check|mirror|show|gen N\n";
 
-/// What is written where the source had a fault.
+/// The text for a fault of the source.
 const READ_FAULT_TEXT: &[u8] = b"read fault\n";
 
-/// What a call is to answer, before it is written.
+/// The answer of a call before it is written.
 #[derive(Drop)]
 pub enum Response {
-    /// The words ask for nothing.
+    /// The words are no command.
     Usage,
     /// A read failed.
     ReadFault,
-    /// The script, or the stream, is refused: the text that says so.
+    /// The script, or the stream, is refused: the text of the refusal.
     Refused(Vec<u8>),
     /// A script was played on one thread.
     Played(Played),
@@ -58,7 +58,7 @@ pub enum Response {
 }
 
 impl Response {
-    /// The status that is answered once the text is written.
+    /// The status after the text is written.
     pub fn status(&self) -> Status
         ensures { (due : Due) → IsResponse due self.now → result ≡ status_of due }
     {
@@ -102,8 +102,8 @@ impl Response {
     }
 }
 
-/// The response to the words, and to what the source has left where they ask for a script that is read. One
-/// thread does what they ask for; `play` is no command for it.
+/// The response to the words, and to the remaining bytes of the source if the words ask for a script in it.
+/// One thread does the command; `play` is none for it.
 pub fn response_on_one_thread<S: Source>(
     alloc: Global,
     words: &[String],
@@ -127,7 +127,7 @@ pub fn response_on_one_thread<S: Source>(
     }
 }
 
-/// The same, where threads do what `play` asks for.
+/// The same, but threads do `play`.
 pub fn response_by_threads<R: Threads + Wait + Sync, S: Source, G: Gate + Sync>(
     workers: &Workers<'_, R, G>,
     words: &[String],
@@ -152,7 +152,7 @@ pub fn response_by_threads<R: Threads + Wait + Sync, S: Source, G: Gate + Sync>(
     }
 }
 
-/// The response of threads to a script that the source has left.
+/// The response of threads to the script in the source.
 fn response_to_play<R: Threads + Wait + Sync, S: Source, G: Gate + Sync>(
     workers: &Workers<'_, R, G>,
     source: &mut S,
@@ -183,7 +183,7 @@ fn response_to_played<R: Threads + Wait + Sync, G: Gate + Sync>(
     }
 }
 
-/// The response to a script that the source has left.
+/// The response to the script in the source.
 fn response_to_source<S: Source>(
     alloc: Global,
     command: Command,
@@ -201,7 +201,7 @@ fn response_to_source<S: Source>(
     }
 }
 
-/// The most bytes that are read: one more than there may be shows that there are too many.
+/// The most bytes that are read: one more than the limit shows that there are too many.
 fn most_read(command: Command) -> usize
     ensures { result ≡ spec.most_read command }
 {
@@ -249,7 +249,7 @@ fn refusal(alloc: Global, line: u32, code: u8) -> Result<Response, NoMemory>
     Ok(Response::Refused(text.into_bytes()))
 }
 
-/// The response to a stream that the source has left.
+/// The response to the stream in the source.
 fn response_to_stream<S: Source>(alloc: Global, source: &mut S) -> Result<Response, NoMemory>
     ensures due { IfOk result (λ response. (due : Due) × IsResponse due response
         × IsDueOfStream (source_change S.Source source.old source.new) due) }

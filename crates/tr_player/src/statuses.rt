@@ -1,12 +1,12 @@
 ghost use Rattle.std.specs.Prelude.{◌≡◌};
 ghost use Rattle.tr_player.specs.Statuses.{code};
 
-/// What a call ends in.
+/// The status of a call.
 #[derive(Clone, Copy, Debug, PartialEq, Eq)]
 pub enum Status {
-    /// The script was played, and what it prints is written.
+    /// The script was played, and its text is written.
     Done,
-    /// The words ask for nothing.
+    /// The words are no command.
     Usage,
     /// The script is refused.
     Refused,
@@ -19,7 +19,7 @@ pub enum Status {
 }
 
 impl Status {
-    /// The number that the process ends with.
+    /// The exit status of the process.
     pub fn code(self) -> u8
         ensures { result ≡ code self }
     {

@@ -8,10 +8,10 @@ use std::alloc::Global;
 use tr_io::{Sink, Source};
 use tr_output::{WriteRefused, write_all};
 
-/// How many bytes are asked for at once.
+/// The number of bytes in one read.
 const PIECE: usize = 64 * 1024;
 
-/// The bytes that a source has left, or the first `most` of them.
+/// The remaining bytes of a source, or the first `most` of them.
 pub fn read_all<S: Source>(alloc: Global, source: &mut S, most: usize) -> Result<Vec<u8>, ReadError>
     ensures bytes { IfOk result (λ v. OfFirst most (S.left source.old) (λ bytes. v.items ≡ bytes)) }
     ensures through { OnOk result (IsReadUpTo most (S.left source.old) (S.left source.new)) }
@@ -23,7 +23,7 @@ pub fn read_all<S: Source>(alloc: Global, source: &mut S, most: usize) -> Result
     Ok(bytes)
 }
 
-/// The bytes that a source has left, or the first `most` of them. They come by way of `piece`.
+/// The remaining bytes of a source, or the first `most` of them. They come by way of `piece`.
 fn read_up_to<S: Source>(
     alloc: Global,
     source: &mut S,
@@ -47,7 +47,7 @@ fn read_up_to<S: Source>(
     Ok(bytes)
 }
 
-/// Reads once, and appends what came. 0 says that no more is left.
+/// Reads once, and appends the bytes that came. 0 means that no more is left.
 fn append_piece<S: Source>(
     source: &mut S,
     piece: &mut [u8],
@@ -55,7 +55,7 @@ fn append_piece<S: Source>(
 ) -> Result<usize, ReadError>
     requires { 0 < length piece.old }
     ensures count { IfOk result (λ n. (vec_len bytes.new ≡ vec_len bytes.old + n) × (n ≤ length piece.old)) }
-    // What came and what is to come are the same bytes as before.
+    // The bytes read and the remaining ones are together the same as before.
     ensures whole { OnOk result (prepend_known bytes.new.items (S.left source.new)
         ≡ prepend_known bytes.old.items (S.left source.old)) }
     ensures end { IfOk result (λ n. n ≡ 0 → IfSome (S.left source.new) (λ rest. rest ≡ [])) }
@@ -67,7 +67,7 @@ fn append_piece<S: Source>(
     Ok(count)
 }
 
-/// Writes a short text, for which room is made first.
+/// Writes a short text; all its memory is taken first.
 pub fn write_at_once<K: Sink>(sink: &mut K, text: &[u8]) -> Result<(), WriteRefused>
     ensures ok { OnOk result (Grew (K.written sink.old) (K.written sink.new) text.now) }
     ensures no_memory { result ≡ Err WriteRefused.NoMemory → K.written sink.new ≡ K.written sink.old }

@@ -1,5 +1,5 @@
 -- Private contracts alone cite this file.
--- What a reader keeps.
+-- The stored parts of a reader.
 use Rattle.std.specs.Prelude.{◌≡◌, List, [], Option, Some, None}
 use Rattle.tr_journal.specs.declared.Item.{Item}
 use Rattle.tr_widget.specs.declared.Widget.{Widget}
@@ -11,7 +11,7 @@ use Rattle.tr_reader.specs.declared.readers.Declared.{Declared}
 use Rattle.tr_reader.specs.declared.readers.Reader.TheInside.{Inside}
 use Rattle.tr_reader.specs.Laws.{IsSoFar}
 
--- the items of the opening, and none before there is one
+-- the items of the opening; none if there is no opening yet
 abbrev pub items_in : Option Declared → List (Item Widget)
 items_in None = []
 items_in (Some d) = d.opening
@@ -33,7 +33,7 @@ so_far r = record {
   part = record { reports = r.reports.items; steps = r.steps };
 }
 
--- it holds together, and the reports are counted
+-- the script so far meets its laws, and the reports are counted
 pub record HoldsTogether (r : Inside) : Type 0 where
   pub law : IsSoFar (so_far r)
   pub reports : r.report_count ≡ reports_so_far (so_far r)

@@ -1,4 +1,4 @@
--- What is so of every script so far.
+-- The laws of every script so far.
 use Rattle.std.specs.Prelude.{◌≡◌, ℕ, true, List, [], None, All, is_some, length}
 use Rattle.tr_forest.specs.Nodes.{leaf_count}
 use Rattle.tr_grammar.specs.declared.Place.{Place}
@@ -8,7 +8,7 @@ use Rattle.tr_grammar.specs.States.{SoFar, empty_part, nothing_yet}
 use Rattle.tr_grammar.specs.Faults.{nodes_so_far}
 use Rattle.tr_grammar.specs.Scripts.{IsPlayablePart}
 
--- nothing is known but the version
+-- only the version is known
 abbrev pub IsBare : SoFar → Type 0
 IsBare c = c ≡ record nothing_yet { version = c.version; place = c.place }
 
@@ -23,14 +23,14 @@ pub record HasParts (c : SoFar) : Type 0 where
   pub ended : All (IsPlayablePart (nodes_so_far c)) c.ended
   pub part : IsPlayablePart (nodes_so_far c) c.part
 
--- what was read before a line that stands there
+-- the lines that were read before a line in this place
 abbrev pub HasRead : Place → SoFar → Type 0
 HasRead places.Start c = IsBare c
 HasRead places.Head c = IsBare c
 HasRead places.Opening c = HasNoPart c
 HasRead p c = HasParts c
 
--- each node and each leaf has a name, a leaf that of its node, and what was read is what may stand before the next line
+-- each node and each leaf has a name, a leaf that of its node, and the lines read are those that may come before the next line
 pub record IsSoFar (c : SoFar) : Type 0 where
   pub nodes : length c.names.nodes ≡ length (nodes_so_far c).entries
   pub leaves : length c.names.leaves ≡ leaf_count (nodes_so_far c)

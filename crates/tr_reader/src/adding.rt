@@ -1,4 +1,4 @@
-//! What a line adds.
+//! The effect of a line.
 ghost use Rattle.std.specs.Prelude.{◌≡◌, [], true, false, All, OnOk, OnErr, is_some};
 ghost use Rattle.tr_journal.specs.Steps.{IsQuery};
 ghost use Rattle.tr_grammar.specs.Faults.{version_line, opening_line, step_line, report_line, allows, is_one_too_many, nodes_so_far};
@@ -50,7 +50,7 @@ impl<'a> Reader<'a> {
         Ok(())
     }
 
-    /// The actor makes a step.
+    /// Adds a step of the actor.
     fn add_step(&mut self, actor: Actor, step: Step<WidgetCmd>) -> Result<(), NoMemory>
         requires place { allows self.old.place step_line ≡ true }
         requires playable { IsPlayable (nodes_so_far self.old) (actor, step) }
@@ -58,21 +58,21 @@ impl<'a> Reader<'a> {
         ensures err { OnErr result (self.new ≡ self.old) }
     {
         // For the prover: its borrow checker finds the types within a command, and so a rule for the
-        // steps, only where the body names them.
+        // steps, only if the body names them.
         let _told: Option<(BoardCmd, LabelCmd, LinesCmd, CanvasCmd, MeterCmd, EditorCmd)> = None;
         self.steps.push(actor, step)?;
         self.place = Place::Steps;
         Ok(())
     }
 
-    /// Takes room for this many steps more in the part that goes on.
+    /// Makes room for this many more steps in the current part.
     pub fn reserve_steps(&mut self, more: usize) -> Result<(), NoMemory>
         ensures { self.new ≡ self.old }
     {
         self.steps.reserve(more)
     }
 
-    /// Steps that were read apart come behind those of the part that goes on.
+    /// Appends steps that were read separately to those of the current part.
     pub fn add_steps(&mut self, steps: Steps<WidgetCmd>) -> Result<(), NoMemory>
         requires place { is_at_steps self.old.place ≡ true }
         requires playable { All (IsPlayable (nodes_so_far self.old)) steps }
@@ -83,7 +83,7 @@ impl<'a> Reader<'a> {
         Ok(())
     }
 
-    /// The part ends, and another begins.
+    /// Ends the part, and begins another.
     fn end_part(&mut self) -> Result<(), NoMemory>
         requires { allows self.old.place step_line ≡ true }
         ensures ok { OnOk result (self.new ≡ after_meaning self.old [] Meaning.Sync) }
@@ -100,7 +100,7 @@ impl<'a> Reader<'a> {
         Ok(())
     }
 
-    /// A report more.
+    /// Adds a report.
     fn add_report(&mut self, query: Query) -> Result<(), NoMemory>
         requires place { allows self.old.place report_line ≡ true }
         requires query { IsQuery (nodes_so_far self.old) query }
@@ -122,7 +122,7 @@ impl<'a> Reader<'a> {
         self.place = Place::Ended;
     }
 
-    /// What a line says comes behind what the lines before it said. Its second word is `name`.
+    /// Adds the meaning of a line to that of the lines before it. Its second word is `name`.
     pub fn add(&mut self, name: &'a str, meaning: Meaning) -> Result<(), LineRefused>
         requires sound { IsSoundMeaning self.old name.now meaning }
         requires room { is_one_too_many self.old meaning ≡ false }

@@ -19,11 +19,11 @@ use tr_grammar::{Code, LineRefused, Meaning, Place};
 use tr_journal::{Item, Opening};
 use tr_widget::Widget;
 
-/// What is answered where there is no opening. It never comes to this: an item stands behind the screen
-/// line, and the opening is kept from there on.
+/// The result if there is no opening. It never occurs: an item comes after the screen line, and the
+/// opening exists from there on.
 const LOST: NoMemory = NoMemory;
 
-/// What a refused edit says of a line.
+/// The refusal of a line whose edit is refused.
 fn refused(e: EditRefused) -> LineRefused
     ensures { (fault : Option NodeFault) → IsCause fault e → IsRefusal fault result }
 {
@@ -33,7 +33,7 @@ fn refused(e: EditRefused) -> LineRefused
     }
 }
 
-/// A node becomes a child of another.
+/// Makes a node a child of another.
 fn put<C: Client>(
     opening: &mut Opening<C>,
     child: NodeId,
@@ -54,7 +54,7 @@ fn put<C: Client>(
     }
 }
 
-/// A node becomes the root.
+/// Makes a node the root.
 fn set_root<C: Client>(opening: &mut Opening<C>, node: NodeId) -> Result<(), LineRefused>
     requires { IsNode (tree_of opening.old).nodes node }
     ensures ok { OnOk result (opening.new ≡ opening.old ++ Item.Root node ∷ []) }
@@ -69,7 +69,7 @@ fn set_root<C: Client>(opening: &mut Opening<C>, node: NodeId) -> Result<(), Lin
 }
 
 impl<'a> Declared<'a> {
-    /// A node more that isn't a leaf, and its name.
+    /// Adds a node that isn't a leaf, and its name.
     fn add_node(&mut self, name: &'a str, kind: NodeKind, tint: u8) -> Result<(), NoMemory>
         requires new { number_of self.old.nodes name.now ≡ None }
         requires names { length self.old.nodes < 256 }
@@ -91,7 +91,7 @@ impl<'a> Declared<'a> {
         Ok(())
     }
 
-    /// A leaf more, and its name.
+    /// Adds a leaf, and its name.
     fn add_leaf(&mut self, name: &'a str, shapes: Shapes, content: Widget) -> Result<(), NoMemory>
         requires new_node { number_of self.old.nodes name.now ≡ None }
         requires new_leaf { number_of self.old.leaves name.now ≡ None }
@@ -114,7 +114,7 @@ impl<'a> Declared<'a> {
         Ok(())
     }
 
-    /// A leaf more, whose node has its name.
+    /// Adds a leaf. Its node has its name.
     fn add_shown(&mut self, name: &'a str, shapes: Shapes, content: Widget) -> Result<(), NoMemory>
         requires new { number_of self.old.leaves name.now ≡ None }
         requires names { length self.old.leaves < 256 }
@@ -136,7 +136,7 @@ impl<'a> Declared<'a> {
 }
 
 impl<'a> Reader<'a> {
-    /// The opening begins with its screen.
+    /// Begins the opening with its screen.
     fn set_screen(&mut self, size: Size, kind: Kind) -> Result<(), NoMemory>
         requires place { allows self.old.place screen_line ≡ true }
         requires size { IsScreenSize size }
@@ -156,7 +156,7 @@ impl<'a> Reader<'a> {
         Ok(())
     }
 
-    /// A glyph more.
+    /// Adds a glyph.
     fn add_glyph(&mut self, byte: u8, rows: [u8; 8]) -> Result<(), NoMemory>
         requires place { allows self.old.place opening_line ≡ true }
         requires first { 32 ≤ byte }
@@ -176,7 +176,7 @@ impl<'a> Reader<'a> {
         Ok(())
     }
 
-    /// A node more that isn't a leaf, and its name.
+    /// Adds a node that isn't a leaf, and its name.
     fn add_node(&mut self, name: &'a str, kind: NodeKind, tint: u8) -> Result<(), NoMemory>
         requires sound { IsSoundMeaning self.old name.now (Meaning.Item (Item.Node kind tint)) }
         requires room { is_one_too_many self.old (Meaning.Item (Item.Node kind tint)) ≡ false }
@@ -193,7 +193,7 @@ impl<'a> Reader<'a> {
         Ok(())
     }
 
-    /// A leaf more, and its name.
+    /// Adds a leaf, and its name.
     fn add_leaf(&mut self, name: &'a str, shapes: Shapes, content: Widget) -> Result<(), NoMemory>
         requires sound { IsSoundMeaning self.old name.now (Meaning.Item (Item.Leaf shapes content)) }
         requires room { is_one_too_many self.old (Meaning.Item (Item.Leaf shapes content)) ≡ false }
@@ -210,7 +210,7 @@ impl<'a> Reader<'a> {
         Ok(())
     }
 
-    /// A node becomes a child of another, if the tree can take it.
+    /// Makes a node a child of another, if the tree allows it.
     fn put(&mut self, child: NodeId, parent: NodeId, at: Point) -> Result<(), LineRefused>
         requires place { allows self.old.place opening_line ≡ true }
         requires edit { IsEdit (nodes_so_far self.old) (Edit.Attach child parent at) }
@@ -226,7 +226,7 @@ impl<'a> Reader<'a> {
         Ok(())
     }
 
-    /// A node becomes the root, if it can.
+    /// Makes a node the root, if the tree allows it.
     fn set_root(&mut self, node: NodeId) -> Result<(), LineRefused>
         requires place { allows self.old.place opening_line ≡ true }
         requires node { IsNode (nodes_so_far self.old) node }
@@ -242,7 +242,7 @@ impl<'a> Reader<'a> {
         Ok(())
     }
 
-    /// The opening has an item more.
+    /// Adds an item to the opening.
     pub(crate) fn add_item(&mut self, name: &'a str, item: Item<Widget>) -> Result<(), LineRefused>
         requires sound { IsSoundMeaning self.old name.now (Meaning.Item item) }
         requires room { is_one_too_many self.old (Meaning.Item item) ≡ false }

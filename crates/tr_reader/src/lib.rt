@@ -1,5 +1,5 @@
-//! What the lines of a script say so far: the names, the opening and the parts. A line is tried against
-//! it before it comes behind the others.
+//! The meaning of the lines of a script so far: the names, the opening and the parts. A line is tested
+//! against it before it is added.
 #![tactic(auto)]
 
 mod adding;

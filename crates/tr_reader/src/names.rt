@@ -8,7 +8,7 @@ use std::marker::Model;
 use tr_base::{LeafId, NoMemory, NodeId};
 use tr_journal::NameOf;
 
-/// The names of a script's nodes, leaves among them, and those of its leaves, each by their numbers.
+/// The names of a script's nodes, leaves included, and those of its leaves, each by their numbers.
 #[derive(Debug, Drop)]
 pub struct Names {
     nodes: Vec<Vec<u8>>,
@@ -95,7 +95,7 @@ impl<'a> NameTable<'a> {
         }
     }
 
-    /// How many names there are.
+    /// The number of names.
     pub fn len(&self) -> usize
         ensures count { result ≡ length self.now }
         ensures most { result ≤ MOST_NAMES }
@@ -111,7 +111,7 @@ impl<'a> NameTable<'a> {
         self.numbers.get(name).copied()
     }
 
-    /// One name more, which gets the next number.
+    /// Adds a name, which gets the next number.
     pub fn declare(&mut self, name: &'a str) -> Result<(), NoMemory>
         requires new { number_of self.old name.now ≡ None }
         requires room { length self.old < MOST_NAMES }
@@ -125,7 +125,7 @@ impl<'a> NameTable<'a> {
         Ok(())
     }
 
-    /// Takes back the name that was declared last.
+    /// Removes the name that was declared last.
     pub fn withdraw(&mut self, name: &str)
         requires last { (before : List (List ℕ)) ×
             (self.old ≡ before ++ name.now ∷ []) × (number_of before name.now ≡ None) }

@@ -6,7 +6,7 @@ use tr_base::NoMemory;
 use tr_journal::{Actor, Query, Step};
 use tr_widget::WidgetCmd;
 
-/// A part of a script, from `begin` or a sync to the next sync or the end. Its reports stand before its
+/// A part of a script, from `begin` or a sync to the next sync or the end. Its reports come before its
 /// steps.
 #[derive(Drop)]
 pub struct Part {
@@ -22,7 +22,7 @@ impl Model for Part {
     ghost view = { λ p. record { reports = p.reports.items; steps = p.steps.items } };
 }
 
-/// Steps of a part, each with who makes it. The type of commands is a parameter for the prover, which has no
+/// Steps of a part, each with its actor. The type of commands is a parameter for the prover, which has no
 /// rule for a `&mut` to a `Vec` of steps with this many sorts of commands.
 #[derive(Drop)]
 pub struct Steps<M> {
@@ -40,7 +40,7 @@ impl<M> Model for Steps<M> {
 }
 
 impl<M: Drop> Steps<M> {
-    /// No step.
+    /// An empty list of steps.
     pub fn new(alloc: Global) -> Steps<M>
         ensures { result ≡ [] }
     {
@@ -49,14 +49,14 @@ impl<M: Drop> Steps<M> {
         }
     }
 
-    /// How many there are.
+    /// The number of steps.
     pub fn len(&self) -> usize
         ensures { result ≡ length self.now }
     {
         self.steps.len()
     }
 
-    /// Takes room for this many steps more.
+    /// Makes room for this many more steps.
     pub fn reserve(&mut self, more: usize) -> Result<(), NoMemory>
         ensures { self.new ≡ self.old }
     {
@@ -64,7 +64,7 @@ impl<M: Drop> Steps<M> {
         Ok(())
     }
 
-    /// Other steps come behind these.
+    /// Appends other steps to these.
     pub fn append(&mut self, other: Steps<M>) -> Result<(), NoMemory>
         ensures ok { OnOk result (self.new ≡ self.old ++ other) }
         ensures err { OnErr result (self.new ≡ self.old) }
@@ -74,7 +74,7 @@ impl<M: Drop> Steps<M> {
         Ok(())
     }
 
-    /// A step more, with who makes it.
+    /// Adds a step with its actor.
     pub fn push(&mut self, actor: Actor, step: Step<M>) -> Result<(), NoMemory>
         ensures ok { OnOk result (self.new ≡ self.old ++ (actor, step) ∷ []) }
         ensures err { OnErr result (self.new ≡ self.old) }
@@ -90,7 +90,7 @@ impl<M: Drop> Steps<M> {
     }
 }
 
-/// An element more at the end.
+/// Appends an element.
 pub(crate) fn push<T: Drop>(items: &mut Vec<T>, item: T) -> Result<(), NoMemory>
     ensures ok { OnOk result (items.new.items ≡ items.old.items ++ item ∷ []) }
     ensures err { OnErr result (items.new.items ≡ items.old.items) }

@@ -18,7 +18,7 @@ pub(crate) struct Declared<'a> {
     pub(crate) leaves: NameTable<'a>,
 }
 
-/// What the lines of a script say so far.
+/// The meaning of the lines of a script so far.
 #[derive(Drop)]
 pub struct Reader<'a> {
     pub(crate) alloc: Global,
@@ -45,7 +45,7 @@ impl<'a> Model for Reader<'a> {
 }
 
 impl<'a> Reader<'a> {
-    /// Before the first line.
+    /// The reader before the first line.
     pub fn new(alloc: Global) -> Reader<'a>
         ensures { result ≡ nothing_yet }
     {
@@ -62,7 +62,7 @@ impl<'a> Reader<'a> {
         }
     }
 
-    /// How many nodes there are.
+    /// The number of nodes.
     pub(crate) fn node_count(&self) -> usize
         ensures { result ≡ length self.now.names.nodes }
     {
@@ -72,7 +72,7 @@ impl<'a> Reader<'a> {
         }
     }
 
-    /// How many leaves there are.
+    /// The number of leaves.
     pub(crate) fn leaf_count(&self) -> usize
         ensures { result ≡ length self.now.names.leaves }
     {
@@ -82,7 +82,7 @@ impl<'a> Reader<'a> {
         }
     }
 
-    /// The number of a node, leaves among them.
+    /// The number of a node, which may be a leaf.
     pub(crate) fn node_number(&self, name: &str) -> Option<u16>
         ensures { result ≡ number_of self.now.names.nodes name.now }
     {

@@ -9,14 +9,14 @@ use tr_base::NoMemory;
 use tr_journal::Opening;
 use tr_widget::Widget;
 
-/// What a text says that is a script.
+/// The meaning of a text that is a script.
 #[derive(Drop)]
 pub struct Script {
-    /// What the stage starts with. It has a root.
+    /// The start of the stage. It has a root.
     pub opening: Opening<Widget>,
     /// The names of its nodes and leaves.
     pub names: Names,
-    /// What is played: a sync stands between each part and the next.
+    /// The parts to play, with a sync between each part and the next.
     pub parts: Vec<Part>,
 }
 
@@ -34,7 +34,7 @@ impl<'a> Reader<'a> {
         ensures { IfOk result (λ found. Finishes self.entry found) }
     {
         if !self.has_ended() {
-            // Said, here and below, since the prover takes apart what vanishes unsaid.
+            // Written out, here and below, since the prover takes apart a value that is dropped implicitly.
             drop(self);
             return Ok(None);
         }

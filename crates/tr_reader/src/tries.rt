@@ -1,4 +1,4 @@
-//! The tests of a line against what the lines before it say.
+//! The tests of a line against the lines before it.
 ghost use Rattle.std.specs.Prelude.{◌≡◌, ◌==◌, not, ⊤, is_some, is_none, slice_get};
 ghost use Rattle.std.specs.List.{list_any};
 ghost use Rattle.std.specs.Option.{option_map};
@@ -21,16 +21,16 @@ use tr_grammar::{Code, Meaning, Place};
 use tr_journal::{Item, Opening, Step};
 use tr_widget::{Widget, WidgetCmd};
 
-/// How many nodes a script may have, leaves among them.
+/// The most nodes that a script may have, leaves included.
 const MOST_NODES: usize = 256;
 
-/// How many leaves it may have.
+/// The most leaves that it may have.
 const MOST_LEAVES: usize = 32;
 
-/// How many reports it may have.
+/// The most reports that it may have.
 const MOST_REPORTS: usize = 64;
 
-/// How many syncs it may have.
+/// The most syncs that it may have.
 const MOST_SYNCS: usize = 1000;
 
 /// Whether a command is one of a widget.
@@ -61,7 +61,7 @@ fn content_of<C: Client>(opening: &Opening<C>, leaf: LeafId) -> Option<&C>
 }
 
 impl<'a> Reader<'a> {
-    /// The allocator of what it reads.
+    /// The allocator of the reader's data.
     pub fn alloc(&self) -> Global {
         self.alloc
     }
@@ -87,7 +87,7 @@ impl<'a> Reader<'a> {
         matches!(self.place, Place::Steps)
     }
 
-    /// A version line stands first.
+    /// A version line comes first.
     pub fn in_start(&self) -> Result<(), Code>
         ensures { Answers (not (allows self.now.place version_line)) B5 (λ _. ⊤) result }
     {
@@ -97,7 +97,7 @@ impl<'a> Reader<'a> {
         }
     }
 
-    /// A screen line stands directly behind the version line.
+    /// A screen line comes directly after the version line.
     pub fn in_head(&self) -> Result<(), Code>
         ensures { Answers (not (allows self.now.place screen_line)) B5 (λ _. ⊤) result }
     {
@@ -107,7 +107,7 @@ impl<'a> Reader<'a> {
         }
     }
 
-    /// A line of the opening stands between the screen line and `begin`, which is one.
+    /// A line of the opening comes after the screen line and not after `begin`, the last such line.
     pub fn in_opening(&self) -> Result<(), Code>
         ensures { Answers (not (allows self.now.place opening_line)) B5 (λ _. ⊤) result }
     {
@@ -117,7 +117,7 @@ impl<'a> Reader<'a> {
         }
     }
 
-    /// A step or a sync stands behind `begin`.
+    /// A step or a sync comes after `begin`.
     pub fn in_steps(&self) -> Result<(), Code>
         ensures { Answers (not (allows self.now.place step_line)) B5 (λ _. ⊤) result }
     {
@@ -127,7 +127,7 @@ impl<'a> Reader<'a> {
         }
     }
 
-    /// A report or the end stands directly behind `begin`, a sync or a report.
+    /// A report or the end comes directly after `begin`, a sync or a report.
     pub fn in_gap(&self) -> Result<(), Code>
         ensures { Answers (not (allows self.now.place report_line)) B5 (λ _. ⊤) result }
     {

@@ -1,9 +1,9 @@
--- The least rectangle round the rectangles of a list.
+-- The least rectangle that contains the rectangles of a list.
 use Rattle.std.specs.Prelude.{List, [], ◌∷◌}
 use Rattle.std.specs.Int.{int_min, int_max}
 use Rattle.tr_base.specs.Rects.{Edges, empty_rect}
 
--- the least rectangle round two that hold points
+-- the least rectangle that contains two rectangles with points
 abbrev pub hull_of : Edges → Edges → Edges
 hull_of a b =
     record {
@@ -13,7 +13,7 @@ hull_of a b =
       south = int_max a.south b.south;
     }
 
--- the least rectangle round those of a list, each of which holds points; for none the empty one
+-- the least rectangle that contains those of a list, if each of them holds points; the empty one for no rectangles
 abbrev pub extents_of : List Edges → Edges
 extents_of [] = empty_rect
 extents_of (r ∷ []) = r

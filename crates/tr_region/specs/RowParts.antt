@@ -19,7 +19,7 @@ abbrev pub AreInOrder : List Edges → Type 0
 AreInOrder [] = Unit {0}
 AreInOrder (r ∷ rects) = HoldsPoints r × AllByRecursion (ComesBefore r) rects × AreInOrder rects
 
--- the rectangles from start on and before end have row v, those before lie north of it and those after south
+-- the rectangles from start on and before end have row v, those before them lie north of it, and those after them south
 pub record IsRowPart (v : ℤ) (rects : List Edges) (start end : ℕ) : Type 0 where
   pub order : start ≤ end
   pub fits : end ≤ length rects
@@ -28,7 +28,7 @@ pub record IsRowPart (v : ℤ) (rects : List Edges) (start end : ℕ) : Type 0 w
   pub after : AllWithin (λ r. v <ℤ r.north) rects end (length rects)
 
 -- the band has the rows of the rectangle that lie from low on and before high,
--- and in the rows of the rectangle it holds what the region holds
+-- and in the rows of the rectangle it holds the points of the region
 pub record IsBandOf (r : Edges) (region : List Edges) (low high : ℕ) (b : Band) : Type 0 where
   pub north : IsNearest r.north low high b.north
   pub south : IsNearest r.south low high b.south

@@ -1,4 +1,4 @@
--- What a region holds in one row, and in rows that hold the same.
+-- The points of a region in one row, and in rows with the same points.
 use Rattle.std.specs.Prelude.{◌≡◌, ℕ, ℤ, pos, ◌≤◌, ◌↔◌, ◌≤ℤ◌, ◌<ℤ◌, Bool, ◌&&◌, List}
 use Rattle.tr_base.specs.declared.Point.{Point}
 use Rattle.tr_base.specs.Rects.{Edges, between}
@@ -13,8 +13,8 @@ HoldsRow region row y = (p : Point) → p.v ≡ y → holds region p ≡ in_span
 abbrev pub in_band : ℕ → ℕ → List Edges → Point → Bool
 in_band north south row p = between (pos north) (pos south) p.v && in_spans (spans_of row) p.h
 
--- Row n is the one from north to south, both included, that is nearest to v: of the rows `north <= y < south`, the same ones are at or
--- behind n as are at or behind v.
+-- Row n is the one from north to south, both included, that is nearest to v: a row of `north <= y < south` is at n or
+-- south of it exactly if it is at v or south of it.
 pub record IsNearest (v : ℤ) (north south n : ℕ) : Type 0 where
   pub from : north ≤ n
   pub to : n ≤ south

@@ -7,7 +7,7 @@ ghost use Rattle.tr_region.specs.Points.{holds};
 
 use tr_base::{Point, Rect, greater, lesser};
 
-/// The least rectangle round those of a canonical list.
+/// The least rectangle that contains those of a canonical list.
 pub fn extents(rects: &[Rect]) -> Rect
     requires canonical { IsCanonical rects.now }
     requires some { rects.now ≢ [] }
@@ -25,7 +25,7 @@ pub fn extents(rects: &[Rect]) -> Rect
 }
 
 /// Whether the point lies in a rectangle of a canonical list. One binary search finds the point's band and
-/// its place in that band, since the list is in order of both.
+/// its place in that band, since the list is sorted by both.
 pub fn holds_point(rects: &[Rect], p: Point) -> bool
     requires { IsCanonical rects.now }
     ensures { result ≡ holds rects.now p }

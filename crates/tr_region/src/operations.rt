@@ -13,7 +13,7 @@ pub enum Operation {
 }
 
 impl Operation {
-    /// Whether a point is kept, by whether it is in the first set and in the second.
+    /// Whether the operation keeps a point, given whether it is in the first set and in the second.
     pub fn keeps(self, in_first: bool, in_second: bool) -> bool
         ensures { result ≡ spec.keeps self in_first in_second }
     {
@@ -25,8 +25,8 @@ impl Operation {
     }
 }
 
-/// An operation as a type. It serves the compiler: what is generic in it is compiled once for each
-/// operation, and leaves out what that never keeps.
+/// An operation as a type. It serves the compiler: generic code is compiled once for each operation,
+/// without the branches that the operation never takes.
 pub trait Known {
     ghost use Rattle.tr_region.specs.declared.operations.Operation.{Operation};
 

@@ -39,7 +39,7 @@ impl Region {
         ensures points { HoldsRow self.now result.now v }
         ensures apart { AreApart (spans_of result.now) }
 
-        // A rectangle that has the row holds in all its rows the same columns of the region.
+        // In all rows of a rectangle that has the row, the region holds the same columns.
         ensures alike { All (λ r. r.north ≤ℤ v → v <ℤ r.south →
             (y : ℤ) → r.north ≤ℤ y → y <ℤ r.south → HoldsRow self.now result.now y) self.now }
     {
@@ -75,7 +75,7 @@ impl Region {
     }
 
     /// The band with the last of the rows `north <= v < south` in which the region holds points, cut to
-    /// these rows. In the rows behind the band the region holds nothing. If it holds nothing in all of
+    /// these rows. In the rows after the band the region holds nothing. If it holds nothing in all of
     /// them, the band begins and ends at `north`.
     pub fn last_band(&self, north: u16, south: u16) -> Band<'_>
         requires { north ≤ south }
@@ -133,7 +133,7 @@ pub fn nearest_row(v: i32, north: u16, south: u16) -> u16
     }
 }
 
-/// Where the rectangles that have row `v` begin and end.
+/// The start and the end of the rectangles that have row `v`.
 fn row_part(rects: &[Rect], v: i32) -> (usize, usize)
     requires { AreInOrder rects.now }
     ensures { IsRowPart v rects.now result.0 result.1 }

@@ -15,7 +15,7 @@ pub struct Rows {
     ghost south_reach: { InReach south },
 }
 
-/// Some rows, and the operation that says which of their points are kept.
+/// Some rows, and the operation that keeps some of their points.
 #[derive(Clone, Copy)]
 pub struct Strip {
     pub operation: Operation,

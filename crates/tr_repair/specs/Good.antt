@@ -1,4 +1,4 @@
--- Which points lie in the same one of some regions before and after.
+-- The points that lie in the same one of some regions before and after.
 use Rattle.std.specs.Prelude.{◌≡◌, ℕ, zero, suc, ◌<◌, Bool, true, false, ◌&&◌, ◌||◌, List, [], length, slice_index_or}
 use Rattle.tr_base.specs.declared.points.Point.{Point}
 use Rattle.tr_base.specs.Rects.{Edges}

@@ -1,4 +1,4 @@
--- Which points of a screen can be moved, and in which order.
+-- The points of a screen that can be moved, and the order of moving them.
 use Rattle.std.specs.Prelude.{◌≡◌, ℤ, pos, ◌≤ℤ◌, ◌<ℤ◌, ◌⊎◌, Bool, true, List}
 use Rattle.tr_base.specs.declared.points.Point.{Point}
 use Rattle.tr_base.specs.declared.sizes.Size.{Size}
@@ -10,7 +10,7 @@ use Rattle.tr_screen.specs.Runs.{IsOn}
 abbrev pub MovesOn : Size → Point → (Point → Bool) → Type 0
 MovesOn size delta test = (p : Point) → test p ≡ true → IsOn size p × IsOn size (before_shift p delta)
 
--- delta leads to the north, or along a row to the west: what lies there is read before it is written, if rows are moved
+-- delta leads to the north, or along a row to the west: each pixel is read before it is overwritten, if rows are moved
 -- from north to south, and a row from west to east
 abbrev pub IsForth : Point → Type 0
 IsForth delta = (delta.v <ℤ pos 0) ⊎ ((delta.v ≡ pos 0) × (delta.h ≤ℤ pos 0))

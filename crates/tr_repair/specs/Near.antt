@@ -1,4 +1,4 @@
--- Points, and distances, that are near enough to be moved by one another.
+-- Points, and distances that they may be moved by.
 use Rattle.std.specs.Prelude.{pos, neg_ℤ, ◌≤ℤ◌, ◌<ℤ◌}
 use Rattle.tr_base.specs.declared.points.Point.{Point}
 

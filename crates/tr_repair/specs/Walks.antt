@@ -1,5 +1,5 @@
 -- Private contracts alone cite this file.
--- Which points a walk over the rows of a region has met.
+-- The points that a walk over the rows of a region has met.
 use Rattle.std.specs.Prelude.{ℕ, pos, Bool, ◌&&◌, List}
 use Rattle.std.specs.Ordering.{int_eq}
 use Rattle.tr_base.specs.declared.points.Point.{Point}

@@ -7,8 +7,8 @@ use std::alloc::Global;
 use tr_base::NoMemory;
 use tr_region::Region;
 
-/// The points of `good` that lie in `old[i]` and in `new[i]` for some i: what was good and shows
-/// the same as before, where the two lists have the visible parts of the same windows.
+/// The points of `good` that lie in `old[i]` and in `new[i]` for some i. If the two lists have the
+/// visible parts of the same windows, these are the good points that show the same as before.
 pub fn still_good(
     alloc: Global,
     good: &Region,

@@ -1,4 +1,4 @@
-//! What stays of a screen when windows change: points that are still good, and pixels that move.
+//! The parts of a screen that stay when windows change: points that are still good, and pixels that move.
 #![tactic(auto)]
 
 mod good;

@@ -12,14 +12,14 @@ use tr_base::{Point, Rect, Size};
 use tr_region::{Band, Region};
 use tr_screen::{Run, Screen};
 
-/// How many pixels a row of a screen has at most.
+/// The most pixels in a row of a screen.
 const ROW: usize = 1024;
 
 /// Each point of the region gets the old pixel of the point that lies `delta` before it, and all
 /// others keep theirs. Both points are on the screen.
 ///
-/// What is read next is never overwritten before: what moves north goes from north to south, what
-/// moves south goes from south to north, and along a row it goes likewise.
+/// No pixel is overwritten before it is read: a move to the north goes from north to south, and along a
+/// row a move to the west goes from west to east. The opposite moves go the opposite way.
 pub fn move_pixels(screen: &mut Screen, within: &Region, delta: Point)
     requires { MovesOn screen.old.size delta (holds within.now) }
     ensures { Repaints (holds within.now) (λ p. pixel_of screen.old (before_shift p delta))
@@ -65,7 +65,7 @@ fn move_back(screen: &mut Screen, within: &Region, delta: Point)
     }
 }
 
-/// Moves the rows of a band, all at once where they are whole, else from north to south.
+/// Moves the rows of a band: all at once if they are whole, else from north to south.
 fn move_band_forth(screen: &mut Screen, band: &Band<'_>, delta: Point, spare: &mut [u8])
     requires rows { band.now.south ≤ screen.old.size.high }
     requires order { band.now.north ≤ band.now.south }
@@ -86,7 +86,7 @@ fn move_band_forth(screen: &mut Screen, band: &Band<'_>, delta: Point, spare: &m
     }
 }
 
-/// Moves the rows of a band, all at once where they are whole, else from south to north.
+/// Moves the rows of a band: all at once if they are whole, else from south to north.
 fn move_band_back(screen: &mut Screen, band: &Band<'_>, delta: Point, spare: &mut [u8])
     requires rows { band.now.south ≤ screen.old.size.high }
     requires order { band.now.north ≤ band.now.south }
@@ -107,7 +107,7 @@ fn move_band_back(screen: &mut Screen, band: &Band<'_>, delta: Point, spare: &mu
     }
 }
 
-/// Whether one of the rectangles has all columns of the screen, and so is the only one.
+/// Whether there is one rectangle, and it has all columns of the screen.
 fn are_whole(size: Size, rects: &[Rect]) -> bool
     ensures { IsTrue result → HasAllColumns size rects.now }
 {
@@ -156,7 +156,7 @@ fn run_in(rect: &Rect, v: u16) -> Run
     }
 }
 
-/// Moves the pixels of a run: along its row by way of a spare one, since a copy that overlaps its
+/// Moves the pixels of a run. Along its row they go through a spare row, since a copy that overlaps its
 /// source is slower (`bench_rows`).
 fn move_run(screen: &mut Screen, run: Run, delta: Point, spare: &mut [u8])
     requires to { IsRun screen.old.size run }

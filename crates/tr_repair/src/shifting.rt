@@ -7,14 +7,14 @@ ghost use Rattle.tr_repair.specs.Near.{IsAround, IsDistance};
 use tr_base::{NoMemory, Point};
 use tr_region::Region;
 
-/// The same points, each moved by `delta`: `Region::shift`, where its condition is asked of the
-/// points of the region in place of its edges.
+/// The same points, each moved by `delta`. This is `Region::shift` with a condition on the points of the
+/// region in place of its edges.
 pub fn shifted(region: &Region, delta: Point) -> Result<Region, NoMemory>
     requires points { (p : Point) → holds region.now p ≡ true → IsAround p }
     requires delta { IsDistance delta }
     ensures { IfOk result (λ r. (p : Point) → holds r p ≡ holds region.now (before_shift p delta)) }
 {
-    // Called for what it tells the prover: that the list of rectangles is canonical.
+    // Tells the prover that the list of rectangles is canonical.
     let _rects = region.rects();
     region.shift(delta)
 }

@@ -1,4 +1,4 @@
--- What is done in a run, and the lines of the journal that this makes.
+-- The cues of a run, and the lines of the journal that they make.
 use Rattle.std.specs.Prelude.{List, [], ◌∷◌, ◌++◌}
 use Rattle.tr_client.specs.declared.clients.Client.{Ghosts}
 use Rattle.tr_journal.specs.declared.steps.Actor.{Actor}
@@ -13,7 +13,7 @@ use Rattle.tr_machine.specs.States.{State}
 use Rattle.tr_machine.specs.Replays.{line_of_step, replay_from}
 use Rattle.tr_machine.specs.Settling.{settling_lines}
 
--- one thing that is done in a run: an actor makes a step, holding exactly the step's levels, or the painter settles the stage
+-- a cue of a run: an actor makes a step, holding exactly the step's levels, or the painter settles the stage
 pub data Cue (M : Type 0) : Type 0 where
   makes : Actor → Step M → Cue M
   settles : Cue M

@@ -1,4 +1,4 @@
--- What a run writes: the texts of its reports, or how far the screen lags behind after each step, too, or the sum of a screen's pixels.
+-- The text of a run: that of its reports; for a check also the screen's lag after each step; for `gen` the sum of a screen's pixels.
 use Rattle.std.specs.Prelude.{ℕ, ◌+◌, Bool, true, false, not, ◌&&◌, if◌then◌else◌, List, [], ◌∷◌, ◌++◌, length, codes, decimal, sum_by}
 use Rattle.tr_base.specs.declared.Spot.{Spot}
 use Rattle.tr_base.specs.declared.Spot.TheVariants as spots
@@ -28,13 +28,13 @@ use Rattle.tr_run.specs.declared.modes.Mode.TheVariants.{Serial, Check, Gen}
 abbrev pub pixel_sum : Picture → ℕ
 pixel_sum p = sum_by (λ row. sum_by (λ pixel. pixel) row) p.rows
 
--- the screen's lag is written after each step
+-- the mode writes the screen's lag after each step
 abbrev pub is_check : Mode → Bool
 is_check Check = true
 is_check mode = false
 
 module _ {C M : Type 0} (client : Ghosts C M) where
-  -- how far the screen lags behind
+  -- the screen's lag
   abbrev pub lag : State C M → Peek3
   lag m = record { bad = bad_count m; waiting = waiting_count client m; stale = stale_count client m }
 
@@ -43,11 +43,11 @@ module _ {C M : Type 0} (client : Ghosts C M) where
   is_awaited m (spots.Leaf leaf at size kind) = touches (leaf_batch client m leaf) at
   is_awaited m spot = false
 
-  -- how many points are stale, and no command that waits for their leaf touches them
+  -- the number of stale points that no waiting command of their leaf touches
   abbrev pub outside_count : State C M → ℕ
   outside_count m = count_on m.tree.size (λ p. is_stale client m p && not (is_awaited m (spot m.tree p)))
 
-  -- the line that a check adds to the entry of this number: how far the screen lags behind after it
+  -- the line that a check adds to the entry of this number: the screen's lag after it
   abbrev pub lag_line : ℕ → State C M → List ℕ
   lag_line number m =
       line_text (codes "step" ∷ decimal number
@@ -56,12 +56,12 @@ module _ {C M : Type 0} (client : Ghosts C M) where
       ∷ codes "outside" ∷ decimal (outside_count m)
       ∷ [])
 
-  -- a sync and a report get no such line
+  -- the lag of a step; a sync and a report get no such line
   abbrev pub lag_text : ℕ → State C M → Step M → List ℕ
   lag_text number m step = if is_note step then [] else lag_line number m
 
   module _ (words : M → List ℕ) (names : Names) where
-    -- the text of a report on a state that these lines led to
+    -- the text of a report on a state after these lines
     abbrev pub report_text : List (JournalLine M) → State C M → Query → List ℕ
     report_text lines m queries.Dump = dump_text (render client m)
     report_text lines m queries.Peek = peek_text (lag m)
@@ -74,19 +74,19 @@ module _ {C M : Type 0} (client : Ghosts C M) where
     told_text lines m (steps.Report query) = report_text lines m query
     told_text lines m step = []
 
-    -- what is written with a step that is made in a state that these lines led to
+    -- the text of a step that is made in a state after these lines
     abbrev pub written : Mode → List (JournalLine M) → State C M → Step M → List ℕ
     written Serial lines m step = told_text lines m step
     written Check lines m step = told_text lines m step ++ lag_text (length lines + 1) (next client m step) step
     written Gen lines m step = []
 
-    -- what is written with later lines of a journal, in a state that the earlier ones led to
+    -- the text of later lines of a journal, in the state after the earlier ones
     abbrev pub texts_from : Mode → List (JournalLine M) → State C M → List (JournalLine M) → List ℕ
     texts_from mode earlier m [] = []
     texts_from mode earlier m (line ∷ later) =
         written mode earlier m line.entry.step ++ texts_from mode (earlier ++ line ∷ []) (next client m line.entry.step) later
 
-  -- the sum of the pixels of the screen that was dumped last
+  -- the sum of the pixels of the last dump
   abbrev pub sum_after : Mode → State C M → ℕ → Step M → ℕ
   sum_after Gen m sum (steps.Report queries.Dump) = pixel_sum (render client m)
   sum_after mode m sum step = sum

@@ -1,4 +1,4 @@
--- What a contract sees of a run.
+-- The model of a run.
 use Rattle.std.specs.Prelude.{◌≡◌, ◌⊎◌, ℕ, true, false, List, [], ◌∷◌, ◌++◌, length, All}
 use Rattle.tr_client.specs.declared.clients.Client.{Ghosts}
 use Rattle.tr_forest.specs.Nodes.{Nodes, leaf_count}
@@ -19,7 +19,7 @@ pub record AreNamed (names : Names) (t : Nodes) : Type 0 where
   pub nodes : length names.nodes ≡ length t.entries
   pub leaves : length names.leaves ≡ leaf_count t
 
--- there is an inbox for each of so many leaves, and whoever has the mouse or owns a selection is one of them
+-- there are `count` inboxes, one for each leaf, and the owners of the mouse and of the selections are among these leaves
 pub record IsKnowing (count : ℕ) (m : Mails) : Type 0 where
   pub inboxes : length m.inboxes ≡ count
   pub focus : IsKnown count m.desk.focus
@@ -27,7 +27,7 @@ pub record IsKnowing (count : ℕ) (m : Mails) : Type 0 where
   pub source : IsKnown count m.desk.source
   pub target : IsKnown count m.desk.target
 
--- the stage so far, the names that its nodes and leaves have in texts, how the script is played, the text so far, and the sum so far
+-- the stage so far, the names of its nodes and leaves in texts, the mode of the run, the text so far, and the sum so far
 pub record RunView (C M : Type 0) : Type 0 where
   pub stage : StageView C M
   pub names : Names
@@ -35,7 +35,7 @@ pub record RunView (C M : Type 0) : Type 0 where
   pub text : List ℕ
   pub sum : ℕ
 
--- a run is as before, but perhaps for the room in the journal of its stage
+-- a run hasn't changed, except perhaps for the room in its stage's journal
 pub record IsUnchanged {C M : Type 0} (old new : RunView C M) : Type 0 where
   pub opening : new.stage.opening ≡ old.stage.opening
   pub journal : new.stage.journal ≡ old.stage.journal
@@ -45,7 +45,7 @@ pub record IsUnchanged {C M : Type 0} (old new : RunView C M) : Type 0 where
   pub text : new.text ≡ old.text
   pub sum : new.sum ≡ old.sum
 
--- in a check, the journal has this line more, of a step that is no report and no sync, and it isn't written how far the screen lags behind
+-- in a check, the journal has one more line, of a step that is no report and no sync, and the text doesn't have the screen's lag
 pub record AddsUntold {C M : Type 0} (old new : RunView C M) (line : JournalLine M) : Type 0 where
   pub check : is_check old.mode ≡ true
   pub step : is_note line.entry.step ≡ false
@@ -63,14 +63,14 @@ pub record PausedView : Type 0 where
   pub text : List ℕ
   pub sum : ℕ
 
--- each node and each leaf of a stage has a name, and so has whatever the lines of its journal name
+-- each node and each leaf of a stage has a name, and so have those in the lines of its journal
 pub record IsNamed {C M : Type 0} (client : Ghosts C M) (names : Names) (s : StageView C M) : Type 0 where
   pub tree : AreNamed names (tree_of s.opening).nodes
   pub lines : All (IsNamedLine names) s.journal
   pub mail : IsKnowing (leaf_count (tree_of s.opening).nodes) (state client s).mail
 
 module _ {C M : Type 0} (client : Ghosts C M) (words : M → List ℕ) where
-  -- from one moment of a run to a later one: the journal has these lines more, and what is written with them was added
+  -- from one moment of a run to a later one: the journal has these additional lines, and the text has theirs
   pub record AddsLines (old new : RunView C M) (lines : List (JournalLine M)) : Type 0 where
     pub opening : new.stage.opening ≡ old.stage.opening
     pub names : new.names ≡ old.names
@@ -83,7 +83,7 @@ module _ {C M : Type 0} (client : Ghosts C M) (words : M → List ℕ) where
   abbrev pub Does : RunView C M → RunView C M → List (Cue M) → Type 0
   Does old new cues = AddsLines old new (run_lines client (state client old.stage) cues)
 
-  -- what is written with the line of a report was added, and the line wasn't
+  -- the text of a report was added, and its line wasn't
   pub record TellsUnmade (old new : RunView C M) (line : JournalLine M) : Type 0 where
     pub report : is_report line.entry.step ≡ true
     pub told : IsUnchanged (record old {
@@ -91,11 +91,11 @@ module _ {C M : Type 0} (client : Ghosts C M) (words : M → List ℕ) where
       sum = sum_after client old.mode (state client old.stage) old.sum line.entry.step;
     }) new
 
-  -- memory was wanting for a line: it wasn't added, or it was and nothing is written with it, or only what is written with it was added
+  -- want of memory at a line: neither it nor its text was added, or only the line, or only the text
   abbrev pub StopsAtLine : RunView C M → RunView C M → JournalLine M → Type 0
   StopsAtLine old new line = IsUnchanged old new ⊎ (AddsUntold old new line ⊎ TellsUnmade old new line)
 
-  -- memory was wanting for one of the lines that were due: those before it were added, and none behind it
+  -- want of memory at one of the lines that were due: those before it were added, and none after it
   pub record AddsSome (old new : RunView C M) (due : List (JournalLine M)) : Type 0 where
     pub before : List (JournalLine M)
     pub line : JournalLine M
@@ -105,6 +105,6 @@ module _ {C M : Type 0} (client : Ghosts C M) (words : M → List ℕ) where
     pub adds : AddsLines old now before
     pub stops : StopsAtLine now new line
 
-  -- memory was wanting for one of the lines that these cues make
+  -- want of memory at one of the lines that these cues make
   abbrev pub DoesSome : RunView C M → RunView C M → List (Cue M) → Type 0
   DoesSome old new cues = AddsSome old new (run_lines client (state client old.stage) cues)

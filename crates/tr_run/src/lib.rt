@@ -1,5 +1,4 @@
-//! A run on one thread: a stage on which steps and reports are made one after another, and the text that
-//! this writes.
+//! A run on one thread: a stage on which steps and reports are made one after another, and their text.
 #![tactic(auto)]
 
 mod modes;

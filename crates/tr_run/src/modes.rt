@@ -1,10 +1,10 @@
-/// How a script is played.
+/// The mode of a script's run.
 #[derive(Clone, Copy, Debug, PartialEq, Eq)]
 pub enum Mode {
-    /// The reports are written.
+    /// The text has the reports.
     Serial,
-    /// After each step it is written, too, how far the screen lags behind.
+    /// The text also has the screen's lag after each step.
     Check,
-    /// Nothing is written. The pixels of the last dump are added up.
+    /// There is no text. The pixels of the last dump are added up.
     Gen,
 }

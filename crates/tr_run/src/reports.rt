@@ -20,7 +20,7 @@ use tr_output::Output;
 use tr_spot::spot_at;
 use tr_stage::Stage;
 
-/// Appends the text of a report. A stage of which the screen is dumped is settled.
+/// Appends the text of a report. The stage is settled before a dump.
 pub(crate) fn append_report<C: Client, N: NameOf>(
     stage: &Stage<C>,
     names: &N,
@@ -43,7 +43,7 @@ pub(crate) fn append_report<C: Client, N: NameOf>(
     }
 }
 
-/// Appends how far the screen lags behind.
+/// Appends the screen's lag.
 fn append_peek<C: Client>(stage: &Stage<C>, out: &mut Vec<u8>) -> Result<(), NoMemory>
     ensures ok { OnOk result (out.new.items
         ≡ out.old.items ++ peek_text (lag C.Client (state C.Client stage.now))) }
@@ -66,7 +66,7 @@ fn append_journal<C: Client, N: NameOf>(
     journal(stage.journal(), names, out)
 }
 
-/// Appends what a point belongs to.
+/// Appends the owner of a point.
 fn append_place<C: Client, N: NameOf>(
     stage: &Stage<C>,
     names: &N,
@@ -82,7 +82,7 @@ fn append_place<C: Client, N: NameOf>(
     place_line(at, &spot, names, out)
 }
 
-/// Appends how far the screen lags behind after the last entry of the journal.
+/// Appends the screen's lag after the last entry of the journal.
 pub(crate) fn append_lag<C: Client>(
     alloc: Global,
     stage: &Stage<C>,
@@ -92,12 +92,12 @@ pub(crate) fn append_lag<C: Client>(
         lag_line C.Client (length stage.now.journal) (state C.Client stage.now)) }
     ensures err { OnErr result (out.new ≡ out.old) }
 {
-    // Called for what it tells the prover: that what is stale waits to be painted.
+    // Called for its clause: each stale point waits to be painted.
     stage.stands();
     let number = stage.journal().len();
     let peek = stage.peek()?;
     let (bad, stale) = (peek.bad, peek.stale);
-    // No point that lags behind lies outside what waits: so it is with each stage.
+    // No stale point is outside the waiting commands; this is so on each stage.
     let outside: u32 = 0;
     let line = format!(in alloc; "step {number} bad {bad} stale {stale} outside {outside}\n")?;
     out.append_bytes(line.as_bytes())

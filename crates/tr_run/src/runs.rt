@@ -38,8 +38,8 @@ use tr_journal::{Actor, NameOf, Opening, Query, Step, stated};
 use tr_output::Output;
 use tr_stage::Stage;
 
-/// A stage on which steps and reports are made one after another, and what was written meanwhile. Each
-/// node and each leaf has a name.
+/// A stage on which steps and reports are made one after another, and their text. Each node and each
+/// leaf has a name.
 #[derive(Drop)]
 pub struct Run<'a, C: Client, N: NameOf> {
     alloc: Global,
@@ -67,14 +67,14 @@ impl<'a, C: Client, N: NameOf> Model for Run<'a, C, N> {
     ghost invariant = { λ r. IsNamed C.Client (names_of N.NameOf r.names.now) r.stage };
 }
 
-/// What a run ends in.
+/// The end of a run.
 #[derive(Drop)]
 pub struct Finished<C: Client> {
     /// The stage after all steps.
     pub stage: Stage<C>,
-    /// What was written.
+    /// The text.
     pub text: Output,
-    /// The sum of the pixels of the last dump, where nothing was written.
+    /// The sum of the pixels of the last dump, if there is no text.
     pub sum: u64,
 }
 
@@ -112,8 +112,7 @@ impl<'a, C: Client, N: NameOf> Run<'a, C, N> {
     }
 
     /// An actor makes a step other than a report, holding exactly the step's levels. For want of memory
-    /// nothing changes; but in a check the step may be made, without the text of how far the screen lags
-    /// behind.
+    /// nothing changes; but in a check the step may be made, and the text of the screen's lag be missing.
     pub fn make(&mut self, actor: Actor, step: Step<C::Cmd>) -> Result<(), NoMemory>
         requires own { IsOwn (tree_of self.old.stage.opening).nodes actor step }
         requires other { is_report step ≡ false }
@@ -130,7 +129,8 @@ impl<'a, C: Client, N: NameOf> Run<'a, C, N> {
     }
 
     /// The player makes a report. The screen is settled before it is dumped. For want of memory the report
-    /// isn't made, though it may be written; the painter may have made the first of the steps that settle.
+    /// isn't made, though its text may be added; the painter may have made the first of the steps that
+    /// settle.
     pub fn report(&mut self, query: Query) -> Result<(), NoMemory>
         requires { IsQuery (tree_of self.old.stage.opening).nodes query }
         ensures ok { OnOk result (Does C.Client C.Cmd.words self.old self.new (reporting query)) }
@@ -191,7 +191,7 @@ impl<'a, C: Client, N: NameOf> Run<'a, C, N> {
         Finished { stage, text, sum }
     }
 
-    /// An actor makes a step, holding exactly the step's levels. Nothing is written.
+    /// An actor makes a step, holding exactly the step's levels. It adds no text.
     fn add(&mut self, actor: Actor, step: Step<C::Cmd>) -> Result<(), NoMemory>
         requires own { IsOwn (tree_of self.old.stage.opening).nodes actor step }
         ensures made { MakesWithoutReply C.Client self.old.stage self.new.stage actor
@@ -201,7 +201,7 @@ impl<'a, C: Client, N: NameOf> Run<'a, C, N> {
         ensures text { self.new.text ≡ self.old.text }
         ensures sum { self.new.sum ≡ self.old.sum }
     {
-        // Called for what they tell the prover: what holds of the stage, and of its tree.
+        // Called for their clauses, on the stage and its tree.
         self.stage.stands();
         let _tree = self.stage.tree();
         let level = stated(&step);
@@ -209,7 +209,7 @@ impl<'a, C: Client, N: NameOf> Run<'a, C, N> {
         Ok(())
     }
 
-    /// The player has the screen dumped, once it is settled.
+    /// The player dumps the screen, after it is settled.
     fn dump(&mut self) -> Result<(), NoMemory>
         ensures ok { OnOk result (Does C.Client C.Cmd.words self.old self.new (reporting Dump)) }
         ensures err { OnErr result (DoesSome C.Client C.Cmd.words self.old self.new (reporting Dump)) }
@@ -219,7 +219,7 @@ impl<'a, C: Client, N: NameOf> Run<'a, C, N> {
         Ok(())
     }
 
-    /// The player makes a report, and it is written. A stage of which the screen is dumped is settled.
+    /// The player makes a report, and its text is added. The stage is settled before a dump.
     fn answer(&mut self, query: Query) -> Result<(), NoMemory>
         requires values { IsQuery (tree_of self.old.stage.opening).nodes query }
         requires settled { query ≡ Dump →
@@ -236,7 +236,7 @@ impl<'a, C: Client, N: NameOf> Run<'a, C, N> {
     }
 
     /// The painter brings the screen up to date. An `Err` comes before one of the lines that this makes, or
-    /// before whatever line is due behind them.
+    /// before any line that is due after them.
     fn settle(&mut self) -> Result<(), NoMemory>
         ensures lines { OnOk result (AddsLines C.Client C.Cmd.words self.old self.new
             (settling_lines C.Client (state C.Client self.old.stage))) }
@@ -245,7 +245,7 @@ impl<'a, C: Client, N: NameOf> Run<'a, C, N> {
         ensures err { OnErr result ((line : JournalLine C.Cmd) → AddsSome C.Client C.Cmd.words
             self.old self.new (settling_lines C.Client (state C.Client self.old.stage) ++ line ∷ [])) }
     {
-        // Called, before and after, for what it tells the prover.
+        // Called, before and after, for its clauses.
         self.stage.stands();
         let steps = self.stage.steps_to_settle()?;
         self.paint_all(steps)?;
@@ -319,7 +319,7 @@ impl<'a, N: NameOf> Model for Paused<'a, N> {
 }
 
 impl<'a, N: NameOf> Paused<'a, N> {
-    /// Goes on with a stage. Each node and each leaf of it has a name, and so has whatever its journal names.
+    /// Continues with a stage. Each of its nodes and leaves has a name, and so have those in its journal.
     pub fn resume<C: Client>(self, stage: Stage<C>) -> Run<'a, C, N>
         requires named { IsNamed C.Client self.names stage }
         ensures stage { result.stage ≡ stage }
@@ -346,7 +346,7 @@ impl<'a, N: NameOf> Paused<'a, N> {
     }
 }
 
-/// Whether it is written how far the screen lags behind a step.
+/// Whether the text has the screen's lag after a step.
 fn is_lagging<M>(mode: Mode, step: &Step<M>) -> bool
     ensures { result ≡ is_check mode && not (is_note step.now) }
 {

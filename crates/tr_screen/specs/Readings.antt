@@ -15,14 +15,14 @@ LiesOn size r = (p : Point) → has_point r p ≡ true → IsOn size p
 abbrev pub row_in : Edges → ℕ → Run
 row_in r n = record { v = r.north +ℤ pos n; west = r.west; east = r.east }
 
--- the pixels of a run from west to east, by the pixel at each point
+-- the pixels of a run from west to east, from the pixel at each point
 abbrev pub run_by : (Point → ℕ) → Run → List ℕ
 run_by pixel run = map (λ k. pixel (point_in run k)) (range_with_len 0 (width_of run))
 
--- those of a rectangle, row after row
+-- the pixels of a rectangle, row by row
 abbrev pub rect_by : (Point → ℕ) → Edges → List ℕ
 rect_by pixel r = flat_map (λ n. run_by pixel (row_in r n)) (range_with_len 0 (sides_of r).1)
 
--- those of rectangles, one after another
+-- the pixels of rectangles, one rectangle after another
 abbrev pub rects_by : (Point → ℕ) → List Edges → List ℕ
 rects_by pixel rects = flat_map (rect_by pixel) rects

@@ -1,4 +1,4 @@
--- Points side by side in a row of a screen, and what is painted from one picture to the next.
+-- Points side by side in a row of a screen, and the changes from one picture to the next.
 use Rattle.std.specs.Prelude.{◌≡◌, ℕ, ◌+◌, ◌*◌, pos, unsigned_abs, ◌+ℤ◌, ◌-ℤ◌, ◌≤ℤ◌, ◌<ℤ◌, Bool, ◌&&◌, IsTrue, if◌then◌else◌}
 use Rattle.std.specs.Ordering.{int_eq}
 use Rattle.tr_base.specs.declared.points.Point.{Point}
@@ -15,7 +15,7 @@ in_run r p = int_eq p.v r.v && between r.west r.east p.h
 abbrev pub in_rows : ℕ → ℕ → Point → Bool
 in_rows north south p = between (pos north) (pos south) p.v
 
--- the run that comes to lie at r by a move of delta
+-- the run that a move of delta brings to r
 abbrev pub run_before : Run → Point → Run
 run_before r delta = record { v = r.v -ℤ delta.v; west = r.west -ℤ delta.h; east = r.east -ℤ delta.h }
 
@@ -23,7 +23,7 @@ run_before r delta = record { v = r.v -ℤ delta.v; west = r.west -ℤ delta.h; 
 abbrev pub row_start : ℕ → ℕ → Run
 row_start v wide = record { v = pos v; west = pos 0; east = pos wide }
 
--- how many points the run holds
+-- the number of points of the run
 abbrev pub width_of : Run → ℕ
 width_of r = unsigned_abs (r.east -ℤ r.west)
 
@@ -31,7 +31,7 @@ width_of r = unsigned_abs (r.east -ℤ r.west)
 abbrev pub column_in : Run → Point → ℕ
 column_in r p = unsigned_abs (p.h -ℤ r.west)
 
--- a point of a run, by its place there
+-- a point of a run, from its place there
 abbrev pub point_in : Run → ℕ → Point
 point_in r k = record { h = r.west +ℤ pos k; v = r.v }
 
@@ -47,12 +47,12 @@ pub record IsRun (size : Size) (r : Run) : Type 0 where
 abbrev pub IsOn : Size → Point → Type 0
 IsOn size p = IsTrue (has_point (whole_of size) p)
 
--- from one picture to the next the points that pass the test get the pixels of f, and all others keep theirs
+-- from one picture to the next, the points that pass the test get the pixels of f, and all others keep theirs
 pub record Repaints (test : Point → Bool) (f : Point → ℕ) (old new : Picture) : Type 0 where
   pub size : new.size ≡ old.size
   pub kind : new.kind ≡ old.kind
   pub points : (p : Point) → IsOn old.size p → pixel_of new p ≡ (if test p then f p else pixel_of old p)
 
--- the place of the run's first point among the pixels of a screen, row after row
+-- the place of the run's first point among the pixels of a screen, row by row
 abbrev pub start_of : Size → Run → ℕ
 start_of size r = unsigned_abs r.v * size.wide + unsigned_abs r.west

@@ -3,8 +3,8 @@ ghost use Rattle.tr_screen.specs.Copies.{IsCopied};
 
 use tr_kernel::{copy_row, copy_rows_within};
 
-/// From this distance on a copy that overlaps its source goes in pieces as long as the distance,
-/// which lie apart from their sources. Measured at distances of 8 and of 8192 alone: `bench_rows`.
+/// From this distance on, a copy that overlaps its source is made in pieces as long as the distance,
+/// which don't overlap their sources. Measured at distances of 8 and of 8192 alone: `bench_rows`.
 const FAR: usize = 64;
 
 /// Copies `count` pixels from one place to another, as if all were read before any is written.
@@ -52,7 +52,7 @@ fn copy_up(pixels: &mut [u8], from: usize, to: usize, count: usize)
     copy_rows_within(pixels, from, to, rest);
 }
 
-/// Copies the pixels from one place to another by way of a row that keeps them in between.
+/// Copies the pixels from one place to another through a spare row.
 pub fn copy_through(pixels: &mut [u8], from: usize, to: usize, spare: &mut [u8])
     requires source { from + length spare.old ≤ length pixels.old }
     requires target { to + length spare.old ≤ length pixels.old }

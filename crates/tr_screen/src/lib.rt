@@ -1,4 +1,4 @@
-//! A screen: pixels in rows, each of which is read or lent to be written.
+//! A screen: pixels in rows. A row is read, or lent to be written.
 #![tactic(auto)]
 
 mod copies;

@@ -13,7 +13,7 @@ pub struct Run {
     pub east: i32,
 }
 
-/// The place of the run's first point among the pixels of a screen, row after row.
+/// The place of the run's first point among the pixels of a screen, row by row.
 pub fn start_of(size: Size, run: Run) -> usize
     requires size { IsScreenSize size }
     requires run { spec.IsRun size run }
@@ -23,7 +23,7 @@ pub fn start_of(size: Size, run: Run) -> usize
     run.v.unsigned_abs() as usize * usize::from(size.wide) + run.west.unsigned_abs() as usize
 }
 
-/// How many points the run holds.
+/// The number of points of the run.
 pub fn width_of(size: Size, run: Run) -> usize
     requires size { IsScreenSize size }
     requires run { spec.IsRun size run }
@@ -44,7 +44,7 @@ pub fn row_start(v: u16, wide: u16) -> Run
     }
 }
 
-/// The run that comes to lie here by a move of `delta`.
+/// The run that a move of `delta` brings here.
 pub fn source_of(size: Size, run: Run, delta: Point) -> Run
     requires size { IsScreenSize size }
     requires run { spec.IsRun size (spec.run_before run delta) }
@@ -57,7 +57,7 @@ pub fn source_of(size: Size, run: Run, delta: Point) -> Run
     }
 }
 
-/// The row that comes to lie at row `v` by a move of `delta`.
+/// The row that a move of `delta` brings to row `v`.
 pub fn row_before(v: u16, delta: Point) -> usize
     requires low { pos 0 ≤ℤ (pos v -ℤ delta.v) }
     requires high { (pos v -ℤ delta.v) ≤ℤ pos 1024 }
@@ -71,7 +71,7 @@ pub fn row_in(rect: &Rect, n: u32) -> Run
     requires { n < (sides_of rect.now).1 }
     ensures { result ≡ row_in rect.now n }
 {
-    // Called for what it tells the prover: that the edges are those of a rectangle.
+    // Tells the prover that the edges are those of a rectangle.
     let _ = rect.is_empty();
     Run {
         v: rect.north() + n as i32,

@@ -21,7 +21,7 @@ use tr_kernel::copy_row;
 pub struct Screen {
     size: Size,
     kind: Kind,
-    // row after row from north to south
+    // row by row from north to south
     pixels: Vec<u8>,
 }
 
@@ -58,7 +58,7 @@ impl Screen {
         self.pixels.fill(pixel);
     }
 
-    /// How many pixels it has from west to east, and from north to south.
+    /// The number of pixels from west to east, and from north to south.
     pub fn size(&self) -> Size
         ensures value { result ≡ self.now.size }
         ensures invariant { IsPicture self.now }
@@ -66,7 +66,7 @@ impl Screen {
         self.size
     }
 
-    /// Which values its pixels take.
+    /// The kind of its pixels: the range of their values.
     pub fn kind(&self) -> Kind
         ensures value { result ≡ self.now.kind }
         ensures invariant { IsPicture self.now }
@@ -102,7 +102,7 @@ impl Screen {
         requires { v < self.old.size.high }
         ensures* writes_back { sem 𝓛 (LendsRow self.entry v result) }
 
-        // A slice keeps its length, so what is last behind the result replaces the row.
+        // A slice keeps its length, so the last value of the result replaces the row.
         ensures replaces { (w : List ℕ) → length w ≡ self.old.size.wide →
             overwritten self.old v w ≡ with_row self.old v w }
         ensures value { result.now ≡ row_of self.old v }
@@ -119,7 +119,7 @@ impl Screen {
         requires { IsRun self.old.size run }
         ensures* writes_back { sem 𝓛 (LendsRun self.entry run result) }
 
-        // A slice keeps its length, so what is last behind the result is what is painted.
+        // A slice keeps its length, so the last value of the result is painted.
         ensures paints { (w : List ℕ) → length w ≡ width_of run →
             Repaints (in_run run) (λ p. slice_index w (column_in run p))
             self.old (run_overwritten self.old run w) }
@@ -132,7 +132,7 @@ impl Screen {
         self.pixels.slice_mut(start..start + count)
     }
 
-    /// The pixels at the points of these rectangles, one after another, and row after row in each.
+    /// The pixels at the points of these rectangles, one rectangle after another, and row by row in each.
     pub fn pixels_at(&self, rects: &[Rect]) -> Result<Vec<u8>, NoMemory>
         requires { All (LiesOn self.now.size) rects.now }
         ensures { IfOk result (λ pixels. pixels.items ≡ rects_by (pixel_of self.now) rects.now) }
@@ -144,13 +144,13 @@ impl Screen {
         Ok(pixels)
     }
 
-    /// Puts the pixels of a rectangle behind others, row after row.
+    /// Appends the pixels of a rectangle to others, row by row.
     fn append_rect(&self, pixels: &mut Vec<u8>, rect: &Rect) -> Result<(), NoMemory>
         requires { LiesOn self.now.size rect.now }
         ensures { OnOk result (pixels.new.items ≡
             pixels.old.items ++ rect_by (pixel_of self.now) rect.now) }
     {
-        // Called for what it tells the prover: that the edges are those of a rectangle.
+        // Tells the prover that the edges are those of a rectangle.
         let _ = rect.is_empty();
         let (_, high) = rect.size();
         for n in 0..high {
@@ -182,8 +182,8 @@ impl Screen {
         copy_pixels(&mut self.pixels, from, to, count);
     }
 
-    /// Gives each point of the run the pixel that lay `delta` before it, by way of `spare`, which has
-    /// room for a run: that is faster where the two runs overlap.
+    /// Gives each point of the run the pixel that lay `delta` before it, through `spare`, which has
+    /// room for a run: that is faster if the two runs overlap.
     pub fn move_run_through(&mut self, run: Run, delta: Point, spare: &mut [u8])
         requires to { IsRun self.old.size run }
         requires from { IsRun self.old.size (run_before run delta) }

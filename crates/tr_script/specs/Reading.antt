@@ -1,5 +1,5 @@
 -- Private contracts alone cite this file.
--- What the readers of lines answer.
+-- The results of the readers of lines.
 use Rattle.std.specs.Prelude.{◌≡◌, ℕ, List, [], ◌∷◌, ◌++◌, Bool, true, false, not, is_none, is_some, is_err, ◌||◌, if◌then◌else◌, codes, Option, Some, None, Result, Ok, Err, ⊤}
 use Rattle.tr_grammar.specs.declared.Code.{Code}
 use Rattle.tr_grammar.specs.declared.Code.TheVariants.{B1, B2, B3, B4, B5}
@@ -31,44 +31,44 @@ use Rattle.tr_script.specs.declared.act_lines.EdgeWords.{EdgeWords}
 use Rattle.tr_script.specs.declared.act_lines.ActLine.{ActLine}
 use Rattle.tr_reader.specs.Adding.{IsSoundMeaning}
 
--- the first fault that the words show, where their form is this one
+-- the first fault of the words, given their form
 abbrev pub word_fault : SoFar → Option Form → List (List ℕ) → Option Code
 word_fault c None ws = Some B1
 word_fault c (Some f) ws = first_of (word_faults c f ws)
 
--- what the words say, where they have a form
+-- the meaning of the words, if they have a form
 abbrev pub meaning_as : SoFar → Option Form → List (List ℕ) → Option Meaning
 meaning_as c None ws = None
 meaning_as c (Some f) ws = Some (meaning_of c.names ws f)
 
--- what the words of this form say, which is in range, or the first fault that they show
+-- the meaning of the words of this form, which is in range, or their first fault
 abbrev pub ReadsAs : SoFar → Option Form → List (List ℕ) → Result Meaning LineRefused → Type 0
 ReadsAs c form ws (Ok m) = (word_fault c form ws ≡ None) × (meaning_as c form ws ≡ Some m) × IsSoundMeaning c (word_at ws 1) m
 ReadsAs c form ws (Err refused.NoMemory) = ⊤
 ReadsAs c form ws (Err (refused.Fault e)) = word_fault c form ws ≡ Some e
 
--- the same, where the form of the words is the first of these that they have
+-- the same, if the form of the words is the first of these forms that fits them
 abbrev pub Reads : SoFar → List Form → List (List ℕ) → Result Meaning LineRefused → Type 0
 Reads c fs ws answer = ReadsAs c (among c.version fs ws) ws answer
 
--- nothing of this is so
+-- all of these are false
 abbrev pub AreFalse : List Bool → Type 0
 AreFalse [] = ⊤
 AreFalse (b ∷ bs) = (b ≡ false) × AreFalse bs
 
--- one of the first is so, or the last
+-- one of these is true, or the last one
 abbrev pub any_or : List Bool → Bool → Bool
 any_or [] last = last
 any_or (b ∷ bs) last = b || any_or bs last
 
--- a value with this property where the line may stand there and none of its first values is misspelled, and else the fault, whatever
--- comes behind them
+-- a value with this property if the line may come there and none of its first values is misspelled, and else the fault, whatever
+-- values follow
 abbrev pub ReadsFirstValues : {X : Type 0} → Bool → List Bool → (X → Type 0) → Result X Code → Type 0
 ReadsFirstValues misplaced misspelled P (Ok x) = (misplaced ≡ false) × AreFalse misspelled × P x
 ReadsFirstValues misplaced misspelled P (Err e) =
     (later : Bool) (others : Option Code) → (if misplaced then Some B5 else if any_or misspelled later then Some B2 else others) ≡ Some e
 
--- the same of a line without values, whose one name wasn't declared where that is so
+-- the same for a line without values; `undeclared` is true if its one name wasn't declared
 abbrev pub BeginsPlain : {X : Type 0} → Bool → Bool → (X → Type 0) → Result X Code → Type 0
 BeginsPlain misplaced undeclared P (Ok x) = (misplaced ≡ false) × (undeclared ≡ false) × P x
 BeginsPlain misplaced undeclared P (Err e) =
@@ -99,11 +99,11 @@ command_forms =
 abbrev pub act_line : ActLine → List (List ℕ)
 act_line h = (64 ∷ h.leaf.now) ∷ h.act.now ∷ texts h.values.now
 
--- the words of a shape are none
+-- the words don't spell a shape
 abbrev pub is_no_shape : ShapeWords → Bool
 is_no_shape ws = not (is_shape ws.lo.now ws.pref.now ws.hi.now)
 
--- which of the words of a leaf are misspelled: its name, and its shapes
+-- the faults of the words of a leaf: whether its name and each of its shapes is misspelled
 abbrev pub head_faults : LeafWords → List Bool
 head_faults h = not (is_name h.name.now) ∷ is_no_shape h.across ∷ is_no_shape h.down ∷ []
 
@@ -132,19 +132,19 @@ abbrev pub words_of_two_shapes : ShapeWords → ShapeWords → List (List ℕ)
 words_of_two_shapes across down =
     across.lo.now ∷ across.pref.now ∷ across.hi.now ∷ down.lo.now ∷ down.pref.now ∷ down.hi.now ∷ []
 
--- the words of the edges, and those behind them
+-- the words of the edges, and those after them
 abbrev pub edge_words_then : EdgeWords → List (List ℕ) → List (List ℕ)
 edge_words_then ws rest = ws.west.now ∷ ws.east.now ∷ ws.north.now ∷ ws.south.now ∷ rest
 
--- the word is no edge of a rectangle that a client names
+-- the word isn't an edge of a rectangle that a client names
 abbrev pub is_no_edge : List ℕ → Bool
 is_no_edge w = not (is_signed 8192 8192 w)
 
--- one of the words is no edge, or something is so that is told of what comes behind them
+-- one of the words isn't an edge, or `rest` holds, which is about the words after them
 abbrev pub any_edge : EdgeWords → Bool → Bool
 any_edge ws rest = is_no_edge ws.west.now || (is_no_edge ws.east.now || (is_no_edge ws.north.now || (is_no_edge ws.south.now || rest)))
 
--- a value with this property where all words are edges, and else B2, whatever values come behind them
+-- a value with this property if all words are edges, and else B2, whatever values follow
 abbrev pub ReadsEdges : {X : Type 0} → EdgeWords → (X → Type 0) → Result X Code → Type 0
 ReadsEdges ws P (Ok x) =
     (is_no_edge ws.west.now ≡ false) × (is_no_edge ws.east.now ≡ false)
@@ -154,13 +154,13 @@ ReadsEdges ws P (Err e) =
     is_no_edge ws.west.now || (is_no_edge ws.east.now || (is_no_edge ws.north.now || (is_no_edge ws.south.now || rest))) ≡ true)
     × (e ≡ B2)
 
--- the faults that the words of a line can show which stands in one of the places of this sort: where it may not stand there, where its
--- values are misspelled, where a name is declared again, and where one wasn't declared
+-- the possible faults of a line with this sort of place: the line may not come there, its values are misspelled, it declares a name
+-- again, or it has a name that wasn't declared
 abbrev pub faults_at : SoFar → Sort → Bool → Bool → Bool → List (Code × Bool)
 faults_at c sort misspelled again undeclared =
     (B5, not (allows c.place sort)) ∷ (B2, misspelled) ∷ (B4, again) ∷ (B3, undeclared) ∷ []
 
--- the faults of a line that declares a leaf, where its values are misspelled or not
+-- the faults of a line that declares a leaf, given whether its values are misspelled
 abbrev pub leaf_faults : SoFar → LeafWords → Bool → List (Code × Bool)
 leaf_faults c h misspelled =
     faults_at c opening_line (any_or (head_faults h) misspelled) (is_some (number_of c.names.nodes h.name.now) || false) false
@@ -194,13 +194,13 @@ ReadsPlain c value (Ok v) =
     (first_of (faults_at c step_line (is_err value) false false) ≡ None) × (allows c.place step_line ≡ true) × (value ≡ Ok v)
 ReadsPlain c value (Err e) = first_of (faults_at c step_line (is_err value) false false) ≡ Some e
 
--- the faults of a line's point and of the names of a child and its parent, where the point is misspelled or not
+-- the faults of a line's point and of the names of a child and its parent, given whether the point is misspelled
 abbrev pub hanging_faults : SoFar → List ℕ → List ℕ → Bool → List (Code × Bool)
 hanging_faults c child parent misspelled =
     (B2, misspelled) ∷ (B4, false)
     ∷ (B3, is_none (number_of c.names.nodes child) || (is_none (number_of c.names.nodes parent) || false)) ∷ []
 
--- the child, its parent, and where it stands, or the first of these faults
+-- the child, its parent, and its offset, or the first of these faults
 abbrev pub ReadsHanging : SoFar → List ℕ → List ℕ → Result Point Code → Result (NodeId × NodeId × Point) Code → Type 0
 ReadsHanging c child parent at (Ok (n, m, p)) =
     (first_of (hanging_faults c child parent (is_err at)) ≡ None)
@@ -208,7 +208,7 @@ ReadsHanging c child parent at (Ok (n, m, p)) =
     × IsNode (nodes_so_far c) n × IsNode (nodes_so_far c) m × (at ≡ Ok p)
 ReadsHanging c child parent at (Err e) = first_of (hanging_faults c child parent (is_err at)) ≡ Some e
 
--- the faults of a line that declares a node other than a leaf, by its name and its tint, where its values are misspelled or not
+-- the faults of a line that declares a node other than a leaf, from its name and its tint, given whether its values are misspelled
 abbrev pub node_faults : SoFar → List ℕ → List ℕ → Bool → List (Code × Bool)
 node_faults c new tint misspelled =
     faults_at c opening_line (not (is_name new) || (not (is_number 0 255 tint) || misspelled))
@@ -221,7 +221,7 @@ ReadsTint c new tint value (Ok (n, v)) =
     × (number_of c.names.nodes new ≡ None) × (n ≡ nat_of tint) × (value ≡ Ok v)
 ReadsTint c new tint value (Err e) = first_of (node_faults c new tint (is_err value)) ≡ Some e
 
--- what is said makes a step, which comes behind those before it; or it makes none, and they are as before
+-- the meaning is a step, which is appended to those before it; or it isn't one, and they stay unchanged
 abbrev pub SaysStep : Meaning → List (Actor × Step WidgetCmd) → List (Actor × Step WidgetCmd) → Bool → Type 0
 SaysStep (meanings.Step actor step) old new taken = (taken ≡ true) × (new ≡ old ++ (actor, step) ∷ [])
 SaysStep m old new taken = (taken ≡ false) × (new ≡ old)

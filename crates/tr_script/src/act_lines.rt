@@ -1,4 +1,4 @@
-//! The readers of the steps of leaves' actors, but for the commands of their widgets. Each tests for its
+//! The readers of the steps of leaves' actors, without the commands of their widgets. Each tests for its
 //! faults in the order of their codes.
 ghost use Rattle.std.specs.Prelude.{◌≡◌, [], ◌∷◌, true, false, ◌||◌, codes, is_none, not, Some, IfErr, IfOk};
 ghost use Rattle.std.specs.List.{AllPass};
@@ -47,14 +47,14 @@ fn selection_of(word: &str) -> Option<Selection>
     }
 }
 
-/// Whether the word says whom a cage holds.
+/// Whether the word names the cursors that a cage holds.
 fn is_cage_word(word: &str) -> bool
     ensures { result ≡ is_one_of cage_words word.now }
 {
     matches!(word, "here" | "gone" | "both")
 }
 
-/// Whether a cage of this word holds a cursor that is here, and one that is gone.
+/// Whether a cage of this word holds a cursor that is here, and whether it holds one that is gone.
 fn holders_of(word: &str) -> (bool, bool)
     ensures both { result ≡ (may_be_here word.now, may_be_gone word.now) }
     ensures some { (result.0 || result.1) ≡ true }
@@ -75,7 +75,7 @@ pub struct EdgeWords<'a> {
     pub south: &'a str,
 }
 
-/// The rectangle of its edges.
+/// The rectangle with these edges.
 fn clip_of(words: &EdgeWords) -> Result<Rect, Code>
     ensures value { Answers (any_edge words.now false) B2 (λ e. e ≡ spelled_edges words.now) result }
     ensures range { IfOk result IsClip }
@@ -87,7 +87,7 @@ fn clip_of(words: &EdgeWords) -> Result<Rect, Code>
     Ok(Rect::edges(west, east, north, south))
 }
 
-/// The words of a line of a leaf's actor: the leaf's name without its @, what is done, and its values.
+/// The words of a line of a leaf's actor: the leaf's name without its @, the act, and its values.
 #[derive(Drop)]
 pub struct ActLine<'a> {
     pub leaf: &'a str,
@@ -95,7 +95,7 @@ pub struct ActLine<'a> {
     pub values: &'a [&'a str],
 }
 
-/// A line of a leaf's actor: the leaf's name without its @, the words behind it, and the line itself.
+/// A line of a leaf's actor: the leaf's name without its @, the words after it, and the line itself.
 pub fn read_at(
     reader: &Reader,
     leaf: &str,
@@ -112,7 +112,7 @@ pub fn read_at(
     read_act(reader, &ActLine { leaf, act, values }, line)
 }
 
-/// The same, by what is done.
+/// The same, given the words of the act.
 fn read_act(reader: &Reader, words: &ActLine, line: &str) -> Result<Meaning, LineRefused>
     requires line { words_of line.now ≡ act_line words.now }
     requires printable { AllPass is_printable line.now }
@@ -132,7 +132,7 @@ fn read_act(reader: &Reader, words: &ActLine, line: &str) -> Result<Meaning, Lin
     }
 }
 
-/// The leaf that a step's line names, of a line without values that may stand there.
+/// The leaf that a step's line names. The line has no values and may come there.
 pub fn leaf_in_steps(reader: &Reader, leaf: &str) -> Result<LeafId, Code>
     ensures value { BeginsPlain (not (allows reader.now.place step_line))
         (is_none (number_of reader.now.names.leaves leaf.now))
@@ -144,7 +144,7 @@ pub fn leaf_in_steps(reader: &Reader, leaf: &str) -> Result<LeafId, Code>
     Ok(leaf)
 }
 
-/// The leaf that a step's line names, and the value of its words, of a line that may stand there.
+/// The leaf that a step's line names, and the value of its words, if the line may come there.
 pub fn leaf_with<V: Copy>(
     reader: &Reader,
     leaf: &str,
@@ -236,7 +236,7 @@ fn read_cage(reader: &Reader, leaf: &str, values: &[&str]) -> Result<Meaning, Li
     enclose(reader, leaf, &edges, holders)
 }
 
-/// The values of a cage's line, whose last word is one of those that a cage may have.
+/// The values of a cage's line. Its last word is one of those that a cage may have.
 fn enclose(
     reader: &Reader,
     leaf: &str,

@@ -37,7 +37,7 @@ fn altering(edit: Edit) -> Meaning
     on_desk(Step::Alter { edit })
 }
 
-/// Whether a button goes down, by a word.
+/// Whether a word means that a button goes down.
 fn is_down(word: &str) -> Option<bool>
     ensures { Chooses button_words word.now (bytes_eq word.now (codes "down")) result }
 {
@@ -48,7 +48,7 @@ fn is_down(word: &str) -> Option<bool>
     }
 }
 
-/// The node that an edit's line names, and the value of its words, of a line that may stand there.
+/// The node that an edit's line names, and the value of its words, if the line may come there.
 fn node_with<V: Copy>(
     reader: &Reader,
     node: &str,
@@ -63,7 +63,7 @@ fn node_with<V: Copy>(
     Ok((node, value))
 }
 
-/// The value of words without a name, of a line that may stand there.
+/// The value of words without a name, if the line may come there.
 fn plain<V: Copy>(reader: &Reader, value: Result<V, Code>) -> Result<V, Code>
     requires { IfErr value (λ e. e ≡ B2) }
     ensures { ReadsPlain reader.now value result }
@@ -73,7 +73,7 @@ fn plain<V: Copy>(reader: &Reader, value: Result<V, Code>) -> Result<V, Code>
     Ok(value)
 }
 
-/// A time and a button, by their words.
+/// A time and a button, from their words.
 fn press_of(at: &str, button: &str) -> Result<(u32, u8), Code>
     ensures value { Answers
         (not (is_number 1 4294967295 at.now) || (not (is_number 1 5 button.now) || false)) B2
@@ -86,7 +86,7 @@ fn press_of(at: &str, button: &str) -> Result<(u32, u8), Code>
     Ok((time, button))
 }
 
-/// A time and a place of the cursor, by their words.
+/// A time and a place of the cursor, from their words.
 fn motion_of(at: &str, h: &str, v: &str) -> Result<(u32, Point), Code>
     ensures value { Answers (not (is_number 1 4294967295 at.now)
         || (not (is_signed 8192 8191 h.now) || (not (is_signed 8192 8191 v.now) || false))) B2
@@ -100,7 +100,7 @@ fn motion_of(at: &str, h: &str, v: &str) -> Result<(u32, Point), Code>
     Ok((time, Point { h, v }))
 }
 
-/// A time and a key, by their words.
+/// A time and a key, from their words.
 fn key_of(at: &str, code: &str) -> Result<(u32, u8), Code>
     ensures value { Answers
         (not (is_number 1 4294967295 at.now) || (not (is_number 0 255 code.now) || false)) B2
@@ -112,7 +112,7 @@ fn key_of(at: &str, code: &str) -> Result<(u32, u8), Code>
     Ok((time, code))
 }
 
-/// What words say that are those of a desk's step, by the first one, or the first fault that they show.
+/// The meaning of the words of a desk's step, given the first one, or their first fault.
 pub fn read_desk(reader: &Reader, first: &str, words: &[&str]) -> Result<Meaning, LineRefused>
     ensures { Reads reader.now desk_forms (first.now ∷ texts words.now) result }
 {
@@ -296,7 +296,7 @@ fn read_turn(reader: &Reader, words: &[&str]) -> Result<Meaning, LineRefused>
     Ok(altering(Edit::Turn { node, page }))
 }
 
-/// The shapes of a node, by their words.
+/// The shapes of a node, from their words.
 fn shapes_of(across: &ShapeWords, down: &ShapeWords) -> Result<Shapes, Code>
     ensures { Answers (is_no_shape across.now || (is_no_shape down.now || false)) B2
         (λ s. s ≡ record { across = lengths_in across.now; down = lengths_in down.now }) result }

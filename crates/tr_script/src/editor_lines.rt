@@ -1,4 +1,4 @@
-//! The readers of commands for editors, which version 2 alone has. Each tests for its faults in the order
+//! The readers of commands for editors, which only version 2 has. Each tests for its faults in the order
 //! of their codes.
 ghost use Rattle.std.specs.Prelude.{◌≡◌, [], ◌∷◌, ◌||◌, codes, true, false, not};
 ghost use Rattle.std.specs.List.{AllPass};
@@ -23,7 +23,7 @@ use tr_widget::WidgetCmd;
 use tr_words::{rest_after, small, text};
 use w_edit::{ColumnNumber, EditorCmd, RowNumber};
 
-/// The last row that a caret is sent to.
+/// The last row to which a caret can go.
 const LAST_ROW: u8 = 199;
 
 /// The last column of a row.
@@ -110,7 +110,7 @@ fn read_paste(reader: &Reader, leaf: &str, values: &[&str]) -> Result<Meaning, L
     Ok(editing(leaf, EditorCmd::Paste))
 }
 
-/// A row and a column, by their words.
+/// A row and a column, from their words.
 fn spot_of(row: &str, column: &str) -> Result<(RowNumber, ColumnNumber), Code>
     ensures { Answers (not (is_number 0 199 row.now) || (not (is_number 0 80 column.now) || false)) B2
         (λ s. s ≡ (nat_of row.now, nat_of column.now)) result }
@@ -120,7 +120,7 @@ fn spot_of(row: &str, column: &str) -> Result<(RowNumber, ColumnNumber), Code>
     Ok((row, column))
 }
 
-/// Two columns, by their words.
+/// Two columns, from their words.
 fn columns_of(from: &str, to: &str) -> Result<(ColumnNumber, ColumnNumber), Code>
     ensures { Answers (not (is_number 0 80 from.now) || (not (is_number 0 80 to.now) || false)) B2
         (λ s. s ≡ (nat_of from.now, nat_of to.now)) result }

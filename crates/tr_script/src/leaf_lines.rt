@@ -24,10 +24,10 @@ use w_lines::Lines;
 use w_meter::Meter;
 use w_plain::{Board, Label, Solid};
 
-/// How many words stand before the text of a label.
+/// The number of words before the text of a label.
 const WORDS_BEFORE_TEXT: usize = 9;
 
-/// The words of a line that declares a leaf, behind its first: those before the widget's, the widget's and
+/// The words of a line that declares a leaf, after its first: those before the widget's, the widget's and
 /// its values.
 #[derive(Drop)]
 struct LeafLine<'a> {
@@ -76,7 +76,7 @@ pub fn read_leaf(
     read_widget(alloc, reader, &words, line)
 }
 
-/// The same, by the widget's word.
+/// The same, given the widget's word.
 fn read_widget(
     alloc: Global,
     reader: &Reader,
@@ -102,7 +102,7 @@ fn read_widget(
     }
 }
 
-/// The shapes of a leaf, of a line that may stand there.
+/// The shapes of a leaf, if the line may come there.
 fn shapes_of(reader: &Reader, head: &LeafWords) -> Result<Shapes, Code>
     ensures { ReadsFirstValues (not (allows reader.now.place opening_line)) (head_faults head.now)
         (λ s. s ≡ shapes_in head.now) result }
@@ -114,7 +114,7 @@ fn shapes_of(reader: &Reader, head: &LeafWords) -> Result<Shapes, Code>
     Ok(Shapes { across, down })
 }
 
-/// The same of a leaf whose name is new, and the value that its words spell behind the widget's.
+/// The same for a leaf whose name is new, and the value of the words after the widget's.
 fn head_of<V: Copy>(
     reader: &Reader,
     head: &LeafWords,
@@ -136,7 +136,7 @@ fn leaf(shapes: Shapes, content: Widget) -> Meaning
     Meaning::Item(Item::Leaf { shapes, content })
 }
 
-/// A Board, by its words.
+/// A Board, from its words.
 fn board_of(tile: &str, h: &str, v: &str) -> Result<Board, Code>
     ensures { Answers (not (is_hex 8 tile.now)
         || (not (is_signed 4096 4096 h.now) || (not (is_signed 4096 4096 v.now) || false))) B2

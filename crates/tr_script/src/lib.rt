@@ -1,8 +1,8 @@
-//! Scripts: what a text of lines says, or the first line of it that has a fault, with that line's
-//! first fault.
+//! Scripts: the meaning of a text of lines, or the first line with a fault and that line's first
+//! fault.
 //!
 //! A line is judged by its row of a table, which has its fixed words, its values with their ranges and
-//! its names, and by what the lines before it declared.
+//! its names, and by the declarations of the lines before it.
 #![tactic(auto)]
 
 mod act_lines;

@@ -33,17 +33,17 @@ use w_lines::LinesCmd;
 use w_meter::MeterCmd;
 use w_plain::{BoardCmd, LabelCmd};
 
-/// How many lines a script may have.
+/// The most lines that a script may have.
 pub const MOST_LINES: usize = 100_000;
 
-/// The second word of a line, which is the name that it declares if it declares one.
+/// The second word of a line: it is the name that the line declares, if it declares one.
 fn second<'a>(words: &[&'a str]) -> &'a str
     ensures { result.now ≡ word_at (texts words.now) 1 }
 {
     words.get(1).copied().unwrap_or("")
 }
 
-/// What words say that are those of a line, or the first fault that they show.
+/// The meaning of the words of a line, or their first fault.
 fn read_words(
     alloc: Global,
     reader: &Reader,
@@ -60,7 +60,7 @@ fn read_words(
     }
 }
 
-/// The same, by the first word.
+/// The same, given the first word.
 fn read_first(
     alloc: Global,
     reader: &Reader,
@@ -82,7 +82,7 @@ fn read_first(
     }
 }
 
-/// The same, of a line that neither declares a node or a leaf nor begins with an @. The desk's most
+/// The same, for a line that neither declares a node or a leaf nor begins with an @. The desk's most
 /// common steps come first.
 fn read_plain(reader: &Reader, first: &str, words: &[&str]) -> Result<Meaning, LineRefused>
     ensures { Reads reader.now plain_forms (first.now ∷ texts words.now) result }
@@ -110,12 +110,12 @@ fn read_plain(reader: &Reader, first: &str, words: &[&str]) -> Result<Meaning, L
     }
 }
 
-/// The step that is said comes behind the others. Answers whether one is said.
+/// Appends the step if the meaning is one. Returns whether it is one.
 fn push_said(steps: &mut Steps<WidgetCmd>, meaning: Meaning) -> Result<bool, NoMemory>
     ensures ok { IfOk result (SaysStep meaning steps.old steps.new) }
     ensures err { OnErr result (steps.new ≡ steps.old) }
 {
-    // For the prover: its borrow checker finds the types within a command only where the body names them.
+    // For the prover: its borrow checker finds the types within a command only if the body names them.
     let _told: Option<(BoardCmd, LabelCmd, LinesCmd, CanvasCmd, MeterCmd, EditorCmd)> = None;
     let Meaning::Step { actor, step } = meaning else {
         return Ok(false);
@@ -124,7 +124,7 @@ fn push_said(steps: &mut Steps<WidgetCmd>, meaning: Meaning) -> Result<bool, NoM
     Ok(true)
 }
 
-/// The same, but a command of another widget than its leaf's isn't taken.
+/// The same, but a command of another widget than its leaf's isn't appended.
 fn take_said(
     reader: &Reader,
     steps: &mut Steps<WidgetCmd>,
@@ -143,10 +143,10 @@ fn take_said(
     push_said(steps, meaning)
 }
 
-/// Reads the line of this number apart from those before it: the reader knows what they declare, and which
-/// steps the others made doesn't matter. Answers whether the line has no fault and is silent or makes a step;
-/// its step, if it makes one, comes behind `steps`. Else these are as before: the line has a fault, or is a
-/// sync. The line's words come by way of `words`.
+/// Reads the line of this number separately from those before it: the reader knows their declarations, and
+/// their steps have no influence. Returns whether the line has no fault and is silent or makes a step; its
+/// step, if it makes one, is appended to `steps`. Else `steps` is unchanged: the line has a fault, or is a
+/// sync. The list `words` is used for the line's words.
 pub fn take_step<'a>(
     alloc: Global,
     reader: &Reader,
@@ -179,7 +179,7 @@ pub fn take_step<'a>(
     }
 }
 
-/// What the line of this number says comes behind what those before it say. Its second word is `name`.
+/// Adds the meaning of the line of this number to those before it. Its second word is `name`.
 fn take_meaning<'a>(
     reader: &mut Reader<'a>,
     number: usize,
@@ -208,8 +208,8 @@ fn take_meaning<'a>(
     Ok(())
 }
 
-/// Reads the line of this number. After an `Err` the reader is as before; but behind the 100,000th line it
-/// may know the line that was refused. The line's words come by way of `words`.
+/// Reads the line of this number. After an `Err` the reader is unchanged; but after the 100,000th line it
+/// may include the refused line. The list `words` is used for the line's words.
 #[tactic(auto, unfolding(tr_grammar::specs::Faults::fault_of, tr_grammar::specs::Scripts::after_line))]
 pub fn take_line<'a>(
     alloc: Global,

@@ -12,14 +12,14 @@ use tr_base::{LeafId, NodeId};
 use tr_grammar::{Code, Meaning};
 use tr_reader::Reader;
 
-/// Tells what is so of every script so far. It serves the prover alone.
+/// Tells the prover the laws of every script so far. It does nothing.
 fn known(reader: &Reader)
     ensures { IsSoFar reader.now }
 {
     let _few = reader.is_one_too_many(&Meaning::End);
 }
 
-/// The node that a word names, which is one of the opening's.
+/// The node that a word names. It is one of the opening's.
 pub fn node_of(reader: &Reader, name: &str) -> Result<NodeId, Code>
     ensures value { Answers (is_none (number_of reader.now.names.nodes name.now)) B3
         (λ n. n ≡ record { 0 = numbered reader.now.names.nodes name.now }) result }
@@ -29,7 +29,7 @@ pub fn node_of(reader: &Reader, name: &str) -> Result<NodeId, Code>
     reader.node(name)
 }
 
-/// The leaf that a word names, which is one of the opening's.
+/// The leaf that a word names. It is one of the opening's.
 pub fn leaf_of(reader: &Reader, name: &str) -> Result<LeafId, Code>
     ensures value { Answers (is_none (number_of reader.now.names.leaves name.now)) B3
         (λ l. l ≡ record { 0 = numbered reader.now.names.leaves name.now }) result }

@@ -20,10 +20,10 @@ use tr_journal::Item;
 use tr_reader::Reader;
 use tr_words::{byte, extent, glyph_byte, name, offset, rows, side, small};
 
-/// Where a child stands that no point is given for.
+/// The place of a child without a point in its line.
 pub const ORIGIN: Point = Point { h: 0, v: 0 };
 
-/// A split that has a tint alone.
+/// A split that has only a tint.
 fn split_of(word: &str) -> Option<NodeKind>
     ensures { Chooses split_words word.now (split_of word.now) result }
 {
@@ -36,7 +36,7 @@ fn split_of(word: &str) -> Option<NodeKind>
     }
 }
 
-/// Whether rows go down, by a word.
+/// Whether a word means that rows go down.
 fn is_down(word: &str) -> Option<bool>
     ensures { Chooses way_words word.now (bytes_eq word.now (codes "down")) result }
 {
@@ -101,7 +101,7 @@ pub fn read_node(reader: &Reader, words: &[&str]) -> Result<Meaning, LineRefused
     }
 }
 
-/// The tint of a node that isn't a leaf, of a line that may stand there.
+/// The tint of a node that isn't a leaf, if the line may come there.
 fn tint_of(reader: &Reader, new: &str, tint: &str) -> Result<u8, Code>
     ensures { ReadsFirstValues (not (allows reader.now.place opening_line))
         (not (is_name new.now) ∷ not (is_number 0 255 tint.now) ∷ []) (λ n. n ≡ nat_of tint.now) result }
@@ -112,7 +112,7 @@ fn tint_of(reader: &Reader, new: &str, tint: &str) -> Result<u8, Code>
     Ok(tint)
 }
 
-/// The same of a node whose name is new, and the value of the words behind its tint.
+/// The same for a node whose name is new, and the value of the words after its tint.
 fn tint_with<V: Copy>(
     reader: &Reader,
     new: &str,
@@ -135,7 +135,7 @@ fn node(kind: NodeKind, tint: u8) -> Meaning
     Meaning::Item(Item::Node { kind, tint })
 }
 
-/// Where a child of a Z stands or how far a Translate moves, by its words.
+/// The offset of a child of a Z or the distance of a Translate, from its words.
 pub fn offset_of(h: &str, v: &str) -> Result<Point, Code>
     ensures value { Answers (not (is_signed 2048 2048 h.now) || (not (is_signed 2048 2048 v.now) || false)) B2
         (λ p. p ≡ record { h = int_of h.now; v = int_of v.now }) result }
@@ -146,7 +146,7 @@ pub fn offset_of(h: &str, v: &str) -> Result<Point, Code>
     Ok(Point { h, v })
 }
 
-/// The lengths of a window, by their words.
+/// The lengths of a window, from their words.
 pub fn size_of(wide: &str, high: &str) -> Result<Size, Code>
     ensures value { Answers (not (is_number 0 4096 wide.now) || (not (is_number 0 4096 high.now) || false)) B2
         (λ s. s ≡ record { wide = nat_of wide.now; high = nat_of high.now }) result }
@@ -237,7 +237,7 @@ fn read_pack(reader: &Reader, new: &str, values: &[&str]) -> Result<Meaning, Lin
     Ok(node(NodeKind::Pack { down, gap }, tint))
 }
 
-/// A child, its parent and where it stands, by the words of both.
+/// A child, its parent and its offset, from their words.
 pub fn hanging_of(
     reader: &Reader,
     child: &str,

@@ -12,7 +12,7 @@ use tr_grammar::{Code, LONGEST_SCRIPT, LineRefused, ReadRefused};
 use tr_reader::{Reader, Script};
 use tr_words::first_line;
 
-/// The refusal of a line; line 0 stands for the whole text.
+/// The refusal of a line; line 0 means the whole text.
 pub fn refused_at(line: usize, code: Code) -> ReadRefused
     requires { line < 2 ^ 32 }
     ensures { result ≡ ReadRefused.Refused line (number_of_code code) }
@@ -23,7 +23,7 @@ pub fn refused_at(line: usize, code: Code) -> ReadRefused
     }
 }
 
-/// Reads the lines of a text, of which the first is line 1.
+/// Reads the lines of a text. The first is line 1.
 fn read_lines(alloc: Global, bytes: &[u8]) -> Result<Script, ReadRefused>
     requires { length bytes.now + 1 < 2 ^ 32 }
     ensures valid { IfOk result (λ s. first_bad_line nothing_yet 1 (lines_of bytes.now) ≡ None) }
@@ -58,7 +58,7 @@ fn read_lines(alloc: Global, bytes: &[u8]) -> Result<Script, ReadRefused>
 }
 
 /// Reads a script. A text that isn't one is refused with the first line that has a fault, and the first
-/// fault of that line; a text of over 4 MiB with line 0, before all else.
+/// fault of that line; a text of over 4 MiB is refused with line 0, before all other tests.
 #[tactic(auto, unfolding(tr_grammar::specs::Scripts::refusal_of, tr_grammar::specs::Scripts::script_of))]
 pub fn read_script(alloc: Global, bytes: &[u8]) -> Result<Script, ReadRefused>
     ensures valid { IfOk result (λ s. refusal_of bytes.now ≡ None) }

@@ -25,7 +25,7 @@ use w_lines::LinesCmd;
 use w_meter::{BarNumber, MeterCmd};
 use w_plain::{BoardCmd, LabelCmd, Shift, SolidCmd};
 
-/// How many words stand before the text of a command.
+/// The number of words before the text of a command.
 pub const WORDS_BEFORE_TEXT: usize = 2;
 
 /// A command for a leaf's widget.
@@ -35,7 +35,7 @@ pub fn acting(leaf: LeafId, cmd: WidgetCmd) -> Meaning
     by_leaf(leaf, Step::Act { leaf, cmd })
 }
 
-/// The rectangle of a figure's edges.
+/// The rectangle of a figure, from the words of its edges.
 fn area_of(words: &EdgeWords) -> Result<Area, Code>
     ensures { ReadsEdges words.now (λ e. e ≡ spelled_edges words.now) result }
 {
@@ -91,7 +91,7 @@ fn read_tile(reader: &Reader, leaf: &str, values: &[&str]) -> Result<Meaning, Li
     Ok(acting(leaf, WidgetCmd::Board(BoardCmd::Tile(tile))))
 }
 
-/// How far a tile moves, by its words.
+/// The distance by which a tile moves, from its words.
 fn shift_of(h: &str, v: &str) -> Result<Shift, Code>
     ensures { Answers (not (is_signed 4096 4096 h.now) || (not (is_signed 4096 4096 v.now) || false)) B2
         (λ p. p ≡ record { h = int_of h.now; v = int_of v.now }) result }
@@ -157,7 +157,7 @@ fn read_clear(reader: &Reader, leaf: &str, values: &[&str]) -> Result<Meaning, L
     Ok(acting(leaf, WidgetCmd::Lines(LinesCmd::Clear)))
 }
 
-/// The rectangle of a figure's edges and its colour, by their words.
+/// The rectangle of a figure and its colour, from their words.
 fn rect_of(edges: &EdgeWords, tint: &str) -> Result<(Area, u8), Code>
     ensures { Answers (any_edge edges.now (not (is_number 0 255 tint.now) || false)) B2
         (λ r. r ≡ (spelled_edges edges.now, nat_of tint.now)) result }
@@ -241,7 +241,7 @@ fn read_exchange(reader: &Reader, leaf: &str, values: &[&str]) -> Result<Meaning
     exchange(reader, leaf, &edges, a, b)
 }
 
-/// The rectangle of a figure's edges and two colours, by their words.
+/// The rectangle of a figure and two colours, from their words.
 fn colours_of(edges: &EdgeWords, a: &str, b: &str) -> Result<(Area, u8, u8), Code>
     ensures { Answers
         (any_edge edges.now (not (is_number 0 255 a.now) || (not (is_number 0 255 b.now) || false))) B2
@@ -279,7 +279,7 @@ fn read_undo(reader: &Reader, leaf: &str, values: &[&str]) -> Result<Meaning, Li
     Ok(acting(leaf, WidgetCmd::Canvas(CanvasCmd::Undo)))
 }
 
-/// A bar and its height, by their words.
+/// A bar and its height, from their words.
 fn bar_of(bar: &str, height: &str) -> Result<(BarNumber, u8), Code>
     ensures { Answers (not (is_number 0 31 bar.now) || (not (is_number 0 255 height.now) || false)) B2
         (λ b. b ≡ (nat_of bar.now, nat_of height.now)) result }

@@ -1,4 +1,4 @@
--- What a script does on one thread, the journal that this makes, and the texts that are written.
+-- A script on one thread: its journal and its texts.
 use Rattle.std.specs.Prelude.{ℕ, List, [], ◌∷◌, ◌++◌, length, map, codes, decimal}
 use Rattle.std.specs.List.{flat_map}
 use Rattle.tr_client.specs.declared.Client.{Ghosts}
@@ -19,7 +19,7 @@ use Rattle.tr_run.specs.declared.Mode.TheVariants.{Serial, Check, Gen}
 use Rattle.tr_run.specs.Runs.{Cue, makes, reporting, run_lines}
 use Rattle.tr_run.specs.Texts.{texts_from, sum_from}
 
--- the widgets, as what is shown in the windows of a script
+-- the widgets, as the contents of the windows of a script
 abbrev pub widgets : Ghosts Widget WidgetCmd
 widgets = record {
   valid = IsWidget;
@@ -31,7 +31,7 @@ widgets = record {
   keeps = widget_keeps;
 }
 
--- what a part has done: its reports, and then its steps
+-- the cues of a part: its reports, then its steps
 abbrev pub part_cues : Part → List (Cue WidgetCmd)
 part_cues part = flat_map reporting part.reports ++ map (λ made. makes made.0 made.1) part.steps
 
@@ -39,7 +39,7 @@ part_cues part = flat_map reporting part.reports ++ map (λ made. makes made.0 m
 abbrev pub later_cues : Part → List (Cue WidgetCmd)
 later_cues part = makes Player steps.Sync ∷ part_cues part
 
--- what all parts have done
+-- the cues of all parts
 abbrev pub cues : List Part → List (Cue WidgetCmd)
 cues [] = []
 cues (part ∷ parts) = part_cues part ++ flat_map later_cues parts
@@ -48,19 +48,19 @@ cues (part ∷ parts) = part_cues part ++ flat_map later_cues parts
 abbrev pub serial_journal : Script → List (JournalLine WidgetCmd)
 serial_journal s = run_lines widgets (start s.opening) (cues s.parts)
 
--- what is written while a script is played
+-- the text of a script in a mode
 abbrev pub played_text : Mode → Script → List ℕ
 played_text mode s = texts_from widgets widget_words s.names mode [] (start s.opening) (serial_journal s)
 
--- the sum of the last dump's pixels, in the mode that adds them up, and else 0
+-- the sum of the last dump's pixels, in the mode that adds them up, else 0
 abbrev pub played_sum : Mode → Script → ℕ
 played_sum mode s = sum_from widgets mode (start s.opening) 0 (serial_journal s)
 
--- what `serial` writes: the texts of the reports
+-- the text of `serial`: the texts of the reports
 abbrev pub out_text : Script → List ℕ
 out_text s = played_text Serial s
 
--- what `check` writes: after each entry but a sync's or a report's also how many points lag behind what the windows are to show
+-- the text of `check`: also the number of points that lag behind the windows, after each entry but a sync's or a report's
 abbrev pub check_text : Script → List ℕ
 check_text s = played_text Check s
 
@@ -76,7 +76,7 @@ summary_text number lines entries sum =
     ++ line_text (codes "entries" ∷ decimal entries ∷ [])
     ++ line_text (codes "sum" ∷ decimal sum ∷ [])
 
--- what `gen` writes of that: how many lines it has, how many entries its journal gets, and the sum of the pixels of its last dump
+-- the text of `gen`: the number of the script's lines, the number of its journal's entries, and the sum of the pixels of its last dump
 abbrev pub gen_text : ℕ → List ℕ
 gen_text number =
     let s = drawn number in

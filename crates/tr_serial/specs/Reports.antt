@@ -1,4 +1,4 @@
--- The reports of a script, each with what `serial` writes of it.
+-- The reports of a script, each with its text for `serial`.
 use Rattle.std.specs.Prelude.{ℕ, Bool, true, false, List, [], ◌∷◌, ◌++◌}
 use Rattle.std.specs.List.{flat_map}
 use Rattle.tr_client.specs.declared.Client.{Ghosts}
@@ -19,7 +19,7 @@ use Rattle.tr_serial.specs.Outputs.{widgets, serial_journal}
 abbrev pub ReportWithText : Type 0
 ReportWithText = Query × List ℕ
 
--- their texts, one after the other
+-- their texts, one after another
 abbrev pub report_texts : List ReportWithText → List ℕ
 report_texts reports = flat_map (λ (r : ReportWithText). r.1) reports
 
@@ -29,7 +29,7 @@ is_dump (queries.Dump, text) = true
 is_dump (query, text) = false
 
 module _ {C M : Type 0} (client : Ghosts C M) (words : M → List ℕ) (names : Names) where
-  -- the report that a step is, after these lines of the journal
+  -- the report of a step, if it makes one, after these lines of the journal
   abbrev pub report_of : List (JournalLine M) → State C M → Step M → List ReportWithText
   report_of lines m (steps.Report query) = (query, report_text client words names lines m query) ∷ []
   report_of lines m step = []

@@ -15,7 +15,7 @@ use Rattle.tr_grammar.specs.Scripts.{Script}
 use Rattle.tr_serial.specs.Outputs.{serial_journal, widgets}
 
 module _ {C M : Type 0} (client : Ghosts C M) where
-  -- the screen that a step dumps: that of a dump is painted from nothing, and no other step dumps one
+  -- the screen that a step dumps: a dump's is painted from nothing, and no other step dumps one
   abbrev pub dumped : State C M → Step M → List Picture
   dumped m (steps.Report queries.Dump) = render client m ∷ []
   dumped m step = []
@@ -25,14 +25,14 @@ module _ {C M : Type 0} (client : Ghosts C M) where
   screens_from m [] = []
   screens_from m (line ∷ later) = dumped m line.entry.step ++ screens_from (next client m line.entry.step) later
 
--- the screens that a script dumps which is played on one thread
+-- the screens that a script dumps, if one thread plays it
 abbrev pub dumped_screens : Script → List Picture
 dumped_screens s = screens_from widgets (start s.opening) (serial_journal s)
 
--- what `mirror` writes: the stream of these screens
+-- the bytes of `mirror`: the stream of these screens
 abbrev pub mirror_bytes : Script → List ℕ
 mirror_bytes s = stream_of (dumped_screens s)
 
--- how many reports there are
+-- the number of reports
 abbrev pub report_count : List Part → ℕ
 report_count parts = sum_by (λ part. length part.reports) parts

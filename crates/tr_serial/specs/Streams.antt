@@ -11,7 +11,7 @@ use Rattle.tr_run.specs.Views.{RunView, Does}
 use Rattle.tr_stage.specs.Stages.{state}
 use Rattle.tr_serial.specs.Screens.{screens_from}
 
--- what a contract sees of such a stream: its writer, and all bytes that this has sent
+-- the model of such a stream: its writer, and all bytes that the writer has sent
 pub record StreamView : Type 0 where
   pub writer : WriterView
   pub bytes : List ℕ

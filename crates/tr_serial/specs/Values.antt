@@ -1,5 +1,5 @@
 -- Private contracts alone cite this file.
--- What is told of the windows of a stage.
+-- Properties of the windows of a stage.
 use Rattle.std.specs.Prelude.{◌≡◌, Some}
 use Rattle.tr_base.specs.declared.LeafId.{LeafId}
 use Rattle.tr_client.specs.declared.Client.{Ghosts}

@@ -26,7 +26,7 @@ fn drawn(alloc: Global, number: u32) -> Result<Script, NoMemory>
     }
 }
 
-/// What a script that was drawn and played comes to.
+/// The totals of a script that was drawn and played.
 #[derive(Clone, Copy, Debug)]
 struct Totals {
     number: u32,
@@ -54,8 +54,8 @@ impl Totals {
     }
 }
 
-/// Plays the script that is drawn from a number, and writes how many lines it has, how many entries its
-/// journal gets, and the sum of the pixels of its last dump.
+/// Plays the script that is drawn from a number, and writes the number of its lines, the number of its
+/// journal's entries, and the sum of the pixels of its last dump.
 pub fn summary(alloc: Global, number: u32) -> Result<Played, NoMemory>
     ensures text { IfOk result (λ played. played.text ≡ spec.gen_text number) }
     ensures journal { IfOk result (λ played. played.stage.journal ≡ spec.serial_journal (spec.drawn number)) }

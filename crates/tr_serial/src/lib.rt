@@ -1,4 +1,4 @@
-//! Scripts on one thread: what they write, and the stage that they end with.
+//! Scripts on one thread: their texts, and the stage at their end.
 #![tactic(auto)]
 
 mod drawn;

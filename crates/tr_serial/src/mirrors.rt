@@ -35,7 +35,7 @@ pub fn mirror(alloc: Global, script: Script) -> Result<Played, NoMemory>
     requires few { report_count script.parts ≤ 64 }
     ensures text { IfOk result (λ played. played.text ≡ mirror_bytes script) }
 
-    // Whoever reads the stream has these screens at its cuts.
+    // A reader of the stream has these screens at its cuts.
     ensures stream { IfOk result (λ played. IsStream played.text) }
     ensures shows { IfOk result (λ played. screens_shown played.text ≡ dumped_screens script) }
 
@@ -80,8 +80,7 @@ fn mirror_parts<C: Client<Cmd = WidgetCmd>, N: NameOf>(
     Ok(())
 }
 
-/// Plays a part: its reports, of which the dumps are appended, and then its steps. A later one begins with a
-/// sync.
+/// Plays a part: its reports, whose dumps are appended, and then its steps. A later one begins with a sync.
 fn mirror_part<C: Client<Cmd = WidgetCmd>, N: NameOf>(
     run: &mut Run<C, N>,
     stream: &mut ScreenStream,
@@ -146,7 +145,7 @@ fn mirror_dump<C: Client, N: NameOf>(
         (Mirrors C.Client C.Cmd.words run.old run.new (reporting Dump) stream.old stream.new) }
     ensures count { OnOk result (stream.new.writer.cuts ≤ stream.old.writer.cuts + 1) }
 {
-    // Called, before and after, for what it tells the prover; and so are the values of the pixels.
+    // Called, before and after, for its clauses; so are the values of the pixels.
     run.stage().stands();
     run.report(Query::Dump)?;
     run.stage().stands();

@@ -21,10 +21,10 @@ use tr_run::{Finished, Mode, Run};
 use tr_stage::Stage;
 use tr_widget::{Widget, WidgetCmd};
 
-/// What a script ends in.
+/// The end of a script.
 #[derive(Drop)]
 pub struct Played {
-    /// What was written.
+    /// The text.
     pub text: Output,
     /// The stage after all steps.
     pub stage: Stage<Widget>,
@@ -42,7 +42,7 @@ pub fn serial(alloc: Global, script: Script) -> Result<Played, NoMemory>
 }
 
 /// Plays a script, and writes its reports and, after each entry of the journal but a sync's or a report's,
-/// how many points lag behind what the windows are to show.
+/// the number of points that lag behind the windows.
 pub fn check(alloc: Global, script: Script) -> Result<Played, NoMemory>
     requires playable { IsPlayableScript script }
     ensures text { IfOk result (λ played. played.text ≡ spec.check_text script) }
@@ -132,7 +132,7 @@ fn report_all<C: Client, N: NameOf>(run: &mut Run<C, N>, reports: &[Query]) -> R
     Ok(())
 }
 
-/// How many steps are made before the memory of those that were made is given back.
+/// The number of steps that are made before the memory of those steps is given back.
 const GIVEN_BACK: usize = 4_096;
 
 /// Makes steps, one after another. Their memory is given back meanwhile, since the journal grows by as many

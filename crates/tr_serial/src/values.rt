@@ -12,8 +12,8 @@ use tr_base::{LeafId, NodeId};
 use tr_client::Client;
 use tr_stage::Stage;
 
-/// Tells the prover that each pixel that a stage is to show is a value of its kind: by the law of kinds,
-/// since all contents are valid, and since all tints are bytes. All calls here are for what they tell alone.
+/// For the prover: each right colour of a stage's pixel is a value of its kind, by the law of kinds, since
+/// all contents are valid, and since all tints are bytes. All calls here are only for their clauses.
 pub fn has_values<C: Client>(stage: &Stage<C>)
     ensures { HasItsPixels (render C.Client (state C.Client stage.now)) }
 {
@@ -23,7 +23,7 @@ pub fn has_values<C: Client>(stage: &Stage<C>)
     have_tints(stage);
 }
 
-/// Tells that each leaf has a valid content, and a window of a possible size.
+/// For the prover: each leaf has a valid content, and a window of a possible size.
 fn have_contents<C: Client>(stage: &Stage<C>)
     ensures { (leaf : LeafId) → leaf.0 < leaf_count (tree_of stage.now.opening).nodes →
         IsPaintable C.Client (state C.Client stage.now) leaf }
@@ -33,7 +33,7 @@ fn have_contents<C: Client>(stage: &Stage<C>)
     }
 }
 
-/// Tells the same of one leaf.
+/// For the prover: the same of one leaf.
 fn has_content<C: Client>(stage: &Stage<C>, leaf: LeafId)
     requires { leaf.0 < leaf_count (tree_of stage.now.opening).nodes }
     ensures { IsPaintable C.Client (state C.Client stage.now) leaf }
@@ -42,7 +42,7 @@ fn has_content<C: Client>(stage: &Stage<C>, leaf: LeafId)
     let _size = stage.leaf_size(leaf);
 }
 
-/// Tells that the tint of each node is a byte.
+/// For the prover: the tint of each node is a byte.
 fn have_tints<C: Client>(stage: &Stage<C>)
     ensures { (n : NodeId) → IsNode (state C.Client stage.now).tree.nodes n →
         (node (state C.Client stage.now).tree.nodes n).tint < 2 ^ 8 }

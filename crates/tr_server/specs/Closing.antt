@@ -1,4 +1,4 @@
--- What is said when a session ends.
+-- The results of the end of a session.
 use Rattle.std.specs.Prelude.{◌≡◌, ℕ, ◌+◌, ◌≤◌, ⊤, List, [], ◌∷◌, ◌++◌, map, take, length, sum_by, slice_index_or}
 use Rattle.tr_journal.specs.declared.steps.Actor.TheVariants.{Desk}
 use Rattle.tr_journal.specs.declared.steps.Step.{Step}
@@ -11,7 +11,7 @@ use Rattle.tr_server.specs.Differing.{DiffersView, IsDifference}
 use Rattle.tr_server.specs.Passes.{PassView, fresh_pass}
 use Rattle.tr_server.specs.Servers.{ServerView}
 
--- the steps that were made with the passes of a session: those of the leaves' clients by the passes' places, and behind them the desk's
+-- the steps made with the passes of a session: those of the leaves' clients by the passes' places, and after them the desk's
 abbrev pub lists_of : {M : Type 0} → ℕ → List (PassView M) → PassView M → ListsView M
 lists_of leaves workers player = record {
   leaves = map (λ pass. pass.mine) (take leaves workers);
@@ -23,13 +23,13 @@ lists_of leaves workers player = record {
 abbrev pub made_with : {M : Type 0} → List (PassView M) → PassView M → ℕ
 made_with workers player = sum_by (λ pass. pass.made) workers + player.made
 
--- a stage has the opening of its server, and first the entries with which the server began; behind them it has, of each actor but the
--- painter, just the steps of the actor's list, in their order; these are at least as many entries as the passes count
+-- a stage has the opening of its server, and first the entries with which the server began; after them, for each actor but the
+-- painter, it has just the steps of the actor's list, in their order; there are at least as many entries as the passes count
 pub record IsClosed {C M : Type 0} (server : ServerView C M) (lists : ListsView M) (made : ℕ) (stage : StageView C M) : Type 0 where
   pub matches : Matches (account_of server.opening server.kept) lists (account_of stage.opening stage.journal)
   pub counted : length server.kept + made ≤ length stage.journal
 
--- the stage differs from that, and `d` has the first difference
+-- the stage differs from its server and its lists, and `d` has the first difference
 pub record HasDiffered {C M : Type 0} (server : ServerView C M) (lists : ListsView M) (made : ℕ) (d : DiffersView C M) : Type 0 where
   pub opening : d.opening ≡ server.opening
   pub kept : d.kept ≡ server.kept

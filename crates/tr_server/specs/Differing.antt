@@ -1,4 +1,4 @@
--- What a contract sees of a stage that isn't as a session's passes say.
+-- The model of a stage that differs from a session's passes.
 use Rattle.std.specs.Prelude.{List}
 use Rattle.tr_journal.specs.declared.items.Item.{Item}
 use Rattle.tr_journal.specs.declared.differences.Difference.{Difference}

@@ -1,4 +1,4 @@
--- What becomes of a stage when a window's waiting commands are handed over.
+-- A stage after a window's waiting commands are handed over.
 use Rattle.std.specs.Prelude.{◌≡◌, List, [], ◌∷◌, ◌++◌}
 use Rattle.tr_base.specs.declared.LeafId.{LeafId}
 use Rattle.tr_client.specs.declared.clients.Client.{Ghosts}
@@ -13,13 +13,13 @@ use Rattle.tr_stage.specs.Stages.{StageView, line, state}
 use Rattle.tr_server.specs.Passes.{both_locks}
 
 module _ {C M : Type 0} (client : Ghosts C M) where
-  -- the stage after commands of a leaf's client are handed over: it makes each of them, in their order, at the level with which the
-  -- command was posted and the window's
+  -- the stage after commands of a leaf's client are handed over: it makes each of them, in their order, at the command's level and
+  -- the window's
   abbrev pub with_acts : StageView C M → LeafId → List M → List (List Level) → StageView C M
   with_acts s leaf commands levels =
       record s { journal = s.journal ++ lines_by client (Leaf leaf) (state client s) (act_steps leaf commands levels) }
 
-  -- commands that waited for a leaf were handed over, and nothing else was made
+  -- commands that waited for a leaf were handed over, and no other step was made
   pub record HandedOver (leaf : LeafId) (old new : StageView C M) : Type 0 where
     pub commands : List M
     pub levels : List (List Level)

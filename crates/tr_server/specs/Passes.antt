@@ -1,4 +1,4 @@
--- What a contract sees of a pass, and whose the passes of a session are.
+-- The model of a pass, and the actor of each pass of a session.
 use Rattle.std.specs.Prelude.{◌≡◌, ℕ, ◌+◌, ◌<◌, ◌==◌, Bool, true, false, if◌then◌else◌, nat_lt, List, [], ◌∷◌, ◌++◌, length, slice_index_or, Result, OnOk, OnErr}
 use Rattle.tr_base.specs.declared.LeafId.{LeafId}
 use Rattle.tr_base.specs.declared.errors.NoMemory.{NoMemory}
@@ -20,7 +20,7 @@ pub record PassView (M : Type 0) : Type 0 where
 abbrev pub fresh_pass : {M : Type 0} → Actor → PassView M
 fresh_pass actor = record { actor = actor; mine = []; posted = 0; made = 0 }
 
--- a step is made with a pass: the pass has the step behind its others, and counts one entry more; without memory it stays as it is
+-- a step is made with a pass: the pass has the step after its others, and counts one more entry; if memory runs out, it is unchanged
 pub record CountsStep {M A : Type 0} (old new : PassView M) (step : Step M) (answered : Result A NoMemory) : Type 0 where
   pub mine : OnOk answered (new ≡ record old { mine = old.mine ++ step ∷ []; made = old.made + 1 })
   pub err : OnErr answered (new ≡ old)
@@ -34,7 +34,7 @@ is_client actor = false
 abbrev pub worker : ℕ → ℕ → Actor
 worker leaves i = if nat_lt i leaves then Leaf (record { 0 = i }) else if i == leaves then Desk else Painter
 
--- the workers' passes of a session that has begun
+-- the workers' passes at the start of a session
 pub record AreFresh {M : Type 0} (leaves : ℕ) (passes : List (PassView M)) : Type 0 where
   pub count : length passes ≡ leaves + 2
   pub fresh : (i : ℕ) (d : PassView M) → i < leaves + 2 → slice_index_or passes i d ≡ fresh_pass (worker leaves i)

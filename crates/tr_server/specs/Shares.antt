@@ -1,4 +1,4 @@
--- Leaves that are lent out to be painted, and what the painter of a session makes by way of them.
+-- Leaves that are lent to be painted, and the painter's steps that put them onto the screen.
 use Rattle.std.specs.Prelude.{◌≡◌, ℕ, zero, suc, ◌+◌, ◌<◌, Bool, not, ◌&&◌, if◌then◌else◌, List, [], ◌∷◌, ◌++◌, map, take, length, slice_index_or}
 use Rattle.tr_base.specs.declared.LeafId.{LeafId}
 use Rattle.tr_client.specs.declared.clients.Client.{Ghosts}

@@ -8,8 +8,8 @@ use std::sync::ledger::Share;
 use tr_book::Book;
 use tr_client::Client;
 
-/// The data behind a window's lock: the book, the part of the ledger that counts the commands handed over,
-/// and a drawing of the commands that wait, if there is one. Contracts see the book.
+/// The data protected by a window's lock: the book, the part of the ledger that counts the commands handed
+/// over, and a drawing of the commands that wait, if there is one. The model is the book.
 #[derive(Drop)]
 pub(crate) struct Basket<C: Client, L: Session> {
     pub(crate) book: Book<C>,
@@ -31,7 +31,7 @@ impl<C: Client, L: Session> Model for Basket<C, L> {
 }
 
 impl<C: Client, L: Session> Basket<C, L> {
-    /// A book of which nothing was handed over.
+    /// A book from which no command was handed over.
     pub(crate) fn new(book: Book<C>, share: Share<L>) -> Basket<C, L>
         requires share { (share.parts ≡ 1) × (share.amount ≡ 0) }
         requires book { book.handed ≡ 0 }
@@ -44,14 +44,14 @@ impl<C: Client, L: Session> Basket<C, L> {
         }
     }
 
-    /// Draws what waits, as a hint.
+    /// Draws the waiting commands, as a hint.
     pub(crate) fn draw(&mut self)
         ensures { self.new ≡ self.old }
     {
         self.drawn = drawn_of(self.book.prepared());
     }
 
-    /// How many commands wait.
+    /// The number of waiting commands.
     pub(crate) fn waiting(&self) -> usize
         ensures waiting { result ≡ length self.now.prepared.commands }
         ensures invariant { HaveLevels self.now.prepared.commands self.now.levels }

@@ -21,16 +21,16 @@ use tr_journal::{Actor, Difference, Journal, Lists, Opening, Step};
 use tr_levels::Ladder;
 use tr_stage::Stage;
 
-/// Why `Server::close` returns no stage.
+/// The reason why `Server::close` returns no stage.
 #[derive(Drop)]
 pub enum CloseRefused<C: Client> {
     NoMemory,
-    /// The stage differs from what the passes of the session say.
+    /// The stage differs from the passes of the session.
     Differs(Differs<C>),
 }
 
-/// A stage that differs from what the passes of its session say, with all that was compared, and the first
-/// difference. Only `Server::close` makes one.
+/// A stage that differs from the passes of its session, with all compared data and the first difference.
+/// Only `Server::close` makes one.
 #[derive(Drop)]
 pub struct Differs<C: Client> {
     difference: Difference<C::Cmd>,
@@ -137,7 +137,7 @@ impl<C: Client, L: Session> Server<C, L> {
         compare(stage, opening, kept, lists)
     }
 
-    /// Hands over what waits in each window, and makes lists for the passes' steps.
+    /// Hands over the waiting commands of each window, and makes lists for the passes' steps.
     fn hand_over_all<R: Wait>(&self, rt: &R) -> Result<Lists<C::Cmd>, NoMemory>
         ensures { IfOk result (λ lists. lists ≡ no_steps L.leaves) }
     {
@@ -145,12 +145,12 @@ impl<C: Client, L: Session> Server<C, L> {
         let handed = hand_over_each(rt, &mut mu, &self.windows);
         mu.leave().end();
         handed?;
-        // (`opening` tells the prover how many leaves there are)
+        // (`opening` tells the prover the number of leaves)
         Lists::new(self.alloc, self.opening().tree().leaves())
     }
 }
 
-/// Hands over what waits in these windows, one after another.
+/// Hands over the waiting commands of these windows, one window after another.
 fn hand_over_each<C: Client, L: Session, R: Wait>(
     rt: &R,
     mu: &mut Mu<'_, C, L>,
@@ -162,8 +162,8 @@ fn hand_over_each<C: Client, L: Session, R: Wait>(
     Ok(())
 }
 
-/// Takes the workers' passes back: their steps go into the lists by their places, the painter's aside, and
-/// their parts of the ledger come together.
+/// Takes the workers' passes back: their steps go into the lists by their places, the painter's steps aside,
+/// and their parts of the ledger are joined.
 fn gather<C: Client, L: Session>(
     workers: Vec<Pass<C, L>>,
     lists: &mut Lists<C::Cmd>,
@@ -185,7 +185,7 @@ fn gather<C: Client, L: Session>(
     gather_leaves(workers, lists, all);
 }
 
-/// The same of the passes of the leaves' clients.
+/// The same for the passes of the leaves' clients.
 fn gather_leaves<C: Client, L: Session>(
     workers: Vec<Pass<C, L>>,
     lists: &mut Lists<C::Cmd>,
@@ -207,7 +207,7 @@ fn gather_leaves<C: Client, L: Session>(
     workers.destroy_empty();
 }
 
-/// Takes the last pass back: its steps, and its part of the ledger comes to the others.
+/// Takes the last pass back: its steps, and its part of the ledger, which is joined to the others.
 fn take_last<C: Client, L: Session>(
     workers: &mut Vec<Pass<C, L>>,
     all: &mut Share<L>,
@@ -220,7 +220,7 @@ fn take_last<C: Client, L: Session>(
     steps
 }
 
-/// The stage, if it is what the rest says.
+/// The stage, if it has the given entries and steps.
 fn compare<C: Client>(
     stage: Stage<C>,
     opening: Opening<C>,

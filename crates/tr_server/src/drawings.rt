@@ -8,12 +8,12 @@ use tr_base::{Env, NoMemory, Rect, Size};
 use tr_client::{Client, Prepared, part_of_window};
 use tr_sketch::{Sketch, fits_screen};
 
-/// Nobody draws a picture of more points: its memory comes in fresh pages, which cost more than the painting
+/// No picture with more points is drawn: its memory comes in fresh pages, which cost more than the painting
 /// (a window of 1024 by 768 with a flush after each 25 lines took four times the processor time).
 const MOST_POINTS: u64 = 1 << 16;
 
-/// What is drawn of waiting commands outside of the tree's lock: a sketch of what they leave, over what they
-/// touch, and no commands over that content, with which the next ones begin.
+/// A drawing of waiting commands, made outside the tree's lock: a sketch of the content after them, for the
+/// points that they touch, and a value with no commands over that content, with which the next ones begin.
 #[derive(Drop)]
 pub(crate) struct Drawn<C: Client> {
     pub(crate) sketch: Sketch<C>,
@@ -21,7 +21,7 @@ pub(crate) struct Drawn<C: Client> {
     pub(crate) ghost none: { spare.commands.items ≡ [] },
 }
 
-/// What is drawn of prepared commands: nothing where they touch no point or too many, or for want of memory.
+/// The drawing of prepared commands: none if they touch no point or too many, or if memory runs out.
 pub(crate) fn drawn_of<C: Client>(prepared: &Prepared<C>) -> Option<Drawn<C>>
     ensures { IfSome result (λ d. IsDrawnOf C.Client (view_of prepared.now) d.sketch) }
 {
@@ -48,7 +48,7 @@ pub(crate) fn drawn_of<C: Client>(prepared: &Prepared<C>) -> Option<Drawn<C>>
     Some(Drawn { sketch, spare })
 }
 
-/// Whether the part of a window that lies in a clip has more points than are drawn.
+/// Whether the part of a window in a clip has more points than are drawn.
 fn is_large(size: Size, clip: &Rect) -> bool
     requires { IsWindowSize size }
 {
@@ -56,7 +56,7 @@ fn is_large(size: Size, clip: &Rect) -> bool
     u64::from(wide).saturating_mul(u64::from(high)) > MOST_POINTS
 }
 
-/// No commands over what prepared commands leave.
+/// No commands, prepared over the content after these commands.
 fn spare_of<C: Client>(alloc: Global, prepared: &Prepared<C>) -> Result<Prepared<C>, NoMemory>
     ensures { IfOk result (λ p. p.commands.items ≡ []) }
 {

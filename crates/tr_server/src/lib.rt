@@ -1,5 +1,5 @@
-//! A stage on which threads make steps: it has the tree's lock, a lock for each window, behind which the
-//! commands of the window's client wait, and a pass for each actor, with which the actor makes its steps.
+//! A stage on which threads make steps: it has the tree's lock, a lock for each window, which protects the
+//! waiting commands of the window's client, and a pass for each actor, with which the actor makes its steps.
 #![tactic(auto)]
 
 mod baskets;

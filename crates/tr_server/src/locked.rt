@@ -27,8 +27,8 @@ use tr_levels::{Held, Level};
 use tr_sketch::Sketch;
 use tr_stage::Stage;
 
-/// What lies behind the tree's lock: the stage, and the total of the session's ledger, which is the number
-/// of entries behind those with which the session began. Contracts see the stage.
+/// The data protected by the tree's lock: the stage, and the total of the session's ledger, which is the
+/// number of entries after those with which the session began. The model is the stage.
 #[derive(Drop)]
 pub(crate) struct Locked<C: Client, L: Session> {
     pub(crate) alloc: Global,
@@ -50,7 +50,7 @@ impl<C: Client, L: Session> Model for Locked<C, L> {
 }
 
 impl<C: Client, L: Session> Locked<C, L> {
-    /// A stage, of whose entries none is counted that it has by now.
+    /// A stage. The total counts none of the entries that it has at the session's start.
     pub(crate) fn new(alloc: Global, stage: Stage<C>, counted: Total<L>) -> Locked<C, L>
         requires counted { L.entries + counted.total ≡ length stage.journal }
         requires ids { HasIds L.nodes L.leaves stage.opening }
@@ -71,7 +71,7 @@ impl<C: Client, L: Session> Locked<C, L> {
         &self.stage
     }
 
-    /// The stage, of which a part of the ledger counts no more entries than were made in the session.
+    /// The stage. A part of the ledger counts at most as many entries as were made in the session.
     pub(crate) fn end(self, share: Share<L>) -> Stage<C>
         ensures value { result ≡ self }
         ensures ids { HasIds L.nodes L.leaves result.opening }
@@ -88,7 +88,7 @@ impl<C: Client, L: Session> Locked<C, L> {
         stage
     }
 
-    /// The actor of a pass makes a step. For want of memory nothing is made.
+    /// The actor of a pass makes a step. If memory runs out, no step is made.
     pub(crate) fn step(
         &mut self,
         pass: &mut Pass<C, L>,
@@ -122,7 +122,7 @@ impl<C: Client, L: Session> Locked<C, L> {
         }
     }
 
-    /// The same, where somebody may have a sketch of a leaf's present content: a flush of that leaf puts it.
+    /// The same, given a sketch of a leaf's present content, if there is one: a flush of that leaf puts it.
     fn step_with(
         &mut self,
         pass: &mut Pass<C, L>,
@@ -145,7 +145,7 @@ impl<C: Client, L: Session> Locked<C, L> {
         }
     }
 
-    /// The actor of a pass flushes a leaf with a sketch of the leaf's present content. For want of memory no
+    /// The actor of a pass flushes a leaf with a sketch of the leaf's present content. If memory runs out, no
     /// step is made.
     fn flush_with(
         &mut self,
@@ -176,8 +176,8 @@ impl<C: Client, L: Session> Locked<C, L> {
         }
     }
 
-    /// Hands over what waits in a leaf's book: one entry for each command, in their order, at the level
-    /// with which it was posted and the window's. For want of memory the stage is as before, and the same
+    /// Hands over the waiting commands of a leaf's book: one entry for each command, in their order, at the
+    /// command's level and the window's. If memory runs out, the stage is unchanged, and the same
     /// commands wait.
     pub(crate) fn hand_over(
         &mut self,
@@ -203,7 +203,7 @@ impl<C: Client, L: Session> Locked<C, L> {
         Ok(())
     }
 
-    /// Like `hand_over`. If the commands that waited were drawn, it also returns the sketch, which shows the
+    /// Like `hand_over`. If the waiting commands were drawn, it also returns the sketch, which shows the
     /// leaf's present content.
     fn hand_over_drawn(
         &mut self,
@@ -225,7 +225,7 @@ impl<C: Client, L: Session> Locked<C, L> {
         ensures err_levels { OnErr result (basket.new.levels ≡ basket.old.levels) }
         ensures err_handed { OnErr result (basket.new.handed ≡ basket.old.handed) }
     {
-        // For most windows nothing waits, most of the time: then nothing is compared, and nothing copied.
+        // For most windows no command waits, most of the time: then nothing is compared, and nothing copied.
         if basket.waiting() == 0 {
             return Ok(None);
         }
@@ -242,7 +242,7 @@ impl<C: Client, L: Session> Locked<C, L> {
         Ok(None)
     }
 
-    /// Hands over copies of what waits.
+    /// Hands over copies of the waiting commands.
     fn hand_over_copies(&mut self, leaf: LeafId, basket: &mut Basket<C, L>) -> Result<(), NoMemory>
         requires leaf { leaf.0 < leaf_count (tree_of self.old.opening).nodes }
         ensures opening { self.new.opening ≡ self.old.opening }
@@ -258,7 +258,7 @@ impl<C: Client, L: Session> Locked<C, L> {
         ensures err_levels { OnErr result (basket.new.levels ≡ basket.old.levels) }
         ensures err_handed { OnErr result (basket.new.handed ≡ basket.old.handed) }
     {
-        // What was drawn is of what the commands left by then.
+        // The drawing may show an old content.
         drop(basket.drawn.take());
         self.counted.audit(&mut basket.share);
         fit(self.alloc, &self.stage, leaf, &mut basket.book)?;
@@ -271,14 +271,14 @@ impl<C: Client, L: Session> Locked<C, L> {
             drop(from);
             return Err(NoMemory);
         };
-        // Called for what it tells the prover: that the entries can be counted.
+        // Tells the prover that the entries can be counted.
         let _ = self.stage.journal().len();
         self.counted.add(&mut basket.share, more);
         basket.book.restart(from);
         Ok(())
     }
 
-    /// Hands over what waits, which fits the leaf's present content, by moving it.
+    /// Hands over the waiting commands, which fit the leaf's present content, by moving them.
     fn hand_over_all(
         &mut self,
         leaf: LeafId,
@@ -314,15 +314,15 @@ impl<C: Client, L: Session> Locked<C, L> {
             return Err(NoMemory);
         }
         drop(levels);
-        // Called for what it tells the prover: that the entries can be counted.
+        // Tells the prover that the entries can be counted.
         let _ = self.stage.journal().len();
         self.counted.add(&mut basket.share, more);
         basket.book.count(more);
         Ok(())
     }
 
-    /// Hands over what waits in the leaf's book, and then makes a step of its client. For want of memory
-    /// the step isn't made; what was handed over stays handed over.
+    /// Hands over the waiting commands of the leaf's book, and then makes a step of its client. If memory
+    /// runs out, the step isn't made, but the commands may be handed over.
     pub(crate) fn client_step(
         &mut self,
         leaf: LeafId,
@@ -353,7 +353,7 @@ impl<C: Client, L: Session> Locked<C, L> {
         ensures err_pass { OnErr result (pass.new ≡ pass.old) }
         ensures err_screen { OnErr result (self.new.screen ≡ self.old.screen) }
 
-        // For want of memory what waited still waits, or was handed over, and nothing else was made.
+        // If memory runs out, the commands still wait, or they were handed over, and no other step was made.
         ensures err { let cmds = basket.old.prepared.commands in let levels = basket.old.levels in
             OnErr result (((self.new.journal ≡ self.old.journal) × (basket.new.prepared.commands ≡ cmds)
             × (basket.new.levels ≡ levels))
@@ -368,7 +368,7 @@ impl<C: Client, L: Session> Locked<C, L> {
         let is_changed = may_change(&step);
         let reply = self.step_with(pass, level, step, (leaf, sketch))?;
         pass.posted = 0;
-        // What was drawn of no commands is of the content before the step.
+        // A drawing of no commands shows the content before the step.
         drop(basket.drawn.take());
         fit_if(is_changed, self.alloc, &self.stage, leaf, &mut basket.book);
         Ok(reply)
@@ -394,7 +394,7 @@ fn fits<C: Client>(stage: &Stage<C>, leaf: LeafId, prepared: &Prepared<C>) -> bo
     is_current(prepared, content, stage.font(), stage.leaf_size(leaf), kind)
 }
 
-/// Sees to it that a book's commands are prepared over the leaf's present content.
+/// Makes a book's commands prepared over the leaf's present content.
 fn fit<C: Client>(
     alloc: Global,
     stage: &Stage<C>,
@@ -421,8 +421,8 @@ fn fit<C: Client>(
     Ok(())
 }
 
-/// The same where the content may have changed, so that what its client posts next is prepared over what
-/// is there now. Where memory is wanted for that, it is prepared anew once it is handed over.
+/// The same if the content may have changed, so that the client's next commands are prepared over the new
+/// content. If memory runs out, they are prepared again when they are handed over.
 fn fit_if<C: Client>(
     is_changed: bool,
     alloc: Global,

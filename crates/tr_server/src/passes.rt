@@ -45,7 +45,7 @@ pub struct Passes<C: Client, L: Session> {
 }
 
 impl<C: Client, L: Session> Pass<C, L> {
-    /// A pass with which nothing was made.
+    /// A pass with which no step was made.
     pub(crate) fn fresh(alloc: Global, actor: Actor, share: Share<L>) -> Pass<C, L>
         requires { (share.parts ≡ 1) × (share.amount ≡ 0) }
         ensures { result ≡ fresh_pass actor }
@@ -72,7 +72,7 @@ impl<C: Client, L: Session> Pass<C, L> {
         &self.mine
     }
 
-    /// Makes room for so many steps more.
+    /// Makes room for `steps` more steps.
     pub fn reserve(&mut self, steps: usize) -> Result<(), NoMemory>
         ensures { self.new ≡ self.old }
     {
@@ -80,15 +80,15 @@ impl<C: Client, L: Session> Pass<C, L> {
         Ok(())
     }
 
-    /// How many commands were posted with it since its last step under the tree's lock.
+    /// The number of commands posted with it since its last step under the tree's lock.
     pub fn posted(&self) -> u8
         ensures { result ≡ self.now.posted }
     {
         self.posted
     }
 
-    /// Posts a command of a leaf: it waits behind the others, at the level that its caller holds. For want
-    /// of memory it is dropped.
+    /// Posts a command of a leaf: it waits after the others, at the level that its caller holds. If memory
+    /// runs out, it is dropped.
     pub(crate) fn post_into(
         &mut self,
         leaf: LeafId,
@@ -111,7 +111,7 @@ impl<C: Client, L: Session> Pass<C, L> {
     {
         let copy = cmd.copy(*self.mine.allocator())?;
         self.mine.push(Step::Act { leaf, cmd: copy })?;
-        // What was drawn is of fewer commands.
+        // The drawing doesn't show this command.
         drop(basket.drawn.take());
         match basket.book.post(level, cmd) {
             Ok(()) => {

@@ -30,8 +30,8 @@ use tr_journal::Step;
 use tr_levels::{Held, Level};
 use tr_stage::Painted;
 
-/// Up to this many bad points, one thread paints faster than several, which must be started first. If no
-/// more points are bad, `Mu::repaint_shared` paints all windows in turn, on one thread.
+/// Up to this number of bad points, one thread paints faster than several, which must be started first. If
+/// no more points are bad, `Mu::repaint_shared` paints all windows in turn, on one thread.
 pub const FEW_POINTS: u32 = 1 << 18;
 
 impl<C: Client, L: Session> Locked<C, L> {
@@ -42,8 +42,8 @@ impl<C: Client, L: Session> Locked<C, L> {
         shares_of(self.alloc, &self.stage)
     }
 
-    /// Puts a leaf's bad points that were painted onto the screen: the painter's repaint, at the leaf's
-    /// share alone. For want of memory nothing is made.
+    /// Puts a leaf's painted bad points onto the screen: the painter's repaint, at the leaf's share alone. If
+    /// memory runs out, no step is made.
     pub(crate) fn put_painted(
         &mut self,
         pass: &mut Pass<C, L>,
@@ -78,7 +78,7 @@ impl<C: Client, L: Session> Locked<C, L> {
         }
     }
 
-    /// What holds of the stage, for what that tells the prover. It does nothing.
+    /// Tells the prover the laws of the stage. It does nothing.
     fn stands(&self)
         ensures invariant { Stands C.Client self.now }
         ensures leaves { length (state C.Client self.now).windows
@@ -88,8 +88,8 @@ impl<C: Client, L: Session> Locked<C, L> {
         let _ = self.stage.tree();
     }
 
-    /// Makes steps of the painter, one after another, under the tree's lock. For want of memory those made
-    /// so far stand.
+    /// Makes steps of the painter, one after another, under the tree's lock. If memory runs out, the steps
+    /// made so far remain.
     fn make_all(&mut self, pass: &mut Pass<C, L>, steps: Vec<Step<C::Cmd>>) -> Result<(), NoMemory>
         requires painter { pass.old.actor ≡ Painter }
         requires steps { All (IsPainters (tree_of self.old.opening).nodes) steps.items }
@@ -105,8 +105,8 @@ impl<C: Client, L: Session> Locked<C, L> {
         Ok(())
     }
 
-    /// Puts the bad points of leaves onto the screen, leaf by leaf. For want of memory those put so far
-    /// stand.
+    /// Puts the bad points of leaves onto the screen, leaf by leaf. If memory runs out, the steps made so far
+    /// remain.
     fn put_all(&mut self, pass: &mut Pass<C, L>, all: Vec<Painted>) -> Result<(), NoMemory>
         requires painter { pass.old.actor ≡ Painter }
         requires idle { let m = state C.Client self.old in
@@ -118,7 +118,7 @@ impl<C: Client, L: Session> Locked<C, L> {
         ensures err { OnErr result (HasBegun C.Client self.old self.new pass.old pass.new
             (at_shares (all_bad_leaves (state C.Client self.old)))) }
     {
-        // Called for what it tells the prover: that the state has the opening's leaves.
+        // Tells the prover that the state has the opening's leaves.
         self.stands();
         for painted in all {
             self.put_painted(pass, painted)?;
@@ -126,7 +126,7 @@ impl<C: Client, L: Session> Locked<C, L> {
         Ok(())
     }
 
-    /// Flushes each leaf for which something waits.
+    /// Flushes each leaf with waiting commands.
     fn flush_all(&mut self, pass: &mut Pass<C, L>) -> Result<(), NoMemory>
         requires { pass.old.actor ≡ Painter }
         ensures ok { OnOk result (HasMade C.Client self.old self.new pass.old pass.new
@@ -156,8 +156,8 @@ impl<C: Client, L: Session> Locked<C, L> {
         self.put_all(pass, all)
     }
 
-    /// Paints the bad points of all leaves apart from the screen: side by side, or in turn, where they are
-    /// so few that a thread would take longer to start.
+    /// Paints the bad points of all leaves apart from the screen: side by side, or in turn if they are so
+    /// few that a thread would take longer to start.
     fn paint_bad_leaves<R: Threads + Sync>(&self, rt: &R) -> Result<Vec<Painted>, NoMemory>
         requires { let m = state C.Client self.now in
             (leaf : LeafId) → leaf_batch C.Client m leaf ≡ [] }
@@ -183,10 +183,10 @@ impl<C: Client, L: Session> Locked<C, L> {
         self.make_all(pass, steps)
     }
 
-    /// Brings the screen up to date by way of shares: each leaf is flushed for which something waits; then
-    /// the bad points of all leaves are painted apart from the screen, side by side where they are many, and
-    /// put onto it leaf by leaf, each at its share alone; then the frames are painted, if a point of one is
-    /// bad. For want of memory the steps made so far stand.
+    /// Brings the screen up to date by way of shares: each leaf with waiting commands is flushed; then the
+    /// bad points of all leaves are painted apart from the screen, side by side if they are many, and put
+    /// onto it leaf by leaf, each at its share alone; then the frames are painted, if a point of one is bad.
+    /// If memory runs out, the steps made so far remain.
     pub(crate) fn repaint_shared<R: Threads + Sync>(
         &mut self,
         rt: &R,
@@ -198,14 +198,14 @@ impl<C: Client, L: Session> Locked<C, L> {
         ensures err { OnErr result (HasBegun C.Client self.old self.new pass.old pass.new
             (sharing C.Client (state C.Client self.old))) }
 
-        // Then nothing waits, no point is bad, and the screen is as if it were painted from nothing.
+        // Then no command waits, no point is bad, and the screen is as if painted from nothing.
         ensures idle { let m = state C.Client self.new in
             OnOk result ((leaf : LeafId) → leaf_batch C.Client m leaf ≡ []) }
         ensures good { let m = state C.Client self.new in OnOk result ((p : Point) → m.bad p ≡ false) }
         ensures screen { OnOk result (self.new.screen ≡ render C.Client (state C.Client self.new)) }
     {
         self.flush_all(pass)?;
-        // Called, here and below, for what it tells the prover.
+        // Tells the prover, here and below, the laws of the stage.
         self.stands();
         self.paint_shares(rt, pass)?;
         self.stands();

@@ -27,11 +27,11 @@ use tr_journal::{Actor, Journal, Opening};
 use tr_levels::Ladder;
 use tr_stage::Stage;
 
-/// How often a thread looks whether the tree's lock is free, before it sleeps until it is.
+/// The number of times that a thread tests whether the tree's lock is free, before it sleeps until it is.
 const MOST_LOOKS: u32 = 1000;
 
-/// A stage behind the tree's lock, and for each leaf a window, behind whose lock the commands of its
-/// client wait. Contracts see the opening and the journal with which it began.
+/// A stage with the tree's lock, and for each leaf a window, whose lock protects the waiting commands of its
+/// client. The model is the opening and the journal with which it began.
 #[derive(Drop)]
 pub struct Server<C: Client, L: Session> {
     pub(crate) alloc: Global,
@@ -39,7 +39,7 @@ pub struct Server<C: Client, L: Session> {
     pub(crate) windows: Vec<Window<C, L>>,
     pub(crate) opening: Opening<C>,
     pub(crate) kept: Journal<C::Cmd>,
-    /// Whether somebody has the tree's lock: a hint for those who wait for it.
+    /// Whether a thread has the tree's lock: a hint for those that wait for it.
     pub(crate) is_taken: AtomicBool,
 }
 
@@ -57,8 +57,8 @@ impl<C: Client, L: Session> Model for Server<C, L> {
 }
 
 impl<C: Client, L: Session> Server<C, L> {
-    /// Starts a session on a stage. No command waits in a window, and no step was made with a pass. For
-    /// want of memory it returns the stage.
+    /// Starts a session on a stage. No command waits in a window, and no step was made with a pass. If memory
+    /// runs out, it returns the stage.
     pub fn start(
         alloc: Global,
         blank: Blank,
@@ -103,7 +103,7 @@ impl<C: Client, L: Session> Server<C, L> {
     {
         ladder.end();
         let guard = self.taken(rt);
-        // Called for what they tell the prover: how many nodes and leaves the server and the stage have.
+        // Tells the prover the numbers of nodes and leaves of the server and the stage.
         let _ = self.opening();
         let _ = guard.stage();
         self.is_taken.store(true, Ordering::SeqCst);
@@ -113,7 +113,7 @@ impl<C: Client, L: Session> Server<C, L> {
         }
     }
 
-    /// Takes the lock. A thread that finds it taken looks again for a while, and yields to other threads,
+    /// Takes the lock. A thread that finds it taken tests it again for a while, and yields to other threads,
     /// before it sleeps: most steps take less time than waking a thread. Meanwhile the thread only reads:
     /// an attempt to take the lock would take the lock's memory, and the data beside it, from the
     /// processor of the thread that holds it.
@@ -136,7 +136,7 @@ impl<C: Client, L: Session> Server<C, L> {
         }
     }
 
-    /// Whether somebody has the tree's lock. It promises nothing: a moment later the lock may be free.
+    /// Whether a thread has the tree's lock. It promises nothing: a moment later the lock may be free.
     pub fn is_busy(&self) -> bool {
         self.is_taken.load(Ordering::SeqCst)
     }
@@ -159,7 +159,7 @@ impl<C: Client, L: Session> Server<C, L> {
     }
 }
 
-/// Copies of what a stage began with, and of its journal.
+/// Copies of a stage's opening, and of its journal.
 fn copies_of<C: Client>(stage: &Stage<C>) -> Result<(Opening<C>, Journal<C::Cmd>), NoMemory>
     ensures opening { IfOk result (λ r. r.0 ≡ stage.now.opening) }
     ensures kept { IfOk result (λ r. r.1.lines ≡ stage.now.journal) }
@@ -172,7 +172,7 @@ fn copies_of<C: Client>(stage: &Stage<C>) -> Result<(Opening<C>, Journal<C::Cmd>
     Ok((opening, kept))
 }
 
-/// A window for each leaf, in whose book nothing waits, and the passes, with which nothing was made.
+/// A window for each leaf, with no command waiting in its book, and the passes, with which no step was made.
 fn windows_and_passes<C: Client, L: Session>(
     alloc: Global,
     stage: &Stage<C>,
@@ -195,7 +195,7 @@ fn windows_and_passes<C: Client, L: Session>(
     Ok((windows, Passes { workers, player }))
 }
 
-/// The windows of so many leaves, in whose books nothing waits.
+/// The windows of this number of leaves, with no command waiting in their books.
 fn windows_of<C: Client, L: Session>(
     alloc: Global,
     stage: &Stage<C>,
@@ -220,7 +220,7 @@ fn windows_of<C: Client, L: Session>(
     Ok(windows)
 }
 
-/// A book for a leaf, of which nothing was handed over, with no commands over its present content.
+/// A book for a leaf, from which no command was handed over, with no commands over its present content.
 fn book_of<C: Client>(alloc: Global, stage: &Stage<C>, leaf: LeafId) -> Result<Book<C>, NoMemory>
     requires { leaf.0 < leaf_count (tree_of stage.now.opening).nodes }
     ensures { IfOk result (λ b. b.handed ≡ 0) }
@@ -273,7 +273,7 @@ fn add_workers<C: Client, L: Session>(
     add_worker(alloc, Actor::Painter, all, workers)
 }
 
-/// Adds a pass with which nothing was made.
+/// Adds a pass with which no step was made.
 fn add_worker<C: Client, L: Session>(
     alloc: Global,
     actor: Actor,

@@ -3,9 +3,9 @@ ghost use Rattle.std.specs.Prelude.{ℕ};
 use std::marker::Brand;
 use std::sync::ledger::Ledger;
 
-/// The name of one session. It serves contracts alone, and says how many nodes and leaves the opening has,
-/// and how many entries the journal had when the session began. A function that is generic in it runs one
-/// session. The caller calls the function with `Brand`, and says there what these numbers are.
+/// The name of one session. It serves contracts alone: its numbers are those of the opening's nodes and
+/// leaves, and of the journal's entries at the session's start. A function that is generic in it runs one
+/// session. The caller calls the function with `Brand`, and defines these numbers in its call.
 pub trait Session: Ledger + Send + Sync {
     ghost nodes: { ℕ };
 

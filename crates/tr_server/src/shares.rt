@@ -47,7 +47,7 @@ impl<'a, C: Client> Model for Share<'a, C> {
 }
 
 impl<C: Client> Share<'_, C> {
-    /// The leaf whose window it is.
+    /// The leaf of the window.
     pub fn leaf(&self) -> LeafId
         ensures { result ≡ self.now.leaf }
     {
@@ -75,7 +75,7 @@ impl<C: Client, L: Session> Mu<'_, C, L> {
     }
 
     /// Puts a leaf's painted bad points onto the screen, while no command waits for the leaf. This is the
-    /// painter's step `Repaint`, at the leaf's share alone. For want of memory no step is made.
+    /// painter's step `Repaint`, at the leaf's share alone. If memory runs out, no step is made.
     pub fn put_painted(&mut self, pass: &mut Pass<C, L>, painted: Painted) -> Result<(), NoMemory>
         requires painter { pass.old.actor ≡ Painter }
         requires leaf { painted.leaf.0 < leaf_count (tree_of self.old.opening).nodes }
@@ -96,7 +96,7 @@ impl<C: Client, L: Session> Mu<'_, C, L> {
     /// Brings the screen up to date by way of shares. It flushes each leaf with waiting commands; paints
     /// the bad points of all leaves apart from the screen, on several threads if they are more than
     /// `FEW_POINTS`; puts them onto the screen leaf by leaf, each at its share alone; and paints the
-    /// frames, if a point of one is bad. For want of memory the steps made so far remain.
+    /// frames, if a point of one is bad. If memory runs out, the steps made so far remain.
     pub fn repaint_shared<R: Threads + Sync>(
         &mut self,
         rt: &R,
@@ -108,7 +108,7 @@ impl<C: Client, L: Session> Mu<'_, C, L> {
         ensures err { OnErr result (HasBegun C.Client self.old self.new pass.old pass.new
             (sharing C.Client (state C.Client self.old))) }
 
-        // Then nothing waits, no point is bad, and the screen is as if it were painted from nothing.
+        // Then no command waits, no point is bad, and the screen is as if painted from nothing.
         ensures idle { let m = state C.Client self.new in
             OnOk result ((leaf : LeafId) → leaf_batch C.Client m leaf ≡ []) }
         ensures good { let m = state C.Client self.new in OnOk result ((p : Point) → m.bad p ≡ false) }
@@ -119,15 +119,15 @@ impl<C: Client, L: Session> Mu<'_, C, L> {
     }
 }
 
-/// A share for each leaf of which a visible point is bad and for which nothing waits, in the order of
-/// their numbers.
+/// A share for each leaf that has a bad visible point and no waiting commands, in the order of the
+/// leaves' numbers.
 pub(crate) fn shares_of<C: Client>(
     alloc: Global,
     stage: &Stage<C>,
 ) -> Result<Vec<Share<'_, C>>, NoMemory>
     ensures { IfOk result (λ shares. shares.items ≡ spec.shares_of C.Client stage.now) }
 {
-    // Called for what they tell the prover: that the state has the opening's leaves.
+    // These calls tell the prover that the state has the opening's leaves.
     stage.stands();
     let _ = stage.tree();
     let mut shares = Vec::new(alloc);
@@ -151,7 +151,7 @@ fn is_ready<C: Client>(stage: &Stage<C>, leaf: LeafId) -> Result<bool, NoMemory>
     stage.has_bad(leaf)
 }
 
-/// Paints all shares side by side, each in a thread of its own where one can be made.
+/// Paints all shares side by side, each in a thread of its own if one can be started.
 pub(crate) fn paint_each<C: Client, R: Threads + Sync>(
     rt: &R,
     alloc: Global,
@@ -169,7 +169,7 @@ pub(crate) fn paint_each<C: Client, R: Threads + Sync>(
     all_ok(alloc, results)
 }
 
-/// What all results have, or the first error.
+/// The values of all results, or the first error.
 fn all_ok<T: Drop>(alloc: Global, results: Vec<Result<T, NoMemory>>) -> Result<Vec<T>, NoMemory>
     ensures { IfOk result (λ all. map (λ x. Ok x) all.items ≡ results.items) }
 {

@@ -22,7 +22,7 @@ use tr_journal::{Reply, Step};
 use tr_levels::{Held, Ladder, Level};
 use tr_stage::Stage;
 
-/// The tree's lock, while a thread holds it. Only `leave` releases it. Contracts see it as the stage.
+/// The tree's lock, while a thread holds it. Only `leave` releases it. The model is the stage.
 pub struct Mu<'a, C: Client, L: Session> {
     pub(crate) guard: MutexGuard<'a, Locked<C, L>>,
     pub(crate) is_taken: &'a AtomicBool,
@@ -46,7 +46,7 @@ impl<C: Client, L: Session> Mu<'_, C, L> {
         self.guard.stage()
     }
 
-    /// The desk, the painter or the player makes a step, at the tree's lock alone. For want of memory no
+    /// The desk, the painter or the player makes a step, at the tree's lock alone. If memory runs out, no
     /// step is made.
     pub fn step(&mut self, pass: &mut Pass<C, L>, step: Step<C::Cmd>) -> Result<Reply, NoMemory>
         requires actor { is_client pass.old.actor ≡ false }
@@ -62,8 +62,8 @@ impl<C: Client, L: Session> Mu<'_, C, L> {
         locked.step(pass, level, step)
     }
 
-    /// Hands over the commands that wait in a window, in their order, each at the level with which it was
-    /// posted and the window's. For want of memory no command is handed over, and the same commands wait.
+    /// Hands over the commands that wait in a window, in their order, each at its level and the window's. If
+    /// memory runs out, no command is handed over, and the same commands wait.
     pub fn hand_over<R: Wait>(&mut self, rt: &R, window: &Window<C, L>) -> Result<(), NoMemory>
         ensures opening { self.new.opening ≡ self.old.opening }
         ensures screen { self.new.screen ≡ self.old.screen }
@@ -71,8 +71,8 @@ impl<C: Client, L: Session> Mu<'_, C, L> {
         ensures err { OnErr result (self.new.journal ≡ self.old.journal) }
     {
         let locked = &mut *self.guard;
-        // Called, here and below, for what they tell the prover: that the window's leaf is one of the
-        // stage's, and that each command that waits has a level.
+        // These calls, here and below, tell the prover that the window's leaf is one of the stage's,
+        // and that each waiting command has a level.
         let _ = locked.stage();
         let leaf = window.leaf();
         let mut guard = window.basket.lock(rt);
@@ -82,7 +82,7 @@ impl<C: Client, L: Session> Mu<'_, C, L> {
     }
 
     /// Hands over the commands that wait in a window, and makes a step of its client, at the tree's lock
-    /// and the window's. For want of memory the step isn't made, and either all of the commands were
+    /// and the window's. If memory runs out, the step isn't made, and either all of the commands were
     /// handed over or none.
     pub fn client_step<R: Wait>(
         &mut self,

@@ -14,7 +14,7 @@ use tr_client::Client;
 use tr_journal::Step;
 use tr_levels::Ladder;
 
-/// A leaf's window. Its lock protects the waiting commands of its client. Contracts see it as the leaf.
+/// A leaf's window. Its lock protects the waiting commands of its client. The model is the leaf.
 #[derive(Drop)]
 pub struct Window<C: Client, L: Session> {
     pub(crate) leaf: LeafId,
@@ -54,7 +54,7 @@ impl<C: Client, L: Session> Window<C, L> {
 
     /// The window's client posts a command, under the window's lock alone. The command waits until it is
     /// handed over, at the level that the caller holds now and the window's. A client may post at most 64
-    /// commands before it makes a step under the tree's lock. For want of memory the command is dropped.
+    /// commands before it makes a step under the tree's lock. If memory runs out, the command is dropped.
     pub fn act<R: Wait>(
         &self,
         rt: &R,
@@ -76,8 +76,8 @@ impl<C: Client, L: Session> Window<C, L> {
         pass.post_into(self.leaf, &mut *basket, level, cmd)
     }
 
-    /// Draws the waiting commands apart from the screen, under the window's lock alone. Handing over then
-    /// moves the commands, and a flush may put the drawn pixels. This is a hint: no clause promises anything.
+    /// Draws the waiting commands apart from the screen, under the window's lock alone. The commands are then
+    /// handed over without copies, and a flush may put the drawn pixels. This is a hint, with no promise.
     pub fn draw<R: Wait>(&self, rt: &R) {
         let mut guard = self.basket.lock(rt);
         let basket = &mut *guard;
@@ -85,7 +85,7 @@ impl<C: Client, L: Session> Window<C, L> {
     }
 
     /// Hands over the commands that wait in the window, and makes one more of its client, at the tree's
-    /// lock and the window's. For want of memory this one isn't made, and either all of the waiting
+    /// lock and the window's. If memory runs out, this one isn't made, and either all of the waiting
     /// commands were handed over or none.
     pub fn act_under<R: Wait>(
         &self,
@@ -108,7 +108,7 @@ impl<C: Client, L: Session> Window<C, L> {
         ensures err_screen { OnErr result (mu.new.screen ≡ mu.old.screen) }
         ensures err_pass { OnErr result (pass.new ≡ pass.old) }
     {
-        // Called for what they tell the prover: that the leaf is one of the stage's.
+        // These calls tell the prover that the leaf is one of the stage's.
         let leaf = self.leaf();
         let _ = mu.stage();
         mu.client_step(rt, self, pass, Step::Act { leaf, cmd })?;

@@ -1,4 +1,4 @@
--- What is written of a stream of updates, and why nothing is.
+-- The text of a stream of updates, and the causes of a refusal.
 use Rattle.std.specs.Prelude.{◌≡◌, ⊤, ℕ, List, Option, Some}
 use Rattle.std.specs.List.{flat_map}
 use Rattle.tr_dump.specs.Reports.{dump_text}
@@ -7,11 +7,11 @@ use Rattle.tr_mirror.specs.Readings.{screens_shown}
 use Rattle.tr_show.specs.declared.errors.ShowRefused.{ShowRefused}
 use Rattle.tr_show.specs.declared.errors.ShowRefused.TheVariants as refused
 
--- what is written of a stream: the screen at each of its cuts is dumped
+-- the text of a stream: the dumps of the screens at its cuts
 abbrev pub shown_text : List ℕ → List ℕ
 shown_text stream = flat_map dump_text (screens_shown stream)
 
--- why some bytes are refused, where memory isn't wanting: their first fault
+-- the cause of a refusal: the first fault of the bytes, or want of memory
 abbrev pub IsShowCause : Option MirrorFault → ShowRefused → Type 0
 IsShowCause first refused.NoMemory = ⊤
 IsShowCause first (refused.Fault fault) = first ≡ Some fault

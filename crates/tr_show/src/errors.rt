@@ -6,7 +6,7 @@ use thiserror::Error;
 use tr_base::NoMemory;
 use tr_mirror::MirrorFault;
 
-/// Why nothing is shown of some bytes.
+/// The cause of bytes that aren't shown.
 #[derive(Clone, Copy, Debug, PartialEq, Eq, Error)]
 pub enum ShowRefused {
     #[error("out of memory")]

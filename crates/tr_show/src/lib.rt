@@ -1,4 +1,4 @@
-//! What a stream of updates shows, as the texts of dumps.
+//! The screens of a stream of updates, as the texts of dumps.
 #![tactic(auto)]
 
 mod errors;

@@ -31,7 +31,7 @@ pub fn show(alloc: Global, stream: &[u8]) -> Result<Output, ShowRefused>
     Ok(text)
 }
 
-/// Reads bytes as far as their first cut, and appends the dump of its screen. Answers what is left of them.
+/// Reads bytes up to their first cut, and appends the dump of its screen. Answers the remaining bytes.
 fn show_to_cut<'a>(
     mirror: &mut Mirror,
     bytes: &'a [u8],

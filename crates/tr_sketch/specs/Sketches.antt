@@ -1,4 +1,4 @@
--- What a contract sees of a sketch, and what each of them keeps.
+-- The model of a sketch, and its invariant.
 use Rattle.std.specs.Prelude.{◌≡◌, ℕ, true, List, length, slice_index}
 use Rattle.tr_base.specs.declared.Point.{Point}
 use Rattle.tr_base.specs.declared.Size.{Size}

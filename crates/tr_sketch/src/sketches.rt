@@ -19,7 +19,7 @@ use tr_screen::Screen;
 use tr_spot::{from_corner, size_of};
 use tr_surface::pixels_at;
 
-/// The longest side that a screen has.
+/// The longest side of a screen.
 const LONGEST_SIDE: u32 = 1024;
 
 /// The picture of a content over a part of its window, for a font, the window's size and a kind of pixels.
@@ -59,8 +59,8 @@ impl<C: Client> Model for Sketch<C> {
 }
 
 impl<C: Client> Sketch<C> {
-    /// Paints the part of a content's picture that lies in a clip: one that a screen has room for, as
-    /// `fits_screen` tests. The content is kept. For want of memory it is let go.
+    /// Paints the part of a content's picture that lies in a clip. A screen must have room for that part, as
+    /// `fits_screen` tests. The sketch keeps the content; if memory runs out, the content is dropped.
     pub fn paint(
         alloc: Global,
         content: C,
@@ -95,7 +95,7 @@ impl<C: Client> Sketch<C> {
         })
     }
 
-    /// The part of the window that it has pixels of.
+    /// The part of the window that the pixels show.
     pub fn clip(&self) -> Rect
         ensures value { result ≡ self.now.clip }
         ensures invariant { IsSketch C.Client self.now }
@@ -137,10 +137,10 @@ fn painted<C: Client>(
         (q : Point) → has_point part.now q ≡ true →
         slice_index v.items (place_within part.now q) ≡ C.pic look size content.now q) }
 {
-    // Called for what it tells the prover: that the edges are those of a rectangle.
+    // Tells the prover that the edges are those of a rectangle.
     let _ = part.is_empty();
     let sides = size_of(part);
-    // Where the window's corner lies, from that of the part.
+    // The window's corner, relative to that of the part.
     let origin = from_corner(part, Point { h: 0, v: 0 });
     let painting = content.paint(alloc, env, size, *part)?;
     let all = Region::of_rect(alloc, whole(sides))?;

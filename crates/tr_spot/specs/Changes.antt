@@ -11,8 +11,8 @@ abbrev pub without_child : Option NodeId → List NodeId → List NodeId
 without_child None cs = cs
 without_child (Some child) cs = without child cs
 
--- The two trees have the same nodes on a screen of the same size, and each node the same children in the same order, but for one child that
--- may have changed its place.
+-- The two trees have the same nodes on a screen of the same size, and each node has the same children in the same order, except for one
+-- child that may have another place.
 pub record AreAlikeBut (child : Option NodeId) (was is : Seen) : Type 0 where
   pub count : length is.nodes.entries ≡ length was.nodes.entries
   pub root : is.nodes.root ≡ was.nodes.root

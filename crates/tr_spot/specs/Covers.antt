@@ -1,6 +1,6 @@
 -- Private contracts alone cite this file.
--- Two trees between which a child has moved with all that lies below it, or has come in front of its siblings, and no other node has
--- moved.
+-- Two trees between which one child has moved with all nodes below it, or has come in front of its siblings, and all other nodes
+-- have stayed.
 use Rattle.std.specs.Prelude.{◌≡◌, Bool, true, false, Option, Some, None}
 use Rattle.tr_base.specs.declared.Point.{Point}
 use Rattle.tr_base.specs.declared.NodeId.{NodeId}
@@ -18,13 +18,13 @@ abbrev pub lies_under : Nodes → Option NodeId → NodeId → Bool
 lies_under t None n = false
 lies_under t (Some child) n = is_under t child n
 
--- the walk from the root to the owner of a point comes to the child, if there is one
+-- the walk from the root to the owner of a point reaches the child, if there is one
 abbrev pub comes_upon : Seen → Point → Option NodeId → Bool
 comes_upon t p None = false
 comes_upon t p (Some child) = comes_to t p child
 
--- Each node has the same children in the same order in both trees, but for the child, which may have another place among them. The child
--- and all that lies below it have moved by so much, and all other nodes have stayed where they were.
+-- Each node has the same children in the same order in both trees, except for the child, which may have another place among them. The
+-- child and all nodes below it have moved by `by`, and all other nodes have stayed.
 pub record IsCarried (by : Point) (child : Option NodeId) (was is : Seen) : Type 0 where
   pub before : IsForest was.nodes
   pub after : IsForest is.nodes

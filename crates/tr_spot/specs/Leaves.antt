@@ -1,4 +1,4 @@
--- Where a leaf lies on the screen, and how large its window is.
+-- The place of a leaf on the screen, and the size of its window.
 use Rattle.std.specs.Prelude.{Bool, ◌&&◌, ◌==◌}
 use Rattle.tr_base.specs.declared.Point.{Point}
 use Rattle.tr_base.specs.declared.Size.{Size}
@@ -9,7 +9,7 @@ use Rattle.tr_tree.specs.Trees.{Seen}
 use Rattle.tr_tree.specs.Places.{domain}
 use Rattle.tr_spot.specs.Spots.{from_corner, size_of}
 
--- the rectangle of a leaf's window, in the screen's coordinates; that of an unplaced leaf is empty
+-- the rectangle of a leaf's window in the screen's coordinates; it is empty for an unplaced leaf
 abbrev pub leaf_domain : Seen → LeafId → Edges
 leaf_domain t leaf = domain t (node_of t.nodes leaf)
 
@@ -17,11 +17,11 @@ leaf_domain t leaf = domain t (node_of t.nodes leaf)
 abbrev pub leaf_size : Seen → LeafId → Size
 leaf_size t leaf = size_of (leaf_domain t leaf)
 
--- where the north-west corner of a leaf's window lies; that of an unplaced leaf lies at (0, 0)
+-- the north-west corner of a leaf's window; it is (0, 0) for an unplaced leaf
 abbrev pub leaf_corner : Seen → LeafId → Point
 leaf_corner t leaf = record { h = (leaf_domain t leaf).west; v = (leaf_domain t leaf).north }
 
--- a point of the screen, in the coordinates of a leaf's window
+-- a point of the screen in the coordinates of a leaf's window
 abbrev pub in_leaf : Seen → LeafId → Point → Point
 in_leaf t leaf p = from_corner (leaf_domain t leaf) p
 

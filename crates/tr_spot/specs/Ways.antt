@@ -1,4 +1,4 @@
--- The nodes to which the walk from the root to a point's owner comes.
+-- The nodes on the walk from the root to a point's owner.
 use Rattle.std.specs.Prelude.{ℕ, zero, suc, Bool, true, false, ◌&&◌, ◌==◌, if◌then◌else◌, List, Option, Some, None}
 use Rattle.std.specs.List.{find}
 use Rattle.tr_base.specs.declared.Point.{Point}
@@ -25,22 +25,22 @@ abbrev pub is_nobody : Option NodeId → Bool
 is_nobody None = true
 is_nobody (Some m) = false
 
--- the walk comes to the parent, and goes on to this child
+-- the walk reaches the parent, and continues at this child
 abbrev pub comes_below : Seen → Point → NodeId → Option NodeId → (NodeId → Bool) → Bool
 comes_below t p n None up = false
 comes_below t p n (Some parent) up = up parent && is_it n (front t p (node t.nodes parent).children)
 
--- the walk comes to a node, by its parents for so many levels
+-- the walk reaches a node, checked for this number of levels up
 unfoldable pub comes_within : ℕ → Seen → Point → NodeId → Bool
 comes_within zero t p n = false
 comes_within (suc f) t p n =
     if is_root t.nodes n then has_point (whole_of t.size) p else comes_below t p n (node t.nodes n).parent (comes_within f t p)
 
--- the walk from the root to the owner of a point comes to a node
+-- the walk from the root to the owner of a point reaches a node
 abbrev pub comes_to : Seen → Point → NodeId → Bool
 comes_to t p n = comes_within levels t p n
 
--- where the walk from the root ends, if there is a root
+-- the node at which the walk from the root ends, if there is a root
 abbrev pub ends_at : Seen → Point → Option NodeId → Option NodeId
 ends_at t p None = None
 ends_at t p (Some root) = Some (owner t root p)

@@ -8,7 +8,7 @@ use crate::spots::{from_corner, size_of};
 use tr_base::{LeafId, Point, Rect, Size};
 use tr_tree::Tree;
 
-/// The size of a leaf's window. That of a leaf that gets no place is 0 by 0.
+/// The size of a leaf's window. It is 0 by 0 for an unplaced leaf.
 pub fn leaf_size(tree: &Tree, leaf: LeafId) -> Size
     requires { leaf.0 < leaf_count tree.now.nodes }
     ensures value { result ≡ leaf_size tree.now leaf }
@@ -17,8 +17,8 @@ pub fn leaf_size(tree: &Tree, leaf: LeafId) -> Size
     size_of(&leaf_domain(tree, leaf))
 }
 
-/// Where the north-west corner of a leaf's window lies on the screen. That of a leaf that gets no
-/// place lies at (0, 0).
+/// The north-west corner of a leaf's window on the screen. It is (0, 0) for an unplaced
+/// leaf.
 pub fn leaf_corner(tree: &Tree, leaf: LeafId) -> Point
     requires { leaf.0 < leaf_count tree.now.nodes }
     ensures { result ≡ leaf_corner tree.now leaf }

@@ -1,8 +1,8 @@
-//! Who owns a point of the screen, and which points each window shows.
+//! The owner of each point of the screen, and the points that each window shows.
 //!
-//! The owner is found by a walk from the root: at each node it goes on to the first child whose
-//! domain has the point, and it ends where no child has it. So the children that come first lie in
-//! front, and a child that reaches past its parent shows nothing there.
+//! A walk from the root finds the owner: at each node it continues at the first child whose domain
+//! has the point, and it ends if no child has it. So the children that come first lie in front, and a
+//! child that reaches past its parent shows nothing there.
 #![tactic(auto)]
 
 mod leaves;

@@ -13,7 +13,7 @@ use tr_base::{NodeId, Point};
 use tr_tree::Tree;
 
 /// Sixteen levels are enough, so owners are those of trees of any depth: the owner of a point at a
-/// node is its owner at the first child whose domain has it, and else the node. It does nothing.
+/// node is its owner at the first child whose domain has it, and else the node. The call does nothing.
 pub fn levels_suffice(tree: &Tree)
     ensures { (n : NodeId) (p : Point) → owner tree.now n p ≡
         followed n (λ c. owner tree.now c p)
@@ -36,7 +36,7 @@ fn child_at(tree: &Tree, n: NodeId, p: Point) -> Option<NodeId>
     None
 }
 
-/// The owner of a point, by the walk from a node whose domain has it.
+/// The owner of a point, found by the walk from a node whose domain has the point.
 pub(crate) fn owner_of(tree: &Tree, top: NodeId, p: Point) -> NodeId
     requires forest { IsForest tree.now.nodes }
     requires node { IsNode tree.now.nodes top }

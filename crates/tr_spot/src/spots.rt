@@ -9,14 +9,14 @@ use crate::owners::owner_of;
 use tr_base::{NodeId, Point, Rect, Size, Spot, sides, whole};
 use tr_tree::{NodeKind, Tree};
 
-/// What a point belongs to. It takes no memory, and looks only at nodes whose domain has the point
+/// The spot of a point. The call takes no memory, and looks only at nodes whose domain has the point
 /// and at their siblings in front.
 pub fn spot_at(tree: &Tree, p: Point) -> Spot
     requires { HasRoot tree.now }
     ensures spot { result ≡ spot tree.now p }
     ensures leaf { IsLeafBelow (leaf_count tree.now.nodes) result }
 {
-    // Called for what it tells the prover: that the nodes are a forest, and the screen has a size.
+    // Tells the prover that the nodes are a forest, and the screen has a size.
     let _ = tree.count();
     if !whole(tree.size()).has(p) {
         return Spot::Off;
@@ -25,7 +25,7 @@ pub fn spot_at(tree: &Tree, p: Point) -> Spot
     spot_on(tree, p, owner_of(tree, root, p))
 }
 
-/// What a point belongs to, by its owner.
+/// The spot of a point, from its owner.
 fn spot_on(tree: &Tree, p: Point, n: NodeId) -> Spot
     requires size { IsScreenSize tree.now.size }
     requires screen { has_point (whole_of tree.now.size) p ≡ true }
@@ -53,7 +53,7 @@ fn spot_on(tree: &Tree, p: Point, n: NodeId) -> Spot
     }
 }
 
-/// A point by its distance from a rectangle's corner.
+/// A point relative to a rectangle's corner.
 pub fn from_corner(rect: &Rect, p: Point) -> Point
     requires across { InReach p.h }
     requires down { InReach p.v }
@@ -65,7 +65,7 @@ pub fn from_corner(rect: &Rect, p: Point) -> Point
     }
 }
 
-/// How far a coordinate is from another one.
+/// The distance of a coordinate from another one.
 fn distance(x: i32, from: i32) -> i32
     requires x { InReach x }
     requires from { InReach from }
@@ -74,7 +74,7 @@ fn distance(x: i32, from: i32) -> i32
     x - from
 }
 
-/// The size of a node's rectangle.
+/// The size of a rectangle.
 pub fn size_of(rect: &Rect) -> Size
     requires { IsDomain rect.now }
     ensures { result ≡ size_of rect.now }

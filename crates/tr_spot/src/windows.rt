@@ -18,7 +18,7 @@ pub fn visible(alloc: Global, tree: &Tree, leaf: LeafId) -> Result<Region, NoMem
     requires { leaf.0 < leaf_count tree.now.nodes }
     ensures points { IfOk result (λ r. (p : Point) → holds r p ≡ is_in_leaf leaf (spot tree.now p)) }
 {
-    // Called for what it tells the prover: that the nodes are a forest.
+    // Tells the prover that the nodes are a forest.
     let _ = tree.count();
     owned(alloc, tree, tree.node_of(leaf))
 }
@@ -28,7 +28,7 @@ pub fn frame(alloc: Global, tree: &Tree, n: NodeId) -> Result<Region, NoMemory>
     requires { IsNode tree.now.nodes n }
     ensures points { IfOk result (λ r. (p : Point) → holds r p ≡ is_on_frame n (spot tree.now p)) }
 {
-    // Called for what it tells the prover: that the nodes are a forest.
+    // Tells the prover that the nodes are a forest.
     let _ = tree.count();
     if let NodeKind::Leaf { .. } = tree.kind_of(n) {
         return Ok(Region::empty(alloc));
@@ -36,24 +36,24 @@ pub fn frame(alloc: Global, tree: &Tree, n: NodeId) -> Result<Region, NoMemory>
     owned(alloc, tree, n)
 }
 
-/// The points of a part of the plane that belong to a node: a leaf's visible ones, those of another
-/// node's frame.
+/// The points of a part of the plane that belong to a node: visible points of a leaf, points of
+/// another node's frame.
 pub fn own_points(alloc: Global, tree: &Tree, n: NodeId, part: Region) -> Result<Region, NoMemory>
     requires { IsNode tree.now.nodes n }
     ensures { IfOk result (λ r. (p : Point) →
         holds r p ≡ holds part p && is_spot_of tree.now n (spot tree.now p)) }
 {
-    // Called for what it tells the prover: that the nodes are a forest.
+    // Tells the prover that the nodes are a forest.
     let _ = tree.count();
     owned_in(alloc, tree, n, part)
 }
 
-/// The points at which the walk from the root to the owner comes to a node.
+/// The points at which the walk from the root to the owner reaches a node.
 pub fn reached(alloc: Global, tree: &Tree, n: NodeId) -> Result<Region, NoMemory>
     requires { IsNode tree.now.nodes n }
     ensures { IfOk result (λ r. (p : Point) → holds r p ≡ comes_to tree.now p n) }
 {
-    // Called for what it tells the prover: that the nodes are a forest.
+    // Tells the prover that the nodes are a forest.
     let _ = tree.count();
     let screen = Region::of_rect(alloc, whole(tree.size()))?;
     reached_in(alloc, tree, n, screen)
@@ -69,8 +69,8 @@ fn owned(alloc: Global, tree: &Tree, n: NodeId) -> Result<Region, NoMemory>
     owned_in(alloc, tree, n, screen)
 }
 
-/// The points of a part whose spot is that of the node: where the walk from the root comes to it, and
-/// finds no child to go on to.
+/// The points of a part whose spot is that of the node: the walk from the root reaches it, and no
+/// child of it has the point.
 fn owned_in(alloc: Global, tree: &Tree, n: NodeId, part: Region) -> Result<Region, NoMemory>
     requires forest { IsForest tree.now.nodes }
     requires node { IsNode tree.now.nodes n }
@@ -81,7 +81,7 @@ fn owned_in(alloc: Global, tree: &Tree, n: NodeId, part: Region) -> Result<Regio
     uncovered(alloc, tree, n, all)
 }
 
-/// The points of a part at which the walk from the root comes to the node.
+/// The points of a part at which the walk from the root reaches the node.
 fn reached_in(alloc: Global, tree: &Tree, n: NodeId, part: Region) -> Result<Region, NoMemory>
     requires forest { IsForest tree.now.nodes }
     requires node { IsNode tree.now.nodes n }
@@ -111,8 +111,8 @@ fn is_root(tree: &Tree, n: NodeId) -> bool
     }
 }
 
-/// The points of a part of the parent that go on to the child: its domain has them, and that of no
-/// child in front.
+/// The points of a part of the parent at which the walk continues at the child: its domain has them,
+/// and no child in front has them.
 fn passed_on(
     alloc: Global,
     tree: &Tree,

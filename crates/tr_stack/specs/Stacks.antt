@@ -1,4 +1,4 @@
--- The shapes of the nodes whose children lie over one another or on pages, and where the children stand.
+-- The shapes of the nodes whose children lie over one another or on pages, and the places of the children.
 use Rattle.std.specs.Prelude.{ℕ, ◌*◌, ◌/◌, ◌%◌, pos, List, [], ◌∷◌, true, false, map, ◌==◌, if◌then◌else◌}
 use Rattle.tr_base.specs.declared.points.Point.{Point}
 use Rattle.tr_base.specs.declared.shapes.Shapes.{Shapes}
@@ -10,11 +10,11 @@ use Rattle.tr_base.specs.Layouts.{stopped, maxima_of, along, placed, places_by, 
 abbrev pub max_shape : List Shapes → Shapes
 max_shape cs = record { across = maxima_of (map (along false) cs); down = maxima_of (map (along true) cs) }
 
--- lengths, each so many times
+-- lengths, multiplied by a number
 abbrev pub repeated : ℕ → Lengths → Lengths
 repeated n l = record { lo = stopped (n * l.lo); pref = stopped (n * l.pref); hi = stopped (n * l.hi) }
 
--- a page has so many strips of one height, one above the other
+-- a page has `per` strips of one height, one above the other
 abbrev pub page_shape : ℕ → List Shapes → Shapes
 page_shape per cs = record { across = (max_shape cs).across; down = repeated per (max_shape cs).down }
 
@@ -28,7 +28,7 @@ z_places e (at ∷ ats) (c ∷ cs) = preferred_place e at c ∷ z_places e ats c
 abbrev pub t_place : Edges → ℕ → ℕ → Edges
 t_place e shown k = if k == shown then e else empty_rect
 
--- the rectangles of so many children of a T
+-- the rectangles of the children of a T
 abbrev pub t_places : Edges → ℕ → ℕ → List Edges
 t_places e shown count = places_by (t_place e shown) count
 
@@ -40,10 +40,10 @@ strip_size e per = ((sides_of e).0, (sides_of e).1 / per)
 abbrev pub page_strip : Edges → ℕ → ℕ → Edges
 page_strip e per k = placed e (pos 0) (pos (k * (strip_size e per).1)) (strip_size e per)
 
--- so many children after one another are on one page, each in its strip; all others are empty
+-- a page has the next `per` children, each in its strip; the children of other pages are empty
 abbrev pub page_place : Edges → ℕ → ℕ → ℕ → Edges
 page_place e per page k = if k / per == page then page_strip e per (k % per) else empty_rect
 
--- the rectangles of so many children of a Page
+-- the rectangles of the children of a Page
 abbrev pub page_places : Edges → ℕ → ℕ → ℕ → List Edges
 page_places e per page count = places_by (page_place e per page) count

@@ -1,6 +1,6 @@
-//! Shapes and places of the nodes of the window tree whose children don't stand side by side: a Z,
-//! whose children lie over one another, a T, which shows one of them, and a Page, which shows so
-//! many of them at a time in strips of one height.
+//! Shapes and places of the nodes of the window tree whose children don't lie side by side: a Z, whose
+//! children lie over one another, a T, which shows one of them, and a Page, which shows a fixed number
+//! of them at a time in strips of one height.
 #![tactic(auto)]
 
 mod stacks;

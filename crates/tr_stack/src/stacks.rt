@@ -30,7 +30,7 @@ pub fn page_shape(per: u8, children: &[Shapes]) -> Shapes
     }
 }
 
-/// Where a Z has its children, from front to back, each at its offset of at most 2048 each way. A
+/// The places of a Z's children, from front to back, each at its offset of at most 2048 each way. A
 /// child may reach past the node. It is empty, or its corner is within 2048 of the node's along
 /// each axis and its sides are at most 4096.
 pub fn z_place(
@@ -54,7 +54,7 @@ pub fn z_place(
     Ok(places)
 }
 
-/// Where a T has its children: the shown one has the whole rectangle, and the others are empty.
+/// The places of a T's children: the shown one has the whole rectangle, and the others are empty.
 pub fn t_place(alloc: Global, rect: Rect, shown: usize, count: usize) -> Result<Vec<Rect>, NoMemory>
     ensures places { IfOk result (λ v. v.items ≡ t_places rect shown count) }
     ensures count { IfOk result (λ v. vec_len v ≡ count) }
@@ -69,8 +69,8 @@ pub fn t_place(alloc: Global, rect: Rect, shown: usize, count: usize) -> Result<
     Ok(places)
 }
 
-/// Where a Page that shows `per` children at a time has its children: those of the page, counted
-/// from 0, in strips of one height from north to south, and the others are empty.
+/// The places of the children of a Page that shows `per` at a time: the children of the page, counted
+/// from 0, lie in strips of one height from north to south, and the others are empty.
 pub fn page_place(
     alloc: Global,
     rect: Rect,
@@ -93,7 +93,7 @@ pub fn page_place(
     Ok(places)
 }
 
-/// Where a T has its child number `k`, counted from 0: the shown one has the whole rectangle, and
+/// The place of a T's child number `k`, counted from 0: the shown one has the whole rectangle, and
 /// any other is empty.
 pub fn t_child(rect: Rect, shown: usize, k: usize) -> Rect
     ensures place { result ≡ t_child rect shown k }
@@ -103,8 +103,8 @@ pub fn t_child(rect: Rect, shown: usize, k: usize) -> Rect
     if k == shown { rect } else { empty_place() }
 }
 
-/// Where a Page that shows `per` children at a time has its child number `k`, counted from 0 like
-/// the pages: in its strip of the page, or empty where it is on another page.
+/// The place of child number `k` of a Page that shows `per` at a time, counted from 0 like the pages:
+/// its strip of the page, or empty if it is on another page.
 pub fn page_child(rect: Rect, per: u8, page: u8, k: usize) -> Rect
     requires domain { IsDomain rect }
     requires per { 1 ≤ per }

@@ -1,4 +1,4 @@
--- Leaves' bad points that were painted apart from the screen, in a row.
+-- A list of leaves' bad points that were painted apart from the screen.
 use Rattle.std.specs.Prelude.{◌≡◌, ⊤, List, [], ◌∷◌}
 use Rattle.tr_base.specs.declared.LeafId.{LeafId}
 use Rattle.tr_client.specs.declared.clients.Client.{Ghosts}

@@ -1,5 +1,5 @@
 -- Private contracts alone cite this file.
--- A sketch of a leaf's present content, and when its pixels may be put in place of what waits for the leaf.
+-- A sketch of a leaf's present content, and the cases in which its pixels may replace a flush.
 use Rattle.std.specs.Prelude.{◌≡◌, true, false, Some}
 use Rattle.tr_base.specs.declared.Point.{Point}
 use Rattle.tr_base.specs.declared.LeafId.{LeafId}

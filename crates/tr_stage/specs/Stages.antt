@@ -1,4 +1,4 @@
--- What a contract sees of a stage, and what its parts keep.
+-- The model of a stage, and the properties of its parts.
 use Rattle.std.specs.Prelude.{◌≡◌, ℕ, Bool, true, false, not, ◌&&◌, ◌==◌, List, [], ◌∷◌, length}
 use Rattle.tr_base.specs.declared.Point.{Point}
 use Rattle.tr_base.specs.declared.LeafId.{LeafId}
@@ -29,8 +29,8 @@ use Rattle.tr_machine.specs.Replays.{IsLegal, line_of_step, replay}
 use Rattle.tr_machine.specs.Promises.{Agrees, IsSound}
 use Rattle.tr_windows.specs.Presents.{Present, presents}
 
--- what a contract sees of a stage: the opening with which it began, the lines of its journal, the pixels of its screen, and the number of
--- further entries for which room is reserved
+-- the model of a stage: the opening at its start, the lines of its journal, the pixels of its screen, and the number of further
+-- entries that have reserved room
 pub record StageView (C M : Type 0) : Type 0 where
   pub opening : List (Item C)
   pub journal : List (JournalLine M)
@@ -50,7 +50,7 @@ pub record IsOf {C M : Type 0} (opening : List (Item C)) (m : State C M) : Type 
   pub leaves : leaf_count m.tree.nodes ≡ leaf_count (tree_of opening).nodes
   pub inboxes : length m.mail.inboxes ≡ leaf_count (tree_of opening).nodes
 
--- a step for which room may be reserved: one of the input devices, or a change of a cage, since these take no other memory
+-- a step that room may be reserved for: one of the input devices, or a change of a cage, since these take no other memory
 abbrev pub is_reservable : {M : Type 0} → Step M → Bool
 is_reservable (steps.SetCage leaf cage) = true
 is_reservable (steps.Mouse time button down) = true
@@ -72,7 +72,7 @@ paints steps.PaintFrame answer = true
 paints (steps.Alter edit) answers.Done = true
 paints step answer = false
 
--- where a step may paint: a flush and a repaint in their leaf, PaintFrame on frames, and an edit of the tree everywhere
+-- the spots that a step may paint: for a flush and a repaint its leaf's, for PaintFrame the frames', for an edit of the tree all
 abbrev pub may_paint : {M : Type 0} → Step M → Spot → Bool
 may_paint (steps.Flush leaf) spot = is_in_leaf leaf spot
 may_paint (steps.Repaint leaf) spot = is_in_leaf leaf spot
@@ -107,13 +107,13 @@ module _ {C M : Type 0} (client : Ghosts C M) where
     pub sound : IsSound client m
     pub agrees : Agrees client m parts.surface.screen
 
-  -- the parts are those of the state that the journal leads to from the opening, by lines that the machine makes
+  -- the parts are those of the state after the journal, from the opening on, and the machine makes each of its lines
   pub record IsStage (opening : List (Item C)) (lines : List (JournalLine M)) (parts : Parts C) : Type 0 where
     pub kept : RepresentsState (replay client opening lines) parts
     pub like : IsOf opening (replay client opening lines)
     pub legal : IsLegal client opening lines
 
-  -- the state of a stage: the one to which its journal leads from its opening
+  -- the state of a stage: its opening, and then its journal
   abbrev pub state : StageView C M → State C M
   state s = replay client s.opening s.journal
 

@@ -1,4 +1,4 @@
--- What holds of each stage.
+-- A property of each stage.
 use Rattle.tr_screen.specs.Pictures.{IsPicture}
 use Rattle.tr_client.specs.declared.clients.Client.{Ghosts}
 use Rattle.tr_forest.specs.Forests.{IsForest}

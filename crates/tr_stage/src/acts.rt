@@ -21,7 +21,7 @@ use tr_spot::leaf_size;
 use tr_windows::Windows;
 
 impl<C: Client> Stage<C> {
-    /// A command changes the content of a leaf, and what that paints waits.
+    /// A command changes the content of a leaf, and its paint commands wait.
     pub(crate) fn act(&mut self, by: &By, leaf: LeafId, cmd: C::Cmd) -> Result<Reply, NoMemory>
         requires allowed { let t = (tree_of self.old.opening).nodes in
             IsFor t by.now.actor by.now.level (Step.Act leaf cmd) }
@@ -47,7 +47,7 @@ impl<C: Client> Stage<C> {
         Ok(write(&mut self.journal, entry, Answer::Done, &[]))
     }
 
-    /// A part of a leaf's window is to be painted again.
+    /// A part of a leaf's window needs to be painted again.
     pub(crate) fn mark(&mut self, by: &By, leaf: LeafId, clip: Rect) -> Result<Reply, NoMemory>
         requires allowed { let t = (tree_of self.old.opening).nodes in
             IsFor {M = C.Cmd} t by.now.actor by.now.level (Step.Mark leaf clip) }
@@ -62,8 +62,8 @@ impl<C: Client> Stage<C> {
         Ok(write(&mut self.journal, entry, Answer::Done, &[]))
     }
 
-    /// The event that has waited longest for a leaf is taken out, and the leaf obeys the command that its
-    /// content asks for then, if it asks for one.
+    /// Takes the oldest event from a leaf's inbox, and the leaf obeys the command that its content gives for
+    /// it, if there is one.
     pub(crate) fn take(&mut self, by: &By, leaf: LeafId) -> Result<Reply, NoMemory>
         requires allowed { let t = (tree_of self.old.opening).nodes in
             IsFor {M = C.Cmd} t by.now.actor by.now.level (Step.Take leaf) }
@@ -105,7 +105,7 @@ impl<C: Client> Stage<C> {
         ensures screen { self.new.screen ≡ self.old.screen }
     {
         self.journal.reserve(1)?;
-        // Called for what it tells the prover: that the nodes are a forest.
+        // Called for its clause: the nodes are a forest.
         let _ = self.surface.tree();
         let answer = self.value_of(selection)?;
         let told = answer.copy()?;
@@ -113,12 +113,12 @@ impl<C: Client> Stage<C> {
         Ok(write(&mut self.journal, entry, told, &[]))
     }
 
-    /// What is answered to one who reads the value of a selection's owner.
+    /// The answer to a reader of the value of a selection's owner.
     fn value_of(&self, selection: Selection) -> Result<Answer, NoMemory>
         ensures { let m = state C.Client self.now in
             IfOk result (λ answer. answer ≡ machine.read C.Client (selection_owner m.mail.desk selection) m) }
     {
-        // Called for what it tells the prover: that who owns a selection is a leaf.
+        // Called for its clause: a selection's owner is a leaf.
         let _ = self.mail.leaves();
         match self.mail.desk().owner(selection) {
             None => Ok(Answer::Desk(DeskFault::Unowned)),
@@ -126,7 +126,7 @@ impl<C: Client> Stage<C> {
         }
     }
 
-    /// Something that is written down, and changes nothing.
+    /// A step that adds a line to the journal, and changes nothing else.
     pub(crate) fn note(&mut self, by: &By, step: Step<C::Cmd>) -> Result<Reply, NoMemory>
         requires note { is_note step ≡ true }
         requires allowed { IsFor (tree_of self.old.opening).nodes by.now.actor by.now.level step }
@@ -134,14 +134,14 @@ impl<C: Client> Stage<C> {
         ensures screen { self.new.screen ≡ self.old.screen }
     {
         self.journal.reserve(1)?;
-        // Called for what it tells the prover: that the nodes are a forest.
+        // Called for its clause: the nodes are a forest.
         let _ = self.surface.tree();
         let entry = by.entry(step, Answer::Done, 0);
         Ok(write(&mut self.journal, entry, Answer::Done, &[]))
     }
 }
 
-/// A leaf's window, which has this size, obeys a command, if there is one.
+/// A leaf's window of this size obeys a command, if there is one.
 fn obey<C: Client>(
     windows: &mut Windows<C>,
     leaf: LeafId,

@@ -12,8 +12,8 @@ use tr_forest::{Edit, EditRefused};
 use tr_journal::{Answer, Reply, Step};
 
 impl<C: Client> Stage<C> {
-    /// The tree of windows is edited, if that is not refused: what shows what it is to show stays
-    /// good, and the windows are told.
+    /// Edits the tree of windows, if the edit isn't refused: each point with its right colour stays good, and
+    /// the windows get events of it.
     pub(crate) fn alter(&mut self, by: &By, edit: Edit) -> Result<Reply, NoMemory>
         requires allowed { let t = (tree_of self.old.opening).nodes in
             IsFor {M = C.Cmd} t by.now.actor by.now.level (Step.Alter edit) }
@@ -22,12 +22,12 @@ impl<C: Client> Stage<C> {
         ensures screen { let made = Step.Alter edit in
             IfOk result (λ r. paints {M = C.Cmd} made r.answer ≡ false → self.new.screen ≡ self.old.screen) }
     {
-        // Called for what they tell the prover: that the screen is the tree's, that there are at most
-        // 32 leaves, and that the windows' contents keep the law of keeping.
+        // Called for their clauses: the screen is the tree's, there are at most 32 leaves, and the windows'
+        // contents keep the law of keeping.
         let _ = self.surface.tree();
         let _ = self.mail.leaves();
         self.windows.obeys_keeping();
-        // An edit may send two deliveries to each leaf, in place of one.
+        // An edit may send two deliveries to each leaf instead of one.
         self.journal.reserve(2)?;
         let former = self.former.take();
         match self.surface.alter(&edit, &self.windows, former) {

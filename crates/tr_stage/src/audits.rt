@@ -11,9 +11,8 @@ use tr_journal::{Apart, Difference, Journal, Lists, Opening};
 
 impl<C: Client> Stage<C> {
     /// Compares the stage with the arguments, and returns the first difference: the opening with
-    /// `opening`, the first entries of the journal with `kept`, and in the entries behind these each
-    /// actor's steps with the actor's list. It doesn't compare events that steps sent, nor the painter's
-    /// steps.
+    /// `opening`, the first entries of the journal with `kept`, and in the later entries each actor's steps
+    /// with the actor's list. It doesn't compare events that steps sent, nor the painter's steps.
     pub fn audit(
         &self,
         opening: &Opening<C>,

@@ -11,8 +11,8 @@ use tr_kernel::count_row;
 use tr_region::{Region, nearest_row};
 use tr_screen::Screen;
 
-/// How many points of a region have different pixels on two screens of one size. It looks at no other
-/// pixels.
+/// The number of points of a region that have different pixels on two screens of one size. It reads no
+/// other pixels.
 pub(crate) fn count_apart(region: &Region, a: &Screen, b: &Screen) -> u32
     requires { b.now.size ≡ a.now.size }
     ensures { result ≡ count_on a.now.size (λ p. holds region.now p && is_different a.now b.now p) }
@@ -24,7 +24,7 @@ pub(crate) fn count_apart(region: &Region, a: &Screen, b: &Screen) -> u32
     count
 }
 
-/// At how many places, which lie in the columns of rectangles side by side, two rows differ.
+/// The number of differing places of two rows, in the columns of rectangles side by side.
 fn count_columns(rects: &[Rect], a: &[u8], b: &[u8]) -> u32
     requires apart { AreApart (spans_of rects.now) }
     requires same { length a.now ≡ length b.now }
@@ -41,14 +41,14 @@ fn count_columns(rects: &[Rect], a: &[u8], b: &[u8]) -> u32
     count
 }
 
-/// From which place on, and before which one, a row of `wide` pixels lies in the columns of a rectangle.
+/// The first column of a rectangle, and the one after its last, in a row of `wide` pixels.
 fn columns_of(rect: &Rect, wide: u16) -> (usize, usize)
     ensures order { result.0 ≤ result.1 }
     ensures within { result.1 ≤ wide }
     ensures columns { (x : ℕ) → x < wide →
         between (pos result.0) (pos result.1) (pos x) ≡ between rect.now.west rect.now.east (pos x) }
 {
-    // Called for what it tells the prover: that the edges are those of a rectangle.
+    // Called for its clause: the edges are those of a rectangle.
     let _ = rect.is_empty();
     let from = nearest_row(rect.west(), 0, wide);
     let to = nearest_row(rect.east(), 0, wide);

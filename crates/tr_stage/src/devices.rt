@@ -55,7 +55,7 @@ impl<C: Client> Stage<C> {
         ensures screen { self.new.screen ≡ self.old.screen }
         ensures spare { self.old.spare ≤ self.new.spare + 1 }
     {
-        // Called for what it tells the prover: that the nodes of the tree are a forest.
+        // Called for its clause: the nodes of the tree are a forest.
         let _ = self.surface.tree();
         let told = self.mail.key(time, code, &mut self.sent);
         let step = Step::Key { time, code };
@@ -93,7 +93,7 @@ impl<C: Client> Stage<C> {
             (Step.Own leaf selection time) result }
         ensures screen { self.new.screen ≡ self.old.screen }
     {
-        // Called for what it tells the prover: that the nodes of the tree are a forest.
+        // Called for its clause: the nodes of the tree are a forest.
         let _ = self.surface.tree();
         self.journal.reserve(1)?;
         let told = self.mail.own(leaf, selection, time, &mut self.sent);
@@ -118,7 +118,7 @@ impl<C: Client> Stage<C> {
             (Step.Disown leaf selection) result }
         ensures screen { self.new.screen ≡ self.old.screen }
     {
-        // Called for what it tells the prover: that the nodes of the tree are a forest.
+        // Called for its clause: the nodes of the tree are a forest.
         let _ = self.surface.tree();
         self.journal.reserve(1)?;
         let told = self.mail.disown(leaf, selection, &mut self.sent);
@@ -127,7 +127,7 @@ impl<C: Client> Stage<C> {
     }
 }
 
-/// The cage again, so that it can be both passed on and written down.
+/// A copy of a cage: one is passed on, and one gets into the journal.
 fn same_cage(cage: &Cage) -> Cage
     ensures { result ≡ cage.now }
 {

@@ -18,9 +18,9 @@ use tr_journal::{Actor, Answer, Entry, Reply, Step};
 use tr_levels::{Held, Level};
 
 impl<C: Client> Stage<C> {
-    /// Makes the commands that were prepared over the leaf's present content, in their order. The journal
-    /// gets one entry for each command, with the level at which it was posted and the window's. For want of
-    /// memory no step is made.
+    /// Makes the prepared commands over the leaf's present content, in their order. The journal gets one
+    /// entry for each command, with the level at which it was posted and the window's. For want of memory
+    /// no step is made.
     pub fn take_over(
         &mut self,
         leaf: LeafId,
@@ -39,10 +39,10 @@ impl<C: Client> Stage<C> {
         ensures err_journal { OnErr result (self.new.journal ≡ self.old.journal) }
         ensures screen { self.new.screen ≡ self.old.screen }
     {
-        // Called for what it tells the prover: that the nodes are a forest.
+        // Called for its clause: the nodes are a forest.
         let _ = self.surface.tree();
         let entries = entries_of(self.alloc, leaf, &prepared.commands, levels)?;
-        // Room is taken first, so that nothing can fail once the window has changed.
+        // Takes room first, so that nothing can fail after the window has changed.
         let Ok(()) = self.journal.reserve_silent(entries.len()) else {
             drop(entries);
             return Err(NoMemory);
@@ -93,7 +93,7 @@ impl<C: Client> Stage<C> {
         }
     }
 
-    /// The same where nothing waits for the leaf.
+    /// The same for a leaf without waiting commands.
     fn take_moved(
         &mut self,
         leaf: LeafId,
@@ -114,11 +114,10 @@ impl<C: Client> Stage<C> {
         ensures err_prepared { IfErr result (λ p. p ≡ prepared) }
         ensures screen { self.new.screen ≡ self.old.screen }
     {
-        // Called for what they tell the prover: that the nodes are a forest, and that the commands leave a
-        // content.
+        // Called for their clauses: the nodes are a forest, and a content remains after the commands.
         let _ = self.surface.tree();
         let _kept = prepared.to.keeps(prepared.size, prepared.size);
-        // Room is taken first, so that nothing can fail once the window has changed.
+        // Takes room first, so that nothing can fail after the window has changed.
         let Ok(room) = Vec::with_capacity(self.alloc, prepared.commands.len()) else {
             return Err(prepared);
         };
@@ -143,7 +142,7 @@ impl<C: Client> Stage<C> {
     }
 }
 
-/// The entries of commands that are handed over.
+/// The entries of commands, which are copied.
 fn entries_of<M: Command>(
     alloc: Global,
     leaf: LeafId,
@@ -161,7 +160,7 @@ fn entries_of<M: Command>(
     Ok(entries)
 }
 
-/// The entries of commands that are given away, in an empty list that has room for them.
+/// The entries of commands, which are moved, in an empty list with room for them.
 fn entries_in<M: Command>(
     mut entries: Vec<Entry<M>>,
     leaf: LeafId,
@@ -181,7 +180,7 @@ fn entries_in<M: Command>(
     entries
 }
 
-/// The entry of a command that is handed over.
+/// The entry of a command.
 fn entry_of<M: Command>(leaf: LeafId, cmd: M, level: &Held) -> Entry<M>
     requires { HoldsNoLeaf level.now }
     ensures { result ≡ act_entry leaf (level.now ++ Win leaf ∷ [], Step.Act leaf cmd) }

@@ -1,5 +1,5 @@
 //! The stage: a tree of windows with their contents, the screen that shows them, and the input devices.
-//! Its state is the replay of its journal over its opening, by the machine; its screen agrees with that
+//! The machine replays its journal over its opening, which gives its state; its screen agrees with that
 //! state.
 #![tactic(auto)]
 

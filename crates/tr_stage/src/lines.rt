@@ -7,7 +7,7 @@ use tr_journal::{Actor, Answer, Delivery, Entry, Journal, Reply, Step};
 use tr_levels::Held;
 use tr_mail::Outbox;
 
-/// Who makes a step, and which levels are held.
+/// The actor of a step, and the locks that it holds.
 #[derive(Clone, Copy)]
 pub(crate) struct By {
     pub actor: Actor,
@@ -35,7 +35,7 @@ impl By {
     }
 }
 
-/// Adds a line for which room was reserved. Answers its reply, made of a copy of its answer.
+/// Adds a line; its room was reserved. Answers its reply, which has a copy of the answer.
 pub(crate) fn write<M: Command>(
     journal: &mut Journal<M>,
     entry: Entry<M>,
@@ -58,8 +58,7 @@ pub(crate) fn write<M: Command>(
     reply
 }
 
-/// Adds the line of a step that the desk lets be done, with what it sent, or refuses. Room was reserved for
-/// it.
+/// Adds the line of a step that the desk did, with its deliveries, or refused. Its room was reserved.
 pub(crate) fn write_told<M: Command>(
     journal: &mut Journal<M>,
     by: &By,

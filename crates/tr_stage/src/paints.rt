@@ -26,8 +26,8 @@ use tr_tree::Tree;
 use tr_windows::{Exposure, Windows};
 
 impl<C: Client> Stage<C> {
-    /// What waits for a leaf is executed, or, where that comes to the same and costs less, a painting of all
-    /// that it would touch.
+    /// Executes the waiting commands of a leaf, or a painting of all their points, if the result is the same
+    /// and costs less.
     pub(crate) fn flush(&mut self, by: &By, leaf: LeafId) -> Result<Reply, NoMemory>
         requires allowed { let t = (tree_of self.old.opening).nodes in
             IsFor {M = C.Cmd} t by.now.actor by.now.level (Step.Flush leaf) }
@@ -37,7 +37,7 @@ impl<C: Client> Stage<C> {
             OnOk result (KeepsOthers {M = C.Cmd} t (Step.Flush leaf) self.old.screen self.new.screen) }
     {
         self.journal.reserve(1)?;
-        // Called, here and below, for what it tells the prover: that the surface is one.
+        // Called, here and below, for its clause: the surface is one.
         let _ = self.surface.tree();
         let font = self.opening.font();
         let painting = flushing(&self.surface, &self.windows, font, leaf)?;
@@ -51,8 +51,8 @@ impl<C: Client> Stage<C> {
         Ok(write(&mut self.journal, entry, Answer::Done, &[]))
     }
 
-    /// A leaf comes to show its present content: what waits for it is executed, or a painting is that
-    /// covers all that waits and all that is bad.
+    /// Shows a leaf's present content: executes its waiting commands, or a painting that covers all their
+    /// points and all bad points.
     pub(crate) fn repaint(&mut self, by: &By, leaf: LeafId) -> Result<Reply, NoMemory>
         requires allowed { let t = (tree_of self.old.opening).nodes in
             IsFor {M = C.Cmd} t by.now.actor by.now.level (Step.Repaint leaf) }
@@ -72,14 +72,14 @@ impl<C: Client> Stage<C> {
         let executed = self.surface.execute(env.font, leaf, batch);
         drop(painting);
         executed?;
-        // Called for what it tells the prover: that the surface is still one.
+        // Called for its clause: the surface is still one.
         let _ = self.surface.tree();
         self.windows.clear(leaf);
         let entry = by.entry(Step::Repaint { leaf }, Answer::Done, 0);
         Ok(write(&mut self.journal, entry, Answer::Done, &[]))
     }
 
-    /// Each bad point of a frame is painted.
+    /// Paints each bad point of a frame.
     pub(crate) fn paint_frame(&mut self, by: &By) -> Result<Reply, NoMemory>
         requires allowed { let t = (tree_of self.old.opening).nodes in
             IsFor {M = C.Cmd} t by.now.actor by.now.level Step.PaintFrame }
@@ -89,7 +89,7 @@ impl<C: Client> Stage<C> {
             OnOk result (KeepsOthers {M = C.Cmd} t Step.PaintFrame self.old.screen self.new.screen) }
     {
         self.journal.reserve(1)?;
-        // Called, before and after, for what it tells the prover: that the surface is one.
+        // Called, before and after, for its clause: the surface is one.
         let _ = self.surface.tree();
         self.surface.paint_frame()?;
         let _ = self.surface.tree();
@@ -98,7 +98,7 @@ impl<C: Client> Stage<C> {
     }
 }
 
-/// A painting of what waits for a leaf, where it comes to the same as executing that and costs less.
+/// A painting that replaces the waiting commands of a leaf, if the result is the same and costs less.
 fn flushing<C: Client>(
     surface: &Surface,
     windows: &Windows<C>,
@@ -123,7 +123,7 @@ fn flushing<C: Client>(
     Ok(painting)
 }
 
-/// The painting, if there is one, else what waits.
+/// The painting, if there is one, else the waiting commands.
 fn either<'a>(painting: &'a Option<Batch>, waiting: &'a Batch) -> &'a Batch
     ensures painting { IfSome painting.now (λ batch. result.now ≡ batch) }
     ensures waiting { painting.now ≡ None → result.now ≡ waiting.now }
@@ -134,7 +134,7 @@ fn either<'a>(painting: &'a Option<Batch>, waiting: &'a Batch) -> &'a Batch
     }
 }
 
-/// How a leaf's window stands on the screen.
+/// The place of a leaf's window on the screen.
 pub(crate) fn exposure_of(surface: &Surface, leaf: LeafId) -> Result<Exposure, NoMemory>
     requires { leaf.0 < leaf_count surface.now.tree.nodes }
     ensures stands { IfOk result (IsExposure surface.now leaf) }
@@ -152,14 +152,14 @@ pub(crate) fn exposure_of(surface: &Surface, leaf: LeafId) -> Result<Exposure, N
     })
 }
 
-/// Whether a region is one rectangle, that of a leaf's window, so that it has all points of it.
+/// Whether a region is the whole rectangle of a leaf's window.
 fn is_whole(tree: &Tree, leaf: LeafId, visible: &Region) -> bool
     requires { leaf.0 < leaf_count tree.now.nodes }
     ensures { IsTrue result → (q : Point) → has_point (whole_of (leaf_size tree.now leaf)) q ≡ true →
         holds visible.now (screen_point (leaf_corner tree.now leaf) q) ≡ true }
 {
     let domain = tree.domain(tree.node_of(leaf));
-    // Called for what it tells the prover: that the edges are those of a rectangle.
+    // Called for its clause: the edges are those of a rectangle.
     let _ = domain.is_empty();
     let rects = visible.rects();
     rects.len() == 1 && rects[0] == domain

@@ -20,8 +20,8 @@ use tr_region::Region;
 use tr_screen::Screen;
 
 impl<C: Client> Stage<C> {
-    /// How far the screen lags behind: the numbers of bad points, of waiting paint commands and of stale
-    /// points. It reads only the pixels of leaves with waiting commands.
+    /// The screen's lag: the numbers of bad points, of waiting paint commands and of stale points. It reads
+    /// only the pixels of leaves with waiting commands.
     pub fn peek(&self) -> Result<Peek3, NoMemory>
         ensures bad { IfOk result (λ peek. peek.bad ≡ spec.bad_count (state C.Client self.now)) }
         ensures waiting { IfOk result (λ peek.
@@ -29,7 +29,7 @@ impl<C: Client> Stage<C> {
         ensures stale { IfOk result (λ peek.
             peek.stale ≡ spec.stale_count C.Client (state C.Client self.now)) }
     {
-        // Called for what it tells the prover: that the screen has a size, and agrees with the state.
+        // Called for its clauses: the screen has a size, and agrees with the state.
         self.stands();
         let stale = self.stale_count()?;
         Ok(Peek3 {
@@ -39,21 +39,21 @@ impl<C: Client> Stage<C> {
         })
     }
 
-    /// How many points of the screen are bad.
+    /// The number of bad points of the screen.
     pub fn bad_count(&self) -> u32
         ensures { result ≡ spec.bad_count (state C.Client self.now) }
     {
-        // Called for what it tells the prover: that the screen has a size, and agrees with the state.
+        // Called for its clauses: the screen has a size, and agrees with the state.
         self.stands();
         self.surface.bad_count()
     }
 
-    /// How many points are good but don't have their right colour. Only leaves with waiting commands can
-    /// have such points.
+    /// The number of points that are good but don't have their right colour. Only leaves with waiting
+    /// commands can have such points.
     fn stale_count(&self) -> Result<u32, NoMemory>
         ensures { IfOk result (λ n. n ≡ spec.stale_count C.Client (state C.Client self.now)) }
     {
-        // Called for what it tells the prover: that the state is sound, and the screen agrees with it.
+        // Called for its clauses: the state is sound, and the screen agrees with it.
         self.stands();
         if self.windows.waiting() == 0 {
             return Ok(0);
@@ -67,7 +67,7 @@ impl<C: Client> Stage<C> {
         Ok(count)
     }
 
-    /// How many of them belong to a leaf. `wanted` is written over there.
+    /// The number of stale points of a leaf. The call overwrites the leaf's points of `wanted`.
     fn stale_in(&self, leaf: LeafId, wanted: &mut Screen) -> Result<u32, NoMemory>
         requires leaf { leaf.0 < leaf_count (tree_of self.now.opening).nodes }
         requires size { wanted.old.size ≡ self.now.screen.size }
@@ -77,7 +77,7 @@ impl<C: Client> Stage<C> {
         ensures size { wanted.new.size ≡ wanted.old.size }
         ensures kind { wanted.new.kind ≡ wanted.old.kind }
     {
-        // Called for what it tells the prover: that the state is sound, and the screen agrees with it.
+        // Called for its clauses: the state is sound, and the screen agrees with it.
         self.stands();
         if self.windows.batch(leaf).is_empty() {
             return Ok(0);
@@ -86,7 +86,7 @@ impl<C: Client> Stage<C> {
         Ok(count_apart(&good, self.surface.screen(), wanted))
     }
 
-    /// Gives each good visible point of a leaf the colour that it is to have, and hands out these points.
+    /// Gives each good visible point of a leaf its right colour, and returns these points.
     fn paint_wanted(&self, leaf: LeafId, wanted: &mut Screen) -> Result<Region, NoMemory>
         requires leaf { leaf.0 < leaf_count (tree_of self.now.opening).nodes }
         requires size { wanted.old.size ≡ self.now.screen.size }

@@ -26,7 +26,7 @@ use tr_spot::leaf_size;
 use tr_tree::Tree;
 
 impl<C: Client> Stage<C> {
-    /// The pixels of the screen. A pixel that isn't right is bad, or a waiting command touches it.
+    /// The pixels of the screen. A pixel with a wrong colour is bad, or a waiting command touches it.
     pub fn screen(&self) -> &Screen
         ensures value { result.now ≡ self.now.screen }
         ensures agrees { Agrees C.Client (state C.Client self.now) self.now.screen }
@@ -34,7 +34,7 @@ impl<C: Client> Stage<C> {
         ensures lags { Lags C.Client (state C.Client self.now) self.now.screen }
         ensures sound { IsSound C.Client (state C.Client self.now) }
     {
-        // Called for what it tells the prover: that the nodes are a forest.
+        // Called for its clause: the nodes are a forest.
         let _ = self.surface.tree();
         self.surface.screen()
     }
@@ -72,7 +72,7 @@ impl<C: Client> Stage<C> {
         self.windows.content(leaf)
     }
 
-    /// The paint commands that wait for a leaf.
+    /// The waiting paint commands of a leaf.
     pub fn batch(&self, leaf: LeafId) -> &Batch
         requires { leaf.0 < leaf_count (tree_of self.now.opening).nodes }
         ensures { result.now ≡ leaf_batch C.Client (state C.Client self.now) leaf }
@@ -80,7 +80,7 @@ impl<C: Client> Stage<C> {
         self.windows.batch(leaf)
     }
 
-    /// The size of a leaf's window, which is 0 by 0 if the leaf gets no place.
+    /// The size of a leaf's window: 0 by 0 if the leaf gets no place.
     pub fn leaf_size(&self, leaf: LeafId) -> Size
         requires { leaf.0 < leaf_count (tree_of self.now.opening).nodes }
         ensures value { result ≡ leaf_size (state C.Client self.now).tree leaf }
@@ -89,7 +89,7 @@ impl<C: Client> Stage<C> {
         leaf_size(self.surface.tree(), leaf)
     }
 
-    /// The events that wait for a leaf.
+    /// The waiting events of a leaf.
     pub fn inbox(&self, leaf: LeafId) -> &Inbox
         requires { leaf.0 < leaf_count (tree_of self.now.opening).nodes }
         ensures { result.now ≡ inbox_of (state C.Client self.now).mail leaf }
@@ -113,7 +113,7 @@ impl<C: Client> Stage<C> {
         &self.journal
     }
 
-    /// The opening with which the stage began.
+    /// The opening at the start of the stage.
     pub fn opening(&self) -> &Opening<C>
         ensures { result.now ≡ self.now.opening }
     {

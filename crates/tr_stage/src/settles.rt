@@ -37,7 +37,7 @@ impl<C: Client> Stage<C> {
         ensures err { OnErr result ((n : ℕ) × (self.new.journal ≡
             self.old.journal ++ take n (settling_lines C.Client (state C.Client self.old)))) }
     {
-        // Called, before and after, for what it tells the prover.
+        // Called, before and after, for its clauses.
         self.stands();
         let steps = self.steps_to_settle()?;
         self.paint_all(steps)?;
@@ -45,7 +45,7 @@ impl<C: Client> Stage<C> {
         Ok(())
     }
 
-    /// Tells the prover what holds of each stage. It does nothing.
+    /// The properties of each stage, for the prover. It does nothing.
     pub fn stands(&self)
         ensures invariant { Stands C.Client self.now }
     {
@@ -73,7 +73,7 @@ impl<C: Client> Stage<C> {
         Ok(steps)
     }
 
-    /// Whether something waits for a leaf, or a visible point of it is bad.
+    /// Whether a leaf has waiting commands, or a bad visible point.
     fn is_unsettled(&self, leaf: LeafId) -> Result<bool, NoMemory>
         requires { leaf.0 < leaf_count (tree_of self.now.opening).nodes }
         ensures { IfOk result (λ b. b ≡ is_unsettled C.Client (state C.Client self.now) leaf) }
@@ -85,8 +85,8 @@ impl<C: Client> Stage<C> {
         Ok(bad)
     }
 
-    /// Makes steps of the painter, one after another, under the tree's lock. For want of memory those made
-    /// so far stand.
+    /// Makes steps of the painter, one after another, under the tree's lock. For want of memory the steps
+    /// made so far remain.
     pub(crate) fn paint_all(&mut self, steps: Vec<Step<C::Cmd>>) -> Result<(), NoMemory>
         requires { All (IsPainters (tree_of self.old.opening).nodes) steps.items }
         ensures opening { self.new.opening ≡ self.old.opening }

@@ -23,7 +23,7 @@ impl<C: Client> Stage<C> {
         Ok(bad)
     }
 
-    /// Whether something waits for a leaf.
+    /// Whether a leaf has waiting commands.
     fn waits(&self, leaf: LeafId) -> bool
         requires { leaf.0 < leaf_count (tree_of self.now.opening).nodes }
         ensures { result ≡ spec.waits C.Client (state C.Client self.now) leaf }
@@ -47,8 +47,8 @@ impl<C: Client> Stage<C> {
         Ok(steps)
     }
 
-    /// The step that paints the frames, if a point of one is bad, and else no step. It is the painter's,
-    /// under the tree's lock.
+    /// The step that paints the frames, if a point of one is bad, else no step. It is the painter's, under
+    /// the tree's lock.
     pub fn steps_to_frame(&self) -> Result<Vec<Step<C::Cmd>>, NoMemory>
         ensures steps { IfOk result (λ steps. steps.items ≡ frame_steps (state C.Client self.now)) }
         ensures painters { IfOk result (λ steps.
@@ -75,7 +75,7 @@ impl<C: Client> Stage<C> {
         Ok(all)
     }
 
-    /// Puts them into an empty list, which is lent so that nothing vanishes here.
+    /// Puts them into an empty list. The list is borrowed, so that this function drops none.
     fn add_each_bad(&self, all: &mut Vec<Painted>) -> Result<(), NoMemory>
         requires { all.old.items ≡ [] }
         ensures { let m = state C.Client self.now in

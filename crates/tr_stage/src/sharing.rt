@@ -59,8 +59,8 @@ impl<C: Client> Stage<C> {
         Ok(Painted { leaf, part, pixels })
     }
 
-    /// The pixels that visible points of a leaf are to have, by the rectangles of `part` in order and by
-    /// rows within each. They are painted on a screen that is only as large as the points' extents.
+    /// The right colours of visible points of a leaf, by the rectangles of `part` in order and by rows within
+    /// each. They are painted on a screen that is only as large as the points' extents.
     fn paint_apart(&self, leaf: LeafId, part: &Region) -> Result<Vec<u8>, NoMemory>
         requires leaf { leaf.0 < leaf_count (tree_of self.now.opening).nodes }
         requires part { let m = state C.Client self.now in
@@ -70,8 +70,7 @@ impl<C: Client> Stage<C> {
             IfOk result (λ v. (p : Point) → holds part.now p ≡ true →
             slice_index v.items (place_in part.now p) ≡ want C.Client m p) }
     {
-        // Called for what they tell the prover: that the screen has a size, and that the part's list is
-        // canonical.
+        // Called for their clauses: the screen has a size, and the part's list is canonical.
         self.stands();
         let _ = part.rects();
         if part.is_empty() {
@@ -80,7 +79,7 @@ impl<C: Client> Stage<C> {
         let tree = self.surface.tree();
         let corner = corner_of(tree, leaf);
         let area = part.extents();
-        // Where the corners of the screen and of the window lie, from that of the extents.
+        // The corners of the screen and of the window, relative to that of the extents.
         let by = from_corner(&area, Point { h: 0, v: 0 });
         let origin = from_corner(&area, corner);
         let here = part.shift(by)?;
@@ -97,7 +96,7 @@ impl<C: Client> Stage<C> {
         pixels
     }
 
-    /// Gives visible points of a leaf the colour that they are to have.
+    /// Gives visible points of a leaf their right colour.
     pub(crate) fn paint_part(
         &self,
         leaf: LeafId,
@@ -115,14 +114,14 @@ impl<C: Client> Stage<C> {
         ensures size { wanted.new.size ≡ wanted.old.size }
         ensures kind { wanted.new.kind ≡ wanted.old.kind }
     {
-        // Called for what it tells the prover: that the screen has the tree's size and kind.
+        // Called for its clause: the screen has the tree's size and kind.
         self.stands();
         let corner = corner_of(self.surface.tree(), leaf);
         self.paint_window(leaf, corner, part, wanted)
     }
 
-    /// Paints a leaf's window with its north-west corner at `origin`, within some points of a screen, which
-    /// may be another than the stage's.
+    /// Paints a leaf's window with its north-west corner at `origin`, within some points of a screen. The
+    /// screen may be another than the stage's.
     fn paint_window(
         &self,
         leaf: LeafId,
@@ -141,7 +140,7 @@ impl<C: Client> Stage<C> {
         ensures size { wanted.new.size ≡ wanted.old.size }
         ensures kind { wanted.new.kind ≡ wanted.old.kind }
     {
-        // Called for what it tells the prover: that the screen has the tree's kind.
+        // Called for its clause: the screen has the tree's kind.
         self.stands();
         let tree = self.surface.tree();
         let env = Env {
@@ -167,7 +166,7 @@ impl<C: Client> Stage<C> {
     }
 
     /// Puts a leaf's painted bad points onto the screen, while no command waits for the leaf. This is the
-    /// painter's step `Repaint`, at the leaf's share alone. For want of memory no step is made.
+    /// painter's step `Repaint`, but only the leaf's share of the work. For want of memory no step is made.
     pub fn put_painted(&mut self, painted: Painted) -> Result<(), NoMemory>
         requires leaf { painted.leaf.0 < leaf_count (tree_of self.old.opening).nodes }
         requires idle { leaf_batch C.Client (state C.Client self.old) painted.leaf ≡ [] }
@@ -187,7 +186,7 @@ impl<C: Client> Stage<C> {
         Ok(())
     }
 
-    /// Makes a repaint of a leaf for which nothing waits, by the pixels of its bad points.
+    /// Makes a repaint of a leaf without waiting commands, from the pixels of its bad points.
     fn put(
         &mut self,
         by: &By,
@@ -205,7 +204,7 @@ impl<C: Client> Stage<C> {
             OnOk result (KeepsOthers {M = C.Cmd} t (Step.Repaint leaf) self.old.screen self.new.screen) }
     {
         self.journal.reserve(1)?;
-        // Called, here and below, for what it tells the prover: that the surface is one.
+        // Called, here and below, for its clause: the surface is one.
         let _ = self.surface.tree();
         self.surface.put(leaf, part, pixels)?;
         let _ = self.surface.tree();
@@ -215,7 +214,7 @@ impl<C: Client> Stage<C> {
     }
 }
 
-/// Where the north-west corner of a leaf's window lies on the screen.
+/// The north-west corner of a leaf's window on the screen.
 fn corner_of(tree: &Tree, leaf: LeafId) -> Point
     requires { leaf.0 < leaf_count tree.now.nodes }
     ensures value { result ≡ leaf_corner tree.now leaf }
@@ -224,7 +223,7 @@ fn corner_of(tree: &Tree, leaf: LeafId) -> Point
     ensures rect { IsRect (leaf_domain tree.now leaf) }
 {
     let domain = tree.domain(tree.node_of(leaf));
-    // Called for what it tells the prover: that the edges are those of a rectangle.
+    // Called for its clause: the edges are those of a rectangle.
     let _ = domain.is_empty();
     domain.corner()
 }

@@ -41,7 +41,7 @@ impl<C: Client> Stage<C> {
         self.flush_by(&By { actor, level }, leaf, sketch)
     }
 
-    /// The same, by who makes it.
+    /// The same, with an actor and its locks.
     fn flush_by(&mut self, by: &By, leaf: LeafId, sketch: &Sketch<C>) -> Result<Reply, NoMemory>
         requires allowed { let t = (tree_of self.old.opening).nodes in
             IsFor {M = C.Cmd} t by.now.actor by.now.level (Step.Flush leaf) }
@@ -65,13 +65,13 @@ impl<C: Client> Stage<C> {
         ensures { IfOk result (λ b. IsTrue b →
             MayBePut C.Client (state C.Client self.now) leaf clip.now) }
     {
-        // Called for what it tells the prover: that the surface is one.
+        // Called for its clause: the surface is one.
         let _ = self.surface.tree();
         let exposure = exposure_of(&self.surface, leaf)?;
         Ok(self.windows.is_covered(leaf, &exposure, clip))
     }
 
-    /// Makes a flush by the pixels of a sketch, which may be put in its place.
+    /// Makes a flush by the pixels of a sketch, which may replace it.
     fn put_sketch(&mut self, by: &By, leaf: LeafId, sketch: &Sketch<C>) -> Result<Reply, NoMemory>
         requires allowed { let t = (tree_of self.old.opening).nodes in
             IsFor {M = C.Cmd} t by.now.actor by.now.level (Step.Flush leaf) }
@@ -83,7 +83,7 @@ impl<C: Client> Stage<C> {
             OnOk result (KeepsOthers {M = C.Cmd} t (Step.Flush leaf) self.old.screen self.new.screen) }
     {
         self.journal.reserve(1)?;
-        // Called, here and below, for what it tells the prover: that the surface is one.
+        // Called, here and below, for its clause: the surface is one.
         let _ = self.surface.tree();
         let clip = sketch.clip();
         self.surface.put_visible(leaf, &clip, sketch.pixels());

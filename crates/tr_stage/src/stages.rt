@@ -22,23 +22,23 @@ use tr_tree::Tree;
 use tr_windows::Windows;
 
 /// A tree of windows with their contents, the screen that shows them, and the input devices, together
-/// with the opening that they began with and the journal of all steps since.
+/// with the opening at their start and the journal of all steps since.
 ///
-/// Contracts see the opening, the journal and the screen. All else is the replay of the journal over the
-/// opening, and the screen agrees with it: each point of the screen that isn't bad has the colour of its
-/// frame, or of its window's content when that was last brought onto the screen.
+/// Its model is the opening, the journal and the screen. The journal, replayed over the opening, gives all
+/// else, and the screen agrees with it: each point of the screen that isn't bad has the colour of its
+/// frame, or of its window's content at the last time that this was brought onto the screen.
 #[derive(Drop)]
 pub struct Stage<C: Client> {
     pub(crate) alloc: Global,
     pub(crate) opening: Opening<C>,
     pub(crate) surface: Surface,
-    /// The tree before the last edit, in whose memory the next edit makes its tree. There is none before the
-    /// first edit, and behind one that failed.
+    /// The tree before the last edit; the next edit reuses its memory. There is none before the first edit,
+    /// and after one that failed.
     pub(crate) former: Option<Tree>,
     pub(crate) windows: Windows<C>,
     pub(crate) mail: Mail,
-    /// What the last step of the input devices, or the last edit, sent. The list is kept, so that no step
-    /// makes one.
+    /// The deliveries of the last step of the input devices, or of the last edit. The list is kept, so that
+    /// no step makes one.
     pub(crate) sent: Outbox,
     pub(crate) journal: Journal<C::Cmd>,
 }
@@ -88,7 +88,7 @@ impl<C: Client> Stage<C> {
             drop((surface, windows, mail));
             return Err(opening);
         };
-        // Called for what it tells the prover: that the surface is one.
+        // Called for its clause: the surface is one.
         let _ = surface.tree();
         let journal = Journal::new(alloc);
         Ok(Stage {
@@ -109,7 +109,7 @@ impl<C: Client> Stage<C> {
         requires allowed { IsFor (tree_of self.old.opening).nodes actor level step }
         ensures made { Makes C.Client self.old self.new actor level step result }
 
-        // The screen stays as it is, unless the step paints; and where it may not paint, each pixel stays.
+        // The screen doesn't change, unless the step paints; and each pixel that it may not paint stays.
         ensures screen { IfOk result (λ r. paints step r.answer ≡ false → self.new.screen ≡ self.old.screen) }
         ensures others { let t = (state C.Client self.old).tree in
             OnOk result (KeepsOthers t step self.old.screen self.new.screen) }
@@ -195,7 +195,7 @@ pub fn is_reservable<M>(step: &Step<M>) -> bool
     )
 }
 
-/// The blank screen of an opening's tree, of which every point is bad.
+/// The blank screen of an opening's tree. Every point is bad.
 fn blank_surface<C: Client>(alloc: Global, opening: &Opening<C>) -> Result<Surface, NoMemory>
     requires { IsSome (tree_of opening.now).nodes.root }
     ensures tree { IfOk result (λ s. s.tree ≡ tree_of opening.now) }

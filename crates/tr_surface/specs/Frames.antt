@@ -1,5 +1,5 @@
 -- Private contracts alone cite this file.
--- The frames of all nodes, each with the points of it that are to be painted.
+-- The frames of all nodes, with the points to paint on each.
 use Rattle.std.specs.Prelude.{◌≡◌, true, ◌&&◌, ◌||◌, List, length}
 use Rattle.tr_base.specs.declared.Point.{Point}
 use Rattle.tr_base.specs.declared.NodeId.{NodeId}
@@ -21,7 +21,7 @@ pub record AreBadFrames (s : Shown) (regions : List (List Edges)) : Type 0 where
   pub points : (n : NodeId) (p : Point) → IsNode s.tree.nodes n →
       holds (region_of regions n) p ≡ (is_bad s p && is_on_frame n (spot s.tree p))
 
--- the points of each region are the good points of its node, and the points of the node's frame
+-- the points of each region are the good points of its node and the points of the node's frame
 pub record AreGoodFrames (s : Shown) (regions : List (List Edges)) : Type 0 where
   pub count : length regions ≡ length s.tree.nodes.entries
   pub points : (n : NodeId) (p : Point) → IsNode s.tree.nodes n →

@@ -1,4 +1,4 @@
--- The screen that a tree of windows is shown on, and which of its points are bad.
+-- The screen on which a tree of windows is shown, and its bad points.
 use Rattle.std.specs.Prelude.{◌≡◌, ℕ, neg_ℤ, Bool, true, false, not, ◌&&◌, if◌then◌else◌, List, Some, None, length}
 use Rattle.std.specs.List.{list_any}
 use Rattle.tr_base.specs.declared.Point.{Point}
@@ -19,14 +19,14 @@ use Rattle.tr_tree.specs.Trees.{Seen}
 use Rattle.tr_spot.specs.Spots.{HasRoot, spot, is_in_leaf, is_spot_of, region_of}
 use Rattle.tr_spot.specs.Leaves.{leaf_corner}
 
--- what a contract sees of a surface: the tree of windows, the pixels of the screen, and for each node its good points, which show what
--- was painted last
+-- the model of a surface: the tree of windows, the pixels of the screen, and for each node its good points, which show the last
+-- paint
 pub record Shown : Type 0 where
   pub tree : Seen
   pub screen : Picture
   pub good : List (List Edges)
 
--- the way back from the screen's coordinates to those of a window with this corner
+-- the move from the screen's coordinates to those of a window with this corner
 abbrev pub back_from : Point → Point
 back_from corner = record { h = neg_ℤ corner.h; v = neg_ℤ corner.v }
 
@@ -38,7 +38,7 @@ is_on t p = has_point (whole_of t.size) p
 abbrev pub any_holds : List (List Edges) → Point → Bool
 any_holds regions p = list_any (λ r. holds r p) regions
 
--- the point is on the screen and isn't good: it needs to be painted again
+-- the point is on the screen and isn't good: it must be painted again
 unfoldable pub is_bad : Shown → Point → Bool
 is_bad s p = is_on s.tree p && not (any_holds s.good p)
 
@@ -52,7 +52,7 @@ abbrev pub frame_colour : Spot → ℕ
 frame_colour (spots.Frame n tint kind) = eff kind (Set tint) 0
 frame_colour spot = 0
 
--- the points of a leaf's window that are visible, in its own coordinates, and the pixels of those that aren't bad
+-- the visible points of a leaf's window, in its own coordinates, and the pixels of those that aren't bad
 abbrev pub leaf_base : Shown → LeafId → Base
 leaf_base s leaf = record {
   visible = λ q. is_in_leaf leaf (spot s.tree (screen_point (leaf_corner s.tree leaf) q));
@@ -66,7 +66,7 @@ abbrev pub HasBadPoints : Shown → LeafId → Edges → Type 0
 HasBadPoints s leaf r = (p : Point) → is_in_leaf leaf (spot s.tree p) ≡ true → is_bad s p ≡ true →
     has_point r (before_shift p (leaf_corner s.tree leaf)) ≡ true
 
--- for each node a region of points that it owns: visible points of a leaf, points of the frame of another node
+-- for each node a region of its own points: visible points of a leaf, points of the frame of another node
 pub record AreOwn (t : Seen) (good : List (List Edges)) : Type 0 where
   pub count : length good ≡ length t.nodes.entries
   pub points : (n : NodeId) (p : Point) → IsNode t.nodes n → holds (region_of good n) p ≡ true → is_spot_of t n (spot t p) ≡ true

@@ -1,5 +1,5 @@
 -- Private contracts alone cite this file.
--- What an edit of the tree leaves of the points of one node.
+-- The points of one node that survive an edit of the tree.
 use Rattle.std.specs.Prelude.{◌≡◌, ◌<◌, ⊤, ℕ, zero, suc, pos, Bool, true, false, not, ◌&&◌, ◌||◌, ◌==◌, if◌then◌else◌, List, [], Option, Some, None, length, get_or}
 use Rattle.tr_base.specs.declared.Point.{Point}
 use Rattle.tr_base.specs.declared.Size.{Size}
@@ -39,7 +39,7 @@ domain_size t n = size_of (domain t n)
 abbrev pub unmoved : Point
 unmoved = record { h = pos 0; v = pos 0 }
 
--- a change of the tree: the tree before and after it, the child that it moves, if it moves one, and the points that were bad
+-- a change of the tree: the tree before and after it, the child that it moves, if any, and the points that were bad
 pub record TreeEdit : Type 0 where
   pub was : Seen
   pub is : Seen
@@ -49,25 +49,25 @@ pub record TreeEdit : Type 0 where
 abbrev pub change : Seen → Seen → Option NodeId → (Point → Bool) → TreeEdit
 change was is moved bad = record { was = was; is = is; moved = moved; bad = bad }
 
--- the change of what is shown to another tree
+-- the change from a surface to another tree
 abbrev pub change_to : Shown → Seen → Option NodeId → TreeEdit
 change_to s is moved = change s.tree is moved (is_bad s)
 
--- how far the points of a node move, if this child is moved
+-- the distance by which the points of a node move, if this child is moved
 abbrev pub way_from : Seen → Seen → Option NodeId → NodeId → Point
 way_from was is None n = unmoved
 way_from was is (Some child) n = if is_under is.nodes child n then way_of was is child else unmoved
 
--- how far a change moves a node
+-- the distance by which a change moves a node
 abbrev pub way_by : TreeEdit → NodeId → Point
 way_by c n = way_from c.was c.is c.moved n
 
--- a leaf keeps nothing unless its corner moves as its points do
+-- a leaf keeps points only if its corner moves with them
 abbrev pub leaf_survivors : Bool → LeafId → Size → Size → Survivors
 leaf_survivors false leaf from to = variants.Nothing
 leaf_survivors true leaf from to = if same_size from to then variants.All else variants.Kept leaf from to
 
--- which points survive of a node whose points move so far, for a leaf or for a frame
+-- the points of a node that survive a move by this distance, for a leaf or for a frame
 abbrev pub survivors_by : Seen → Seen → Point → NodeId → Option LeafId → Survivors
 survivors_by was is by n (Some leaf) =
     leaf_survivors (same_point (before_shift (corner is n) by) (corner was n)) leaf (domain_size was n) (domain_size is n)
@@ -77,13 +77,13 @@ survivors_by was is by n None =
 abbrev pub survivors_from : Seen → Seen → Point → NodeId → Survivors
 survivors_from was is by n = survivors_by was is by n (leaf_of (node was.nodes n).kind)
 
--- a point is among the survivors, by its distance from the node's corner
+-- a point is among the survivors, in the coordinates of the node's domain
 abbrev pub has_survivor : Keeping → Survivors → Point → Bool
 has_survivor k variants.Nothing q = false
 has_survivor k variants.All q = true
 has_survivor k (variants.Kept leaf from to) q = is_kept k leaf from to q
 
--- a point of a node was good where it comes from, and survives
+-- the source of a node's point was good, and the point survives
 abbrev pub goes_on : Keeping → Seen → Seen → Option NodeId → List (List Edges) → NodeId → Point → Bool
 goes_on k was is moved good n p =
     let by = way_from was is moved n in
@@ -99,14 +99,14 @@ good_by k c p =
     let s = source_by c.was c.is c.moved p in
     is_on c.is p && is_on c.was s && not (c.bad s) && survives k (spot c.was s) (spot c.is p)
 
--- the tree before and after an edit that leaves the kind of the screen, with the good points of its nodes before it
+-- the tree before and after an edit that keeps the kind of the screen, with the good points of its nodes before it
 pub record AreSides (was is : Seen) (good : List (List Edges)) : Type 0 where
   pub leaves : (n : NodeId) → leaf_of (node is.nodes n).kind ≡ leaf_of (node was.nodes n).kind
   pub count : length is.nodes.entries ≡ length was.nodes.entries
   pub kind : is.kind ≡ was.kind
   pub own : AreOwn was good
 
--- one of the first n nodes is this child, or lies below it, and has the point in its region
+-- one of the first n nodes is this child or lies below it, and has the point in its region
 unfoldable pub in_moved : ℕ → Nodes → NodeId → List (List Edges) → Point → Bool
 in_moved zero t child regions p = false
 in_moved (suc n) t child regions p = in_moved n t child regions p || (is_under t child (record { 0 = n }) && holds (get_or regions n []) p)
@@ -116,21 +116,21 @@ abbrev pub follows : Nodes → Option NodeId → List (List Edges) → Point →
 follows t None good p = false
 follows t (Some child) good p = in_moved (length t.entries) t child good p
 
--- the point lies below this child, if there is one
+-- the node of the point's spot is this child or lies below it, if there is a child
 abbrev pub is_below_moved : Seen → Option NodeId → Point → Bool
 is_below_moved t None p = false
 is_below_moved t (Some child) p = is_below t.nodes child (spot t p)
 
--- the point lies below the child that is moved
+-- the node of the point's spot is the moved child or lies below it
 abbrev pub is_carried : TreeEdit → Point → Bool
 is_carried c p = is_below_moved c.is c.moved p
 
--- how far the moved child moves
+-- the distance by which the moved child moves
 abbrev pub way_of_moved : Seen → Seen → Option NodeId → Point
 way_of_moved was is None = unmoved
 way_of_moved was is (Some child) = way_of was is child
 
--- survivors that the windows can compute: a leaf's number and sizes are within their ranges
+-- survivors that the windows can compute: a leaf's number and sizes are in range
 abbrev pub IsFitting : ℕ → Survivors → Type 0
 IsFitting leaves (variants.Kept leaf from to) = (leaf.0 < leaves) × IsWindowSize from × IsWindowSize to
 IsFitting leaves survivors = ⊤
@@ -139,7 +139,7 @@ IsFitting leaves survivors = ⊤
 abbrev pub bad_by : Keeping → TreeEdit → Point → Bool
 bad_by k c p = is_on c.is p && not (good_by k c p)
 
--- a point is good after a change, and follows the child that is moved
+-- a point is good after a change, and moves along with the moved child
 abbrev pub follows_by : Keeping → TreeEdit → Point → Bool
 follows_by k c p = is_carried c p && good_by k c p
 
@@ -149,31 +149,31 @@ pub record IsLike (was is : Seen) : Type 0 where
   pub count : length is.nodes.entries ≡ length was.nodes.entries
   pub root : is.nodes.root ≡ was.nodes.root
 
--- the child that an edit gives another place among the children of a node, or hangs there, or takes away
+-- the child to which an edit gives another place among a node's children, or which it attaches or detaches
 abbrev pub placed_child : Edit → Option NodeId
 placed_child (edits.Attach child parent at) = Some child
 placed_child (edits.Detach child) = Some child
 placed_child (edits.Lift child) = Some child
 placed_child edit = None
 
--- a screen is fitted to a tree: where their kinds are the same, the points of both keep their pixels
+-- a screen is fitted to a tree: if their kinds are the same, the points of both keep their pixels
 pub record IsFitted (t : Seen) (old new : Picture) : Type 0 where
   pub size : new.size ≡ t.size
   pub kind : new.kind ≡ t.kind
   pub points : (p : Point) → same_kind old.kind t.kind ≡ true →
       has_point (whole_of old.size) p ≡ true → is_on t p ≡ true → pixel_of new p ≡ pixel_of old p
 
--- the good points of all nodes after a change: each node has some of its own
+-- the good points of all nodes after a change, as a region of own points for each node
 pub record AreGoodAfter (k : Keeping) (c : TreeEdit) (good : List (List Edges)) : Type 0 where
   pub own : AreOwn c.is good
   pub any : (p : Point) → any_holds good p ≡ good_by k c p
 
--- the child that an edit moves with all that lies below it, or brings to the front
+-- the child that an edit moves with all nodes below it, or brings to the front
 abbrev pub carried_child : Nodes → Edit → Option NodeId
 carried_child t (edits.Lift child) = Some child
 carried_child t edit = child_of t edit
 
--- an edit hangs a child below a node, or takes it away
+-- an edit attaches or detaches a child
 abbrev pub is_hanging : Edit → Bool
 is_hanging (edits.Attach child parent at) = true
 is_hanging (edits.Detach child) = true

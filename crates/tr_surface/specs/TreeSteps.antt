@@ -1,5 +1,5 @@
--- Which points are good after an edit of the tree: those that show what they showed before, where they were or moved along, and those
--- that a window keeps when its size changes.
+-- The good points after an edit of the tree: those that show the same as before, in place or moved along, and those that a window
+-- keeps when its size changes.
 use Rattle.std.specs.Prelude.{◌-ℤ◌, Bool, true, false, not, ◌&&◌, ◌||◌, ◌==◌, if◌then◌else◌, List, [], ◌∷◌, Option, Some, None}
 use Rattle.std.specs.Ordering.{int_eq}
 use Rattle.tr_base.specs.declared.Point.{Point}
@@ -23,8 +23,8 @@ use Rattle.tr_spot.specs.Spots.{spot}
 use Rattle.tr_spot.specs.Leaves.{same_size}
 use Rattle.tr_surface.specs.Surfaces.{is_on}
 
--- what an edit of the tree must know of the windows: the points that a leaf keeps when its size changes, and the commands that wait for
--- it
+-- the facts about windows that an edit of the tree needs: the points that a leaf keeps when its size changes, and the commands that wait
+-- for it
 pub record Keeping : Type 0 where
   pub keeps : LeafId → Size → Size → Edges
   pub batch : LeafId → List Paint
@@ -34,13 +34,13 @@ abbrev pub first_node : List NodeId → Option NodeId
 first_node [] = None
 first_node (n ∷ ns) = Some n
 
--- the child that an edit moves: that of a Move, or the only child of the node of an Offset
+-- the child that an edit moves: that of a Move, or the only child of an Offset's node
 abbrev pub child_of : Nodes → Edit → Option NodeId
 child_of t (edits.Move child at) = Some child
 child_of t (edits.Offset n by) = first_node (node t n).children
 child_of t edit = None
 
--- the node, where its domain has points
+-- the node, if its domain has points
 abbrev pub if_placed : Seen → Option NodeId → Option NodeId
 if_placed t None = None
 if_placed t (Some n) = if has_points (domain t n) then Some n else None
@@ -49,7 +49,7 @@ if_placed t (Some n) = if has_points (domain t n) then Some n else None
 abbrev pub moved_child : Seen → Edit → Option NodeId
 moved_child was edit = if_placed was (child_of was.nodes edit)
 
--- how far a child moves: its new corner less its old one
+-- the distance by which a child moves: its new corner minus its old one
 abbrev pub way_of : Seen → Seen → NodeId → Point
 way_of was is child = record {
   h = (domain is child).west -ℤ (domain was child).west;
@@ -62,8 +62,8 @@ is_below t child (spots.Leaf leaf at size kind) = is_under t child (node_of t le
 is_below t child (spots.Frame n tint kind) = is_under t child n
 is_below t child spots.Off = false
 
--- the point of the old screen from which a point of the new screen comes, if this child moves: the points below the child move along, all
--- others stay
+-- the point of the old screen from which a point of the new screen comes, if this child moves: the points below the child move along,
+-- and all others stay
 abbrev pub source_by : Seen → Seen → Option NodeId → Point → Point
 source_by was is None p = p
 source_by was is (Some child) p =
@@ -95,11 +95,11 @@ kept_spot k (spots.Leaf a p from old) (spots.Leaf b q to new) =
     (a.0 == b.0) && same_point p q && same_kind old new && not (same_size from to) && is_kept k a from to q
 kept_spot k s t = false
 
--- the second spot must show the same as the first one showed
+-- the second spot must show the same as the first one did
 abbrev pub survives : Keeping → Spot → Spot → Bool
 survives k s t = same_spot s t || kept_spot k s t
 
--- a point of the new screen is good after an edit if the point from which it comes was on the old screen, was good, and survives
+-- a point of the new screen is good after an edit if its source was on the old screen, was good, and survives
 abbrev pub good_after : Keeping → Seen → Seen → Edit → (Point → Bool) → Point → Bool
 good_after k was is edit bad p =
     let s = source was is edit p in

@@ -24,10 +24,10 @@ use tr_screen::Screen;
 use tr_tree::{Edit, EditRefused, Tree};
 
 impl Surface {
-    /// Changes the tree by the edit, and returns the tree as it was. A point of the screen stays good if
-    /// it shows what it showed before, in its place or moved along with a child, or if its window keeps
-    /// it. It then gets the pixel of the point that it comes from. All other points are bad. An `Err`
-    /// changes nothing. The new tree is made in the memory of `former`, if there is one.
+    /// Applies the edit to the tree, and returns the old tree. A point of the screen stays good if it shows
+    /// the same as before, in its place or moved along with a child, or if its window keeps it. It then gets
+    /// the pixel of its source. All other points are bad. An `Err` changes nothing. The new tree is made in
+    /// the memory of `former`, if there is one.
     pub fn alter<K: Keeper>(
         &mut self,
         edit: &Edit,
@@ -49,7 +49,7 @@ impl Surface {
         ensures cause { IfErr result (λ e. IsCause (refusal self.old.tree.nodes edit.now) e) }
         ensures err { OnErr result (self.new ≡ self.old) }
     {
-        // Called for what it tells the prover: that the nodes are a forest.
+        // Tells the prover that the nodes are a forest.
         let _ = self.tree.count();
         let is = self.edited(edit, former)?;
         let Ok(known) = self.known(&is, edit, keeper) else {
@@ -66,7 +66,7 @@ impl Surface {
         Ok(mem::replace(&mut self.tree, is))
     }
 
-    /// The tree as the edit makes it, in the memory of `former`, if there is one.
+    /// The tree after the edit, in the memory of `former`, if there is one.
     fn edited(&self, edit: &Edit, former: Option<Tree>) -> Result<Tree, EditRefused>
         requires { IsEdit self.now.tree.nodes edit.now }
         ensures tree { IfOk result (λ is. is ≡ edited_tree self.now.tree edit.now) }
@@ -87,7 +87,7 @@ impl Surface {
         }
     }
 
-    /// What is known once the tree is what the edit makes of it.
+    /// The good points of the tree after the edit.
     fn known<K: Keeper>(&self, is: &Tree, edit: &Edit, keeper: &K) -> Result<Known, NoMemory>
         requires edit { IsEdit self.now.tree.nodes edit.now }
         requires allowed { refusal self.now.tree.nodes edit.now ≡ None }
@@ -98,7 +98,7 @@ impl Surface {
         ensures follows { let c = spec.change_to self.now is.now (spec_moved self.now.tree edit.now) in
             IfOk result (λ r. (p : Point) → holds r.follows p ≡ spec.follows_by (K.keeping keeper.now) c p) }
     {
-        // Called for what it tells the prover: that the nodes are a forest.
+        // Tells the prover that the nodes are a forest.
         let _ = self.tree.count();
         let count = is.count();
         if is_other(self.tree.kind(), is.kind()) {
@@ -132,8 +132,8 @@ fn copy_into(tree: &Tree, former: Option<Tree>) -> Result<Tree, NoMemory>
     }
 }
 
-/// What the child covers that an edit moves or brings to the front, if nothing is good that could want it,
-/// and all other nodes stay where they are. With no child nothing is covered.
+/// The cover of the child that an edit moves or brings to the front, or `None` if no point is good or other
+/// nodes may move too. Without a child the cover is empty.
 fn cover_of(change: &TreeChange<'_>, edit: &Edit) -> Result<Option<Cover>, NoMemory>
     requires edit { IsEdit change.now.was.now.nodes edit.now }
     requires allowed { refusal change.now.was.now.nodes edit.now ≡ None }
@@ -142,7 +142,7 @@ fn cover_of(change: &TreeChange<'_>, edit: &Edit) -> Result<Option<Cover>, NoMem
     ensures { let s = change.now in
         IfOk result (λ o. IfSome o (IsCover s.was.now s.is.now s.moved)) }
 {
-    // Called for what it tells the prover: that the nodes are a forest.
+    // Tells the prover that the nodes are a forest.
     let _ = change.was.count();
     let same_size = change.was.size() == change.is.size();
     if is_hanging(edit) || !same_size || are_empty(change.good) {
@@ -151,7 +151,7 @@ fn cover_of(change: &TreeChange<'_>, edit: &Edit) -> Result<Option<Cover>, NoMem
     change.cover(carried_child(change.was, edit))
 }
 
-/// Whether no region has a point. Contracts don't speak of it: where that is so, nothing is to be found.
+/// Whether no region has a point. Contracts don't mention it: then there is nothing to find.
 fn are_empty(regions: &[Region]) -> bool {
     for region in regions {
         if !region.is_empty() {
@@ -169,7 +169,7 @@ fn is_other(was: Kind, is: Kind) -> bool
     was != is
 }
 
-/// How far the moved child comes, if one is moved.
+/// The distance by which the moved child moves, if one is moved.
 fn way_of_moved(was: &Tree, is: &Tree, moved: Option<NodeId>) -> Point
     requires was { IfSome moved (IsNode was.now.nodes) }
     requires is { IfSome moved (IsNode is.now.nodes) }
@@ -181,12 +181,12 @@ fn way_of_moved(was: &Tree, is: &Tree, moved: Option<NodeId>) -> Point
     }
 }
 
-/// The screen gets the tree's size and kind.
+/// Gives the screen the tree's size and kind.
 fn fit_screen(screen: &mut Screen, tree: &Tree) -> Result<(), NoMemory>
     ensures ok { OnOk result (spec.IsFitted tree.now screen.old screen.new) }
     ensures err { OnErr result (screen.new ≡ screen.old) }
 {
-    // Called for what it tells the prover: that the size is a screen's.
+    // Tells the prover that the size is a screen's.
     let _ = tree.count();
     let (size, kind) = (tree.size(), tree.kind());
     if screen.size() == size && screen.kind() == kind {
@@ -211,7 +211,7 @@ fn moved_child(was: &Tree, edit: &Edit) -> Option<NodeId>
     }
 }
 
-/// The child that an edit moves, wherever that lies.
+/// The child that an edit moves, wherever it lies.
 fn child_of(was: &Tree, edit: &Edit) -> Option<NodeId>
     requires { IsEdit was.now.nodes edit.now }
     ensures child { result ≡ spec_child was.now.nodes edit.now }
@@ -230,7 +230,7 @@ fn first_child(tree: &Tree, n: NodeId) -> Option<NodeId>
     ensures value { result ≡ first_node (node tree.now.nodes n).children }
     ensures node { IfSome result (IsNode tree.now.nodes) }
 {
-    // Called for what it tells the prover: that the nodes are a forest.
+    // Tells the prover that the nodes are a forest.
     let _ = tree.count();
     match tree.children(n) {
         [child, ..] => Some(*child),
@@ -238,7 +238,7 @@ fn first_child(tree: &Tree, n: NodeId) -> Option<NodeId>
     }
 }
 
-/// The child that an edit moves with all that lies below it, or brings to the front.
+/// The child that an edit moves with all nodes below it, or brings to the front.
 fn carried_child(was: &Tree, edit: &Edit) -> Option<NodeId>
     requires { IsEdit was.now.nodes edit.now }
     ensures child { result ≡ spec.carried_child was.now.nodes edit.now }
@@ -250,7 +250,7 @@ fn carried_child(was: &Tree, edit: &Edit) -> Option<NodeId>
     }
 }
 
-/// Whether an edit hangs a child below a node, or takes it away.
+/// Whether an edit attaches or detaches a child.
 fn is_hanging(edit: &Edit) -> bool
     ensures { result ≡ spec.is_hanging edit.now }
 {

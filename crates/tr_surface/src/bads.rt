@@ -17,16 +17,16 @@ use tr_region::Region;
 use tr_repair::shifted;
 
 impl Surface {
-    /// How many points of the screen are bad.
+    /// The number of bad points of the screen.
     pub fn bad_count(&self) -> u32
         ensures { result ≡ count_on self.now.tree.size (is_bad self.now) }
     {
-        // Called for what it tells the prover: that the nodes are a forest, and the screen has a size.
+        // Tells the prover that the nodes are a forest, and the screen has a size.
         let _ = self.tree.count();
         let size = self.tree.size();
         let mut count = u32::from(size.wide) * u32::from(size.high);
         for region in &self.good {
-            // Called for what it tells the prover: that the list of a region is canonical.
+            // Tells the prover that the list of a region is canonical.
             let _ = region.rects();
             count -= region.count() as u32;
         }
@@ -79,7 +79,7 @@ impl Surface {
         ensures least { IfOk result (λ r. (outer : Edges) →
             HasBadPoints self.now leaf outer → IsPartOf r outer) }
     {
-        // Called for what they tell the prover: that bad points lie on the screen, that it has a size, and
+        // These calls tell the prover that bad points lie on the screen, that it has a size, and
         // that the list of a region is canonical.
         let _ = self.tree().count();
         let origin = origin_of(&self.tree, leaf);
@@ -109,12 +109,12 @@ fn holds_some(region: Region) -> bool
     ensures some { IsTrue result → (p : Point) × (holds region p ≡ true) }
     ensures none { IsTrue (not result) → (p : Point) → holds region p ≡ false }
 {
-    // Called for what it tells the prover: that the list is canonical.
+    // Tells the prover that the list is canonical.
     let _ = region.rects();
     !region.is_empty()
 }
 
-/// The way back from the screen's coordinates to a window's.
+/// The move from the screen's coordinates to a window's.
 fn opposite(origin: Point) -> Point
     requires { IsOrigin origin }
     ensures value { result ≡ back_from origin }

@@ -16,8 +16,8 @@ use tr_region::Region;
 use tr_spot::reached;
 use tr_tree::Tree;
 
-/// What a child covers that has moved with all that lies below it, or has come in front, where all other
-/// nodes have stayed: the points at which the walk from the root comes to it. With no child it is empty.
+/// The cover of a child that moved with all nodes below it, or came in front, while all other nodes
+/// stayed: the points at which the walk from the root reaches it. Without a child it is empty.
 #[derive(Drop)]
 pub(crate) struct Cover {
     pub child: Option<NodeId>,
@@ -25,7 +25,7 @@ pub(crate) struct Cover {
 }
 
 impl Cover {
-    /// Those of a node's points that the node owns after the change: the covered ones if it is the child
+    /// The points of a part that the node owns after the change: the covered ones if it is the child
     /// or lies below the child, else the others.
     pub fn left_of(&self, is: &Tree, n: NodeId, part: Region) -> Result<Region, NoMemory>
         requires { IsNode is.now.nodes n }
@@ -44,7 +44,7 @@ impl Cover {
 }
 
 impl TreeChange<'_> {
-    /// What a child covers, if each node has moved as its points do.
+    /// The cover of a child, if each node moved as its points do.
     pub fn cover(&self, child: Option<NodeId>) -> Result<Option<Cover>, NoMemory>
         requires alike { AreAlikeBut child self.now.was.now self.now.is.now }
         requires child { IfSome child (IsNode self.now.is.now.nodes) }
@@ -52,7 +52,7 @@ impl TreeChange<'_> {
         ensures { let s = self.now in
             IfOk result (λ o. IfSome o (IsCover s.was.now s.is.now s.moved)) }
     {
-        // Called for what they tell the prover: that the nodes are forests.
+        // These calls tell the prover that the nodes are forests.
         let _ = self.was.count();
         let _ = self.is.count();
         if !self.moves_all() {
@@ -62,7 +62,7 @@ impl TreeChange<'_> {
         Ok(Some(Cover { child, region }))
     }
 
-    /// The points at which the walk from the root comes to a child, if there is one.
+    /// The points at which the walk from the root reaches a child, if there is one.
     fn covered(&self, child: Option<NodeId>) -> Result<Region, NoMemory>
         requires { IfSome child (IsNode self.now.is.now.nodes) }
         ensures { IfOk result (λ r. (p : Point) → holds r p ≡ comes_upon self.now.is.now p child) }
@@ -73,7 +73,7 @@ impl TreeChange<'_> {
         }
     }
 
-    /// Whether the rectangle of each node has moved as its points do.
+    /// Whether the rectangle of each node moved as its points do.
     fn moves_all(&self) -> bool
         ensures { let s = self.now in IsTrue result → (n : NodeId) (p : Point) → IsNode s.is.now.nodes n →
             has_point (domain s.is.now n) p
@@ -87,7 +87,7 @@ impl TreeChange<'_> {
         true
     }
 
-    /// Whether the rectangle of a node has moved as its points do.
+    /// Whether the rectangle of a node moved as its points do.
     fn moves(&self, n: NodeId) -> bool
         requires { IsNode self.now.is.now.nodes n }
         ensures { let s = self.now in IsTrue result → (p : Point) →

@@ -18,7 +18,7 @@ use tr_tree::Tree;
 
 impl Surface {
     /// Executes a batch, which is in the leaf's coordinates, within the visible points of a leaf. At first
-    /// the pixels of those visible points are known that aren't bad. For want of memory nothing changes.
+    /// the pixels of all visible points that aren't bad are known. If memory runs out, nothing changes.
     pub fn execute(&mut self, font: &Font, leaf: LeafId, batch: &Batch) -> Result<(), NoMemory>
         requires { leaf.0 < leaf_count self.old.tree.nodes }
 
@@ -51,7 +51,7 @@ impl Surface {
         ensures tree { self.new.tree ≡ self.old.tree }
         ensures err { OnErr result (self.new ≡ self.old) }
     {
-        // Called for what it tells the prover: that the nodes are a forest.
+        // Tells the prover that the nodes are a forest.
         let _ = self.tree.count();
         let kind = self.tree.kind();
         let env = Env { kind, font };
@@ -74,14 +74,14 @@ impl Surface {
     }
 }
 
-/// Where the north-west corner of a leaf's window lies on the screen.
+/// The north-west corner of a leaf's window on the screen.
 pub(crate) fn origin_of(tree: &Tree, leaf: LeafId) -> Point
     requires { leaf.0 < leaf_count tree.now.nodes }
     ensures value { result ≡ leaf_corner tree.now leaf }
     ensures origin { IsOrigin result }
 {
     let domain = tree.domain(tree.node_of(leaf));
-    // Called for what it tells the prover: that the edges are those of a rectangle.
+    // Tells the prover that the edges are those of a rectangle.
     let _ = domain.is_empty();
     domain.corner()
 }

@@ -19,7 +19,7 @@ use tr_tree::Tree;
 
 impl Surface {
     /// Gives each bad point of a frame its colour, and makes it good. It takes all memory before it writes
-    /// the first pixel: for want of memory nothing changes.
+    /// the first pixel: if memory runs out, nothing changes.
     pub fn paint_frame(&mut self) -> Result<(), NoMemory>
         // No point of a frame is bad any more.
         ensures bad { OnOk result ((p : Point) →
@@ -47,7 +47,7 @@ impl Surface {
         Ok(())
     }
 
-    /// Of each node the bad points of its frame, by the nodes' numbers.
+    /// The bad points of each node's frame, by the nodes' numbers.
     fn bad_frames(&self) -> Result<Vec<Region>, NoMemory>
         ensures { IfOk result (λ frames. AreBadFrames self.now frames.items) }
     {
@@ -66,7 +66,7 @@ impl Surface {
         Ok(frames)
     }
 
-    /// Of each node the good points once its frame is good, by the nodes' numbers.
+    /// The good points of each node once its frame is good, by the nodes' numbers.
     fn good_frames(&self) -> Result<Vec<Region>, NoMemory>
         ensures { IfOk result (λ good. AreGoodFrames self.now good.items) }
     {

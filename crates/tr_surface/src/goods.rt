@@ -28,7 +28,7 @@ use tr_spot::{from_corner, own_points, size_of};
 use tr_tree::{NodeKind, Tree};
 
 impl TreeChange<'_> {
-    /// The good points of each node after the edit, and those that follow the child that is moved.
+    /// The good points of each node after the edit, and those that move along with the moved child.
     pub fn known<K: Keeper>(&self, keeper: &K, cover: &Option<Cover>) -> Result<Known, NoMemory>
         requires leaves { K.leaves keeper.now ≡ leaf_count self.now.was.now.nodes }
         requires cover { let s = self.now in IfSome cover.now (IsCover s.was.now s.is.now s.moved) }
@@ -77,7 +77,7 @@ impl TreeChange<'_> {
         Ok(good)
     }
 
-    /// The good points of a node after the edit. Where none was good, it looks at nothing.
+    /// The good points of a node after the edit. If none was good, it looks at nothing.
     fn good_after<K: Keeper>(
         &self,
         keeper: &K,
@@ -90,7 +90,7 @@ impl TreeChange<'_> {
         ensures { let s = self.now in IfOk result (λ r. (p : Point) → holds r p
             ≡ good_at (K.keeping keeper.now) s.was.now s.is.now s.moved s.good.now n p) }
     {
-        // Called for what it tells the prover: that the nodes are a forest.
+        // Tells the prover that the nodes are a forest.
         let _ = self.was.count();
         if self.good_before(n).is_empty() {
             return Ok(Region::empty(self.alloc));
@@ -101,7 +101,7 @@ impl TreeChange<'_> {
         self.own(cover, n, left)
     }
 
-    /// The points of a node that were good.
+    /// The good points of a node before the edit.
     fn good_before(&self, n: NodeId) -> &Region
         requires { IsNode self.now.is.now.nodes n }
         ensures { result.now ≡ region_of self.now.good.now n }
@@ -109,7 +109,7 @@ impl TreeChange<'_> {
         &self.good[usize::from(n.0)]
     }
 
-    /// How far the points of a node move.
+    /// The distance by which the points of a node move.
     pub fn way(&self, n: NodeId) -> Point
         requires { IsNode self.now.is.now.nodes n }
         ensures value { let s = self.now in result ≡ way_from s.was.now s.is.now s.moved n }
@@ -121,7 +121,7 @@ impl TreeChange<'_> {
         }
     }
 
-    /// Which points of a node that moves so far show what they showed.
+    /// The points of a node that show the same after a move by this distance.
     fn survivors(&self, n: NodeId, by: Point) -> Survivors
         requires node { IsNode self.now.is.now.nodes n }
         requires by { IsDistance by }
@@ -135,7 +135,7 @@ impl TreeChange<'_> {
         }
     }
 
-    /// Where the good points of a node come to that survive.
+    /// The new places of a node's good points that survive.
     fn surviving<K: Keeper>(
         &self,
         keeper: &K,
@@ -166,14 +166,14 @@ impl TreeChange<'_> {
         }
     }
 
-    /// Where the good points of a node come to.
+    /// The new places of a node's good points.
     fn moved_along(&self, n: NodeId, by: Point) -> Result<Region, NoMemory>
         requires node { IsNode self.now.is.now.nodes n }
         requires by { IsDistance by }
         ensures { IfOk result (λ r. (p : Point) →
             holds r p ≡ holds (region_of self.now.good.now n) (before_shift p by)) }
     {
-        // Called for what it tells the prover: that the nodes are a forest, and how large the screen is.
+        // Tells the prover that the nodes are a forest, and how large the screen is.
         let _ = self.was.count();
         let good = self.good_before(n);
         if is_nowhere(by) {
@@ -183,7 +183,7 @@ impl TreeChange<'_> {
         shifted(good, by)
     }
 
-    /// The points of the screen that a leaf keeps, which is node n, and that no command waits for.
+    /// The points of the screen that a leaf, node n, keeps, and that no waiting command touches.
     fn kept_points<K: Keeper>(
         &self,
         keeper: &K,
@@ -205,7 +205,7 @@ impl TreeChange<'_> {
         kept
     }
 
-    /// Of points that belonged to a node before they moved those that belong to it afterwards.
+    /// The points of a part that belong to the node after the change. They belonged to it before they moved.
     fn own(&self, cover: &Option<Cover>, n: NodeId, part: Region) -> Result<Region, NoMemory>
         requires node { IsNode self.now.is.now.nodes n }
         requires cover { let s = self.now in IfSome cover.now (IsCover s.was.now s.is.now s.moved) }
@@ -220,7 +220,7 @@ impl TreeChange<'_> {
         }
     }
 
-    /// The good points of the child that is moved, and of the nodes below it, by those of all nodes.
+    /// The good points of the moved child and of the nodes below it, from those of all nodes.
     fn follows(&self, good: &[Region]) -> Result<Region, NoMemory>
         requires { length good.now ≡ length self.now.is.now.nodes.entries }
         ensures { IfOk result (λ r. (p : Point) →
@@ -238,7 +238,7 @@ impl TreeChange<'_> {
         Ok(points)
     }
 
-    /// The same points, and the good ones of node n where it is the child or lies below it.
+    /// The same points, with the good ones of node n if it is the child or lies below it.
     fn with_node(
         &self,
         points: Region,
@@ -263,7 +263,7 @@ impl TreeChange<'_> {
     }
 }
 
-/// How far a child moves.
+/// The distance by which a child moves.
 pub(crate) fn way_of(was: &Tree, is: &Tree, child: NodeId) -> Point
     requires was { IsNode was.now.nodes child }
     requires is { IsNode is.now.nodes child }
@@ -275,14 +275,14 @@ pub(crate) fn way_of(was: &Tree, is: &Tree, child: NodeId) -> Point
     from_corner(&from, to.corner())
 }
 
-/// Whether there is no move.
+/// Whether a distance is zero.
 fn is_nowhere(by: Point) -> bool
     ensures { IsTrue result ↔ (by ≡ unmoved) }
 {
     by.h == 0 && by.v == 0
 }
 
-/// What a leaf keeps whose rectangle changes, if its points move so far.
+/// The points that a leaf keeps when its rectangle changes, if its points move by this distance.
 fn leaf_survivors(leaf: LeafId, was: &Rect, is: &Rect, by: Point) -> Survivors
     requires was { IsDomain was.now }
     requires is { IsDomain is.now }
@@ -302,7 +302,7 @@ fn leaf_survivors(leaf: LeafId, was: &Rect, is: &Rect, by: Point) -> Survivors
     }
 }
 
-/// Whether a corner comes from an old one by this move.
+/// Whether this distance moves the old corner to the new one.
 fn comes_to(old: Point, new: Point, by: Point) -> bool
     requires across { InReach new.h }
     requires down { InReach new.v }
@@ -329,13 +329,13 @@ fn untouched(alloc: Global, rect: Rect, batch: &Batch) -> Result<Region, NoMemor
     Ok(left)
 }
 
-/// Which leaf a node is, if it is one.
+/// The leaf of a node, if it is one.
 fn leaf_in(tree: &Tree, n: NodeId) -> Option<LeafId>
     requires { IsNode tree.now.nodes n }
     ensures value { result ≡ leaf_of (node tree.now.nodes n).kind }
     ensures leaf { IfSome result (λ leaf. leaf.0 < leaf_count tree.now.nodes) }
 {
-    // Called for what it tells the prover: that the nodes are a forest.
+    // Tells the prover that the nodes are a forest.
     let _ = tree.count();
     match tree.kind_of(n) {
         NodeKind::Leaf { leaf, .. } => Some(leaf),

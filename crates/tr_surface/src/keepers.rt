@@ -7,15 +7,15 @@ ghost use Rattle.tr_surface.specs.TreeSteps.{Keeping};
 use tr_base::{LeafId, Rect, Size};
 use tr_paint::Batch;
 
-/// What an edit of the tree must know of the windows.
+/// The facts about windows that an edit of the tree needs.
 pub trait Keeper {
-    /// What the windows keep when their sizes change, and the commands that wait for them.
+    /// The points that windows keep when their sizes change, and the commands that wait for them.
     ghost keeping: { Self → Keeping };
 
-    /// How many windows there are.
+    /// The number of windows.
     ghost leaves: { Self → ℕ };
 
-    /// The points that a window need not paint again when its size changes, in the window's coordinates.
+    /// The points that a window needn't paint again when its size changes, in the window's coordinates.
     /// They lie in the window before and after.
     fn keeps(&self, leaf: LeafId, from: Size, to: Size) -> Rect
         requires leaf { leaf.0 < leaves self.now }

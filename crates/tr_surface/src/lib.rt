@@ -1,5 +1,5 @@
-//! The screen that a tree of windows is shown on: the tree, the pixels, and which points of each node are
-//! good; all others are bad and need to be painted again.
+//! The screen on which a tree of windows is shown: the tree, the pixels, and the good points of each node.
+//! All other points are bad and must be painted again.
 #![tactic(auto)]
 
 mod alters;

@@ -23,7 +23,7 @@ use tr_screen::{Run, Screen};
 
 impl Surface {
     /// Writes pixels at visible points of a leaf, and makes these points good. `pixels` has one for each
-    /// point of `part`, by its rectangles in order and by rows within each. For want of memory nothing
+    /// point of `part`, by its rectangles in order and by rows within each. If memory runs out, nothing
     /// changes.
     pub fn put(&mut self, leaf: LeafId, part: &Region, pixels: &[u8]) -> Result<(), NoMemory>
         requires leaf { leaf.0 < leaf_count self.old.tree.nodes }
@@ -37,7 +37,7 @@ impl Surface {
         ensures tree { self.new.tree ≡ self.old.tree }
         ensures err { OnErr result (self.new ≡ self.old) }
     {
-        // Called for what it tells the prover: that the nodes are a forest.
+        // Tells the prover that the nodes are a forest.
         let _ = self.tree.count();
         let n = self.tree.node_of(leaf);
         let more = self.good[usize::from(n.0)].union(part)?;
@@ -47,8 +47,8 @@ impl Surface {
     }
 
     /// Writes pixels at those visible points of a leaf that lie in a clip. The clip is in the leaf's
-    /// coordinates, and `pixels` has one for each of its points, by rows. None of the leaf's visible
-    /// points may be bad. It takes no memory, and the same points are bad after it.
+    /// coordinates, and `pixels` has one for each of its points, by rows. No visible point of the leaf may
+    /// be bad. It takes no memory, and the same points are bad after it.
     pub fn put_visible(&mut self, leaf: LeafId, clip: &Rect, pixels: &[u8])
         requires leaf { leaf.0 < leaf_count self.old.tree.nodes }
         requires good { (p : Point) → is_in_leaf leaf (spot self.old.tree p) ≡ true →
@@ -62,7 +62,7 @@ impl Surface {
         ensures bad { (p : Point) → is_bad self.new p ≡ is_bad self.old p }
         ensures tree { self.new.tree ≡ self.old.tree }
     {
-        // Both are called for what they tell the prover: that the nodes are a forest, and that the edges
+        // Both calls tell the prover that the nodes are a forest, and that the edges
         // are those of a rectangle.
         let _ = self.tree.count();
         let _ = clip.is_empty();
@@ -93,7 +93,7 @@ fn put_pixels(screen: &mut Screen, part: &Region, pixels: &[u8])
     }
 }
 
-/// Gives the points of a rectangle of the region these pixels, row after row.
+/// Gives the points of a rectangle of the region these pixels, row by row.
 fn put_rect(screen: &mut Screen, part: &Region, rect: &Rect, pixels: &[u8])
     requires on { AreOn screen.old.size (has_point rect.now) }
     requires part { (p : Point) → has_point rect.now p ≡ true → holds part.now p ≡ true }
@@ -105,7 +105,7 @@ fn put_rect(screen: &mut Screen, part: &Region, rect: &Rect, pixels: &[u8])
     paint_within(screen, part, &Raster { area, pixels });
 }
 
-/// The brush that gives the points of an area these pixels, row after row.
+/// The brush that gives the points of an area these pixels, row by row.
 #[derive(Drop)]
 struct Raster<'a> {
     area: Rect,
@@ -128,7 +128,7 @@ impl Brush for Raster<'_> {
     }
 }
 
-/// The place of a run's first point among those of the rectangle that has it, row after row.
+/// The place of a run's first point among those of the rectangle that has it, row by row.
 fn start_within(area: &Rect, run: Run) -> usize
     requires some { run.west <ℤ run.east }
     requires within { (p : Point) → in_run run p ≡ true → has_point area.now p ≡ true }
@@ -141,7 +141,7 @@ fn start_within(area: &Rect, run: Run) -> usize
     rows as usize * wide as usize + columns as usize
 }
 
-/// How many points a rectangle has.
+/// The number of points of a rectangle.
 fn area(rect: &Rect) -> usize
     ensures { result ≡ area_of rect.now }
 {

@@ -14,14 +14,14 @@ use tr_region::Region;
 use tr_screen::Screen;
 use tr_tree::Tree;
 
-/// The screen of a tree of windows: its pixels, and the points that are bad, which need to be
-/// painted again.
+/// The screen of a tree of windows: its pixels, and its bad points, which must be painted
+/// again.
 #[derive(Drop)]
 pub struct Surface {
     pub(crate) alloc: Global,
     pub(crate) tree: Tree,
-    /// Of each node points of its own that are good, by the nodes' numbers: visible ones of a leaf, those of
-    /// another node's frame. All others are bad.
+    /// The good points of each node, by the nodes' numbers. They are its own: visible points of a leaf,
+    /// points of another node's frame. All others are bad.
     pub(crate) good: Vec<Region>,
     pub(crate) screen: Screen,
 }
@@ -38,7 +38,7 @@ impl Model for Surface {
 }
 
 impl Surface {
-    /// A blank screen of the tree's size and kind, of which every point is bad.
+    /// A blank screen of the tree's size and kind. Each of its points is bad.
     pub fn new(alloc: Global, tree: Tree) -> Result<Surface, NoMemory>
         requires { HasRoot tree }
         ensures tree { IfOk result (λ s. s.tree ≡ tree) }
@@ -90,7 +90,7 @@ impl Surface {
         ensures { (p : Point) →
             holds result.now p ≡ is_in_leaf leaf (spot self.now.tree p) && not (is_bad self.now p) }
     {
-        // Called for what it tells the prover: that the nodes are a forest.
+        // Tells the prover that the nodes are a forest.
         let _ = self.tree.count();
         self.good(self.tree.node_of(leaf))
     }
@@ -104,7 +104,7 @@ impl Surface {
     }
 }
 
-/// As many regions with no point.
+/// This number of empty regions.
 pub(crate) fn empty_regions(alloc: Global, count: usize) -> Result<Vec<Region>, NoMemory>
     ensures count { IfOk result (λ r. length r.items ≡ count) }
     ensures empty { IfOk result (λ r. (n : NodeId) → region_of r.items n ≡ []) }

@@ -8,16 +8,16 @@ use tr_base::NodeId;
 use tr_region::Region;
 use tr_tree::Tree;
 
-/// What is known of a screen after an edit of its tree: the good points of each node, and all those that
-/// follow the child that is moved.
+/// The good points of a screen after an edit of its tree: those of each node, and all those that move along
+/// with the moved child.
 #[derive(Drop)]
 pub(crate) struct Known {
     pub good: Vec<Region>,
     pub follows: Region,
 }
 
-/// A tree before and after an edit that leaves the kind of its screen, with the points of its nodes that
-/// were good, and the child that the edit moves.
+/// A tree before and after an edit that keeps the kind of its screen, with the good points of its nodes
+/// before the edit, and the child that the edit moves.
 #[derive(Clone, Copy)]
 pub(crate) struct TreeChange<'a> {
     pub alloc: Global,

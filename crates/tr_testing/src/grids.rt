@@ -1,4 +1,4 @@
-//! What is known of the points of a window, and what paint commands make of it.
+//! The known pixels of a window's points, and the effect of paint commands on them.
 ghost use Rattle.tr_paint.specs.Paints.{IsNearPaint};
 
 use crate::pictures::{earlier, text_bit};
@@ -6,7 +6,7 @@ use std::alloc::Global;
 use tr_base::{Env, NoMemory, Op, Pair, Point, Size, eff, tile_bit, whole};
 use tr_paint::{Batch, Paint};
 
-/// What is known of the points of a window.
+/// The known pixels of a window's points.
 #[derive(Drop)]
 pub struct Grid {
     size: Size,
@@ -14,7 +14,7 @@ pub struct Grid {
 }
 
 impl Grid {
-    /// Nothing is known.
+    /// A grid without a known pixel.
     pub fn unknown(alloc: Global, size: Size) -> Result<Grid, NoMemory> {
         let count = usize::from(size.wide) * usize::from(size.high);
         Ok(Grid {
@@ -23,7 +23,7 @@ impl Grid {
         })
     }
 
-    /// The points, row after row.
+    /// The pixels of the points, row by row; `None` for a point whose pixel isn't known.
     pub fn cells(&self) -> &[Option<u8>] {
         &self.cells
     }
@@ -36,13 +36,13 @@ impl Grid {
         Some(row.wrapping_add(q.h as usize))
     }
 
-    /// What is known of a point.
+    /// The pixel of a point, if it is known.
     pub fn get(&self, q: Point) -> Option<u8> {
         let i = self.index(q)?;
         *self.cells.get(i)?
     }
 
-    /// This is known of a point of the window from now on.
+    /// Sets the known pixel of a point of the window, or makes it unknown.
     pub fn set(&mut self, q: Point, pixel: Option<u8>) {
         if let Some(i) = self.index(q) {
             if let Some(cell) = self.cells.get_mut(i) {
@@ -52,7 +52,7 @@ impl Grid {
     }
 }
 
-/// What is known of a point of its area after a command, which is none of pixels.
+/// The known pixel of a point of a command's area after the command; `None` after pixels or a spoil.
 fn done(env: &Env, paint: &Paint, now: &Grid, q: Point) -> Option<u8> {
     let op = match paint {
         Paint::Tint { op, .. } => *op,
@@ -82,7 +82,7 @@ fn chosen(ops: Pair, bit: bool) -> Op {
     if bit { ops.one } else { ops.zero }
 }
 
-/// What is known after one command.
+/// The known pixels after one command.
 fn after_one(alloc: Global, env: &Env, paint: &Paint, now: &Grid) -> Result<Grid, NoMemory>
     requires { IsNearPaint paint.now }
 {
@@ -103,7 +103,7 @@ fn after_one(alloc: Global, env: &Env, paint: &Paint, now: &Grid) -> Result<Grid
     Ok(next)
 }
 
-/// What is known after the commands of a batch, over what was known before.
+/// The known pixels after the commands of a batch, from those known before.
 pub fn after(alloc: Global, env: &Env, batch: &Batch, base: Grid) -> Result<Grid, NoMemory> {
     let mut now = base;
     for paint in batch.paints() {

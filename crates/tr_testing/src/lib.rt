@@ -1,5 +1,5 @@
-//! Tools for tests: numbers that look random, and a plain and slow reading of what clients paint, point by
-//! point. Only crates of tests stand on this.
+//! Tools for tests: numbers that look random, and a plain and slow execution of paint commands, point by
+//! point. Only crates of tests depend on this.
 #![tactic(auto)]
 
 mod grids;

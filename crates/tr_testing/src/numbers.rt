@@ -1,7 +1,7 @@
 //! Numbers that look random.
 ghost use Rattle.std.specs.Prelude.{◌<◌};
 
-/// A linear congruential generator. A copy of it draws the same once more.
+/// A linear congruential generator. A copy of it draws the same numbers again.
 #[derive(Clone, Copy)]
 pub struct Numbers {
     state: u32,

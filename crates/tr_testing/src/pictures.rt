@@ -1,4 +1,4 @@
-//! What a client's commands leave, read point by point.
+//! The effects of a client's commands, computed point by point.
 ghost use Rattle.tr_client.specs.Laws.{IsWindowSize};
 
 use crate::grids::{Grid, after};
@@ -6,7 +6,7 @@ use std::alloc::Global;
 use tr_base::{Env, Font, NoMemory, Point, Rect, Size, is_set};
 use tr_client::Client;
 
-/// The content after a command, and what is known after its patch, over a part of the old picture.
+/// The content after a command, and the known pixels after its patch, over a part of the old picture.
 pub fn patched<C: Client>(
     alloc: Global,
     env: &Env,
@@ -22,7 +22,7 @@ pub fn patched<C: Client>(
     Ok((next, grid))
 }
 
-/// What is known after a part of the content is painted, over nothing known.
+/// The known pixels after a part of the content is painted over a window without known pixels.
 pub fn painted<C: Client>(
     alloc: Global,
     env: &Env,
@@ -36,7 +36,7 @@ pub fn painted<C: Client>(
     after(alloc, env, &batch, Grid::unknown(alloc, size)?)
 }
 
-/// The point that lies so much before another one.
+/// The point that a move by `by` takes to `q`.
 pub(crate) fn earlier(q: Point, by: Point) -> Point {
     Point {
         h: q.h.wrapping_sub(by.h),
@@ -44,7 +44,7 @@ pub(crate) fn earlier(q: Point, by: Point) -> Point {
     }
 }
 
-/// The bit of a text at a point, counted from the text's corner; outside its cells there is none.
+/// The bit of a text at a point, counted from the text's corner; it is false outside the text's cells.
 pub fn text_bit(font: &Font, text: &[u8], q: Point) -> bool {
     if q.h < 0 || q.v < 0 || q.v >= 8 {
         return false;

@@ -1,4 +1,4 @@
--- What a script comes to that threads play.
+-- The result of a script that threads play.
 use Rattle.std.specs.Prelude.{◌≡◌, ℕ, List, ◌++◌, Option, Some, None, codes}
 use Rattle.tr_widget.specs.declared.Widget.{Widget}
 use Rattle.tr_widget.specs.declared.WidgetCmd.{WidgetCmd}
@@ -12,12 +12,12 @@ use Rattle.tr_parts.specs.Plays.{HasInterleaved, journal_texts, played_threads}
 use Rattle.tr_play.specs.Plays.{DiffersInPart, parts_of}
 use Rattle.tr_threads.specs.declared.plays.Threaded.{Threaded}
 
--- what is written of a journal that threads made: the texts of its reports, and that it is the threads' own
+-- the text of a journal that threads made: the texts of its reports, and the line that says that threads played
 unfoldable pub threads_text : Script → StageView Widget WidgetCmd → List ℕ
 threads_text s stage = journal_texts widgets widget_words s.names s.opening stage.journal ++ played_threads
 
--- A script was played by threads: its stage's journal is one of the machine, interleaves the parts of the script, and is the one of which
--- the texts are written.
+-- a script was played by threads: its stage's journal is one of the machine and interleaves the parts of the script, and the text
+-- is that of this journal
 pub record IsPlayedByThreads (s : Script) (stage : StageView Widget WidgetCmd) (text : List ℕ) : Type 0 where
   pub played : HasInterleaved widgets s.opening (parts_of s.parts) stage
   pub text_is : text ≡ threads_text s stage
@@ -26,7 +26,7 @@ pub record IsPlayedByThreads (s : Script) (stage : StageView Widget WidgetCmd) (
 abbrev pub HasDifferedIn : Script → DiffersView Widget WidgetCmd → Type 0
 HasDifferedIn s d = DiffersInPart widgets s.opening (parts_of s.parts) d
 
--- the last two lines, where all is played again: what differs, and that it is so
+-- the last two lines if all is played again: the difference, and that it is so
 unfoldable pub again_text : Script → DiffersView Widget WidgetCmd → List ℕ
 again_text s d = differs_text widget_words s.names d.difference ++ codes "played again\n"
 
@@ -42,6 +42,6 @@ abbrev pub IsPlayed : Script → Option (DiffersView Widget WidgetCmd) → Stage
 IsPlayed s None stage text = IsPlayedByThreads s stage text
 IsPlayed s (Some d) stage text = IsPlayedAgain s d stage text
 
--- so was one with this end
+-- so was the script with this end
 abbrev pub IsThreaded : Script → Threaded → Type 0
 IsThreaded s end = IsPlayed s end.differs end.stage end.text

@@ -1,5 +1,5 @@
-//! A script that threads play: what is written, and the stage that it ends with. Where a session finds its
-//! stage other than its passes say, all is played again on one thread.
+//! Scripts that threads play: the text, and the stage at the end. If a session finds a stage that differs
+//! from its passes, all is played again on one thread.
 #![tactic(auto)]
 
 mod plays;

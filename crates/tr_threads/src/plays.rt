@@ -19,20 +19,20 @@ use tr_server::{CloseRefused, Differs};
 use tr_stage::Stage;
 use tr_widget::Widget;
 
-/// What a script ends in that threads played.
+/// The end of a script that threads played.
 #[derive(Drop)]
 pub struct Threaded {
-    /// What was written.
+    /// The text.
     pub text: Output,
     /// The stage after all steps.
     pub stage: Stage<Widget>,
-    /// What a session found that found its stage other than its passes say. Then the text and the stage are
+    /// The difference that a session found between its stage and its passes. Then the text and the stage are
     /// those of one thread.
     pub differs: Option<Differs<Widget>>,
 }
 
 /// Plays a script of some parts by threads: one for each leaf's client, one for the desk, and one for the
-/// painter. Writes the reports, and by whom the script was played.
+/// painter. The text is the reports, and a line that says that threads played.
 pub fn threads<R: Threads + Wait + Sync, G: Gate + Sync>(
     workers: &Workers<'_, R, G>,
     script: Script,
@@ -43,7 +43,7 @@ pub fn threads<R: Threads + Wait + Sync, G: Gate + Sync>(
 {
     match play_side_by_side(workers, &script) {
         Ok(end) => {
-            // Said, here and below, since the prover takes apart what vanishes unsaid.
+            // Explicit, here and below: at an implicit drop the prover takes the value apart.
             drop(script);
             Ok(by_threads(end))
         }
@@ -51,7 +51,7 @@ pub fn threads<R: Threads + Wait + Sync, G: Gate + Sync>(
     }
 }
 
-/// What a script ends in that threads played.
+/// The end of a script that threads played.
 fn by_threads(end: Finished<Widget>) -> Threaded
     ensures text { result.text ≡ end.text }
     ensures stage { result.stage ≡ end.stage }
@@ -65,7 +65,7 @@ fn by_threads(end: Finished<Widget>) -> Threaded
     }
 }
 
-/// Plays a script again where a session differed, but not where memory was wanted.
+/// Plays a script again if a session differed, but not for want of memory.
 fn play_unless_refused(
     alloc: Global,
     script: Script,
@@ -103,7 +103,7 @@ fn play_side_by_side<R: Threads + Wait + Sync, G: Gate + Sync>(
     play(workers, run, &script.parts)
 }
 
-/// Plays a script on one thread, since a session differed that played a part of it. Writes that, too.
+/// Plays a script on one thread, since a session that played a part of it differed. Writes that, too.
 fn play_again(alloc: Global, script: Script, differs: Differs<Widget>) -> Result<Threaded, NoMemory>
     requires playable { IsPlayableScript script }
     requires differs { HasDifferedIn script differs }
@@ -118,7 +118,7 @@ fn play_again(alloc: Global, script: Script, differs: Differs<Widget>) -> Result
     }
 }
 
-/// What a script ends in that was played on one thread after this difference.
+/// The end of a script that was played on one thread after this difference.
 fn ended(played: Result<Played, NoMemory>, differs: Differs<Widget>) -> Result<Threaded, NoMemory>
     ensures played { IfOk result (λ end. played ≡ Ok (record { text = end.text; stage = end.stage })) }
     ensures differs { IfOk result (λ end. end.differs ≡ Some differs) }
@@ -151,7 +151,7 @@ fn play_with(alloc: Global, script: Script, last: &[u8]) -> Result<Played, NoMem
     Ok(played)
 }
 
-/// The last two lines: what differs, and that all was played again.
+/// The last two lines: the difference, and that all was played again.
 fn last_lines(
     alloc: Global,
     script: &Script,
@@ -161,7 +161,7 @@ fn last_lines(
     requires differs { HasDifferedIn script.now differs.now }
     ensures { IfOk result (λ text. text.items ≡ again_text script.now differs.now) }
 {
-    // Called for what it tells the prover: that the journal that was found is one of the machine.
+    // Called for its clause: the journal that was found is one of the machine.
     stands(differs.stage());
     let mut text = Vec::new(alloc);
     differs_line(differs.difference(), &script.names, &mut text)?;

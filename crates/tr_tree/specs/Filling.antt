@@ -1,5 +1,5 @@
 -- Private contracts alone cite this file.
--- Filling the table of shapes from the lowest nodes upwards.
+-- The table of shapes is filled from the lowest nodes upwards.
 use Rattle.std.specs.Prelude.{◌≡◌, ◌⊎◌, true, List}
 use Rattle.tr_base.specs.declared.NodeId.{NodeId}
 use Rattle.tr_base.specs.declared.Shapes.{Shapes}
@@ -8,11 +8,11 @@ use Rattle.tr_forest.specs.Families.{is_among, is_under}
 use Rattle.tr_tree.specs.Wishes.{shape}
 use Rattle.tr_tree.specs.Tables.{shape_in}
 
--- each place is as it was or right
+-- each entry is the old one or right
 pub record AreKeptOrRight (t : Nodes) (old new : List Shapes) : Type 0 where
   pub each : (m : NodeId) → (shape_in new m ≡ shape_in old m) ⊎ (shape_in new m ≡ shape t m)
 
--- each place is as it was or right, and those of n and of what lies below it are right
+-- each entry is the old one or right, and the entries of n and of all nodes below it are right
 pub record Fills (t : Nodes) (n : NodeId) (old new : List Shapes) : Type 0 where
   pub others : AreKeptOrRight t old new
   pub below : (m : NodeId) → is_under t n m ≡ true → shape_in new m ≡ shape t m

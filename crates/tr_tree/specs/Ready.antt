@@ -17,7 +17,7 @@ use Rattle.tr_tree.specs.Tables.{shape_in, domain_in}
 use Rattle.tr_forest.specs.Families.{depth, is_under}
 use Rattle.tr_tree.specs.Laying.{on_screen, laid, IsAt, HasDomain}
 
--- the tables and the room have so many places
+-- each table has this number of entries, and so has the room
 pub record HavePlaces (count : ℕ) (l : Layout) : Type 0 where
   pub shapes : length l.shapes.items ≡ count
   pub domains : length l.domains.items ≡ count
@@ -41,7 +41,7 @@ pub record IsLaidOut (t : Nodes) (size : Size) (l : Layout) : Type 0 where
   pub shapes : HasShapes t l
   pub domains : HasDomains t size l
 
--- the table has the domain of each node that isn't below n, nor n itself
+-- the table has the domain of each node except n and the nodes below it
 pub record HasOtherDomains (t : Nodes) (size : Size) (n : NodeId) (l : Layout) : Type 0 where
   pub each : (m : NodeId) → is_under t n m ≡ false → HasDomain (laid t size) m l.domains.items
 
@@ -49,21 +49,21 @@ pub record HasOtherDomains (t : Nodes) (size : Size) (n : NodeId) (l : Layout) :
 pub record IsInZ (t : Nodes) (n : NodeId) : Type 0 where
   pub parent : (p : NodeId) → (node t n).parent ≡ Some p → (node t p).kind ≡ kinds.Z
 
--- the tables and the room have the same places
+-- the tables and the room have the same entries
 pub record HaveSamePlaces (a b : Layout) : Type 0 where
   pub shapes : b.shapes.items ≡ a.shapes.items
   pub domains : b.domains.items ≡ a.domains.items
   pub room_shapes : b.room.shapes.items ≡ a.room.shapes.items
   pub room_places : b.room.places.items ≡ a.room.places.items
 
--- one place more takes no memory
+-- one more entry takes no memory
 pub record HasSpare (l : Layout) : Type 0 where
   pub shapes : vec_len l.shapes < vec_capacity l.shapes
   pub domains : vec_len l.domains < vec_capacity l.domains
   pub room_shapes : vec_len l.room.shapes < vec_capacity l.room.shapes
   pub room_places : vec_len l.room.places < vec_capacity l.room.places
 
--- an edit after which each node wants the lengths that it wanted
+-- an edit that changes no node's shapes
 abbrev pub keeps_shapes : Edit → Bool
 keeps_shapes (edits.Offset n by) = true
 keeps_shapes (edits.Move child at) = true

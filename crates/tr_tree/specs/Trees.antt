@@ -1,4 +1,4 @@
--- What a contract sees of a tree of windows.
+-- The model of a tree of windows.
 use Rattle.tr_base.specs.declared.Size.{Size}
 use Rattle.tr_base.specs.declared.Kind.{Kind}
 use Rattle.tr_forest.specs.declared.Edit.{Edit}

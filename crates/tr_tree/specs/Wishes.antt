@@ -1,4 +1,4 @@
--- The lengths that each node wants, found upwards from its children's.
+-- The lengths that each node wants, computed upwards from its children's.
 use Rattle.std.specs.Prelude.{ℕ, zero, suc, false, true, List, [], ◌∷◌, map}
 use Rattle.tr_base.specs.declared.NodeId.{NodeId}
 use Rattle.tr_base.specs.declared.Shapes.{Shapes}
@@ -16,12 +16,12 @@ use Rattle.tr_pack.specs.Packs.{pack_shape}
 abbrev pub no_shapes : Shapes
 no_shapes = record { across = no_lengths; down = no_lengths }
 
--- the shapes of the one child of a filter, if it has it
+-- the shapes of the one child of a filter, if it has one
 abbrev pub only_child : List Shapes → Shapes
 only_child [] = no_shapes
 only_child (c ∷ cs) = c
 
--- the shapes of a node by its children's
+-- the shapes of a node, from its children's
 abbrev pub shape_of : NodeKind → List Shapes → Shapes
 shape_of kinds.H cs = hv.hv_shape false cs
 shape_of kinds.V cs = hv.hv_shape true cs
@@ -34,11 +34,11 @@ shape_of (kinds.Translate by) cs = translate_shape (only_child cs)
 shape_of (kinds.Pack down gap) cs = pack_shape down gap cs
 shape_of (kinds.Leaf leaf shapes) cs = shapes
 
--- the shapes of a node by so many levels of nodes, its own counted: what lies deeper wants nothing
+-- the shapes of a node, computed from this number of levels of nodes, its own included: deeper nodes want nothing
 unfoldable pub shape_within : ℕ → Nodes → NodeId → Shapes
 shape_within zero t n = no_shapes
 shape_within (suc f) t n = shape_of (node t n).kind (map (shape_within f t) (node t n).children)
 
--- the shapes of a node: no node has more than 16 levels below it, itself counted
+-- the shapes of a node: there are at most 16 levels from a node downwards, its own included
 abbrev pub shape : Nodes → NodeId → Shapes
 shape t n = shape_within levels t n

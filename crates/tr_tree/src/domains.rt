@@ -20,7 +20,7 @@ use tr_hv::place_into;
 use tr_pack::{Rows, pack_place_into};
 use tr_stack::{page_child, t_child};
 
-/// What a tree is laid out by: its nodes, the size of its screen, and the shapes of each node.
+/// The input of a layout: the nodes of a tree, the size of its screen, and the shapes of each node.
 #[derive(Drop)]
 pub(crate) struct Plan<'a> {
     pub(crate) forest: &'a Forest,
@@ -47,7 +47,7 @@ pub(crate) fn lay_out(plan: &Plan<'_>, room: &mut Room, domains: &mut Vec<Rect>)
     }
 }
 
-/// Says of each node that it lies nowhere.
+/// Makes the domain of each node empty.
 fn clear(count: usize, domains: &mut Vec<Rect>)
     requires { count ≡ length domains.old.items }
     ensures empty { (n : NodeId) → domain_in domains.new.items n ≡ empty_rect }
@@ -58,7 +58,7 @@ fn clear(count: usize, domains: &mut Vec<Rect>)
     }
 }
 
-/// Writes the domains of all that lies below a node, whose own is in the table.
+/// Writes the domains of all nodes below a node, whose own is in the table.
 pub(crate) fn lay(plan: &Plan<'_>, n: NodeId, room: &mut Room, domains: &mut Vec<Rect>)
     requires forest { IsForest plan.now.forest.now }
     requires plan { IsPlan plan.now.forest.now plan.now.size plan.now.shapes.now }
@@ -113,7 +113,7 @@ fn spread(children: &[NodeId], places: &Vec<Rect>, domains: &mut Vec<Rect>)
     }
 }
 
-/// A node whose children are placed, with the shapes of these.
+/// A node whose children are placed, with its rectangle and their shapes.
 #[derive(Drop)]
 struct Parent<'a> {
     forest: &'a Forest,
@@ -122,7 +122,7 @@ struct Parent<'a> {
     shapes: &'a [Shapes],
 }
 
-/// Places the children of a node, which are so many, into the first places of the room.
+/// Places the `count` children of a node into the first places of the room.
 fn place_first(parent: &Parent<'_>, count: usize, places: &mut Vec<Rect>)
     requires parent { let p = parent.now in IsParent p.forest.now p.n p.rect p.shapes.now }
     requires count { count ≡ length (node parent.now.forest.now parent.now.n).children }
@@ -134,7 +134,7 @@ fn place_first(parent: &Parent<'_>, count: usize, places: &mut Vec<Rect>)
     place_front(parent, count, places);
 }
 
-/// The same in a slice, for the prover: it sees through a range of a slice, but not of a `Vec`.
+/// The same in a slice, for the prover: it supports a range of a slice, but not of a `Vec`.
 fn place_front(parent: &Parent<'_>, count: usize, places: &mut [Rect])
     requires parent { let p = parent.now in IsParent p.forest.now p.n p.rect p.shapes.now }
     requires count { count ≡ length (node parent.now.forest.now parent.now.n).children }
@@ -144,7 +144,7 @@ fn place_front(parent: &Parent<'_>, count: usize, places: &mut [Rect])
     place_children(parent, &mut places[..count]);
 }
 
-/// Places the children of a node, by its kind.
+/// Places the children of a node according to its kind.
 fn place_children(parent: &Parent<'_>, places: &mut [Rect])
     requires parent { let p = parent.now in IsParent p.forest.now p.n p.rect p.shapes.now }
     requires room { length places.old ≡ length (node parent.now.forest.now parent.now.n).children }
@@ -224,7 +224,7 @@ fn fill(rect: Rect, places: &mut [Rect])
     }
 }
 
-/// Which child a T shows, by its place among the children.
+/// The index of the child that a T shows.
 fn index_shown(parent: &Parent<'_>, shown: Option<NodeId>) -> usize
     requires { IsNode parent.now.forest.now parent.now.n }
     ensures { result ≡ shown_index shown (node parent.now.forest.now parent.now.n).children }
@@ -235,7 +235,7 @@ fn index_shown(parent: &Parent<'_>, shown: Option<NodeId>) -> usize
     }
 }
 
-/// How many children come before this one.
+/// The number of children before this one.
 fn index_of(child: NodeId, children: &[NodeId]) -> usize
     ensures { result ≡ index_of child children.now }
 {

@@ -9,7 +9,7 @@ use std::alloc::Global;
 use tr_base::{NoMemory, NodeId, Rect, Shapes, Size, empty_place, preferred_place};
 use tr_forest::Forest;
 
-/// The shapes and the domain of each node, and the room in which they are found.
+/// The shapes and the domain of each node, and the room in which they are computed.
 #[derive(Drop)]
 pub(crate) struct Layout {
     pub(crate) shapes: Vec<Shapes>,
@@ -20,7 +20,7 @@ pub(crate) struct Layout {
 impl Layout {
     ghost use Rattle.tr_tree.specs.Ready.{HavePlaces, HasShapes, IsLaidOut, IsInZ, HasOtherDomains, HaveSamePlaces, HasSpare};
 
-    /// For no nodes.
+    /// The layout of no nodes.
     pub(crate) fn new(alloc: Global) -> Layout
         ensures { HavePlaces 0 result }
     {
@@ -46,7 +46,7 @@ impl Layout {
         Ok(())
     }
 
-    /// Has places for one more node.
+    /// Adds an entry for one more node.
     pub(crate) fn grow(&mut self)
         requires { HasSpare self.old }
         ensures { (count : ℕ) → HavePlaces count self.old → HavePlaces (count + 1) self.new }
@@ -57,7 +57,7 @@ impl Layout {
         self.room.places.push_reserved(empty_place());
     }
 
-    /// Finds the domains anew. It takes no memory.
+    /// Computes the domains again. It takes no memory.
     pub(crate) fn place(&mut self, forest: &Forest, size: Size)
         requires size { IsScreenSize size }
         requires places { HavePlaces (length forest.now.entries) self.old }
@@ -72,7 +72,7 @@ impl Layout {
         lay_out(&plan, &mut self.room, &mut self.domains);
     }
 
-    /// Finds the domains anew of a child that has another offset, and of all below it. It takes no memory.
+    /// Computes the domains of a child with a new offset, and of all nodes below it. It takes no memory.
     pub(crate) fn place_moved(&mut self, forest: &Forest, size: Size, child: NodeId)
         requires size { IsScreenSize size }
         requires places { HavePlaces (length forest.now.entries) self.old }
@@ -82,7 +82,7 @@ impl Layout {
         requires others { HasOtherDomains forest.now size child self.old }
         ensures { IsLaidOut forest.now size self.new }
     {
-        // Called for what it tells the prover: that the nodes are a forest.
+        // Tells the prover that the nodes are a forest.
         let _ = forest.count();
         let Some(parent) = forest.parent(child) else {
             self.place(forest, size);
@@ -100,7 +100,7 @@ impl Layout {
         lay(&plan, child, &mut self.room, &mut self.domains);
     }
 
-    /// Finds the shapes and the domains anew. It takes no memory.
+    /// Computes the shapes and the domains again. It takes no memory.
     pub(crate) fn fill(&mut self, forest: &Forest, size: Size)
         requires size { IsScreenSize size }
         requires places { HavePlaces (length forest.now.entries) self.old }
@@ -129,7 +129,7 @@ impl Layout {
         })
     }
 
-    /// Is the same as another, in the memory that it has.
+    /// Becomes equal to another layout, in its own memory.
     pub(crate) fn copy_from(&mut self, other: &Layout) -> Result<(), NoMemory>
         ensures { OnOk result (HaveSamePlaces other.now self.new) }
     {

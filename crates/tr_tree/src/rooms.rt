@@ -2,8 +2,8 @@ ghost use Rattle.std.specs.Prelude.{◌≡◌, IfOk, OnOk};
 
 use tr_base::{NoMemory, Rect, Shapes};
 
-/// Room for the shapes and the places of one node's children while the tree is laid out, as long as
-/// there are nodes, so that laying out takes no memory.
+/// Room for the shapes and the places of one node's children while the tree is laid out. It has as many
+/// entries as there are nodes, so the layout takes no memory.
 #[derive(Drop)]
 pub(crate) struct Room {
     pub(crate) shapes: Vec<Shapes>,
@@ -23,7 +23,7 @@ impl Room {
         Ok(Room { shapes, places })
     }
 
-    /// Is the same as another, in the memory that it has.
+    /// Becomes equal to another room, in its own memory.
     pub(crate) fn copy_from(&mut self, other: &Room) -> Result<(), NoMemory>
         ensures shapes { OnOk result (self.new.shapes.items ≡ other.now.shapes.items) }
         ensures places { OnOk result (self.new.places.items ≡ other.now.places.items) }

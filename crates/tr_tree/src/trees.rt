@@ -17,7 +17,7 @@ use std::marker::Model;
 use tr_base::{Kind, LeafId, NoMemory, NodeId, Point, Rect, Shapes, Size};
 use tr_forest::{Edit, EditRefused, Forest, NodeFault, NodeKind};
 
-/// A tree of windows of at most 256 nodes, and the screen that it has.
+/// A tree of windows of at most 256 nodes, and its screen.
 #[derive(Drop)]
 pub struct Tree {
     forest: Forest,
@@ -38,7 +38,7 @@ impl Model for Tree {
 }
 
 impl Tree {
-    /// No nodes, on a screen of 1 to 1024 points each way.
+    /// A tree without nodes, on a screen of 1 to 1024 points each way.
     pub fn new(alloc: Global, size: Size, kind: Kind) -> Result<Tree, NoMemory>
         requires { IsScreenSize size }
         ensures { IfOk result (λ t. t ≡ record {
@@ -58,7 +58,7 @@ impl Tree {
         })
     }
 
-    /// Adds a node that hangs nowhere. Nodes are numbered from 0 as they are added, and so are
+    /// Adds a node without a parent. Nodes are numbered from 0 in the order of their addition, and so are
     /// leaves.
     pub fn add(&mut self, kind: NodeKind, tint: u8) -> Result<NodeId, NoMemory>
         requires room { length self.old.nodes.entries < 256 }
@@ -89,7 +89,7 @@ impl Tree {
         self.layout.place(&self.forest, self.size);
     }
 
-    /// Changes the tree as the edit says, or refuses it. Only an Attach may want memory.
+    /// Applies the edit to the tree, or refuses it. Only an Attach can need memory.
     pub fn edit(&mut self, edit: &Edit) -> Result<(), EditRefused>
         requires { IsEdit self.old.nodes edit.now }
         ensures ok { OnOk result (self.new ≡ edited_tree self.old edit.now) }
@@ -99,7 +99,7 @@ impl Tree {
             refusal self.old.nodes edit.now ≡ None → IsOk result }
         ensures err { OnErr result (self.new ≡ self.old) }
     {
-        // Called for what it tells the prover: that the nodes are a forest.
+        // Tells the prover that the nodes are a forest.
         let _ = self.forest.count();
         self.forest.edit(edit)?;
         self.size = size_after(edit, self.size);
@@ -107,7 +107,7 @@ impl Tree {
         match edit {
             Edit::Tint { .. } => {}
             Edit::Rescreen { .. } => {}
-            // Each child of a Z has an offset of its own, so their order doesn't matter.
+            // Each child of a Z has its own offset, so their order doesn't affect their domains.
             Edit::Lift { .. } => {}
             Edit::Move { child, .. } => self.layout.place_moved(&self.forest, self.size, *child),
             _ => {
@@ -121,7 +121,7 @@ impl Tree {
         Ok(())
     }
 
-    /// Why an edit is refused, if it is.
+    /// The reason why an edit is refused, if it is.
     pub fn refusal(&self, edit: &Edit) -> Option<NodeFault>
         requires { IsEdit self.now.nodes edit.now }
         ensures { result ≡ refusal self.now.nodes edit.now }
@@ -129,7 +129,7 @@ impl Tree {
         self.forest.refusal(edit)
     }
 
-    /// How many nodes there are.
+    /// The number of nodes.
     pub fn count(&self) -> usize
         ensures count { result ≡ length self.now.nodes.entries }
         ensures invariant { IsForest self.now.nodes }
@@ -147,7 +147,7 @@ impl Tree {
     }
 
     /// The domain of a node, in the screen's coordinates. It may reach past its parent's, and is
-    /// empty where the node gets no place.
+    /// empty for a node without a place.
     pub fn domain(&self, n: NodeId) -> Rect
         requires { IsNode self.now.nodes n }
         ensures domain { result ≡ domain self.now n }
@@ -156,7 +156,7 @@ impl Tree {
         self.layout.domains[usize::from(n.0)]
     }
 
-    /// What a node is.
+    /// The kind of a node.
     pub fn kind_of(&self, n: NodeId) -> NodeKind
         requires { IsNode self.now.nodes n }
         ensures { result ≡ (node self.now.nodes n).kind }
@@ -172,7 +172,7 @@ impl Tree {
         self.forest.tint_of(n)
     }
 
-    /// Where a node stands in a Z.
+    /// The offset of a node in a Z.
     pub fn at_of(&self, n: NodeId) -> Point
         requires { IsNode self.now.nodes n }
         ensures { result ≡ (node self.now.nodes n).at }
@@ -180,7 +180,7 @@ impl Tree {
         self.forest.at_of(n)
     }
 
-    /// Whose child a node is.
+    /// The parent of a node.
     pub fn parent(&self, n: NodeId) -> Option<NodeId>
         requires { IsNode self.now.nodes n }
         ensures { result ≡ (node self.now.nodes n).parent }
@@ -188,7 +188,7 @@ impl Tree {
         self.forest.parent(n)
     }
 
-    /// A node's children, from front to back or in the order in which they stand.
+    /// A node's children, from front to back or in the order of their places.
     pub fn children(&self, n: NodeId) -> &[NodeId]
         requires { IsNode self.now.nodes n }
         ensures { result.now ≡ (node self.now.nodes n).children }
@@ -196,7 +196,7 @@ impl Tree {
         self.forest.children(n)
     }
 
-    /// How many leaves were added.
+    /// The number of leaves.
     pub fn leaves(&self) -> u8
         ensures { result ≡ leaf_count self.now.nodes }
     {
@@ -211,7 +211,7 @@ impl Tree {
         self.forest.is_under(top, n)
     }
 
-    /// Which node a leaf is.
+    /// The node of a leaf.
     pub fn node_of(&self, leaf: LeafId) -> NodeId
         requires { leaf.0 < leaf_count self.now.nodes }
         ensures is { result ≡ node_of self.now.nodes leaf }
@@ -221,7 +221,7 @@ impl Tree {
         self.forest.node_of(leaf)
     }
 
-    /// The root, once it was chosen.
+    /// The root, once it is chosen.
     pub fn root(&self) -> Option<NodeId>
         ensures { result ≡ self.now.nodes.root }
     {
@@ -242,7 +242,7 @@ impl Tree {
         self.kind
     }
 
-    /// The same tree once more.
+    /// A copy of the tree.
     pub fn copy(&self) -> Result<Tree, NoMemory>
         ensures { IfOk result (λ t. t ≡ self.now) }
     {
@@ -259,7 +259,7 @@ impl Tree {
         })
     }
 
-    /// The same tree, in the memory of another. Where that has as many nodes, and each has room for as many
+    /// A copy of the tree, in the memory of another. If that has as many nodes, and each has room for as many
     /// children, nothing is allocated.
     pub fn copy_into(&self, spare: Tree) -> Result<Tree, NoMemory>
         ensures { IfOk result (λ t. t ≡ self.now) }
@@ -285,14 +285,14 @@ impl Tree {
         })
     }
 
-    /// No domain lies far from the screen, and none is large. It does nothing.
+    /// No domain lies far from the screen, and none is large. The call does nothing.
     pub fn domains_are_small(&self)
         ensures { (n : NodeId) → IsDomain (domain self.now n) }
     {
         let _count = self.forest.count();
     }
 
-    /// Sixteen levels are enough, so shapes and domains are those of trees of any depth. It does
+    /// Sixteen levels are enough, so shapes and domains are those of trees of any depth. The call does
     /// nothing.
     pub fn levels_suffice(&self)
         ensures shapes { (n : NodeId) → let t = self.now.nodes in

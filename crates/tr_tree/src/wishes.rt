@@ -31,7 +31,7 @@ pub(crate) fn fill_shapes(forest: &Forest, room: &mut Vec<Shapes>, shapes: &mut 
     }
 }
 
-/// Fills the places of a node and of all nodes below it, children first.
+/// Fills the entries of a node and of all nodes below it, children first.
 fn fill_below(forest: &Forest, n: NodeId, room: &mut Vec<Shapes>, shapes: &mut Vec<Shapes>)
     requires forest { IsForest forest.now }
     requires node { IsNode forest.now n }
@@ -47,7 +47,7 @@ fn fill_below(forest: &Forest, n: NodeId, room: &mut Vec<Shapes>, shapes: &mut V
     shapes[usize::from(n.0)] = shape_above(forest, n, room, shapes);
 }
 
-/// The shapes of a node, by its children's, which the table has.
+/// The shapes of a node, from its children's in the table.
 fn shape_above(forest: &Forest, n: NodeId, room: &mut Vec<Shapes>, table: &[Shapes]) -> Shapes
     requires forest { IsForest forest.now }
     requires node { IsNode forest.now n }
@@ -62,7 +62,7 @@ fn shape_above(forest: &Forest, n: NodeId, room: &mut Vec<Shapes>, table: &[Shap
     shape_of(forest.kind_of(n), &room[..children.len()])
 }
 
-/// The shapes of a node of this kind, by its children's.
+/// The shapes of a node of this kind, from its children's.
 fn shape_of(kind: NodeKind, children: &[Shapes]) -> Shapes
     requires kind { IsNodeKind kind }
     requires count { length children.now ≤ 255 }
@@ -81,7 +81,7 @@ fn shape_of(kind: NodeKind, children: &[Shapes]) -> Shapes
     }
 }
 
-/// The shapes of a filter's child, and 0 in all lengths where it has none.
+/// The shapes of a filter's child, with 0 for all lengths if it has none.
 fn only_child(children: &[Shapes]) -> Shapes
     ensures { result ≡ only_child children.now }
 {

@@ -1,5 +1,5 @@
 -- A Widget obeys the laws of clients, since each widget does.
--- These are proofs, which stand here since an impl cites nothing else of its crate; no contract cites them.
+-- These proofs are in specs/ because an impl may cite nothing else of its crate. No contract cites them.
 use Rattle.std.proofs.Common.{◌≡◌, [], true, Option, Some, None, refl}
 use Rattle.std.specs.Prelude.{IfSome}
 use Rattle.std.specs.Option.{option_map}
@@ -42,7 +42,7 @@ widget_contents (Meter x) (ToMeter cmd) valid known = meter_contents x cmd valid
 widget_contents (Editor x) (ToEditor cmd) valid known = editor_contents x cmd valid known
 widget_contents x cmd valid known = valid
 
--- what is a command of its widget is one of the widgets
+-- a valid command of a widget is a valid command of the widgets
 handed_on : {M : Type 0} (to : M → WidgetCmd) (IsCmd : M → Type 0) (asked : Option M) → ((cmd : M) → IsCmd cmd → IsWidgetCmd (to cmd)) →
     IfSome asked IsCmd → IfSome (option_map to asked) (λ cmd. IsWidgetCmd cmd)
 handed_on to IsCmd None on known = tt

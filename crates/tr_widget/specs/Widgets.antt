@@ -1,4 +1,4 @@
--- The widgets as one client: each case is that of the widget. A command of another widget changes nothing, and paints nothing.
+-- The widgets as one client: each case is that of one widget. A command for another widget changes nothing, and paints nothing.
 use Rattle.std.specs.Prelude.{ℕ, List, [], Option}
 use Rattle.std.specs.Option.{option_map}
 use Rattle.tr_base.specs.declared.Point.{Point}
@@ -20,7 +20,7 @@ use Rattle.tr_widget.specs.declared.widgets.Widget.TheVariants.{Solid, Board, La
 use Rattle.tr_widget.specs.declared.commands.WidgetCmd.{WidgetCmd}
 use Rattle.tr_widget.specs.declared.commands.WidgetCmd.TheVariants.{Solid as ToSolid, Board as ToBoard, Label as ToLabel, Lines as ToLines, Canvas as ToCanvas, Meter as ToMeter, Editor as ToEditor}
 
--- the content is one of its widget
+-- the content is valid for its widget
 abbrev pub IsWidget : Widget → Type 0
 IsWidget (Solid x) = IsSolid x
 IsWidget (Board x) = IsBoard x
@@ -60,7 +60,7 @@ widget_pic look size (Canvas x) q = canvas_pic look size x q
 widget_pic look size (Meter x) q = meter_pic look size x q
 widget_pic look size (Editor x) q = editor_pic look size x q
 
--- the content after a command; one of another widget leaves it as it is
+-- the content after a command; a command for another widget leaves it as it is
 abbrev pub widget_next : Widget → WidgetCmd → Widget
 widget_next (Solid x) (ToSolid cmd) = Solid (solid_next x cmd)
 widget_next (Board x) (ToBoard cmd) = Board (board_next x cmd)
@@ -92,7 +92,7 @@ widget_answer (Canvas x) event = option_map ToCanvas (canvas_answer x event)
 widget_answer (Meter x) event = option_map ToMeter (meter_answer x event)
 widget_answer (Editor x) event = option_map ToEditor (editor_answer x event)
 
--- what others are given who read the content
+-- the text that another leaf gets when it reads the content
 abbrev pub widget_value : Widget → List ℕ
 widget_value (Solid x) = solid_value x
 widget_value (Board x) = board_value x
@@ -102,7 +102,7 @@ widget_value (Canvas x) = canvas_value x
 widget_value (Meter x) = meter_value x
 widget_value (Editor x) = editor_value x
 
--- which points need not be painted again when the window's size changes
+-- the points that need not be painted again when the window's size changes
 abbrev pub widget_keeps : Widget → Size → Size → Edges
 widget_keeps (Solid x) from to = solid_keeps x from to
 widget_keeps (Board x) from to = board_keeps x from to

@@ -6,7 +6,7 @@ use w_lines::LinesCmd;
 use w_meter::MeterCmd;
 use w_plain::{BoardCmd, LabelCmd, SolidCmd};
 
-/// What one of the widgets can be told.
+/// A command of one of the widgets.
 #[derive(Debug, Drop)]
 pub enum WidgetCmd {
     Solid(SolidCmd),

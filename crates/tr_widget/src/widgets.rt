@@ -24,7 +24,7 @@ pub enum Widget {
 }
 
 impl Widget {
-    /// Tells that the content is one of its widget. Nothing runs.
+    /// Tells that the content is valid for its widget. Nothing runs.
     fn known(&self)
         ensures { spec.IsWidget self.now }
     {

@@ -13,8 +13,8 @@ abbrev pub BringsOwn : Size → Edges → Point → Type 0
 BringsOwn size clip delta =
     (q : Point) → has_point clip q ≡ true → has_point (whole_of size) q ≡ true → has_point (whole_of size) (before_shift q delta) ≡ true
 
--- After the command each point of the window is known that was known before. A spoil doesn't keep this; a scroll keeps it if the whole
--- window is visible and the scroll brings in only points of the window; any other command keeps it.
+-- Each point of the window that was known before the command is known after it. A spoil doesn't keep this; a scroll keeps it if the
+-- whole window is visible and the scroll brings in only points of the window; any other command keeps it.
 abbrev pub Spares : Exposure → Paint → Type 0
 Spares e (Scroll clip delta) = (e.is_whole ≡ true) × BringsOwn e.size clip delta
 Spares e (Spoil clip) = ⊥

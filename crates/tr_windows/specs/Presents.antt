@@ -33,7 +33,7 @@ without_batch w = with_empty_batch w.content
 abbrev pub mark_on : {C : Type 0} → Size → Edges → Present C → Present C
 mark_on size clip w = record w { batch = w.batch ++ kept (Spoil (meet_of clip (whole_of size))) }
 
--- a window gets another content, and these commands wait behind the ones that wait already
+-- a window gets another content, and these commands wait after the ones that wait already
 abbrev pub taken_over : {C : Type 0} → C → List Paint → Present C → Present C
 taken_over content batch w = record { content = content; batch = w.batch ++ batch }
 
@@ -72,23 +72,23 @@ module _ {C M : Type 0} (client : Ghosts C M) where
   kept_in None from to = empty_rect
   kept_in (Some w) from to = client.keeps w.content from to
 
-  -- what an edit of the tree must know of the windows
+  -- the kept points and the waiting commands of the windows, for an edit of the tree
   abbrev pub kept_by : List (Present C) → Keeping
   kept_by ws = record {
     keeps = λ leaf from to. kept_in (slice_get ws leaf.0) from to;
     batch = λ leaf. batch_at ws leaf;
   }
 
-  -- what the program holds of a window of the machine, of this size
+  -- the program's window for a window of the machine, of this size
   abbrev pub present : Look → Size → Window C M → Present C
   present look size w = record { content = content client w; batch = batch client look size w }
 
-  -- what it holds of the windows of the leaves from this number on, each of the size that the tree gives it
+  -- the program's windows of the leaves from this number on, each of its size in the tree
   abbrev pub presents_from : ℕ → Look → Seen → List (Window C M) → List (Present C)
   presents_from n look tree [] = []
   presents_from n look tree (w ∷ ws) =
       present look (leaf_size tree (record { 0 = n })) w ∷ presents_from (suc n) look tree ws
 
-  -- what it holds of all windows of a state
+  -- the program's windows for all windows of a state
   abbrev pub presents : State C M → List (Present C)
   presents m = presents_from 0 (look m) m.tree m.windows

@@ -1,4 +1,4 @@
--- What the windows promise: their contents, what a batch flushes or repaints, and what a change of size leaves.
+-- The promises of the windows: their contents, the batches that flush or repaint them, and the points kept by a change of size.
 use Rattle.std.specs.Prelude.{◌≡◌, ◌⊎◌, ℕ, ◌-◌, ◌≤◌, ◌^◌, true, false, List, length, min, sum_by, slice_get, Some, is_none}
 use Rattle.tr_base.specs.declared.Point.{Point}
 use Rattle.tr_base.specs.declared.Size.{Size}
@@ -33,7 +33,7 @@ pub record IsCovered (look : Look) (e : Exposure) (clip : Edges) (batch : List P
   pub keeps : LosesNothingOf e look batch
   pub touched : (q : Point) → has_point (whole_of e.size) q ≡ true → touches batch q ≡ true → has_point clip q ≡ true
 
--- how many paint commands wait for all windows; the count stops at 2^64 - 1
+-- the number of paint commands that wait for all windows; it stops at 2^64 - 1
 abbrev pub waiting_in : {C : Type 0} → List (Present C) → ℕ
 waiting_in ws = min (sum_by (λ w. length w.batch) ws) (2 ^ 64 - 1)
 
@@ -44,8 +44,8 @@ module _ {C M : Type 0} (client : Ghosts C M) where
     pub contents : (n : ℕ) (w : Present C) → slice_get ws n ≡ Some w → client.valid w.content
 
   -- A batch repaints a window by a painting, whatever commands wait: it paints the present picture within the window and the least
-  -- rectangle round all bad points and all points that the waiting commands would touch. Any other rectangle that has all of these points
-  -- has this one's points, too.
+  -- rectangle that has all bad points and all points that the waiting commands would touch. Any other rectangle that has all of these
+  -- points has this one's points, too.
   pub record IsByPainting (look : Look) (e : Exposure) (w : Present C) (batch : List Paint) : Type 0 where
     pub clip : Edges
     pub paints : IsPainting look (meet_of (whole_of e.size) clip) batch (client.pic look e.size w.content)
@@ -59,7 +59,7 @@ module _ {C M : Type 0} (client : Ghosts C M) where
     pub good : (q : Point) → has_point e.bad q ≡ false
     pub keeps : LosesNothingOf e look batch
 
-  -- A batch repaints a window in one of two ways. Which of them is a question of cost alone.
+  -- A batch repaints a window in one of two ways. Only cost decides between them.
   abbrev pub RepaintsWindow : Look → Exposure → Present C → List Paint → Type 0
   RepaintsWindow look e w batch = IsByPainting look e w batch ⊎ IsByWaiting look e w batch
 

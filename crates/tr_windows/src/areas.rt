@@ -18,7 +18,7 @@ pub(crate) fn part_in_window(clip: &Rect, size: Size) -> Rect
     clip.meet(&window(size))
 }
 
-/// The least rectangle round all points of another, and all that the commands touch.
+/// The least rectangle that has all points of another and all points that the commands touch.
 pub(crate) fn spanned(bad: Rect, batch: &Batch) -> Rect
     ensures bad { HasAll result (has_point bad) }
     ensures touched { HasAll result (touches batch.now) }

@@ -14,8 +14,9 @@ use tr_base::{Point, Rect, Size};
 use tr_client::window;
 use tr_paint::{Batch, Paint, Scrolls, points_in};
 
-/// Whether a painting may be made in place of what waits for a window, and may cost less: it costs at least
-/// the area of what it paints, which is all that waits.
+/// Whether a painting may replace the commands that wait for a window, and may cost less. A painting
+/// costs at least the area that it paints: the least rectangle that has all points that the waiting
+/// commands touch.
 pub(crate) fn is_replaceable(waiting: &Batch, exposure: &Exposure) -> bool
     requires { IsWindowSize exposure.now.size }
     ensures good { IsTrue result → (q : Point) → has_point exposure.now.bad q ≡ false }
@@ -35,7 +36,7 @@ pub(crate) fn is_covered(waiting: &Batch, exposure: &Exposure, clip: &Rect) -> b
     keeps_all(waiting, exposure) && has_touched(clip, waiting, exposure)
 }
 
-/// Whether a clip has each point of a window that commands touch, and all that is bad.
+/// Whether a clip has each bad point of a window and each point that the commands touch.
 fn has_touched(clip: &Rect, batch: &Batch, exposure: &Exposure) -> bool
     requires { IsWindowSize exposure.now.size }
     ensures { IsTrue result → (q : Point) → has_point (whole_of exposure.now.size) q ≡ true →
@@ -45,8 +46,8 @@ fn has_touched(clip: &Rect, batch: &Batch, exposure: &Exposure) -> bool
     part.meet(clip) == part
 }
 
-/// Whether nothing of a window is bad, and what waits for it loses nothing, as far as is looked at. Where it
-/// is false, a painting is right all the same.
+/// Whether no point of a window is bad and the waiting commands lose none. This is a quick test: after
+/// `false`, a painting is right all the same.
 pub(crate) fn keeps_all(waiting: &Batch, exposure: &Exposure) -> bool
     requires { IsWindowSize exposure.now.size }
     ensures good { IsTrue result → (q : Point) → has_point exposure.now.bad q ≡ false }
@@ -55,8 +56,8 @@ pub(crate) fn keeps_all(waiting: &Batch, exposure: &Exposure) -> bool
     exposure.bad.is_empty() && loses_nothing(waiting, exposure)
 }
 
-/// Whether no command can make a point unknown. Mostly the scrolls of a window are alike, and then one of
-/// them is looked at for all.
+/// Whether no command can make a point unknown. If all scrolls of a window are alike, as they mostly
+/// are, one of them is tested for all.
 fn loses_nothing(batch: &Batch, exposure: &Exposure) -> bool
     requires { IsWindowSize exposure.now.size }
     ensures { IsTrue result → (look : Look) → LosesNothingOf exposure.now look batch.now }
@@ -84,7 +85,7 @@ fn spares_all(batch: &Batch, exposure: &Exposure) -> bool
     true
 }
 
-/// Whether each point is known after a command that was known before it.
+/// Whether each point that was known before a command is known after it.
 fn spares(paint: &Paint, exposure: &Exposure) -> bool
     requires near { IsNearPaint paint.now }
     requires size { IsWindowSize exposure.now.size }
@@ -107,7 +108,7 @@ fn spares_scroll(clip: &Rect, delta: Point, exposure: &Exposure) -> bool
     exposure.is_whole && brings_own(exposure.size, clip, delta)
 }
 
-/// Whether what a scroll brings into a window are points of the window.
+/// Whether a scroll brings only points of the window into it.
 fn brings_own(size: Size, clip: &Rect, delta: Point) -> bool
     requires size { IsWindowSize size }
     requires delta { IsNearPoint delta }

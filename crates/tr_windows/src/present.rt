@@ -68,7 +68,7 @@ impl<C: Client> Window<C> {
         Ok(())
     }
 
-    /// Marks a part of the window, which must be painted again.
+    /// Marks a part of the window: it must be painted again.
     pub fn mark(&mut self, size: Size, clip: &Rect) -> Result<(), NoMemory>
         requires { IsWindowSize size }
         ensures ok { OnOk result (self.new ≡ spec.mark_on size clip.now self.old) }
@@ -79,7 +79,7 @@ impl<C: Client> Window<C> {
         Ok(())
     }
 
-    /// Takes another content, and puts these commands behind those that wait.
+    /// Takes another content, and puts these commands after those that wait.
     pub fn take_over(&mut self, content: C, batch: &Batch) -> Result<(), NoMemory>
         ensures ok { OnOk result (self.new ≡ spec.taken_over content batch.now self.old) }
         ensures err { OnErr result (self.new ≡ self.old) }
@@ -89,7 +89,7 @@ impl<C: Client> Window<C> {
         Ok(())
     }
 
-    /// Takes another content, and these commands wait; none may wait before. It copies nothing.
+    /// Takes another content and these commands, which then wait; none may wait before. Nothing is copied.
     pub fn take_all(&mut self, content: C, batch: Batch)
         requires { self.old.batch ≡ [] }
         ensures { self.new ≡ spec.taken_over content batch self.old }
@@ -105,8 +105,8 @@ impl<C: Client> Window<C> {
         self.batch.clear();
     }
 
-    /// A painting of all points that are bad or that the waiting commands would touch; none where
-    /// executing these repaints it as well and costs no more. Nothing is let go.
+    /// A painting of all points that are bad or that the waiting commands would touch; `None` if executing
+    /// these repaints the window as well and costs no more. The commands still wait.
     pub fn repainting(
         &self,
         alloc: Global,

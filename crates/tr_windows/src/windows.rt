@@ -41,7 +41,7 @@ impl<C: Client> Model for Windows<C> {
 }
 
 impl<C: Client> Windows<C> {
-    /// The windows of an opening, with copies of its contents. Nothing waits for them.
+    /// The windows of an opening, with copies of its contents. No command waits for them.
     pub fn new(alloc: Global, opening: &Opening<C>) -> Result<Windows<C>, NoMemory>
         ensures { IfOk result (λ ws. ws ≡ map spec.with_empty_batch (contents_of opening.now)) }
     {
@@ -49,7 +49,7 @@ impl<C: Client> Windows<C> {
         Ok(Windows { windows })
     }
 
-    /// How many windows there are: at most 32.
+    /// The number of windows: at most 32.
     pub fn count(&self) -> u8
         ensures count { result ≡ length self.now }
         ensures invariant { AreWindows C.Client self.now }
@@ -76,7 +76,7 @@ impl<C: Client> Windows<C> {
 
     /// Changes the content of a leaf's window, which has this size, by a command. The paint commands of
     /// the change wait. It takes memory for these and for the next content, and copies neither the old
-    /// content nor the commands that wait already. For want of memory nothing changes.
+    /// content nor the commands that wait already. If memory runs out, nothing changes.
     pub fn act(&mut self, leaf: LeafId, env: &Env, size: Size, cmd: &C::Cmd) -> Result<(), NoMemory>
         requires leaf { leaf.0 < length self.old }
         requires size { IsWindowSize size }
@@ -84,7 +84,7 @@ impl<C: Client> Windows<C> {
             OnOk result (self.new ≡ changed_at leaf.0 (spec.act_on C.Client look size cmd.now) self.old) }
         ensures err { OnErr result (self.new ≡ self.old) }
 
-        // What the command paints leads from the old picture to the new one.
+        // The command's patch leads from the old picture to the new one.
         ensures patch { (look : Look) (w : spec.Present C) → slice_get self.old leaf.0 ≡ Some w →
             IsPatch look size (C.patch look size w.content cmd.now)
             (C.pic look size w.content) (C.pic look size (C.next w.content cmd.now)) }
@@ -94,8 +94,8 @@ impl<C: Client> Windows<C> {
         Ok(())
     }
 
-    /// Marks a part of a leaf's window, which has this size: the part must be painted again. For want of
-    /// memory nothing changes.
+    /// Marks a part of a leaf's window, which has this size: the part must be painted again. If memory runs
+    /// out, nothing changes.
     pub fn mark(&mut self, leaf: LeafId, size: Size, clip: &Rect) -> Result<(), NoMemory>
         requires leaf { leaf.0 < length self.old }
         requires size { IsWindowSize size }
@@ -106,8 +106,8 @@ impl<C: Client> Windows<C> {
         Ok(())
     }
 
-    /// Gives a leaf's window another content, and puts these commands behind those that wait. For want of
-    /// memory nothing changes.
+    /// Gives a leaf's window another content, and puts these commands after those that wait. If memory runs
+    /// out, nothing changes.
     pub fn take_over(&mut self, leaf: LeafId, content: C, batch: &Batch) -> Result<(), NoMemory>
         requires leaf { leaf.0 < length self.old }
         requires valid { C.valid content }
@@ -150,7 +150,7 @@ impl<C: Client> Windows<C> {
         }
     }
 
-    /// What waits for a leaf's window is let go if its size or kind of pixels changed.
+    /// Drops the commands that wait for a leaf's window, if its size or kind of pixels changed.
     fn refit_leaf(&mut self, was: &Tree, is: &Tree, leaf: LeafId)
         requires leaf { leaf.0 < length self.old }
         requires before { leaf_count was.now.nodes ≡ length self.old }
@@ -166,8 +166,8 @@ impl<C: Client> Windows<C> {
     }
 
     /// A painting of all points of a leaf's window that are bad or that the waiting commands would touch;
-    /// none where executing these repaints it as well and costs no more. The window stands so on the screen.
-    /// Nothing is let go.
+    /// `None` if executing these repaints the window as well and costs no more. The exposure describes the
+    /// window on the screen. The commands still wait.
     pub fn repainting(
         &self,
         leaf: LeafId,
@@ -184,9 +184,9 @@ impl<C: Client> Windows<C> {
         self.windows[usize::from(leaf.0)].repainting(alloc, env, exposure)
     }
 
-    /// A painting of the points that the commands that wait for a leaf's window would touch, if it has the
-    /// same effect as they and costs less; else `None`. The commands still wait. The exposure says how the
-    /// window lies on the screen.
+    /// A painting of the points that the commands waiting for a leaf's window would touch, if it has the
+    /// same effect as they and costs less; else `None`. The commands still wait. The exposure describes the
+    /// window on the screen.
     pub fn flushing(
         &self,
         leaf: LeafId,
@@ -205,7 +205,7 @@ impl<C: Client> Windows<C> {
 
     /// Whether pixels of a leaf's present picture, one for each point of a clip, may replace the commands
     /// that wait for its window: no point is bad, the commands lose no point, and they touch only points of
-    /// the clip. The exposure says how the window lies on the screen. `false` promises nothing.
+    /// the clip. The exposure describes the window on the screen. `false` promises nothing.
     pub fn is_covered(&self, leaf: LeafId, exposure: &Exposure, clip: &Rect) -> bool
         requires leaf { leaf.0 < length self.now }
         requires size { IsWindowSize exposure.now.size }
@@ -215,7 +215,7 @@ impl<C: Client> Windows<C> {
         is_covered(self.batch(leaf), exposure, clip)
     }
 
-    /// How many paint commands wait for all windows; the count stops at 2^64 - 1.
+    /// The number of paint commands that wait for all windows. It stops at 2^64 - 1.
     pub fn waiting(&self) -> u64
         ensures { result ≡ waiting_in self.now }
     {
@@ -242,7 +242,7 @@ fn idle_windows<C: Client>(alloc: Global, opening: &Opening<C>) -> Result<Vec<Wi
     ensures invariant { IfOk result (λ ws. AreWindows C.Client ws.items) }
 {
     let tree = opening.tree();
-    // Called for what it tells the prover: that there are at most 32 leaves.
+    // Tells the prover that there are at most 32 leaves.
     let _ = tree.count();
     let mut windows = Vec::with_capacity(alloc, usize::from(tree.leaves()))?;
     for n in 0..tree.leaves() {
@@ -258,7 +258,7 @@ fn idle_windows<C: Client>(alloc: Global, opening: &Opening<C>) -> Result<Vec<Wi
     Ok(windows)
 }
 
-/// A command changes the window at a place.
+/// Changes the window at a place by a command.
 fn act_at<C: Client>(
     windows: &mut Vec<Window<C>>,
     leaf: LeafId,
@@ -279,7 +279,7 @@ fn act_at<C: Client>(
     Ok(())
 }
 
-/// A part of the window at a place is to be painted again.
+/// Marks a part of the window at a place: it must be painted again.
 fn mark_at<C: Client>(
     windows: &mut Vec<Window<C>>,
     leaf: LeafId,
@@ -297,7 +297,7 @@ fn mark_at<C: Client>(
     Ok(())
 }
 
-/// The window at a place gets another content, and these commands wait behind those that wait already.
+/// Gives the window at a place another content, and puts these commands after those that wait already.
 fn take_over_at<C: Client>(
     windows: &mut Vec<Window<C>>,
     leaf: LeafId,
@@ -314,7 +314,7 @@ fn take_over_at<C: Client>(
     Ok(())
 }
 
-/// The window at a place, for which nothing waits, gets another content, and these commands wait.
+/// Gives the window at a place, for which no command waits, another content and these commands.
 fn take_all_at<C: Client>(windows: &mut Vec<Window<C>>, leaf: LeafId, content: C, batch: Batch)
     requires leaf { leaf.0 < length windows.old.items }
     requires idle { spec.batch_at windows.old.items leaf ≡ [] }

@@ -1,5 +1,5 @@
-//! The words of scripts: how a text is cut into lines and a line into words, and the readers of single
-//! values, each of which answers the value or the code of its fault.
+//! The words of scripts: a text is cut into lines and a line into words, and a reader of a single value
+//! returns the value or the code of its fault.
 #![tactic(auto)]
 
 mod texts;

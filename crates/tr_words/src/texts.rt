@@ -1,4 +1,4 @@
-//! How a text is cut into lines, and a line into words.
+//! A text is cut into lines, and a line into words.
 ghost use Rattle.std.specs.Prelude.{◌≡◌, ◌<◌, [], ◌∷◌, ◌++◌, ◌==◌, true, false, IfOk, OnOk, OnErr, MatchOption, IfSome, drop, length, List, ℕ};
 ghost use Rattle.std.specs.List.{list_all, slice_split, AllPass};
 ghost use Rattle.tr_base.specs.Lines.{is_printable};
@@ -10,7 +10,7 @@ use memchr::memchr;
 use std::alloc::{AllocError, Global};
 use tr_base::{NoMemory, is_printable};
 
-/// How many bytes a line may have.
+/// The most bytes that a line may have.
 const MOST_BYTES: usize = 1024;
 
 fn are_printable(line: &[u8]) -> bool
@@ -52,7 +52,7 @@ pub fn is_silent(line: &str) -> bool
     }
 }
 
-/// The text before the first space, and the text behind it, if there is a space.
+/// The text before the first space and the text after it, if there is a space.
 fn at_space(text: &str) -> Option<(&str, &str)>
     ensures words { MatchOption result (words_of text.now ≡ text.now ∷ [])
         (λ p. words_of text.now ≡ p.0.now ∷ words_of p.1.now) }
@@ -65,8 +65,8 @@ fn at_space(text: &str) -> Option<(&str, &str)>
     }
 }
 
-/// Puts the parts between single spaces into the list, in place of the words that were there. For want of
-/// memory it has only the first of them.
+/// Replaces the words of the list by the parts of a line between single spaces. If memory runs out, it
+/// has only the first of them.
 pub fn words_into<'a>(line: &'a str, words: &mut Vec<&'a str>) -> Result<(), NoMemory>
     ensures ok { OnOk result (texts words.new.items ≡ words_of line.now) }
     ensures err { OnErr result ((rest : List (List ℕ)) ×
@@ -82,7 +82,7 @@ pub fn words_into<'a>(line: &'a str, words: &mut Vec<&'a str>) -> Result<(), NoM
     Ok(())
 }
 
-/// What stands behind the first space.
+/// The text after the first space.
 fn after_word(line: &str) -> &str
     ensures follows { (ws : List (List ℕ)) → AreWordsOf ws line.now → AreWordsOf (drop 1 ws) result.now }
     ensures printable { AllPass is_printable line.now → AllPass is_printable result.now }
@@ -93,7 +93,7 @@ fn after_word(line: &str) -> &str
     }
 }
 
-/// The rest of a line behind so many words.
+/// The rest of a line after this number of words.
 pub fn rest_after(line: &str, words: usize) -> &str
     requires { AllPass is_printable line.now }
     ensures rest { result.now ≡ rest_after (words_of line.now) words }
@@ -106,7 +106,7 @@ pub fn rest_after(line: &str, words: usize) -> &str
     rest
 }
 
-/// The first line of some bytes, and the bytes behind it.
+/// The first line of some bytes, and the bytes after it.
 pub fn first_line(bytes: &[u8]) -> (&[u8], &[u8])
     requires { 0 < length bytes.now }
     ensures lines { lines_of bytes.now ≡ result.0.now ∷ lines_of result.1.now }
@@ -142,7 +142,7 @@ fn without_empty_end<'a>(mut pieces: Vec<&'a [u8]>) -> Vec<&'a [u8]>
     pieces
 }
 
-/// What stands between line feeds, without an empty piece at the end.
+/// The pieces between line feeds, without an empty piece at the end.
 #[tactic(auto, unfolding(tr_grammar::specs::Texts::lines_of))]
 pub fn lines_of<'a>(alloc: Global, bytes: &'a [u8]) -> Result<Vec<&'a [u8]>, AllocError>
     ensures { IfOk result (λ ts. texts ts.items ≡ lines_of bytes.now) }

@@ -1,4 +1,4 @@
-//! The readers of single values. Each answers B2 where the word doesn't spell such a value, or spells
+//! The readers of single values. Each returns B2 if the word doesn't spell such a value, or spells
 //! one that is out of range.
 ghost use Rattle.std.specs.Prelude.{◌≡◌, ◌≤◌, ◌<◌, ◌≤ℤ◌, ◌↔◌, ◌^◌, ◌∷◌, ◌==◌, false, slice_index, ℕ, pos, neg_ℤ, not, ⊤, nat_le, length, IsTrue, IfOk, MatchOption, decimal};
 ghost use Rattle.std.specs.List.{list_all, AllPass};
@@ -14,10 +14,10 @@ use std::alloc::Global;
 use tr_base::{LINE, LONGEST, Line, Shape, is_printable};
 use tr_grammar::{Code, LineRefused};
 
-/// How many bytes a name may have.
+/// The most bytes that a name may have.
 const LONGEST_NAME: usize = 16;
 
-/// How many digits a number has at most.
+/// The most digits that a number has.
 const MOST_DIGITS: usize = 10;
 
 fn is_name_byte(byte: u8) -> bool
@@ -44,7 +44,7 @@ fn is_name(word: &[u8]) -> bool
     }
 }
 
-/// Tries a name that is to be declared: a lower-case letter, and behind it at most 15 lower-case letters,
+/// Tests a name that a line declares: a lower-case letter, followed by at most 15 lower-case letters,
 /// digits and underscores.
 pub fn name(word: &str) -> Result<(), Code>
     ensures { Answers (not (is_name word.now)) B2 (λ _. ⊤) result }
@@ -56,7 +56,7 @@ pub fn name(word: &str) -> Result<(), Code>
     }
 }
 
-/// Whether a word begins as a number does: with a digit, and with 0 only if nothing follows it.
+/// Whether a word begins like a number: with a digit, and with 0 only if nothing follows it.
 fn begins_number(word: &[u8]) -> bool
     ensures { IsTrue result ↔ BeginsNumber word.now }
 {
@@ -79,7 +79,7 @@ fn digits_number(digits: &[u8]) -> Option<u64>
     Some(number)
 }
 
-/// The number of which the word is the decimal text.
+/// The number whose decimal text is the word.
 fn decimal_of(word: &str) -> Option<u32>
     ensures { MatchOption result ((n : ℕ) → n < 2 ^ 32 → word.now ≡ decimal n → ⊥)
         (λ n. word.now ≡ decimal n) }
@@ -100,7 +100,7 @@ fn decimal_of(word: &str) -> Option<u32>
     Some(number as u32)
 }
 
-/// A number from `low` to `high`, in decimal digits without a zero in front.
+/// A number from `low` to `high`, in decimal digits without a leading zero.
 #[tactic(auto, using(crate::proofs::Numbers::number_rules))]
 pub fn number(word: &str, low: u32, high: u32) -> Result<u32, Code>
     ensures value { Answers (not (is_number low high word.now)) B2 (λ n. n ≡ nat_of word.now) result }
@@ -113,7 +113,7 @@ pub fn number(word: &str, low: u32, high: u32) -> Result<u32, Code>
     }
 }
 
-/// A number from `low` to `high`, each of which is at most 65,535.
+/// A number from `low` to `high`; both are at most 65,535.
 pub fn short(word: &str, low: u16, high: u16) -> Result<u16, Code>
     ensures value { Answers (not (is_number low high word.now)) B2 (λ n. n ≡ nat_of word.now) result }
     ensures low { IfOk result (λ n. low ≤ n) }
@@ -122,7 +122,7 @@ pub fn short(word: &str, low: u16, high: u16) -> Result<u16, Code>
     Ok(number(word, u32::from(low), u32::from(high))? as u16)
 }
 
-/// A number from `low` to `high`, each of which is a byte.
+/// A number from `low` to `high`; both are bytes.
 pub fn small(word: &str, low: u8, high: u8) -> Result<u8, Code>
     ensures value { Answers (not (is_number low high word.now)) B2 (λ n. n ≡ nat_of word.now) result }
     ensures low { IfOk result (λ n. low ≤ n) }
@@ -138,7 +138,7 @@ pub fn byte(word: &str) -> Result<u8, Code>
     small(word, 0, 255)
 }
 
-/// A number from 0 to `high`, of a word that has no minus.
+/// A number from 0 to `high`, spelled by a word without a minus.
 #[tactic(auto, using(crate::proofs::Numbers::plain_rules))]
 fn unsigned_part(word: &str, high: u16) -> Result<i32, Code>
     requires small { high < 2 ^ 16 }
@@ -151,7 +151,7 @@ fn unsigned_part(word: &str, high: u16) -> Result<i32, Code>
     Ok(number as i32)
 }
 
-/// A number from `-low` to -1, of the digits after its minus.
+/// A number from `-low` to -1, spelled by the digits after its minus.
 #[tactic(auto, using(crate::proofs::Numbers::minus_rules))]
 fn signed_part(digits: &str, low: u16) -> Result<i32, Code>
     requires small { low < 2 ^ 16 }
@@ -163,7 +163,7 @@ fn signed_part(digits: &str, low: u16) -> Result<i32, Code>
     Ok(-(number as i32))
 }
 
-/// A number from `-low` to `high`, where -0 is none.
+/// A number from `-low` to `high`. -0 isn't a number.
 pub fn signed(word: &str, low: u16, high: u16) -> Result<i32, Code>
     ensures value { Answers (not (is_signed low high word.now)) B2 (λ z. z ≡ int_of word.now) result }
     ensures low { IfOk result (λ z. neg_ℤ (pos low) ≤ℤ z) }
@@ -200,7 +200,7 @@ pub fn time(word: &str) -> Result<u32, Code>
     number(word, 1, u32::MAX)
 }
 
-/// Where a child of a Z stands, or how far a Translate moves, along one axis: -2048 to 2048.
+/// The offset of a child of a Z, or the distance of a Translate, along one axis: -2048 to 2048.
 pub fn offset(word: &str) -> Result<i32, Code>
     ensures value { Answers (not (is_signed 2048 2048 word.now)) B2 (λ z. z ≡ int_of word.now) result }
     ensures low { IfOk result (λ z. neg_ℤ (pos 2048) ≤ℤ z) }
@@ -209,7 +209,7 @@ pub fn offset(word: &str) -> Result<i32, Code>
     signed(word, 2048, 2048)
 }
 
-/// Where a tile begins, along one axis: -4096 to 4096.
+/// The origin of a tile along one axis: -4096 to 4096.
 pub fn shift(word: &str) -> Result<i32, Code>
     ensures value { Answers (not (is_signed 4096 4096 word.now)) B2 (λ z. z ≡ int_of word.now) result }
     ensures low { IfOk result (λ z. neg_ℤ (pos 4096) ≤ℤ z) }
@@ -236,7 +236,7 @@ pub fn place(word: &str) -> Result<i32, Code>
     signed(word, 8192, 8191)
 }
 
-/// The lengths of a shape, to 4096, none of which is less than the one before it.
+/// The lengths of a shape, at most 4096. None is less than the one before it.
 pub fn shape(words: &ShapeWords) -> Result<Shape, Code>
     ensures { Answers (not (is_shape words.now.lo.now words.now.pref.now words.now.hi.now)) B2
         (λ s. s ≡ record {

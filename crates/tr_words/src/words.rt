@@ -1,4 +1,4 @@
-//! Words of a line that travel together.
+//! Words of a line that are passed together.
 
 /// The words of a shape.
 #[derive(Clone, Copy)]
@@ -8,7 +8,7 @@ pub struct ShapeWords<'a> {
     pub hi: &'a str,
 }
 
-/// The words of a leaf's line that stand before its widget's.
+/// The words of a leaf's line before its widget's.
 #[derive(Clone, Copy)]
 pub struct LeafWords<'a> {
     pub name: &'a str,

@@ -1,4 +1,4 @@
-//! The program: it plays the script that standard input has, and ends with the status of the call.
+//! The program: it plays the script on standard input, and ends with the status of the call.
 #![tactic(auto)]
 
 mod runs;

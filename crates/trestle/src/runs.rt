@@ -25,10 +25,10 @@ use std::thread::Threads;
 use tr_io::{Sink, Source};
 use tr_player::{OpenGate, Status, trestle_call};
 
-/// The status where the system refused the program its arguments. No call answers it.
+/// The status if the system refused the program its arguments. No call answers it.
 const REFUSED_STATUS: u8 = 7;
 
-/// Does what the arguments ask for that the system handed out. The first of these is the program's name.
+/// Does the command of the arguments that the system gave. The first of them is the program's name.
 /// The answer is the status to end with.
 pub fn run<R: Threads + Wait + Sync, S: Source, K: Sink>(
     rt: &R,
@@ -43,7 +43,7 @@ pub fn run<R: Threads + Wait + Sync, S: Source, K: Sink>(
         (S.left source.new ≡ S.left source.old) × (S.faults source.new ≡ S.faults source.old)
         × (K.written sink.new ≡ K.written sink.old) × (K.faults sink.new ≡ K.faults sink.old)) }
 
-    // With them: the status of the call, all of it at once, and then what matters most of it.
+    // With them: the status of the call, all of it at once, and then its most important facts.
     ensures answered { IfSome (heard all) (λ words. IsEnd (command_of words)
         (source_change S.Source source.old source.new) (exit_status result)
         (sink_change K.Sink sink.old sink.new)) }
@@ -105,8 +105,8 @@ fn after_name(alloc: Global, all: Args) -> Result<Vec<String>, AllocError>
     Ok(arguments)
 }
 
-/// The status to end with where the system handed out no arguments. One that is no text is among the
-/// reasons; which of them it was makes no difference, unless it is want of memory.
+/// The status if the system gave no arguments. One of the causes is an argument that is no text; only want
+/// of memory has a status of its own.
 fn status_without(kind: ErrorKind) -> u8
     ensures { result ≡ status_without kind }
 {

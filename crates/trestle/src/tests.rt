@@ -8,8 +8,8 @@ const USAGE: &[u8] = b"usage: trestle play|serial|check|mirror|show|gen N\n";
 
 const SCRIPT: &[u8] = b"trestle 1\n";
 
-/// The text that is written for arguments that the system hands out, where each read fails. What a script
-/// prints is tried by the program itself, on its standard input.
+/// The text for arguments that the system gives, if each read fails. The program itself tests the text of a
+/// script, on its standard input.
 #[test]
 fn arguments_after_the_name_are_heard(rt: HostRuntime) -> Result<(), Fail> {
     for (texts, text) in [
@@ -34,7 +34,7 @@ fn arguments_after_the_name_are_heard(rt: HostRuntime) -> Result<(), Fail> {
     Ok(())
 }
 
-/// The text that is written where the system hands out none.
+/// The text if the system gives no arguments.
 #[test]
 fn arguments_may_be_missing(rt: HostRuntime) -> Result<(), Fail> {
     for (kind, text) in [

@@ -1,4 +1,4 @@
--- The rectangles of figures are in range. This is a proof, which stands here since the laws of an impl cite nothing else of its crate.
+-- The rectangles of figures are in range. This proof is in specs/ because an impl's laws may cite nothing else of its crate.
 use Rattle.std.proofs.Common.{ℤ, pos, Bool, true, false, ◌&&◌, cond, arith}
 use Rattle.std.specs.Prelude.{int_lt}
 use Rattle.std.proofs.lemmas.Int.{ints}

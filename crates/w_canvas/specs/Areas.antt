@@ -1,4 +1,4 @@
--- Where figures can lie.
+-- The range of figures.
 use Rattle.std.specs.Prelude.{ℤ, pos, neg_ℤ, ◌≤ℤ◌}
 use Rattle.tr_base.specs.Rects.{Edges}
 
@@ -7,7 +7,7 @@ pub record IsFigureEdge (x : ℤ) : Type 0 where
   pub low : neg_ℤ (pos 8192) ≤ℤ x
   pub high : x ≤ℤ pos 8192
 
--- each edge of a figure's rectangle is
+-- each edge of a figure's rectangle is in range
 pub record IsArea (e : Edges) : Type 0 where
   pub west : IsFigureEdge e.west
   pub east : IsFigureEdge e.east

@@ -1,5 +1,5 @@
 -- A Canvas obeys the laws of clients.
--- These are proofs, which stand here since an impl cites nothing else of its crate; no contract cites them.
+-- These proofs are in specs/ because an impl may cite nothing else of its crate. No contract cites them.
 use Rattle.std.proofs.Common.{◌≡◌, ℕ, ◌+◌, ◌-◌, ◌<◌, ◌≤◌, ◌&&◌, ℤ, pos, ◌+ℤ◌, ◌==◌, Bool, true, false, cond, List, [], ◌∷◌, ◌++◌, length, map, get_or, Option, Some, None, inl, inr, refl, sym, ap, subst, ◌∙◌, arith, append_assoc}
 use Rattle.std.specs.Prelude.{nat_lt, slice_get, IfSome}
 use Rattle.std.specs.List.{fold}
@@ -45,7 +45,7 @@ use Rattle.w_canvas.specs.Areas.{IsFigureEdge, IsArea}
 use Rattle.w_canvas.specs.AreaFacts.{area-rect_of}
 use Rattle.w_canvas.specs.PartPatches.{part_patch}
 
--- what a command with an operation makes of a pixel, by whether the point lies in its area
+-- the effect of a command with an operation on a pixel, by whether the point lies in its area
 op-makes : (kind : Kind) (op : Op) (inside : Bool) (old : ℕ) →
     Makes kind (cond inside (cond (opaque op) (Value (eff kind op 0)) (Change op)) Keep) old (cond inside (eff kind op old) old)
 op-makes kind Bg true old = refl
@@ -55,12 +55,12 @@ op-makes kind (Set n) true old = refl
 op-makes kind (Exchanged a b) true old = refl
 op-makes kind op false old = refl
 
--- what paints a figure in a part makes of each pixel of the part what the figure makes of it
+-- the command that paints a figure in a part has the figure's effect on each pixel of the part
 figure-makes : (look : Look) (part : Edges) (f : Figure) (q : Point) (old : ℕ) → has_point part q ≡ true →
     Makes look.kind (deed look (figure_paint part f) q) old (drawn_over look.kind q old f)
 figure-makes look part f q old here = rw (has_point-meet_of part f.area q, here) (op-makes look.kind f.op (has_point f.area q) old)
 
--- figures over what is painted
+-- painting figures over a painted picture
 figures-over : (look : Look) (part : Edges) (batch : List Paint) (start : Point → ℕ) (figures : List Figure) →
     IsPainting look part batch start →
     IsPainting look part (batch ++ batch_of (map (figure_paint part) figures)) (λ q. fold (drawn_over look.kind q) (start q) figures)
@@ -78,12 +78,12 @@ canvas_painting look size part figures =
     figures-over look part (kept (Tint part Bg)) (λ q. 0) figures
     (painting_first look part (Tint part Bg) (λ q. 0) (λ q here. rw here refl) (λ q h. h))
 
--- a figure over all others changes the picture at its points
+-- one more figure changes the picture at its points
 pic-more : (look : Look) (size : Size) (figures : List Figure) (f : Figure) (q : Point) →
     canvas_pic look size (figures ++ f ∷ []) q ≡ drawn_over look.kind q (canvas_pic look size figures q) f
 pic-more look size figures f q = fold-append (drawn_over look.kind q) 0 figures (f ∷ [])
 
--- what makes a colour, whatever the picture is elsewhere, gives it
+-- a command that makes a colour at a point from the pixel there alone gives it, for any picture elsewhere
 makes-gives : (kind : Kind) (size : Size) (d : Deed) (old : Point → ℕ) (q : Point) (new : ℕ) → Makes kind d (old q) new →
     Gives kind size d old q new
 makes-gives kind size Keep old q new makes = makes
@@ -117,7 +117,7 @@ with_patches look size figures f = by_room (nat_lt (length figures) most_figures
         (kept_patch look size (figure_paint (whole_of size) f) old new gives)
     by_room false = no_patch look size old old (λ q here. refl)
 
--- the figures under the last are painted anew where it lay
+-- the figures under the last one are painted anew in its rectangle
 under_patches : (look : Look) (size : Size) (left : List Figure) (f : Figure) →
     IsPatch look size (gone_patch size left (Some f)) (canvas_pic look size (left ++ f ∷ [])) (canvas_pic look size left)
 under_patches look size left f =
@@ -132,7 +132,7 @@ under_patches look size left f =
         ap (λ b. b && has_point f.area q) (sym here) ∙ sym (has_point-meet_of (whole_of size) f.area q) ∙ apart in
         pic-more look size left f q ∙ rw away refl
 
--- where there is a last figure, the list is the others and that one
+-- a list with a last figure is the others and that one
 split-last : (figures : List Figure) (f : Figure) → length figures - 1 < length figures → get_or figures (length figures - 1) f ≡ f →
     figures ≡ without_last figures ++ f ∷ []
 split-last figures f some is =
@@ -141,7 +141,7 @@ split-last figures f some is =
     ∙ take_more figures (length figures - 1) f some
     ∙ ap (λ (l : Figure). without_last figures ++ l ∷ []) is
 
--- the last figure goes, or there is none
+-- the last figure is removed, or there is none
 last_patches : (look : Look) (size : Size) (figures : List Figure) (f : Figure) → figures ≡ without_last figures ++ f ∷ [] →
     IsPatch look size (gone_patch size (without_last figures) (Some f))
     (canvas_pic look size figures) (canvas_pic look size (without_last figures))
@@ -168,7 +168,7 @@ undo_patches look size figures =
       | inr none ↦ subst P (sym none.1) (none_patches look size figures none.0)
     ]
 
--- a figure more, where there is room, keeps all in range
+-- one more figure, if there is room, keeps all in range
 pub grown-valid : (x : List Figure) (f : Figure) → length x < most_figures → IsCanvas x → IsFigure f → IsCanvas (x ++ f ∷ [])
 grown-valid x f room valid known = record {
   most = omega (arith, length-append x (f ∷ []), valid.most);
@@ -232,7 +232,7 @@ canvas_patches look size x (Rect area tint) valid known small = with_patches loo
 canvas_patches look size x (Exchange area a b) valid known small = with_patches look size x (exchanging area a b)
 canvas_patches look size x Undo valid known small = undo_patches look size x
 
--- nothing is painted where there are no points
+-- nothing is painted in an empty part
 flat-kept : (f : Figure) → kept (figure_paint empty_rect f) ≡ []
 flat-kept f = rw (meet-nothing f.area) refl
 
@@ -265,7 +265,7 @@ pub canvas_keeping : (look : Look) (from to : Size) (x : List Figure) → IsCanv
     Survives (canvas_keeps x from to) from to (canvas_pic look from x) (canvas_pic look to x)
 canvas_keeping look from to x valid small small' = survives-meet from to (canvas_pic look from x) (canvas_pic look to x) (λ q h k. refl)
 
--- what a figure's operation leaves of a value of the kind is one
+-- a figure's operation leaves a value of the kind
 op-kind : (kind : Kind) (op : Op) (old : ℕ) → IsFigureOp op → IsPixel kind old → IsPixel kind (eff kind op old)
 op-kind kind (Set n) old byte known = pixel-resolved kind n byte
 op-kind kind (Exchanged a b) old bytes known =

@@ -1,4 +1,4 @@
--- Windows with figures, which lie one over the other in the order in which they came; the last can be taken away.
+-- Windows with figures that lie one over the other in the order of drawing; the last one can be removed.
 use Rattle.std.specs.Prelude.{ℕ, ◌-◌, ◌<◌, ◌≤◌, ◌^◌, ◌==◌, ◌&&◌, pos, ◌+ℤ◌, Bool, nat_lt, if◌then◌else◌, List, [], ◌∷◌, ◌++◌, length, take, map, slice_get, Option, Some, None, codes, decimal}
 use Rattle.std.specs.Fmt.{signed_decimal}
 use Rattle.std.specs.List.{All, fold}
@@ -23,7 +23,7 @@ use Rattle.w_canvas.specs.declared.commands.CanvasCmd.{CanvasCmd}
 use Rattle.w_canvas.specs.declared.commands.CanvasCmd.TheVariants.{Rect, Exchange, Undo}
 use Rattle.w_canvas.specs.Areas.{IsArea}
 
--- a canvas has room for so many figures
+-- the most figures of a canvas
 abbrev pub most_figures : ℕ
 most_figures = 64
 
@@ -47,7 +47,7 @@ pub record IsCanvas (figures : List Figure) : Type 0 where
 abbrev pub filled : Edges → ℕ → Figure
 filled area tint = record { area = area; op = Set tint }
 
--- a rectangle in which two pixels change places
+-- a rectangle in which two pixel values are exchanged
 abbrev pub exchanging : Edges → ℕ → ℕ → Figure
 exchanging area a b = record { area = area; op = Exchanged a b }
 
@@ -63,7 +63,7 @@ edge_words e =
     signed_decimal e.west ++ codes " " ++ signed_decimal e.east
     ++ codes " " ++ signed_decimal e.north ++ codes " " ++ signed_decimal e.south
 
--- the words of an exchange in a script: that of 0 and 1 has a word of its own
+-- the words of an exchange in a script: the exchange of 0 and 1 has a word of its own
 abbrev pub exchange_words : Edges → ℕ → ℕ → List ℕ
 exchange_words area a b =
     if a == 0 && b == 1 then codes "swap " ++ edge_words area
@@ -75,7 +75,7 @@ canvas_words (Rect area tint) = codes "rect " ++ edge_words area ++ codes " " ++
 canvas_words (Exchange area a b) = exchange_words area a b
 canvas_words Undo = codes "undo"
 
--- what a figure makes of the pixel of a point: it changes those in its rectangle
+-- the effect of a figure on the pixel of a point: it changes the points in its rectangle
 abbrev pub drawn_over : Kind → Point → ℕ → Figure → ℕ
 drawn_over kind q old f = if has_point f.area q then eff kind f.op old else old
 
@@ -87,17 +87,17 @@ canvas_pic look size figures q = fold (drawn_over look.kind q) 0 figures
 abbrev pub with_figure : List Figure → Figure → List Figure
 with_figure figures f = if nat_lt (length figures) most_figures then figures ++ f ∷ [] else figures
 
--- the figures but the last
+-- the figures without the last
 abbrev pub without_last : List Figure → List Figure
 without_last figures = take (length figures - 1) figures
 
--- a command draws a figure over all others, or takes the last one away
+-- a command draws a figure over all others, or removes the last one
 abbrev pub canvas_next : List Figure → CanvasCmd → List Figure
 canvas_next figures (Rect area tint) = with_figure figures (filled area tint)
 canvas_next figures (Exchange area a b) = with_figure figures (exchanging area a b)
 canvas_next figures Undo = without_last figures
 
--- the command that paints a figure where it lies in a part of the window
+-- the command that paints a figure's points in a part of the window
 abbrev pub figure_paint : Edges → Figure → Paint
 figure_paint part f = Tint (meet_of part f.area) f.op
 
@@ -105,27 +105,27 @@ figure_paint part f = Tint (meet_of part f.area) f.op
 abbrev pub canvas_paints : Edges → List Figure → List Paint
 canvas_paints part figures = batch_of (Tint part Bg ∷ map (figure_paint part) figures)
 
--- a new figure is painted over what is there, if there is room for it
+-- a new figure is painted over the picture, if there is room for it
 abbrev pub with_patch : Size → List Figure → Figure → List Paint
 with_patch size figures f =
     if nat_lt (length figures) most_figures then batch_of (figure_paint (whole_of size) f ∷ []) else []
 
--- where a figure that is gone lay in the window, those that are left are painted anew
+-- the rectangle of a removed figure is painted anew with the remaining figures
 abbrev pub gone_patch : Size → List Figure → Option Figure → List Paint
 gone_patch size left None = []
 gone_patch size left (Some f) = canvas_paints (meet_of (whole_of size) f.area) left
 
--- the last figure goes, if there is one
+-- the last figure is removed, if there is one
 abbrev pub undo_patch : Size → List Figure → List Paint
 undo_patch size figures = gone_patch size (without_last figures) (slice_get figures (length figures - 1))
 
--- a command paints the figure that it draws, or what lies under the one that it takes away
+-- a command paints the figure that it draws, or the figures under the one that it removes
 abbrev pub canvas_patch : Look → Size → List Figure → CanvasCmd → List Paint
 canvas_patch look size figures (Rect area tint) = with_patch size figures (filled area tint)
 canvas_patch look size figures (Exchange area a b) = with_patch size figures (exchanging area a b)
 canvas_patch look size figures Undo = undo_patch size figures
 
--- a point that the greatest window has
+-- a point of the greatest window
 abbrev pub is_drawable : Point → Bool
 is_drawable at = between (pos 0) (pos longest) at.h && between (pos 0) (pos longest) at.v
 
@@ -137,12 +137,12 @@ square_at at = rect_of at.h (at.h +ℤ pos 2) at.v (at.v +ℤ pos 2)
 abbrev pub backspace : ℕ
 backspace = 8
 
--- the first button that goes down draws a small square where it is
+-- the first button that goes down draws a small square at its point
 abbrev pub click_answer : Click → Point → Option CanvasCmd
 click_answer FirstDown at = if is_drawable at then Some (Rect (square_at at) 1) else None
 click_answer click at = None
 
--- the backspace key takes the last figure away
+-- the backspace key removes the last figure
 abbrev pub key_answer : ℕ → Option CanvasCmd
 key_answer code = if code == backspace then Some Undo else None
 
@@ -156,6 +156,6 @@ canvas_answer figures event = None
 abbrev pub canvas_value : List Figure → List ℕ
 canvas_value figures = decimal (length figures)
 
--- what both windows have
+-- the points in both windows
 abbrev pub canvas_keeps : List Figure → Size → Size → Edges
 canvas_keeps figures from to = meet_of (whole_of from) (whole_of to)

@@ -1,4 +1,4 @@
--- Patches that paint a part of a window. These are proofs, which stand here since the laws of an impl cite nothing else of its crate.
+-- Patches that paint a part of a window. These proofs are in specs/ because an impl's laws may cite nothing else of its crate.
 use Rattle.std.proofs.Common.{◌≡◌, ℕ, Bool, true, false, ◌||◌, List, [], ◌∷◌, refl, sym, subst, ◌∙◌}
 use Rattle.std.specs.Prelude.{IfSome, Option}
 use Rattle.tr_base.specs.declared.Point.{Point}
@@ -18,7 +18,7 @@ neither : (a b : Bool) → a || b ≡ false → (a ≡ false) × (b ≡ false)
 neither true b h = absurd (false-true (sym h))
 neither false b h = (refl, h)
 
--- a batch leaves a point as it is that lies in the area of none of its commands
+-- a batch doesn't change a point outside the areas of its commands
 pub after-untouched : (look : Look) (base : Base) (batch : List Paint) (q : Point) → base.visible q ≡ true → touches batch q ≡ false →
     after look base batch q ≡ base.known q
 after-untouched look base [] q seen none = rw seen refl
@@ -28,7 +28,7 @@ after-untouched look base (c ∷ cs) q seen none =
     ∙ after-untouched look (left_by look base (c ∷ [])) cs q seen apart.1
     ∙ rw (apart.0, seen) refl
 
--- what paints a part of the new picture is a patch where the pictures agree outside that part
+-- commands that paint a part of the new picture are a patch if the pictures agree outside that part
 pub part_patch : (look : Look) (size : Size) (part : Edges) (batch : List Paint) (old new : Point → ℕ) → IsPainting look part batch new →
     ((q : Point) → has_point (whole_of size) q ≡ true → has_point part q ≡ false → old q ≡ new q) → IsPatch look size batch old new
 part_patch look size part batch old new painted same base within shows q seen = by_part (has_point part q) refl

@@ -5,7 +5,7 @@ ghost use Rattle.w_canvas.specs.Areas.{IsArea, IsFigureEdge};
 use std::marker::Model;
 use tr_base::Rect;
 
-/// The rectangle of a figure, seen as its edges, each of which is within -8192 to 8192.
+/// The rectangle of a figure; its model is the edges. Each edge is within -8192 to 8192.
 #[derive(Clone, Copy, Debug)]
 pub struct Area {
     rect: Rect,
@@ -25,7 +25,7 @@ impl Model for Area {
 }
 
 impl Area {
-    /// The rectangle of these edges, or the empty one where no point lies between them.
+    /// The rectangle of these edges, or the empty one if no point lies between them.
     pub fn edges(west: i32, east: i32, north: i32, south: i32) -> Area
         requires west { IsFigureEdge west }
         requires east { IsFigureEdge east }
@@ -38,7 +38,7 @@ impl Area {
         }
     }
 
-    /// Tells what each area keeps. Nothing runs.
+    /// Tells the invariant of areas. Nothing runs.
     pub fn invariant(&self)
         ensures { IsArea self.now }
     {

@@ -15,24 +15,24 @@ use tr_base::{Click, Command, Env, Event, LONGEST, Line, NoMemory, Op, Point, Re
 use tr_client::{Client, decimal_line, kept_part, part_of_window, window};
 use tr_paint::{Batch, Paint};
 
-/// How many figures a Canvas has room for.
+/// The most figures of a Canvas.
 pub const FIGURES: usize = 64;
 
 /// The side of the square that a button draws.
 const SIDE: i32 = 2;
 
-/// The key that takes the last figure away.
+/// The key that removes the last figure.
 const BACKSPACE: u8 = 8;
 
-/// A rectangle of a Canvas, with what it does to the pixels that lie there: it sets them, or two of
-/// them change places.
+/// A rectangle of a Canvas, with an operation on the pixels in it: it sets them all to one value, or
+/// exchanges two values.
 #[derive(Clone, Copy, Debug)]
 pub struct Figure {
     pub area: Area,
     pub op: Op,
 }
 
-/// A window with at most 64 figures, seen as their list. Each lies over those before it.
+/// A window with at most 64 figures; its model is their list. Each lies over those before it.
 #[derive(Debug, Drop)]
 pub struct Canvas {
     figures: Vec<Figure>,
@@ -58,7 +58,7 @@ impl Figure {
         self.area.same(&other.area) && self.op == other.op
     }
 
-    /// The command that paints it where it lies in a part of the window.
+    /// The command that paints its points in a part of the window.
     fn paint(&self, part: &Rect) -> Paint
         requires { IsNearRect part.now }
         ensures value { result ≡ spec.figure_paint part.now self.now }
@@ -82,7 +82,7 @@ fn paints(alloc: Global, part: &Rect, figures: &[Figure]) -> Result<Batch, NoMem
     Ok(batch)
 }
 
-/// Puts these commands behind those of a batch.
+/// Puts these commands after those of a batch.
 fn put_paints(part: &Rect, figures: &[Figure], batch: &mut Batch) -> Result<(), NoMemory>
     requires { IsNearRect part.now }
     ensures ok { OnOk result (batch.new ≡ batch.old ++ spec.canvas_paints part.now figures.now) }
@@ -96,7 +96,7 @@ fn put_paints(part: &Rect, figures: &[Figure], batch: &mut Batch) -> Result<(), 
     Ok(())
 }
 
-/// The same, but for want of memory the first of them stay in the batch.
+/// The same, but if memory runs out the first of them stay in the batch.
 fn push_paints(part: &Rect, figures: &[Figure], batch: &mut Batch) -> Result<(), NoMemory>
     requires { IsNearRect part.now }
     ensures ok { OnOk result (batch.new ≡ batch.old ++ spec.canvas_paints part.now figures.now) }
@@ -128,7 +128,7 @@ impl Canvas {
         })
     }
 
-    /// Tells what each canvas keeps. Nothing runs.
+    /// Tells the invariant of canvases. Nothing runs.
     pub fn invariant(&self)
         ensures { spec.IsCanvas self.now }
     {
@@ -182,7 +182,7 @@ impl Canvas {
         }
     }
 
-    /// A figure over all others, if there is room for it, in place.
+    /// Adds a figure over all others in place, if there is room for it.
     fn add(&mut self, figure: Figure) -> Result<(), NoMemory>
         requires { spec.IsFigure figure }
         ensures ok { OnOk result (self.new ≡ spec.with_figure self.old figure) }
@@ -194,7 +194,7 @@ impl Canvas {
         Ok(())
     }
 
-    /// The last figure goes, in place.
+    /// Removes the last figure in place.
     fn remove_last(&mut self)
         ensures { self.new ≡ spec.without_last self.old }
     {
@@ -202,7 +202,7 @@ impl Canvas {
         self.figures.truncate(left);
     }
 
-    /// The content after a command, in place.
+    /// Changes the content by a command in place.
     fn take(&mut self, cmd: &CanvasCmd) -> Result<(), NoMemory>
         ensures ok { OnOk result (self.new ≡ spec.canvas_next self.old cmd.now) }
         ensures err { OnErr result (self.new ≡ self.old) }
@@ -218,7 +218,7 @@ impl Canvas {
         }
     }
 
-    /// Puts the patch for a figure over all others behind the commands of a batch.
+    /// Puts the patch for a figure over all others after the commands of a batch.
     fn put_figure(&self, size: Size, figure: &Figure, batch: &mut Batch) -> Result<(), NoMemory>
         requires { IsWindowSize size }
         ensures ok { OnOk result (batch.new ≡ batch.old ++ spec.with_patch size self.now figure.now) }
@@ -230,7 +230,7 @@ impl Canvas {
         Ok(())
     }
 
-    /// Puts the patch for the last figure that goes away behind the commands of a batch.
+    /// Puts the patch for the removal of the last figure after the commands of a batch.
     fn put_undo(&self, size: Size, batch: &mut Batch) -> Result<(), NoMemory>
         requires { IsWindowSize size }
         ensures ok { OnOk result (batch.new ≡ batch.old ++ spec.undo_patch size self.now) }
@@ -245,7 +245,7 @@ impl Canvas {
         put_paints(&part, &figures[..last], batch)
     }
 
-    /// Puts the patch of a command behind the commands of a batch.
+    /// Puts the patch of a command after the commands of a batch.
     fn put_patch(&self, size: Size, cmd: &CanvasCmd, batch: &mut Batch) -> Result<(), NoMemory>
         requires { IsWindowSize size }
         ensures ok { (look : Look) →
@@ -272,7 +272,7 @@ fn filled(area: Area, tint: u8) -> Figure
     }
 }
 
-/// A rectangle in which two pixels change places.
+/// A rectangle in which two pixel values are exchanged.
 fn exchanging(area: Area, a: u8, b: u8) -> Figure
     ensures { result ≡ spec.exchanging area a b }
 {
@@ -297,7 +297,7 @@ fn are_same(figures: &[Figure], others: &[Figure]) -> bool
     true
 }
 
-/// Whether the greatest window has a point.
+/// Whether the point lies in the greatest window.
 fn is_drawable(at: Point) -> bool
     ensures { result ≡ spec.is_drawable at }
 {

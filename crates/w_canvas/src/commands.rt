@@ -8,19 +8,18 @@ use std::alloc::Global;
 use tr_base::{Command, NoMemory};
 use tr_client::append_all;
 
-/// What a Canvas can be told.
+/// A command of a Canvas.
 #[derive(Clone, Copy, Debug)]
 pub enum CanvasCmd {
-    /// Draws a rectangle whose points are set to the tint, as far as the kind of the pixels has it.
+    /// Draws a rectangle whose points are set to the tint, cut to the kind of the pixels.
     Rect { area: Area, tint: u8 },
-    /// Draws a rectangle in which the two pixels change places.
+    /// Draws a rectangle in which the two pixel values are exchanged.
     Exchange { area: Area, a: u8, b: u8 },
-    /// Takes the last figure away.
+    /// Removes the last figure.
     Undo,
 }
 
-/// Puts a word, the edges of a rectangle and the texts that come behind them at the end of `out`, or
-/// nothing.
+/// Appends a word, the edges of a rectangle and then the texts to `out`, or nothing.
 fn append_with_edges(
     out: &mut Vec<u8>,
     word: &[u8],

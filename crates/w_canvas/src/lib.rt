@@ -1,4 +1,4 @@
-//! A window with figures, which commands draw one over the other and take away again, the last one
+//! A window with figures. Commands draw them one over the other, and remove them again, the last one
 //! first.
 #![tactic(auto)]
 

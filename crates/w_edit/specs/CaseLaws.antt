@@ -1,5 +1,5 @@
 -- An editor's patches lead from one picture to the next, case by case.
--- These are proofs, which stand here since an impl cites nothing else of its crate; no contract cites them.
+-- These proofs are in specs/ because an impl may cite nothing else of its crate. No contract cites them.
 use Rattle.std.proofs.Common.{◌≡◌, ℕ, ◌+◌, ◌-◌, ◌/◌, ◌<◌, ◌≤◌, ◌==◌, ℤ, pos, neg_ℤ, ◌-ℤ◌, ◌≤ℤ◌, Bool, true, false, ◌&&◌, cond, List, [], ◌∷◌, ◌++◌, length, drop, map, ◌⊎◌, inl, inr, refl, sym, ap, ◌∙◌, arith, eqb-true}
 use Prim.Native.Nat.{zero, suc}
 use Rattle.std.specs.Prelude.{nat_lt, nat_le, unsigned_abs}
@@ -40,7 +40,7 @@ with_caret look size x q = inverted (caret size x) q (bare look size x q)
 abbrev pub line_on : Size → Contents → ℕ → List ℕ
 line_on size x k = line_in (room size) (top size x) x.lines k
 
--- the colours without the caret by the line of each strip
+-- the colours without the caret, given by the line of each strip
 bare-line : (look : Look) (size : Size) (x : Contents) (q : Point) →
     bare look size x q ≡ line_colour look (strip_of q) (line_on size x (strip_of q)) q
 bare-line look size x q = colour-line look (room size) (top size x) x.lines q
@@ -65,7 +65,7 @@ put-bare look size y i q within is =
     ∙ ap (λ k. line_colour look k (line_on size y k) q) (sym here)
     ∙ sym (bare-line look size y q)
 
--- what is painted before the mark makes the new picture without the caret; with the mark it is a patch
+-- commands that make the new picture without the caret are a patch once the mark is added
 pub with_mark : (look : Look) (size : Size) (x y : Contents) (cs : List Paint) →
     ((q : Point) → IsIn size q → run look cs (with_caret look size x) q ≡ bare look size y q) →
     IsPatch look size (batch_of (cs ++ mark size y ∷ [])) (with_caret look size x) (with_caret look size y)
@@ -75,7 +75,7 @@ with_mark look size x y cs makes = patch_by_run look size (cs ++ mark size y ∷
     ∙ mark-left look size y (λ r. run look cs (with_caret look size x) r) q here
     ∙ ap (λ n. inverted (caret size y) q n) (makes q here))
 
--- the caret's strip is one of those that have room
+-- the caret's strip has room
 pub caret-shown : (size : Size) (x : Contents) → 0 < room size → caret_strip size x < room size
 caret-shown size x some = by_test (room size == 0) refl
   where
@@ -99,7 +99,7 @@ makes-rewritten look size x y q here some same others =
         (ap (λ i. strip_of q == i) same ∙ apart)
         ∙ bare-same look size x y q (others (strip_of q) apart)
 
--- the caret is taken off, and nothing else changes
+-- the caret is removed, and nothing else changes
 unmarked : (look : Look) (size : Size) (x : Contents) (q : Point) → IsIn size q →
     run_one look (mark size x) (with_caret look size x) q ≡ bare look size x q
 unmarked look size x q here = mark-left look size x (with_caret look size x) q here ∙ turned-twice (caret size x) q (bare look size x q)
@@ -124,7 +124,7 @@ over_put-bare look size y i q n within other = by_test (strip_of q == i) refl
     by_test true is = put-bare look size y i q within is
     by_test false apart = other apart
 
--- what a scroll brings from the strip above, or below, where the caret doesn't stand there
+-- a scroll brings the new colours, without the caret, from the strip above, or below, if the lines agree
 brought_down : (look : Look) (size : Size) (x y : Contents) (q : Point) → pos 0 ≤ℤ q.v → 0 < strip_of q →
     line_on size x (strip_of q - 1) ≡ line_on size y (strip_of q) →
     bare look size x (before_shift q downwards) ≡ bare look size y q
@@ -146,8 +146,8 @@ brought_up look size x y q inside same =
     ∙ colour-below look (line_on size y (strip_of q)) q inside
     ∙ sym (bare-line look size y q)
 
--- how the strips of two contents correspond: below `from` they have the same lines, and from there on those of the
--- first stand one higher, or one lower
+-- the relation of the strips of two contents: above the caret they have the same lines, and below it the lines of
+-- the first lie one strip lower in the second, or one higher
 pub record IsLowered (size : Size) (x y : Contents) : Type 0 where
   pub next : caret_strip size y ≡ caret_strip size x + 1
   pub over : (k : ℕ) → k < caret_strip size x → SameOn size x y k
@@ -164,7 +164,7 @@ no_room size x y k past =
     let beyond : nat_lt k (room size) ≡ false = grind (arith, nat_tests) in
     rw beyond refl
 
--- the caret of a strip that isn't the point's doesn't turn its colour
+-- a caret in another strip than the point's doesn't change the point's colour
 aside : (look : Look) (size : Size) (x : Contents) (p : Point) → pos 0 ≤ℤ p.v → (strip_of p ≡ caret_strip size x → ⊥) →
     with_caret look size x p ≡ bare look size x p
 aside look size x p inside apart =
@@ -174,7 +174,7 @@ aside look size x p inside apart =
     by_test true is = absurd (apart (eqb-true (strip_of p) (caret_strip size x) is))
     by_test false is = is
 
--- a line broken: the strips below the caret take what those above them have, and the two parts of the line are put
+-- a line broken: the strips below the caret get the pixels of those above them, and the two parts of the line are put
 pub makes-broken : (look : Look) (size : Size) (x y : Contents) (q : Point) → IsIn size q → 0 < room size → IsLowered size x y →
     (let i = caret_strip size y in
     run look (lowered size (i + 1) (room size) ∷ put size y (i - 1) ++ put size y i) (with_caret look size x) q ≡ bare look size y q)
@@ -217,7 +217,7 @@ makes-broken look size x y q here some low =
             let past : room size ≤ strip_of q = grind (arith, nat_tests) in
             no_room size x y (strip_of q) past
 
--- two lines joined: the strips below the caret take what those below them have, and the last one and the caret's are put
+-- two lines joined: the strips below the caret get the pixels of those below them, and the last strip and the caret's are put
 pub makes-joined : (look : Look) (size : Size) (x y : Contents) (q : Point) → IsIn size q → 0 < room size → IsRaised size x y →
     (let i = caret_strip size y in
     let last = room size - 1 in
@@ -273,18 +273,18 @@ makes-joined look size x y q here some high =
             let past : room size ≤ strip_of q = grind (arith, nat_tests) in
             no_room size x y (strip_of q) past
 
--- the caret goes: it is taken off where the top stays
+-- the caret moves: it is removed if the top stays
 pub makes-unmarked : (look : Look) (size : Size) (x y : Contents) (q : Point) → IsIn size q → x.lines ≡ y.lines → top size x ≡ top size y →
     run look (mark size x ∷ []) (with_caret look size x) q ≡ bare look size y q
 makes-unmarked look size x y q here lines first = unmarked look size x q here ∙ bare-same look size x y q (rw (lines, first) refl)
 
--- a strip is put after a scroll after the caret is taken off
+-- a strip is put after a scroll, and the caret was removed before it
 one_put : (look : Look) (size : Size) (x y : Contents) (scroll : Paint) (i : ℕ) (q : Point) → IsIn size q →
     run look (mark size x ∷ scroll ∷ put size y i) (with_caret look size x) q
     ≡ over_put look size y i q (run_one look scroll (λ r. run_one look (mark size x) (with_caret look size x) r) q)
 one_put look size x y scroll i q here = put-run look size y i _ q here
 
--- the point below one that lies in the strips is one of the window, and so is the point above
+-- the point one strip below a point of the strips lies in the window, and so does the point above
 below-window : (size : Size) (q : Point) → IsIn size q → strip_of q + 1 < room size →
     has_point (whole_of size) (before_shift q upwards) ≡ true
 below-window size q here shows =
@@ -311,7 +311,7 @@ above-window size q here some =
     down : (n : ℕ) (v : ℤ) → between (pos 0) (pos n) v ≡ true → 0 < unsigned_abs v / 8 → between (pos 0) (pos n) (v -ℤ pos 8) ≡ true
     down n v is some = grind (arith, ints)
 
--- it goes one row below the window: the lines move upwards
+-- the caret moves one row below the window: the lines move upwards
 pub makes-raised : (look : Look) (size : Size) (x y : Contents) (q : Point) → IsIn size q → 0 < room size →
     x.lines ≡ y.lines → top size y ≡ top size x + 1 →
     run look (mark size x ∷ raised size 0 (room size - 1) ∷ put size y (room size - 1)) (with_caret look size x) q ≡ bare look size y q
@@ -341,7 +341,7 @@ makes-raised look size x y q here some lines next =
         let past : room size ≤ strip_of q = grind (arith, nat_tests) in
         unmarked look size x q here ∙ bare-same look size x y q (no_room size x y (strip_of q) past)
 
--- it goes one row above the window: the lines move downwards
+-- the caret moves one row above the window: the lines move downwards
 pub makes-lowered : (look : Look) (size : Size) (x y : Contents) (q : Point) → IsIn size q → 0 < room size →
     x.lines ≡ y.lines → top size x ≡ top size y + 1 →
     run look (mark size x ∷ lowered size 1 (room size) ∷ put size y 0) (with_caret look size x) q ≡ bare look size y q

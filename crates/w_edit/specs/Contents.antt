@@ -1,4 +1,4 @@
--- Editors: a text of lines with a caret in it, and a clip; and what commands make of them.
+-- Editors: a text of lines with a caret in it, and a clip; and the effects of commands on them.
 use Rattle.std.specs.Prelude.{ℕ, ◌+◌, ◌-◌, ◌<◌, ◌≤◌, ◌==◌, nat_lt, nat_le, min, Bool, true, ◌&&◌, not, if◌then◌else◌, List, [], ◌∷◌, ◌++◌, length, take, drop, slice_index_or, All, Option, Some, None, codes, decimal}
 use Rattle.tr_base.specs.declared.Event.{Event}
 use Rattle.tr_base.specs.declared.Event.TheVariants.{Key}
@@ -8,14 +8,14 @@ use Rattle.w_edit.specs.Numbers.{most_lines, most_bytes, IsRowNumber, IsColumn}
 use Rattle.w_edit.specs.declared.commands.EditorCmd.{EditorCmd}
 use Rattle.w_edit.specs.declared.commands.EditorCmd.TheVariants.{Insert, Erase, Split, Goto, Copy, Paste}
 
--- what a contract sees of an editor: the lines of its text from north to south, the row and the column of the caret, and the clip
+-- the model of an editor: the lines of its text from north to south, the row and the column of the caret, and the clip
 pub record Contents : Type 0 where
   pub lines : List (List ℕ)
   pub row : ℕ
   pub column : ℕ
   pub clip : List ℕ
 
--- the line of a row, which has no byte where there is none
+-- the line of a row, or an empty one if the row has none
 abbrev pub line_at : Contents → ℕ → List ℕ
 line_at x row = slice_index_or x.lines row []
 
@@ -35,7 +35,7 @@ above x = take x.row x.lines
 abbrev pub below : Contents → List (List ℕ)
 below x = drop (x.row + 1) x.lines
 
--- there are at most 200 lines, the caret stands in one of them or at its end, and each of them and the clip is a text of a line
+-- there are at most 200 lines, the caret lies in one of them or at its end, and each of them and the clip has the bytes of a line
 pub record IsContents (x : Contents) : Type 0 where
   pub row : x.row < length x.lines
   pub few : length x.lines ≤ most_lines
@@ -43,7 +43,7 @@ pub record IsContents (x : Contents) : Type 0 where
   pub column : x.column ≤ length (line_of x)
   pub clip : IsLine x.clip
 
--- an editor at first: one line without a byte
+-- the first content of an editor: one empty line
 abbrev pub empty_text : Contents
 empty_text = record { lines = [] ∷ []; row = 0; column = 0; clip = [] }
 
@@ -51,25 +51,25 @@ empty_text = record { lines = [] ∷ []; row = 0; column = 0; clip = [] }
 abbrev pub with_lines : Contents → List (List ℕ) → ℕ → ℕ → Contents
 with_lines x lines row column = record { lines = lines; row = row; column = column; clip = x.clip }
 
--- bytes are put at the caret, which moves behind them
+-- bytes are inserted at the caret, which moves behind them
 abbrev pub inserted : Contents → List ℕ → Contents
 inserted x text = with_lines x (above x ++ (before x ++ text ++ behind x) ∷ below x) x.row (x.column + length text)
 
--- the byte before the caret goes
+-- the byte before the caret is removed
 abbrev pub erased : Contents → Contents
 erased x = with_lines x (above x ++ (take (x.column - 1) (line_of x) ++ behind x) ∷ below x) x.row (x.column - 1)
 
--- the caret's line is joined to the one above it, and the caret stands at the seam
+-- the caret's line is joined to the one above it, and the caret lies at the seam
 abbrev pub joined_above : Contents → Contents
 joined_above x =
     let upper = line_at x (x.row - 1) in
     with_lines x (take (x.row - 1) x.lines ++ (upper ++ line_of x) ∷ below x) (x.row - 1) (length upper)
 
--- the line is broken at the caret, which goes to the beginning of the next row
+-- the line is broken at the caret, which moves to the beginning of the next row
 abbrev pub broken : Contents → Contents
 broken x = with_lines x (above x ++ before x ∷ behind x ∷ below x) (x.row + 1) 0
 
--- the caret goes to a row and a column, or as near as the text has them
+-- the caret moves to a row and a column, or to the nearest place of the text
 abbrev pub caret_to : Contents → ℕ → ℕ → Contents
 caret_to x row column =
     let r = min row (length x.lines - 1) in
@@ -79,7 +79,7 @@ caret_to x row column =
 abbrev pub copied : Contents → ℕ → ℕ → Contents
 copied x from to = record { lines = x.lines; row = x.row; column = x.column; clip = drop from (take to (line_of x)) }
 
--- what a command does
+-- the effect of a command
 abbrev pub effect : Contents → EditorCmd → Contents
 effect x (Insert text) = inserted x text
 effect x Erase = if x.column == 0 then joined_above x else erased x
@@ -88,7 +88,7 @@ effect x (Goto row column) = caret_to x row column
 effect x (Copy from to) = copied x from to
 effect x Paste = inserted x x.clip
 
--- bytes can be put at the caret: there are some, and the line has room for them
+-- bytes can be inserted at the caret: there are some, and the line has room for them
 abbrev pub fits : Contents → List ℕ → Bool
 fits x text = nat_lt 0 (length text) && nat_le (length (line_of x) + length text) most_bytes
 
@@ -96,11 +96,11 @@ fits x text = nat_lt 0 (length text) && nat_le (length (line_of x) + length text
 abbrev pub can_join : Contents → Bool
 can_join x = nat_lt 0 x.row && nat_le (length (line_at x (x.row - 1)) + length (line_of x)) most_bytes
 
--- the caret stands elsewhere
+-- the caret is at another place
 abbrev pub has_moved : Contents → Contents → Bool
 has_moved x y = not (y.row == x.row && y.column == x.column)
 
--- a command has its effect, and doesn't leave all as it is; a copy of what is the clip has it and leaves all as it is
+-- a command is effective: it changes the content, or it copies; a copy of bytes that are the clip already changes nothing
 abbrev pub acts : Contents → EditorCmd → Bool
 acts x (Insert text) = fits x text
 acts x Erase = if x.column == 0 then can_join x else true
@@ -113,7 +113,7 @@ acts x Paste = fits x x.clip
 abbrev pub editor_next : Contents → EditorCmd → Contents
 editor_next x cmd = if acts x cmd then effect x cmd else x
 
--- the text of a command is one of a line, and its numbers are rows and columns
+-- the text of a command is a line, and its numbers are rows and columns
 abbrev pub IsEditorCmd : EditorCmd → Type 0
 IsEditorCmd (Insert text) = IsLine text
 IsEditorCmd (Goto row column) = IsRowNumber row × IsColumn column
@@ -129,12 +129,12 @@ editor_words (Goto row column) = codes "goto " ++ decimal row ++ codes " " ++ de
 editor_words (Copy from to) = codes "copy " ++ decimal from ++ codes " " ++ decimal to
 editor_words Paste = codes "paste"
 
--- a key that can be printed asks for its byte, Key 8 to erase, and Key 13 to break the line
+-- a printable key asks for its byte, Key 8 to erase, and Key 13 to break the line
 abbrev pub editor_answer : Contents → Event → Option EditorCmd
 editor_answer x (Key time code) =
     if is_printable code then Some (Insert (code ∷ [])) else if code == 8 then Some Erase else if code == 13 then Some Split else None
 editor_answer x event = None
 
--- others are given the clip
+-- other leaves read the clip
 abbrev pub editor_value : Contents → List ℕ
 editor_value x = x.clip

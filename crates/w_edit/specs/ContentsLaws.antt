@@ -1,5 +1,5 @@
--- Contents cut at the caret, and what commands leave valid.
--- These are proofs, which stand here since an impl cites nothing else of its crate; no contract cites them.
+-- Contents cut at the caret; commands keep contents valid.
+-- These proofs are in specs/ because an impl may cite nothing else of its crate. No contract cites them.
 use Rattle.std.proofs.Common.{◌≡◌, ℕ, ◌+◌, ◌-◌, ◌<◌, ◌≤◌, ◌==◌, Bool, true, false, cond, List, [], ◌∷◌, ◌++◌, length, take, drop, Some, None, refl, sym, ap, subst, ◌∙◌, arith, append_assoc}
 use Rattle.std.specs.Prelude.{All, nat_lt, nat_le, IfSome}
 use Rattle.std.proofs.lemmas.Bool.{eqb-false, and_parts}
@@ -25,7 +25,7 @@ zipped over front back under clip = record {
   clip = clip;
 }
 
--- each content is one cut at its caret
+-- each content is a text cut at its caret
 pub is_zipped : (x : Contents) → IsContents x → x ≡ zipped (above x) (before x) (behind x) (below x) x.clip
 is_zipped x is =
     rw (take-append-drop x.column (line_of x), lines, row, column) refl
@@ -40,7 +40,7 @@ is_zipped x is =
     lines = let r : x.row < length x.lines = is.row in
         ap (λ (rest : List (List ℕ)). above x ++ rest) (sym (drop_more x.lines x.row [] r)) ∙ take-append-drop x.row x.lines
 
--- what makes a content of a text cut at the caret
+-- conditions under which a text cut at the caret is a content
 pub zipped-is : (over : List (List ℕ)) (front back : List ℕ) (under : List (List ℕ)) (clip : List ℕ) →
     length over + length under < most_lines → All IsLine over → IsLine (front ++ back) → All IsLine under → IsLine clip →
     IsContents (zipped over front back under clip)
@@ -52,7 +52,7 @@ zipped-is over front back under clip few all line rest kept = record {
   clip = kept;
 }
 
--- where two texts are cut at the caret, their parts tell them
+-- the parts of a text cut at the caret determine it
 same_zipped : (x : Contents) (over : List (List ℕ)) (front back : List ℕ) (under : List (List ℕ)) →
     x.lines ≡ over ++ (front ++ back) ∷ under → x.row ≡ length over → x.column ≡ length front → x ≡ zipped over front back under x.clip
 same_zipped x over front back under lines row column = rw (← lines, ← row, ← column) refl
@@ -95,7 +95,7 @@ broken-zipped x is =
     (let r = above-length x is in omega (arith, length-append (above x) (before x ∷ [])))
     refl
 
--- parts of texts of a line
+-- a part of a line is a line
 pub part_taken : (n : ℕ) (text : List ℕ) → IsLine text → IsLine (take n text)
 part_taken n text is = record {
   short = let s = is.short in omega (arith, length-take n text);
@@ -223,7 +223,7 @@ effect-is x (Goto row column) is known does = moved_is x row column is
 effect-is x (Copy from to) is known does = copied_is x from to is
 effect-is x Paste is known does = inserted_is x x.clip is is.clip does
 
--- a command leaves a content
+-- the content after a command is valid
 pub editor_contents : (x : Contents) (cmd : EditorCmd) → IsContents x → IsEditorCmd cmd → IsContents (editor_next x cmd)
 editor_contents x cmd is known = by_test (acts x cmd) refl
   where
@@ -231,7 +231,7 @@ editor_contents x cmd is known = by_test (acts x cmd) refl
     by_test true does = effect-is x cmd is known does
     by_test false not = is
 
--- an event asks for a command
+-- the command that an event asks for is valid
 pub editor_answers : (x : Contents) (event : Event) → IsContents x → IsEvent event → IfSome (editor_answer x event) (λ cmd. IsEditorCmd cmd)
 editor_answers x (Key time code) is known = by_test (is_printable code) (code == 8) (code == 13) refl
   where
@@ -246,7 +246,7 @@ editor_answers x (Key time code) is known = by_test (is_printable code) (code ==
     by_test false false false other = tt
 editor_answers x event is known = tt
 
--- what has the parts of a content is one
+-- a value with the parts of a content is a content
 pub same_contents : (y z : Contents) → y.lines ≡ z.lines → y.row ≡ z.row → y.column ≡ z.column → y.clip ≡ z.clip →
     IsContents z → IsContents y
 same_contents y z lines row column clip is = subst (λ (u : Contents). IsContents u) same is

@@ -1,5 +1,5 @@
 -- An Editor obeys the laws of clients.
--- These are proofs, which stand here since an impl cites nothing else of its crate; no contract cites them.
+-- These proofs are in specs/ because an impl may cite nothing else of its crate. No contract cites them.
 use Rattle.std.proofs.Common.{◌≡◌, ℕ, ◌+◌, ◌-◌, ◌<◌, ◌≤◌, ◌==◌, min, Bool, true, false, ◌&&◌, ◌||◌, not, cond, List, [], ◌∷◌, ◌++◌, length, take, drop, get_or, map, refl, sym, ap, subst, ◌∙◌, arith, eqb-true}
 use Rattle.std.specs.Prelude.{nat_lt, nat_le, ◌↔◌}
 use Rattle.std.specs.List.{range_with_len}
@@ -48,7 +48,7 @@ top-row size x = by_test (room size == 0) refl
     by_test true none = omega arith
     by_test false some = let apart = eqb-false (room size) 0 some in omega arith
 
--- lines that others took the place of: what stands before them stays, and what stands behind them
+-- if lines are replaced, the lines before them stay, and so do the lines after them
 kept_before : (lines rest : List (List ℕ)) (from j : ℕ) → from ≤ length lines → j < from →
     get_or (take from lines ++ rest) j [] ≡ get_or lines j []
 kept_before lines rest from j fits before =
@@ -78,7 +78,7 @@ kept_beside lines line row j fits apart = by_test (nat_lt j row) refl apart
         by_order true lt le apart = let l : row < j = ltb-true row j lt in omega arith
         by_order false ge le apart = absurd (apart (grind (arith, nat_tests)))
 
--- one line became another
+-- one line was replaced
 line_changed : (size : Size) (x : Contents) (line : List ℕ) (k : ℕ) → IsContents x → (k == caret_strip size x) ≡ false →
     line_in (room size) (top size x) x.lines k ≡ line_in (room size) (top size x) (above x ++ line ∷ below x) k
 line_changed size x line k is apart =
@@ -127,7 +127,7 @@ is_raised size x is some same = record {
       ∙ ap (λ n. get_or x.lines n []) at));
 }
 
--- the law of patches, command by command, where some line has room
+-- the law of patches, command by command, if some line has room
 abbrev LeadsByCommand : Look → Size → Contents → Contents → List Paint → Type 0
 LeadsByCommand look size x y cs = IsPatch look size (batch_of (cs ++ mark size y ∷ [])) (with_caret look size x) (with_caret look size y)
 
@@ -236,7 +236,7 @@ editor_patches look size x cmd is known small = by_tests (room size == 0) (is_co
         leads look size x cmd is (omega arith) does copy
     by_tests false false false some copy does = no_patch look size _ _ (λ q here. refl)
 
--- commands none of which has an area
+-- commands whose areas are all empty
 abbrev AreNone : List Paint → Type 0
 AreNone cs = batch_of cs ≡ []
 
@@ -328,13 +328,13 @@ editor_empty_patches look size x cmd is known small flat = by_tests (room size =
         both_none (patch_without_mark size x (effect x cmd) cmd) (mark size (effect x cmd) ∷ [])
         (no-painted size x (effect x cmd) cmd no_column none) (no-mark size (effect x cmd) none)
 
--- the first of a list, as many of them as there are
+-- two beginnings of a list with the same number of elements are equal
 take-same : (lines : List (List ℕ)) (m n : ℕ) → length (take m lines) ≡ length (take n lines) → take m lines ≡ take n lines
 take-same lines m n same =
     let equal : min m (length lines) ≡ min n (length lines) = omega (arith, same, length-take m lines, length-take n lines) in
     sym (take_min m lines) ∙ ap (λ k. take k lines) equal ∙ take_min n lines
 
--- what is kept lies in both windows, and has the same colours in both
+-- the kept points lie in both windows, and have the same colours in both
 pub editor_keeping : (look : Look) (from to : Size) (x : Contents) → IsContents x → IsWindowSize from → IsWindowSize to →
     Survives (editor_keeps x from to) from to (editor_pic look from x) (editor_pic look to x)
 editor_keeping look from to x is small small' =
@@ -398,7 +398,7 @@ editor_kinds look size x p is small = by_tests (room size == 0) (has_point (care
     by_tests false true = pixel-exchanged look.kind 0 1 (bare look size x p) zero one lines
     by_tests false false = lines
 
--- once the lines of a part are painted, the caret is marked there
+-- the caret is marked in a part after its lines are painted
 pub caret_pushed : (look : Look) (part : Edges) (batch : List Paint) (e : Edges) (picture : Point → ℕ) →
     IsPainting look part batch picture →
     IsPainting look part (batch ++ kept (Tint (meet_of part e) (Exchange 0 1))) (λ q. inverted e q (picture q))
@@ -413,7 +413,7 @@ caret_pushed look part batch e picture painted =
     by_test true Map8 n = refl
     by_test false kind n = refl
 
--- the lines alone are the picture where no line has room, and with the caret they are it elsewhere
+-- the lines alone are the picture if no line has room; else the caret is added to them
 pub lines_are_painting : (look : Look) (size : Size) (x : Contents) (part : Edges) (batch : List Paint) → room size ≡ 0 →
     IsPainting look part batch (colour_in look (shown_lines size x)) → IsPainting look part batch (editor_pic look size x)
 lines_are_painting look size x part batch none painted =
@@ -432,7 +432,7 @@ caret_is_painting look size x part batch some painted = by_test (room size == 0)
     by_test true none = absurd (some (eqb-true (room size) 0 none))
     by_test false is = caret_pushed look part batch (caret size x) (colour_in look (shown_lines size x)) painted
 
--- a command that has its effect changes the content, if it doesn't copy
+-- an effective command that doesn't copy changes the content
 changes : (x : Contents) (cmd : EditorCmd) → acts x cmd ≡ true → is_copy cmd ≡ false → effect x cmd ≡ x → ⊥
 changes x (Insert text) does other same = put_changes text does same
   where
@@ -468,7 +468,7 @@ changes x Paste does other same =
     ltb-true 0 (length x.clip) (and_parts (nat_lt 0 (length x.clip)) (nat_le (length (line_of x) + length x.clip) 80) does).0 in
     omega arith
 
--- a command that doesn't copy leaves all as it is just where it hasn't its effect
+-- a command that doesn't copy leaves the content unchanged if and only if it isn't effective
 pub editor_stays : (x : Contents) (cmd : EditorCmd) → is_copy cmd ≡ false → (acts x cmd ≡ false) ↔ (editor_next x cmd ≡ x)
 editor_stays x cmd other = (λ idle. rw idle refl, λ same. by_test (acts x cmd) refl same)
   where

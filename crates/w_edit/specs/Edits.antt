@@ -1,11 +1,11 @@
 -- Private contracts alone cite this file.
--- What an edit of a text is: the lines that take the place of others, and where the caret goes.
+-- An edit of a text: the lines that replace others, and the new place of the caret.
 use Rattle.std.specs.Prelude.{◌≡◌, ◌+◌, ◌-◌, ◌<◌, ◌∷◌, ◌++◌, take}
 use Rattle.w_edit.specs.declared.changes.Edit.{Edit}
 use Rattle.w_edit.specs.declared.changes.Edit.TheVariants.{Line, Joined, Broken, Caret, Clip}
 use Rattle.w_edit.specs.Contents.{Contents, above, below, with_lines}
 
--- the content that an edit makes of another
+-- the content after an edit
 abbrev pub edited : Contents → Edit → Contents
 edited x (Line line column) = with_lines x (above x ++ line ∷ below x) x.row column
 edited x (Joined line column) = with_lines x (take (x.row - 1) x.lines ++ line ∷ below x) (x.row - 1) column
@@ -13,11 +13,11 @@ edited x (Broken front back) = with_lines x (above x ++ front ∷ back ∷ below
 edited x (Caret row column) = with_lines x x.lines row column
 edited x (Clip text) = record { lines = x.lines; row = x.row; column = x.column; clip = text }
 
--- lines are joined only where there is one above the caret's
+-- lines are joined only if there is a line above the caret's
 abbrev pub IsEditOf : Contents → Edit → Type 0
 IsEditOf x (Joined line column) = 0 < x.row
 IsEditOf x edit = Unit {0}
 
--- an edit of a content makes another of it
+-- an edit of one content makes another one
 abbrev pub Makes : Contents → Edit → Contents → Type 0
 Makes x edit y = IsEditOf x edit × (edited x edit ≡ y)

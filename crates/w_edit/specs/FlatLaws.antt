@@ -1,5 +1,5 @@
--- What commands do in the bytes is what they are to do.
--- These are proofs, which stand here since an impl cites nothing else of its crate; no contract cites them.
+-- Commands have the same effect on the lines and on the bytes.
+-- These proofs are in specs/ because an impl may cite nothing else of its crate. No contract cites them.
 use Rattle.std.proofs.Common.{◌≡◌, ℕ, ◌+◌, ◌-◌, ◌<◌, ◌==◌, Bool, true, false, cond, List, [], ◌∷◌, ◌++◌, length, take, drop, get_or, refl, sym, ap, ◌∙◌, arith, append_assoc, eqb-true}
 use Rattle.std.specs.Prelude.{All, nat_lt, nat_le, flat_map}
 use Rattle.std.specs.List.{join_with_byte, AllByRecursion}
@@ -23,7 +23,7 @@ use Rattle.w_edit.specs.ContentsLaws.{zipped, is_zipped, above-length, before-le
 abbrev pub started : List (List ℕ) → List ℕ
 started lines = flat_map (λ line. feed ∷ line) lines
 
--- the line and those below it
+-- the bytes of a line and of the lines below it
 flat-under : (line : List ℕ) (under : List (List ℕ)) → join_with_byte feed (line ∷ under) ≡ line ++ started under
 flat-under line [] = sym (append-nil line)
 flat-under line (next ∷ under) = ap (λ rest. line ++ feed ∷ rest) (flat-under next under)
@@ -47,7 +47,7 @@ place-zipped over front back under clip =
     ap (λ (lines : List (List ℕ)). length (ended lines) + length front) (take_at over ((front ++ back) ∷ under) (length over) refl)
     ∙ sym (length-append (ended over) front)
 
--- what is put in, and what is taken out, where the bytes fall into those before and those behind the place
+-- bytes inserted and a byte removed at a place, if the bytes are split there
 put_at : (front back text bytes : List ℕ) (at : ℕ) → bytes ≡ front ++ back → at ≡ length front →
     put_in bytes at text ≡ (front ++ text) ++ back
 put_at front back text bytes at is here =
@@ -74,11 +74,11 @@ flat-cut x is = ap (λ (y : Contents). flat y) (is_zipped x is) ∙ flat-zipped 
 pub place-cut : (x : Contents) → IsContents x → place x ≡ length (bytes_before x)
 place-cut x is = ap (λ (y : Contents). place y) (is_zipped x is) ∙ place-zipped (above x) (before x) (behind x) (below x) x.clip
 
--- lines more
+-- the bytes of lines with one more line
 ended-push : (over : List (List ℕ)) (line : List ℕ) → ended (over ++ line ∷ []) ≡ (ended over ++ line) ++ feed ∷ []
 ended-push over line = flat_map-append (λ l. l ++ feed ∷ []) over (line ∷ []) ∙ simp (append_assoc, append-nil)
 
--- each command in the bytes
+-- the effect of each command on the bytes
 flat-inserted : (x : Contents) (text : List ℕ) → IsContents x → flat (inserted x text) ≡ put_in (flat x) (place x) text
 flat-inserted x text is =
     ap (λ (y : Contents). flat y) (inserted-zipped x text is)
@@ -98,7 +98,7 @@ place-inserted x text is =
       length-append (before x) text,
     )
 
--- where one byte goes, what stands before it stays before the caret
+-- one byte before the caret is removed, and the bytes before it stay there
 record Loses (x y : Contents) (kept : List ℕ) (c : ℕ) : Type 0 where
   front : bytes_before x ≡ kept ++ c ∷ []
   bytes : flat y ≡ kept ++ back_of x
@@ -186,7 +186,7 @@ no_feed line is = All-weaker (λ c. is_printable c ≡ true) (λ c. (c == feed) 
     other : (c : ℕ) → is_printable c ≡ true → (c == feed) ≡ false
     other c p = grind (arith, nat_tests)
 
--- lines are had back from their bytes
+-- the bytes of lines determine the lines
 lines-back : (over : List (List ℕ)) (last : List ℕ) → All IsLine over → IsLine last → split_lines (ended over ++ last) ≡ over ++ last ∷ []
 lines-back [] last all is = slice_split_none (λ b. b == feed) last (no_feed last is)
 lines-back (first ∷ over) last all is =
@@ -194,7 +194,7 @@ lines-back (first ∷ over) last all is =
     ∙ slice_split_at (λ b. b == feed) first feed (ended over ++ last) (no_feed first (All-head IsLine first over all)) refl
     ∙ ap (λ (lines : List (List ℕ)). first ∷ lines) (lines-back over last (All-tail IsLine first over all) is)
 
--- the text in one row says all
+-- the text in one row determines the content
 pub flat_says_all : (x : Contents) → IsContents x → IsFlatOf x
 flat_says_all x is = record {
   back = rw (all, front, row, column) refl;
@@ -242,7 +242,7 @@ flat_says_all x is = record {
 same_text : (t u : FlatText) → t.bytes ≡ u.bytes → t.place ≡ u.place → t.clip ≡ u.clip → t ≡ u
 same_text t u bytes place clip = rw (← bytes, ← place, ← clip) refl
 
--- the effect of each command that has it
+-- the effect of each effective command
 flat-effect : (x : Contents) (cmd : EditorCmd) → IsContents x → acts x cmd ≡ true → flat_text (effect x cmd) ≡ flat_effect (flat_text x) cmd
 flat-effect x (Insert text) is does = same_text _ _ (flat-inserted x text is) (place-inserted x text is) refl
 flat-effect x Erase is does = by_column (x.column == 0) refl does
@@ -267,7 +267,7 @@ flat-effect x (Copy from to) is does =
     same_text _ _ refl refl (ap (λ (y : Contents). (copied y from to).clip) (sym (flat_says_all x is).back))
 flat-effect x Paste is does = same_text _ _ (flat-inserted x x.clip is) (place-inserted x x.clip is) refl
 
--- each command does in the bytes what it is to do
+-- each command has its effect on the bytes
 pub flat_steps : (x : Contents) (cmd : EditorCmd) → IsContents x → flat_text (editor_next x cmd) ≡ flat_next (flat_text x) cmd
 flat_steps x cmd is =
     by_test (acts x cmd) refl
@@ -277,7 +277,7 @@ flat_steps x cmd is =
     by_test true does = flat-effect x cmd is does
     by_test false not = refl
 
--- and so do commands in a row
+-- commands in a row have their effects on the bytes
 pub flat_runs : (x : Contents) (cmds : List EditorCmd) → IsContents x → AllByRecursion IsEditorCmd cmds →
     flat_text (editor_after x cmds) ≡ flat_after (flat_text x) cmds
 flat_runs x [] is known = refl

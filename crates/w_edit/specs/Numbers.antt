@@ -1,11 +1,11 @@
--- How long a text and a line may be, and so which numbers rows and columns have.
+-- The greatest lengths of a text and of a line, and the numbers of rows and columns.
 use Rattle.std.specs.Prelude.{ℕ, ◌<◌, ◌≤◌}
 
--- no text has more lines
+-- the most lines of a text
 abbrev pub most_lines : ℕ
 most_lines = 200
 
--- no line has more bytes
+-- the most bytes of a line
 abbrev pub most_bytes : ℕ
 most_bytes = 80
 
@@ -13,6 +13,6 @@ most_bytes = 80
 abbrev pub IsRowNumber : ℕ → Type 0
 IsRowNumber row = row < most_lines
 
--- the number of a column is at most the length of the longest line, behind whose last byte it is
+-- the number of a column is at most the length of the longest line: that column is behind its last byte
 abbrev pub IsColumn : ℕ → Type 0
 IsColumn column = column ≤ most_bytes

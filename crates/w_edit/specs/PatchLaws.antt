@@ -1,5 +1,5 @@
 -- An editor's patches lead from one picture to the next.
--- These are proofs, which stand here since an impl cites nothing else of its crate; no contract cites them.
+-- These proofs are in specs/ because an impl may cite nothing else of its crate. No contract cites them.
 use Rattle.std.proofs.Common.{◌≡◌, ℕ, ◌+◌, ◌*◌, ◌/◌, ◌≤◌, ◌==◌, ℤ, pos, ◌≤ℤ◌, Bool, true, false, ◌&&◌, cond, List, [], length, take, drop, get_or, refl, sym, ap, ◌∙◌, arith, eqb-true}
 use Rattle.std.specs.Prelude.{nat_lt, unsigned_abs}
 use Rattle.std.proofs.lemmas.Int.{ints}
@@ -29,11 +29,11 @@ use Rattle.w_edit.specs.Pictures.{top, cell, caret, inverted, strip, written, pu
 abbrev pub IsIn : Size → Point → Type 0
 IsIn size q = has_point (whole_of size) q ≡ true
 
--- the line of a strip, where so many strips show lines from one on
+-- the line of a strip, if `rows` strips show the lines from `first` on
 abbrev pub line_in : ℕ → ℕ → List (List ℕ) → ℕ → List ℕ
 line_in rows first lines k = cond (nat_lt k rows) (get_or lines (first + k) []) []
 
--- the colours by the line of each strip
+-- the colours, given by the line of each strip
 pub colour-line : (look : Look) (rows first : ℕ) (lines : List (List ℕ)) (q : Point) →
     colour_in look (take rows (drop first lines)) q ≡ line_colour look (strip_of q) (line_in rows first lines (strip_of q)) q
 colour-line look rows first lines q = ap (λ (line : List ℕ). line_colour look (strip_of q) line q) (by_test (nat_lt (strip_of q) rows) refl)
@@ -46,15 +46,15 @@ colour-line look rows first lines q = ap (λ (line : List ℕ). line_colour look
         let past : rows ≤ strip_of q = grind (arith, nat_tests) in
         get_or_past (take rows (drop first lines)) (strip_of q) [] (omega (arith, length-take rows (drop first lines)))
 
--- the colour of a point once the line of a strip is written there: the text's in its cells, and else the one before
+-- the colour of a point after a line is written in a strip: in its cells the text's colour, and else the old one
 abbrev pub over_line : Look → ℕ → List ℕ → Point → ℕ → ℕ
 over_line look i line q old = cond (in_cells i line q) (colour_of (text_bit look.font (begin_of i) line q)) old
 
--- the line that an editor shows in a strip, where it is one of those that have room
+-- the line that an editor shows in a strip that has room
 abbrev pub line_for : Size → Contents → ℕ → List ℕ
 line_for size y i = line_at y (top size y + i)
 
--- a line is written over what its strip had
+-- a line is written over the old pixels of its strip
 pub written-left : (look : Look) (size : Size) (y : Contents) (i : ℕ) (old : Point → ℕ) (q : Point) → IsIn size q →
     run_one look (written size y i) old q ≡ cond (strip_of q == i) (over_line look i (line_for size y i) q (old q)) (old q)
 written-left look size y i old q here = by_test (strip_of q == i) (strip-has size i q here)
@@ -66,7 +66,7 @@ written-left look size y i old q here = by_test (strip_of q == i) (strip-has siz
         (text-makes look (strip size i) (begin_of i) (line_for size y i) q (old q) within)
     by_test false outside = rw (has_point-meet_of (strip size i) (cells_of (begin_of i) (length (line_for size y i))) q, outside) refl
 
--- a strip that is put has the colours of its line, whatever it had
+-- a strip that is put has the colours of its line, over any old pixels
 pub put-run : (look : Look) (size : Size) (y : Contents) (i : ℕ) (old : Point → ℕ) (q : Point) → IsIn size q →
     run look (put size y i) old q ≡ cond (strip_of q == i) (line_colour look i (line_for size y i) q) (old q)
 put-run look size y i old q here =
@@ -80,7 +80,7 @@ put-run look size y i old q here =
     by_test true within = rw within refl
     by_test false outside = rw outside refl
 
--- an exchange in a cell, done twice, is none
+-- two exchanges in the same cell cancel out
 pub turned-twice : (e : Edges) (q : Point) (n : ℕ) → inverted e q (inverted e q n) ≡ n
 turned-twice e q n = by_test (has_point e q) (n == 0) (n == 1) refl refl
   where
@@ -91,7 +91,7 @@ turned-twice e q n = by_test (has_point e q) (n == 0) (n == 1) refl refl
     by_test true false true zero one = rw (zero, one) (sym (eqb-true n 1 one))
     by_test true false false zero one = rw (zero, one, zero, one) refl
 
--- it leaves the points of other strips
+-- an exchange changes no point of other strips
 pub turned-other : (column i : ℕ) (q : Point) (n : ℕ) → pos 0 ≤ℤ q.v → (strip_of q == i) ≡ false → inverted (cell column i) q n ≡ n
 turned-other column i q n inside apart =
     ap (λ b. cond b (exchanged 0 1 n) n) outside

@@ -6,27 +6,26 @@ use std::alloc::Global;
 use tr_base::{Command, Line, NoMemory};
 use tr_client::{append_all, append_with_text};
 
-/// What an editor can be told.
+/// A command of an editor.
 #[derive(Debug, Drop)]
 pub enum EditorCmd {
-    /// The bytes of this line stand at the caret, which moves behind them.
+    /// Inserts the bytes of this line at the caret, which moves behind them.
     Insert(Line),
-    /// The byte before the caret goes; at the beginning of a line it is joined to the one above it.
+    /// Removes the byte before the caret; at the beginning of a line, joins it to the one above it.
     Erase,
-    /// The line is broken at the caret.
+    /// Breaks the line at the caret.
     Split,
-    /// The caret goes there, or as near as the text has it.
+    /// Moves the caret there, or to the nearest place of the text.
     Goto {
         row: RowNumber,
         column: ColumnNumber,
     },
-    /// The clip becomes the bytes of the caret's line from `from` to before `to`, as far as they are
-    /// there.
+    /// The clip becomes the bytes of the caret's line from `from` to before `to`, as far as they exist.
     Copy {
         from: ColumnNumber,
         to: ColumnNumber,
     },
-    /// The clip stands at the caret, which moves behind it.
+    /// Inserts the clip at the caret, which moves behind it.
     Paste,
 }
 
@@ -102,7 +101,7 @@ impl Command for EditorCmd {
     }
 }
 
-/// Puts a word and two numbers behind it at the end of `out`, or nothing.
+/// Appends a word and then two numbers to `out`, or nothing.
 fn append_two(out: &mut Vec<u8>, word: &[u8], first: u8, second: u8) -> Result<(), NoMemory>
     ensures ok { OnOk result (out.new.items ≡
         out.old.items ++ (word.now ++ decimal first ++ codes " " ++ decimal second)) }

@@ -37,7 +37,7 @@ impl Model for Editor {
 }
 
 impl Editor {
-    /// A text of one line without a byte.
+    /// A text of one empty line.
     pub fn new(alloc: Global) -> Result<Editor, NoMemory>
         ensures { IfOk result (λ e. e ≡ spec.empty_text) }
     {
@@ -51,7 +51,7 @@ impl Editor {
         })
     }
 
-    /// Tells what each editor keeps. Nothing runs.
+    /// Tells the invariant of editors. Nothing runs.
     pub fn invariant(&self)
         ensures { spec.IsContents self.now }
     {
@@ -66,7 +66,7 @@ impl Editor {
         &self.lines
     }
 
-    /// The row of the caret, which is that of a line.
+    /// The row of the caret: that of a line.
     pub fn row(&self) -> usize
         ensures value { result ≡ self.now.row }
         ensures limit { result < MOST_LINES }
@@ -83,15 +83,15 @@ impl Editor {
         self.column
     }
 
-    /// What was copied last.
+    /// The clip: the bytes that were copied last.
     pub fn clip(&self) -> &Line
         ensures { result.now ≡ self.now.clip }
     {
         &self.clip
     }
 
-    /// Law of the text in one row of bytes: it says all of the content, and commands do there what
-    /// they are to do. Nothing runs.
+    /// Law of the text in one row of bytes: it determines the content, and a command has the same effect
+    /// on it. Nothing runs.
     pub fn obeys_flat(&self)
         ensures all { IsFlatOf self.now }
         ensures commands { (cmds : List EditorCmd) → AllByRecursion spec.IsEditorCmd cmds →
@@ -100,15 +100,15 @@ impl Editor {
         self.invariant();
     }
 
-    /// Law of the effects: a command that doesn't copy leaves all as it is just where it hasn't its
-    /// effect. Nothing runs.
+    /// Law of the effects: a command that doesn't copy leaves the content unchanged if and only if it isn't
+    /// effective. Nothing runs.
     #[tactic(auto, using(crate::specs::EditorLaws::editor_stays))]
     pub fn obeys_effects(&self, cmd: &EditorCmd)
         ensures { is_copy cmd.now ≡ false →
             (spec.acts self.now cmd.now ≡ false) ↔ (spec.editor_next self.now cmd.now ≡ self.now) }
     {}
 
-    /// The same content.
+    /// A copy of the content.
     pub(crate) fn copy_of(&self, alloc: Global) -> Result<Editor, NoMemory>
         ensures { IfOk result (λ y. y ≡ self.now) }
     {

@@ -36,8 +36,8 @@ impl Editor {
         Ok((next, patch))
     }
 
-    /// Changes the content by a command, and puts the command's patch behind the commands of a batch. For
-    /// want of memory the content stays, and some of the patch may stay in the batch.
+    /// Changes the content by a command, and puts the command's patch after the commands of a batch. If
+    /// memory runs out, the content stays, and some of the patch may stay in the batch.
     pub(crate) fn take(
         &mut self,
         alloc: Global,
@@ -181,7 +181,7 @@ impl Editor {
         Ok(Edit::Clip(part(alloc, self.line().bytes(), from, to)?))
     }
 
-    /// Makes an edit. For want of memory nothing changes.
+    /// Makes an edit. If memory runs out, nothing changes.
     fn make(&mut self, edit: Edit) -> Result<(), NoMemory>
         requires edit { IsEditOf self.old edit }
         requires contents { spec.IsContents (edited self.old edit) }

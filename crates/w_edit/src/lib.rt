@@ -1,6 +1,6 @@
-//! A window with a text that is edited line by line: commands put bytes at its caret, erase them,
-//! break lines and join them, and move the caret. A part of the caret's line can be copied, and put
-//! elsewhere.
+//! A window with a text that is edited line by line: commands insert bytes at its caret, erase them,
+//! break lines and join them, and move the caret. A part of the caret's line can be copied, and
+//! inserted elsewhere.
 #![tactic(auto)]
 
 mod changes;

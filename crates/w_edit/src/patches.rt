@@ -35,7 +35,7 @@ impl<'a> View<'a> {
         }
     }
 
-    /// The strip in which the caret stands.
+    /// The strip of the caret.
     fn caret_strip(&self, size: Size) -> usize
         ensures value { result ≡ spec.caret_strip size self.now }
         ensures limit { result < MOST_LINES }
@@ -50,7 +50,7 @@ impl<'a> View<'a> {
         cell(self.column(), self.caret_strip(size))
     }
 
-    /// Background and foreground change places in the caret's cell.
+    /// Exchanges background and foreground in the caret's cell.
     fn mark(&self, size: Size) -> Paint
         requires { IsWindowSize size }
         ensures paint { result ≡ spec.mark size self.now }
@@ -62,7 +62,7 @@ impl<'a> View<'a> {
         }
     }
 
-    /// The line of a strip is written.
+    /// Writes the line of a strip.
     fn written(&self, size: Size, above: usize) -> Result<Paint, NoMemory>
         requires size { IsWindowSize size }
         requires above { above < room size }
@@ -77,7 +77,7 @@ impl<'a> View<'a> {
         })
     }
 
-    /// A strip becomes background, and its line is written.
+    /// Makes a strip background, and writes its line.
     fn put(&self, size: Size, above: usize, batch: &mut Batch) -> Result<(), NoMemory>
         requires size { IsWindowSize size }
         requires above { above < room size }
@@ -92,7 +92,7 @@ impl<'a> View<'a> {
         Ok(())
     }
 
-    /// How many lines a window shows.
+    /// The number of lines that a window shows.
     fn count_shown(&self, size: Size) -> usize
         ensures value { result ≡ length (spec.shown_lines size self.now) }
         ensures room { result ≤ room size }
@@ -100,7 +100,7 @@ impl<'a> View<'a> {
         room(size).min(self.len() - self.top(size))
     }
 
-    /// All becomes background, and each line that is shown is written.
+    /// Makes all background, and writes each line that is shown.
     fn repaint(&self, size: Size, batch: &mut Batch) -> Result<(), NoMemory>
         requires { IsWindowSize size }
         ensures ok { OnOk result (batch.new ≡ batch.old ++ batch_of (spec.whole_painting size self.now)) }
@@ -119,7 +119,7 @@ impl<'a> View<'a> {
         Ok(())
     }
 
-    /// The caret's strip is painted anew.
+    /// Paints the caret's strip anew.
     fn rewrite(&self, size: Size, batch: &mut Batch) -> Result<(), NoMemory>
         requires size { IsWindowSize size }
         requires some { 0 < room size }
@@ -129,7 +129,7 @@ impl<'a> View<'a> {
         self.put(size, self.caret_strip(size), batch)
     }
 
-    /// What is painted where the caret goes to where the next content has it.
+    /// Paints the move of the caret to its place in the next content.
     fn move_caret(&self, size: Size, next: &View, batch: &mut Batch) -> Result<(), NoMemory>
         requires size { IsWindowSize size }
         requires some { 0 < room size }
@@ -157,7 +157,7 @@ impl<'a> View<'a> {
         }
     }
 
-    /// What is painted where the caret's line is broken.
+    /// Paints the break of the caret's line.
     fn break_line(&self, size: Size, next: &View, batch: &mut Batch) -> Result<(), NoMemory>
         requires size { IsWindowSize size }
         requires some { 0 < room size }
@@ -176,7 +176,7 @@ impl<'a> View<'a> {
         Ok(())
     }
 
-    /// What is painted where the caret's line is joined to the one above it.
+    /// Paints the join of the caret's line to the one above it.
     fn join_lines(&self, size: Size, next: &View, batch: &mut Batch) -> Result<(), NoMemory>
         requires size { IsWindowSize size }
         requires some { 0 < room size }
@@ -195,7 +195,7 @@ impl<'a> View<'a> {
         Ok(())
     }
 
-    /// What is painted before the mark, from a content to the next.
+    /// Paints all but the mark, from a content to the next.
     fn put_changes(
         &self,
         size: Size,
@@ -220,8 +220,8 @@ impl<'a> View<'a> {
         }
     }
 
-    /// Puts the patch of a command that has its effect behind the commands of a batch. Where memory runs
-    /// out, some of it may stay there.
+    /// Puts the patch of an effective command after the commands of a batch. If memory runs out, some of it
+    /// may stay there.
     pub(crate) fn put_patch(
         &self,
         size: Size,

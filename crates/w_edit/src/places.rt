@@ -9,7 +9,7 @@ use tr_base::{Rect, Size};
 use tr_client::{area_of, downwards, upwards};
 use tr_paint::Paint;
 
-/// The strip of a window that has so many others above it.
+/// The strip of a window with `above` others above it.
 pub fn strip(size: Size, above: usize) -> Rect
     requires size { IsWindowSize size }
     requires above { 8 * above + 8 ≤ longest }
@@ -19,7 +19,7 @@ pub fn strip(size: Size, above: usize) -> Rect
     area_of(size, above, above + 1)
 }
 
-/// The cell of a column, in the strip that has so many others above it.
+/// The cell of a column, in the strip with `above` others above it.
 pub fn cell(column: usize, above: usize) -> Rect
     requires column { 8 * column ≤ longest }
     requires above { 8 * above ≤ longest }
@@ -33,7 +33,7 @@ pub fn cell(column: usize, above: usize) -> Rect
     )
 }
 
-/// The strips from one to before another take what the strip below each of them has.
+/// Each strip from `from` to before `to` gets the pixels of the strip below it.
 pub fn raised(size: Size, from: usize, to: usize) -> Paint
     requires size { IsWindowSize size }
     requires from { 8 * from ≤ longest }
@@ -47,7 +47,7 @@ pub fn raised(size: Size, from: usize, to: usize) -> Paint
     }
 }
 
-/// The strips from one to before another take what the strip above each of them has.
+/// Each strip from `from` to before `to` gets the pixels of the strip above it.
 pub fn lowered(size: Size, from: usize, to: usize) -> Paint
     requires size { IsWindowSize size }
     requires from { 8 * from ≤ longest }

@@ -23,7 +23,7 @@ impl Model for RowNumber {
 }
 
 impl RowNumber {
-    /// The row with so many others above it.
+    /// The row with `number` others above it.
     pub fn of(number: u8) -> RowNumber
         requires { spec.IsRowNumber number }
         ensures { result ≡ number }
@@ -67,7 +67,7 @@ impl Model for ColumnNumber {
 }
 
 impl ColumnNumber {
-    /// The column with so many bytes before it.
+    /// The column with `number` bytes before it.
     pub fn of(number: u8) -> ColumnNumber
         requires { spec.IsColumn number }
         ensures { result ≡ number }

@@ -9,7 +9,7 @@ use std::marker::Model;
 use std::slice::from_ref;
 use tr_base::{LINE, Line, NoMemory};
 
-/// An editor's content, as it is or as an edit makes it. The lines are borrowed in four parts, one behind
+/// An editor's content, as it is or as an edit makes it. The lines are borrowed in four parts, one after
 /// the other, so that a patch needs no copy of them.
 #[derive(Drop)]
 pub(crate) struct View<'a> {
@@ -45,7 +45,7 @@ impl<'a> Model for View<'a> {
 }
 
 impl<'a> View<'a> {
-    /// The row of the caret, which is that of a line.
+    /// The row of the caret: that of a line.
     pub(crate) fn row(&self) -> usize
         ensures value { result ≡ self.now.row }
         ensures limit { result < MOST_LINES }
@@ -61,7 +61,7 @@ impl<'a> View<'a> {
         self.column
     }
 
-    /// How many lines there are.
+    /// The number of lines.
     pub(crate) fn len(&self) -> usize
         ensures value { result ≡ length self.now.lines }
         ensures row { self.now.row < result }
@@ -70,7 +70,7 @@ impl<'a> View<'a> {
         self.above.len() + self.first.len() + self.second.len() + self.below.len()
     }
 
-    /// The line of a row, which has no byte where there is none.
+    /// The line of a row, or an empty one if the row has none.
     pub(crate) fn line_at(&self, row: usize) -> Result<Line, NoMemory>
         ensures { IfOk result (λ line. line ≡ spec.line_at self.now row) }
     {
@@ -137,7 +137,7 @@ impl Editor {
         }
     }
 
-    /// The content with lines in place of those from one row to the caret's, and the caret elsewhere.
+    /// The content with lines in place of those from one row to the caret's, and the caret at another place.
     fn view_with<'a>(
         &'a self,
         from: usize,

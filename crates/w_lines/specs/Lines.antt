@@ -17,26 +17,26 @@ use Rattle.tr_client.specs.Words.{with_text}
 use Rattle.w_lines.specs.declared.commands.LinesCmd.{LinesCmd}
 use Rattle.w_lines.specs.declared.commands.LinesCmd.TheVariants.{Line, Clear}
 
--- no more lines are kept
+-- the most lines that are kept
 abbrev pub most_kept_lines : ℕ
 most_kept_lines = 200
 
--- the last n lines, or all where there are fewer
+-- the last n lines, or all if there are fewer
 abbrev pub newest_lines : ℕ → List (List ℕ) → List (List ℕ)
 newest_lines n lines = drop (length lines - n) lines
 
--- there are at most 200 lines, and each has at most 80 bytes, which can all be printed
+-- there are at most 200 lines, and each has at most 80 bytes, all of them printable
 pub record IsLines (lines : List (List ℕ)) : Type 0 where
   pub few : length lines ≤ most_kept_lines
   pub each : All IsLine lines
 
--- lines lie in a block behind others that are no longer kept, which are fewer than 200
+-- lines lie in a block after fewer than 200 others that are no longer kept
 pub record IsBlock (stale : ℕ) (block : List (List ℕ)) : Type 0 where
   pub within : stale ≤ length block
   pub few : stale < most_kept_lines
   pub lines : IsLines (drop stale block)
 
--- the text of a command is one of a line
+-- the text of a command is a line
 abbrev pub IsLinesCmd : LinesCmd → Type 0
 IsLinesCmd (Line line) = IsLine line
 IsLinesCmd Clear = Unit {0}
@@ -46,51 +46,51 @@ abbrev pub lines_words : LinesCmd → List ℕ
 lines_words (Line line) = with_text (codes "line") line
 lines_words Clear = codes "clear"
 
--- a window shows the last lines, as many as it has room for
+-- a window shows as many of the last lines as it has room for
 abbrev pub lines_pic : Look → Size → List (List ℕ) → Point → ℕ
 lines_pic look size lines q = colour_in look (newest_lines (room size) lines) q
 
--- a command puts a line behind the others, of which the oldest goes where there are 200, or removes all lines
+-- a command adds a line after the others, and only the last 200 lines are kept; or it removes all lines
 abbrev pub lines_next : List (List ℕ) → LinesCmd → List (List ℕ)
 lines_next lines (Line line) = newest_lines most_kept_lines (lines ++ line ∷ [])
 lines_next lines Clear = []
 
--- a line is written below so many others
+-- a line is written below `above` others
 abbrev pub written_below : Size → ℕ → List ℕ → List Paint
 written_below size above line = batch_of (Text (whole_of size) (begin_of above) plain line ∷ [])
 
--- the lines of a window that is full with `count` lines move upwards, and a line is written where the last one was
+-- the lines of a window that is full with `count` lines move upwards, and a line is written in place of the last one
 abbrev pub moved_up : Size → ℕ → List ℕ → List Paint
 moved_up size count line =
     let last = count - 1 in
     batch_of (Scroll (strips_between size 0 last) upwards ∷ Tint (strips_between size last count) Bg
     ∷ Text (whole_of size) (begin_of last) plain line ∷ [])
 
--- how many lines a window shows at most
+-- the most lines that a window shows
 abbrev pub most_shown : Size → ℕ
 most_shown size = min (room size) most_kept_lines
 
--- a new line is written below the others; where there is no room, they move upwards; and where no line has room, nothing is painted
+-- a new line is written below the others; if there is no room, they move upwards; if no line has room, nothing is painted
 abbrev pub line_patch : Size → List (List ℕ) → List ℕ → List Paint
 line_patch size lines line =
     let count = most_shown size in
     if count == 0 then [] else if nat_lt (length lines) count then written_below size (length lines) line else moved_up size count line
 
--- a command's patch: that of a line, or all of the window becomes background
+-- a command's patch: the patch of a line, or all of the window becomes background
 abbrev pub lines_patch : Look → Size → List (List ℕ) → LinesCmd → List Paint
 lines_patch look size lines (Line line) = line_patch size lines line
 lines_patch look size lines Clear = cleared (whole_of size)
 
--- a key that can be printed asks for a line of this one byte
+-- a printable key asks for a line of its byte
 abbrev pub lines_answer : List (List ℕ) → Event → Option LinesCmd
 lines_answer lines (Key time code) = if is_printable code then Some (Line (code ∷ [])) else None
 lines_answer lines event = None
 
--- the last line, which has no byte where there is none
+-- the last line, or an empty one if there is none
 abbrev pub lines_value : List (List ℕ) → List ℕ
 lines_value lines = slice_index_or lines (length lines - 1) []
 
--- what both windows have, if they show the same number of lines, and else nothing
+-- the points in both windows, if they show the same number of lines, and else no point
 abbrev pub lines_keeps : List (List ℕ) → Size → Size → Edges
 lines_keeps lines from to =
     if min (length lines) (room from) == min (length lines) (room to) then meet_of (whole_of from) (whole_of to) else empty_rect

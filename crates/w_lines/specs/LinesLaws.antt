@@ -1,5 +1,5 @@
 -- A Lines obeys the laws of clients.
--- These are proofs, which stand here since an impl cites nothing else of its crate; no contract cites them.
+-- These proofs are in specs/ because an impl may cite nothing else of its crate. No contract cites them.
 use Rattle.std.proofs.Common.{◌≡◌, ℕ, ◌+◌, ◌-◌, ◌<◌, ◌≤◌, ◌==◌, min, Bool, true, false, ◌&&◌, cond, List, [], ◌∷◌, ◌++◌, length, drop, Some, None, refl, sym, ap, subst, ◌∙◌, arith, eqb-true}
 use Rattle.std.specs.Prelude.{nat_lt, nat_le, IfSome}
 use Rattle.std.proofs.lemmas.Bool.Decides.{nat_tests}
@@ -34,7 +34,7 @@ use Rattle.w_lines.specs.declared.commands.LinesCmd.{LinesCmd}
 use Rattle.w_lines.specs.declared.commands.LinesCmd.TheVariants.{Line, Clear}
 use Rattle.w_lines.specs.Lines.{IsLines, IsLinesCmd, most_kept_lines, newest_lines, most_shown, lines_pic, lines_next, written_below, moved_up, line_patch, lines_patch, lines_answer, lines_keeps}
 
--- a line that is written below the others is a patch to the picture of one line more
+-- writing a line below the others is a patch to the picture with one more line
 written_patch : (look : Look) (size : Size) (lines : List (List ℕ)) (line : List ℕ) →
     IsPatch look size (written_below size (length lines) line) (colour_in look lines) (colour_in look (lines ++ line ∷ []))
 written_patch look size lines line =
@@ -43,7 +43,7 @@ written_patch look size lines line =
     (λ q here. makes-left look.kind (deed look text q) (colour_in look lines) q _ _ refl
     (line-makes look (whole_of size) lines line q here))
 
--- a full window's lines, each one strip higher, and background in the last strip: that is the picture without the first of them
+-- a full window's lines, each one strip higher, and background in the last strip: the picture without the first line
 raised_colour : (look : Look) (size : Size) (first : List ℕ) (lines : List (List ℕ)) (q : Point) → has_point (whole_of size) q ≡ true →
     (let count = length lines in
     cond (nat_le count (strip_of q) && nat_lt (strip_of q) (count + 1)) 0
@@ -66,7 +66,7 @@ raised_colour look size first lines q here =
         let past : length lines < strip_of q = grind (arith, nat_tests) in
         colour-beyond look (first ∷ lines) q (omega arith) ∙ sym (colour-beyond look lines q (omega arith))
 
--- where the lines of a full window move upwards each gives its strip to the next, the last strip becomes background,
+-- if the lines of a full window move upwards, each gives its strip to the next, the last strip becomes background,
 -- and a line is written there
 moved_patch : (look : Look) (size : Size) (shown : List (List ℕ)) (line : List ℕ) (count : ℕ) → length shown ≡ count → 0 < count →
     IsPatch look size (moved_up size count line) (colour_in look shown) (colour_in look (drop 1 shown ++ line ∷ []))
@@ -102,14 +102,14 @@ moved_patch look size (first ∷ lines) line count long some =
         ∙ raised_colour look size first lines q here)
         (line-makes look (whole_of size) lines line q here)
 
--- of lines that are no more than n, the last n are all
+-- the last n of at most n lines are all of them
 pub last_of-all : (n : ℕ) (lines : List (List ℕ)) → length lines ≤ n → newest_lines n lines ≡ lines
 last_of-all n lines few = let none : length lines - n ≡ 0 = omega arith in ap (λ i. drop i lines) none
 
 last_of-none : (n : ℕ) (lines : List (List ℕ)) → n ≡ 0 → newest_lines n lines ≡ []
 last_of-none n lines none = drop_all (length lines - n) lines (omega arith)
 
--- where a window has room for one line more, it shows it below the others
+-- a window with room for one more line shows it below the others
 shown_more : (n : ℕ) (lines : List (List ℕ)) (line : List ℕ) → length lines < min n most_kept_lines →
     newest_lines n (newest_lines most_kept_lines (lines ++ line ∷ [])) ≡ lines ++ line ∷ []
 shown_more n lines line fits =
@@ -117,7 +117,7 @@ shown_more n lines line fits =
     (last_of-all most_kept_lines (lines ++ line ∷ []) (omega (arith, length-append lines (line ∷ []))))
     ∙ last_of-all n (lines ++ line ∷ []) (omega (arith, length-append lines (line ∷ [])))
 
--- where it has none, it shows it below the others without the first
+-- a window without room shows it below the others without the first
 shown_full : (n : ℕ) (lines : List (List ℕ)) (line : List ℕ) → 0 < n → min n most_kept_lines ≤ length lines → length lines ≤ most_kept_lines →
     newest_lines n (newest_lines most_kept_lines (lines ++ line ∷ [])) ≡ drop 1 (newest_lines n lines) ++ line ∷ []
 shown_full n lines line some full few =
@@ -148,7 +148,7 @@ lines_contents x (Line line) valid known = record {
 }
 lines_contents x Clear valid known = record { few = omega arith; each = All-nil IsLine }
 
--- the law of patches for one line more
+-- the law of patches for one more line
 line_patches : (look : Look) (size : Size) (x : List (List ℕ)) (line : List ℕ) → IsLines x →
     IsPatch look size (line_patch size x line) (lines_pic look size x) (lines_pic look size (newest_lines most_kept_lines (x ++ line ∷ [])))
 line_patches look size x line valid = by_tests (most_shown size == 0) (nat_lt (length x) (most_shown size)) refl refl

@@ -2,12 +2,12 @@ use std::alloc::Global;
 use tr_base::{Command, Line, NoMemory};
 use tr_client::{append_all, append_with_text};
 
-/// What a Lines can be told.
+/// A command of a Lines.
 #[derive(Debug, Drop)]
 pub enum LinesCmd {
-    /// This line stands below the others.
+    /// Adds this line below the others.
     Line(Line),
-    /// There is no line.
+    /// Removes all lines.
     Clear,
 }
 

@@ -1,5 +1,5 @@
-//! A window with the last lines of a typescript: a command adds a line below the others, and where
-//! there is no room the lines move upwards.
+//! A window with the last lines of a typescript: a command adds a line below the others, and if there
+//! is no room the lines move upwards.
 #![tactic(auto)]
 
 mod commands;

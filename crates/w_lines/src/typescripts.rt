@@ -22,13 +22,13 @@ use tr_paint::{Batch, Paint};
 /// The most lines that are kept.
 pub const MOST_LINES: usize = 200;
 
-/// A window with the last lines of a typescript, seen as their list. They lie in one block, behind lines
-/// that are no longer kept. These leave the block when there are 200 of them, so a line more costs about
-/// what it adds, and not the lines that stay.
+/// A window with the last lines of a typescript; its model is their list. They lie in one block, after
+/// lines that are no longer kept. When there are 200 of these, they leave the block, so one more line
+/// costs little more than adding it, and seldom moves the kept lines.
 #[derive(Debug, Drop)]
 pub struct Lines {
     block: Vec<Line>,
-    /// How many lines of the block are no longer kept.
+    /// The number of lines of the block that are no longer kept.
     stale: usize,
 }
 
@@ -54,7 +54,7 @@ impl Lines {
         })
     }
 
-    /// Tells what each typescript keeps. Nothing runs.
+    /// Tells the invariant of typescripts. Nothing runs.
     pub fn invariant(&self)
         ensures { spec.IsLines self.now }
     {
@@ -69,7 +69,7 @@ impl Lines {
         &self.block[self.stale..]
     }
 
-    /// One line more.
+    /// Adds one line.
     fn take_line(&mut self, line: &Line) -> Result<(), NoMemory>
         ensures ok { OnOk result (self.new ≡ spec.newest_lines MOST_LINES (self.old ++ line.now ∷ [])) }
         ensures err { OnErr result (self.new ≡ self.old) }
@@ -80,7 +80,7 @@ impl Lines {
         Ok(())
     }
 
-    /// A command changes the content.
+    /// Changes the content by a command.
     fn take(&mut self, cmd: &LinesCmd) -> Result<(), NoMemory>
         ensures ok { OnOk result (self.new ≡ spec.lines_next self.old cmd.now) }
         ensures err { OnErr result (self.new ≡ self.old) }
@@ -95,7 +95,7 @@ impl Lines {
         }
     }
 
-    /// Puts the patch of a line more behind the commands of a batch. Where memory runs out, some of it may
+    /// Puts the patch of one more line after the commands of a batch. If memory runs out, some of it may
     /// stay there.
     fn put_line_patch(&self, size: Size, line: &Line, batch: &mut Batch) -> Result<(), NoMemory>
         requires { IsWindowSize size }
@@ -137,15 +137,15 @@ impl Lines {
     }
 }
 
-/// The last `n` lines, or all where there are fewer.
+/// The last `n` lines, or all if there are fewer.
 fn last_of(lines: &[Line], n: usize) -> &[Line]
     ensures { result.now ≡ spec.newest_lines n lines.now }
 {
     &lines[lines.len().saturating_sub(n)..]
 }
 
-/// Where the last 200 of the lines begin that stand from a place of a block on. Where as many lines stand
-/// in front of them, these leave the block.
+/// The place in a block at which the last 200 of its kept lines begin. The lines before them leave the
+/// block when there are 200 or more.
 fn without_stale(block: &mut Vec<Line>, stale: usize) -> usize
     requires { stale ≤ length block.old.items }
     ensures lines { drop result block.new.items ≡ spec.newest_lines MOST_LINES (drop stale block.old.items) }
@@ -162,7 +162,7 @@ fn without_stale(block: &mut Vec<Line>, stale: usize) -> usize
     0
 }
 
-/// A line is written below so many others.
+/// Writes a line below `above` others.
 fn put_below(batch: &mut Batch, size: Size, above: usize, line: &Line) -> Result<(), NoMemory>
     requires size { IsWindowSize size }
     requires above { 8 * above ≤ longest }
@@ -178,7 +178,7 @@ fn put_below(batch: &mut Batch, size: Size, above: usize, line: &Line) -> Result
     Ok(())
 }
 
-/// The lines of a full window move upwards, and a line is written where the last one was.
+/// Moves the lines of a full window upwards, and writes a line in place of the last one.
 fn put_moved_up(batch: &mut Batch, size: Size, count: usize, line: &Line) -> Result<(), NoMemory>
     requires size { IsWindowSize size }
     requires some { 0 < count }
@@ -204,7 +204,7 @@ fn put_moved_up(batch: &mut Batch, size: Size, count: usize, line: &Line) -> Res
     Ok(())
 }
 
-/// All of a window becomes background.
+/// Makes all of a window background.
 fn put_cleared(batch: &mut Batch, size: Size) -> Result<(), NoMemory>
     requires { IsWindowSize size }
     ensures ok { OnOk result (batch.new ≡ batch.old ++ background (whole_of size)) }

@@ -1,5 +1,5 @@
 -- A Meter obeys the laws of clients.
--- These are proofs, which stand here since an impl cites nothing else of its crate; no contract cites them.
+-- These proofs are in specs/ because an impl may cite nothing else of its crate. No contract cites them.
 use Rattle.std.proofs.Common.{◌≡◌, ℕ, ◌+◌, ◌*◌, ◌/◌, ◌<◌, ◌≤◌, ◌==◌, ◌&&◌, ℤ, pos, ◌-ℤ◌, ◌≤ℤ◌, ◌<ℤ◌, Bool, true, false, not, cond, List, [], ◌∷◌, ◌++◌, length, take, refl, sym, ap, subst, ◌∙◌, arith, eqb-true}
 use Rattle.std.specs.Prelude.{nat_lt, int_le, slice_index, slice_set, unsigned_abs, IfSome}
 use Rattle.std.specs.Int.{int_max}
@@ -34,11 +34,11 @@ use Rattle.w_meter.specs.declared.meters.MeterCmd.{MeterCmd}
 use Rattle.w_meter.specs.declared.meters.MeterCmd.TheVariants.{Bar}
 use Rattle.w_meter.specs.Meters.{IsMeter, IsMeterCmd, in_bar, meter_pic, meter_next, meter_patch, meter_answer, meter_keeps, rows_of, top_of}
 
--- the columns of a bar are those whose number, divided by 8, is the bar's
+-- a bar's columns are those whose number, divided by 8, is the bar's number
 pub columns-are : (bar : ℕ) (h : ℤ) → pos 0 ≤ℤ h → between (pos (8 * bar)) (pos (8 * bar + 8)) h ≡ (unsigned_abs h / 8 == bar)
 columns-are bar h first = grind (arith, ints, nat_tests)
 
--- at a point of a part, what is painted of a bar's columns are its rows
+-- a point of a part lies in the painted part of a bar's columns if it lies in the columns and between the two rows
 pub rows-have : (part : Edges) (bar : ℕ) (north south : ℤ) (q : Point) → has_point part q ≡ true →
     has_point (rows_of part bar north south) q ≡ between (pos (8 * bar)) (pos (8 * bar + 8)) q.h && between north south q.v
 rows-have part bar north south q here =
@@ -46,7 +46,7 @@ rows-have part bar north south q here =
     ∙ ap (λ b. b && has_point (rect_of (pos (8 * bar)) (pos (8 * bar + 8)) north south) q) here
     ∙ has_point-rect_of (pos (8 * bar)) (pos (8 * bar + 8)) north south q
 
--- what lies between the edges of a test that holds
+-- a number at which the test `between` holds
 pub record Lies (low high x : ℤ) : Type 0 where
   pub first : low ≤ℤ x
   pub last : x <ℤ high
@@ -60,14 +60,14 @@ lies-whole size q here =
     let both = and_parts _ _ (sym (has_point-rect_of (pos 0) (pos size.wide) (pos 0) (pos size.high) q) ∙ here) in
     (lies-between _ _ _ both.0, lies-between _ _ _ both.1)
 
--- within the window the rows from a bar's top on are those from its height on, and the others lie above
+-- in a window the rows from a bar's top on lie in the bar, and the other rows lie above it
 pub rows-below : (low high v : ℤ) → Lies (pos 0) high v → between (int_max low (pos 0)) high v ≡ int_le low v
 rows-below low high v lies = let a = lies.first in let b = lies.last in grind (arith, ints, clamps)
 
 pub rows-over : (low high v : ℤ) → Lies (pos 0) high v → between (pos 0) (int_max low (pos 0)) v ≡ not (int_le low v)
 rows-over low high v lies = let a = lies.first in let b = lies.last in grind (arith, ints, clamps)
 
--- the first command gives background above the bar's new height, and leaves all else
+-- the first command gives background above the bar's new height, and changes nothing else
 first-gives : (look : Look) (size : Size) (column low : Bool) (old : Point → ℕ) (q : Point) →
     Gives look.kind size (cond (column && not low) (Value 0) Keep) old q (cond (column && not low) 0 (old q))
 first-gives look size column low old q = by_case (column && not low)
@@ -76,7 +76,7 @@ first-gives look size column low old q = by_case (column && not low)
     by_case true = refl
     by_case false = refl
 
--- what the second command makes of that picture, by whether the point lies in the bar's columns and below its height
+-- the second command gives the new picture, by whether the point lies in the bar's columns and below its height
 second-gives : (look : Look) (size : Size) (column low other : Bool) (mid : Point → ℕ) (q : Point) (old : ℕ) →
     mid q ≡ cond (column && not low) 0 old → (column ≡ false → old ≡ colour_of other) → (column ≡ true → other ≡ low) →
     Gives look.kind size (cond (column && low) (Value 1) Keep) mid q (colour_of other)
@@ -84,7 +84,7 @@ second-gives look size true true other mid q old is apart same = ap colour_of (s
 second-gives look size true false other mid q old is apart same = is ∙ ap colour_of (sym (same refl))
 second-gives look size false low other mid q old is apart same = is ∙ apart refl
 
--- bars after one of them has another height
+-- the heights of bars after one of them was set
 pub set-here : (heights : List ℕ) (bar height : ℕ) → bar < length heights → slice_index (slice_set heights bar height) bar ≡ height
 set-here heights bar height some = get_or-set_same heights bar height 0 some
 
@@ -92,7 +92,7 @@ pub set-elsewhere : (heights : List ℕ) (bar height other : ℕ) → (other ≡
     slice_index (slice_set heights bar height) other ≡ slice_index heights other
 set-elsewhere heights bar height other apart = get_or-set_other heights bar other height 0 apart
 
--- whether a point lies in a bar, told of its bar
+-- a point lies in the bar of its column, by its row
 abbrev in_nth : Size → List ℕ → ℕ → ℤ → Bool
 in_nth size heights bar v = nat_lt bar (length heights) && int_le (pos size.high -ℤ pos (slice_index heights bar)) v
 
@@ -232,7 +232,7 @@ pub meter_kinds : (look : Look) (size : Size) (x : List ℕ) (p : Point) → IsM
     IsPixel look.kind (meter_pic look size x p)
 meter_kinds look size x p valid small = pixel-colour_of look.kind (in_bar size x p)
 
--- of the first bars, a point lies in one where it lies in that bar of all
+-- a point lies in one of the first `n` bars if it lies in that bar of all bars
 nth-take : (size : Size) (heights : List ℕ) (n bar : ℕ) (v : ℤ) → n ≤ length heights →
     in_nth size (take n heights) bar v ≡ nat_lt bar n && in_nth size heights bar v
 nth-take size heights n bar v some = by_test (nat_lt bar n) refl
@@ -249,7 +249,7 @@ nth-take size heights n bar v some = by_test (nat_lt bar n) refl
         let beyond : nat_lt bar (length (take n heights)) ≡ false = rw (length-take n heights) (grind (arith, nat_tests)) in
         rw beyond refl
 
--- one bar more makes the picture of the first bars that of one bar more
+-- after the next bar is painted, the picture is that of one more bar
 bar-makes : (look : Look) (column low : Bool) (old new : Bool) → (column ≡ true → (old ≡ false) × (new ≡ low)) →
     (column ≡ false → old ≡ new) → Makes look.kind (cond (column && low) (Value 1) Keep) (colour_of old) (colour_of new)
 bar-makes look true true old new is apart = ap colour_of (sym (is refl).1)

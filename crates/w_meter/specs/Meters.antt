@@ -32,13 +32,13 @@ IsMeterCmd (Bar bar height) = IsSetting bar height
 abbrev pub meter_words : MeterCmd → List ℕ
 meter_words (Bar bar height) = codes "bar " ++ decimal bar ++ codes " " ++ decimal height
 
--- the point lies in a bar: each is eight columns wide, and stands on the window's south edge
+-- the point lies in a bar: each is eight columns wide, and rests on the window's south edge
 abbrev pub in_bar : Size → List ℕ → Point → Bool
 in_bar size heights q =
     let bar = unsigned_abs q.h / 8 in
     int_le (pos 0) q.h && (nat_lt bar (length heights) && int_le (pos size.high -ℤ pos (slice_index heights bar)) q.v)
 
--- the bars are foreground, and all else is background
+-- the bars are foreground, and all other points are background
 abbrev pub meter_pic : Look → Size → List ℕ → Point → ℕ
 meter_pic look size heights q = colour_of (in_bar size heights q)
 

@@ -26,7 +26,7 @@ impl Model for BarNumber {
 }
 
 impl BarNumber {
-    /// The bar with so many bars west of it.
+    /// The bar with `number` bars west of it.
     pub fn of(number: u8) -> BarNumber
         requires { number < 32 }
         ensures { result ≡ number }
@@ -34,7 +34,7 @@ impl BarNumber {
         BarNumber { number }
     }
 
-    /// Tells what each bar number keeps. Nothing runs.
+    /// Tells the invariant of bar numbers. Nothing runs.
     pub fn invariant(&self)
         ensures { self.now < 32 }
     {

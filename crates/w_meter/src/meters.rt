@@ -15,7 +15,7 @@ use tr_base::{Command, Env, Event, Line, NoMemory, Op, Rect, Size};
 use tr_client::{Client, append_all, decimal_line, keeps_nothing, part_of_window, window};
 use tr_paint::{Batch, Paint};
 
-/// A window with 1 to 32 bars, seen as the list of their heights, from the west on.
+/// A window with 1 to 32 bars; its model is the list of their heights, from the west on.
 #[derive(Debug, Drop)]
 pub struct Meter {
     heights: Vec<u8>,
@@ -32,15 +32,15 @@ impl Model for Meter {
     ghost invariant = { λ m. IsMeter m.heights.items };
 }
 
-/// What a Meter can be told.
+/// A command of a Meter.
 #[derive(Clone, Copy, Debug)]
 pub enum MeterCmd {
-    /// The bar has this height, if there is such a bar.
+    /// The bar gets this height, if there is such a bar.
     Bar { bar: BarNumber, height: u8 },
 }
 
 impl Meter {
-    /// So many bars, 1 to 32, of no height.
+    /// A window of this many bars, 1 to 32, without height.
     pub fn new(alloc: Global, bars: u8) -> Result<Meter, NoMemory>
         requires some { 1 ≤ bars }
         requires most { bars ≤ 32 }
@@ -51,7 +51,7 @@ impl Meter {
         })
     }
 
-    /// Tells what each meter keeps. Nothing runs.
+    /// Tells the invariant of meters. Nothing runs.
     pub fn invariant(&self)
         ensures { spec.IsMeter self.now }
     {

@@ -1,4 +1,4 @@
--- Windows of one tile, which is repeated in all directions.
+-- Windows of one tile, repeated in all directions.
 use Rattle.std.specs.Prelude.{ℕ, ◌-ℤ◌, List, [], ◌∷◌, ◌++◌, Option, None, codes}
 use Rattle.std.specs.Fmt.{signed_decimal}
 use Rattle.hex.specs.Hex.{encode_lower}
@@ -31,7 +31,7 @@ abbrev pub board_words : BoardCmd → List ℕ
 board_words (Tile tile) = codes "tile " ++ encode_lower tile.rows
 board_words (Shift shift) = codes "shift " ++ signed_decimal shift.h ++ codes " " ++ signed_decimal shift.v
 
--- the bit of the tile, which begins at the shift, is the colour
+-- the colour is the bit of the tile, which begins at the shift
 abbrev pub board_pic : Look → Size → Board → Point → ℕ
 board_pic look size x q = colour_of (tile_bit x.tile (q.h -ℤ x.shift.h) (q.v -ℤ x.shift.v))
 
@@ -56,6 +56,6 @@ board_answer x event = None
 abbrev pub board_value : Board → List ℕ
 board_value x = encode_lower x.tile.rows
 
--- what both windows have
+-- the points in both windows
 abbrev pub board_keeps : Board → Size → Size → Edges
 board_keeps x from to = meet_of (whole_of from) (whole_of to)

@@ -18,11 +18,11 @@ use Rattle.w_plain.specs.declared.labels.Label.{Label}
 use Rattle.w_plain.specs.declared.labels.LabelCmd.{LabelCmd}
 use Rattle.w_plain.specs.declared.labels.LabelCmd.TheVariants.{Text}
 
--- the text has at most 80 bytes, which can all be printed
+-- the text has at most 80 bytes, and all of them are printable
 pub record IsLabel (x : Label) : Type 0 where
   pub text : IsLine x.text
 
--- the text of a command is one
+-- the text of a command is the text of a label
 abbrev pub IsLabelCmd : LabelCmd → Type 0
 IsLabelCmd (Text text) = IsLine text
 
@@ -30,7 +30,7 @@ IsLabelCmd (Text text) = IsLine text
 abbrev pub label_words : LabelCmd → List ℕ
 label_words (Text text) = with_text (codes "text") text
 
--- the text stands in the north-west corner, and all around it is background
+-- the text lies in the north-west corner, and all other points are background
 abbrev pub label_pic : Look → Size → Label → Point → ℕ
 label_pic look size x q =
     if has_point (cells_of origin (length x.text)) q then colour_of (text_bit look.font origin x.text q) else 0
@@ -47,7 +47,7 @@ label_paints part x = batch_of (Tint part Bg ∷ Written part origin plain x.tex
 abbrev pub label_patch : Look → Size → Label → LabelCmd → List Paint
 label_patch look size x cmd = label_paints (whole_of size) (label_next x cmd)
 
--- a key that can be printed asks for the text with it at the end, if there is room
+-- a printable key asks for the text with its byte at the end, if there is room
 abbrev pub label_answer : Label → Event → Option LabelCmd
 label_answer x (Key time code) =
     if is_printable code && nat_lt (length x.text) 80 then Some (Text (x.text ++ code ∷ [])) else None
@@ -57,6 +57,6 @@ label_answer x event = None
 abbrev pub label_value : Label → List ℕ
 label_value x = x.text
 
--- what both windows have
+-- the points in both windows
 abbrev pub label_keeps : Label → Size → Size → Edges
 label_keeps x from to = meet_of (whole_of from) (whole_of to)

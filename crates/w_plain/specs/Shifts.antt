@@ -1,4 +1,4 @@
--- How far a tile is moved.
+-- The range of a tile's moves.
 use Rattle.std.specs.Prelude.{pos, neg_ℤ, ◌≤ℤ◌}
 use Rattle.tr_base.specs.declared.Point.{Point}
 

@@ -1,5 +1,5 @@
 -- A Solid obeys the laws of clients.
--- These are proofs, which stand here since an impl cites nothing else of its crate; no contract cites them.
+-- These proofs are in specs/ because an impl may cite nothing else of its crate. No contract cites them.
 use Rattle.std.proofs.Common.{◌≡◌, [], true, refl, ap}
 use Rattle.std.specs.Prelude.{IfSome}
 use Rattle.tr_base.specs.declared.Point.{Point}

@@ -19,7 +19,7 @@ use Rattle.w_plain.specs.declared.solids.SolidCmd.TheVariants.{Tint}
 pub record IsSolid (x : Solid) : Type 0 where
   pub tint : x.tint < 2 ^ 8
 
--- the tint of a command is one
+-- the tint of a command is a byte
 abbrev pub IsSolidCmd : SolidCmd → Type 0
 IsSolidCmd (Tint n) = n < 2 ^ 8
 
@@ -27,7 +27,7 @@ IsSolidCmd (Tint n) = n < 2 ^ 8
 abbrev pub solid_words : SolidCmd → List ℕ
 solid_words (Tint n) = codes "tint " ++ decimal n
 
--- each point has the tint, as the kind has it
+-- each point has the tint, cut to the kind
 abbrev pub solid_pic : Look → Size → Solid → Point → ℕ
 solid_pic look size x q = eff look.kind (Set x.tint) 0
 
@@ -52,6 +52,6 @@ solid_answer x event = None
 abbrev pub solid_value : Solid → List ℕ
 solid_value x = decimal x.tint
 
--- what both windows have
+-- the points in both windows
 abbrev pub solid_keeps : Solid → Size → Size → Edges
 solid_keeps x from to = meet_of (whole_of from) (whole_of to)

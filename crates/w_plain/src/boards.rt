@@ -13,24 +13,24 @@ use tr_base::{Command, Env, Event, Line, NoMemory, Point, Rect, Size, Tile};
 use tr_client::{Client, PLAIN, append_all, kept_part, part_of_window, window};
 use tr_paint::{Batch, Paint};
 
-/// A window of one tile, which is repeated in all directions from the shift on.
+/// A window of one tile, repeated in all directions. One copy of it begins at the shift.
 #[derive(Clone, Copy, Debug)]
 pub struct Board {
     pub tile: Tile,
     pub shift: Shift,
 }
 
-/// What a Board can be told.
+/// A command of a Board.
 #[derive(Clone, Copy, Debug)]
 pub enum BoardCmd {
-    /// The tile is this one.
+    /// Sets the tile.
     Tile(Tile),
-    /// The tile begins at this point.
+    /// Sets the point at which the tile begins.
     Shift(Shift),
 }
 
 impl Board {
-    /// A window of a tile that begins at the shift, each coordinate of which is within -4096 to 4096.
+    /// A window of a tile that begins at the shift. Each coordinate of the shift is within -4096 to 4096.
     pub fn new(tile: Tile, shift: Point) -> Board
         requires { IsShift shift }
         ensures { result ≡ record { tile = tile; shift = shift } }
@@ -41,14 +41,14 @@ impl Board {
         }
     }
 
-    /// Tells what each board keeps. Nothing runs.
+    /// Tells the invariant of boards. Nothing runs.
     pub fn invariant(&self)
         ensures { spec.IsBoard self.now }
     {
         let _shift = self.shift();
     }
 
-    /// Where its tile begins.
+    /// The point at which its tile begins.
     pub fn shift(&self) -> Point
         ensures value { result ≡ self.now.shift }
         ensures invariant { spec.IsBoard self.now }
@@ -88,7 +88,7 @@ impl Board {
     }
 }
 
-/// Tells that each of the numbers is a byte. It serves the prover alone, and its loop does nothing.
+/// Tells that each of the numbers is a byte. Only the prover needs it; its loop does nothing.
 fn tell_bytes(bytes: &[u8])
     ensures { IsBytes bytes.now }
 {
@@ -97,7 +97,7 @@ fn tell_bytes(bytes: &[u8])
     }
 }
 
-/// The rows of a tile as 16 hex digits, a byte for each.
+/// The rows of a tile as 16 hex digits, one byte each.
 fn digits_of(tile: &Tile) -> [u8; 16]
     ensures value { result ≡ encode_lower tile.now.rows }
     ensures printable { AllPass is_printable result }

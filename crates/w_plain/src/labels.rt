@@ -9,16 +9,16 @@ use tr_base::{Command, Env, Event, LINE, Line, NoMemory, Op, Point, Rect, Size, 
 use tr_client::{Client, PLAIN, append_with_text, kept_part, part_of_window, window};
 use tr_paint::{Batch, Paint};
 
-/// A window with a line of text, which keys make longer.
+/// A window with a line of text. A key adds its byte to the text.
 #[derive(Debug, Drop)]
 pub struct Label {
     pub text: Line,
 }
 
-/// What a Label can be told.
+/// A command of a Label.
 #[derive(Debug, Drop)]
 pub enum LabelCmd {
-    /// The text is this one.
+    /// Sets the text.
     Text(Line),
 }
 
@@ -30,7 +30,7 @@ impl Label {
         Ok(Label { text })
     }
 
-    /// Tells what each label keeps. Nothing runs.
+    /// Tells the invariant of labels. Nothing runs.
     pub fn invariant(&self)
         ensures { spec.IsLabel self.now }
     {
@@ -85,7 +85,7 @@ fn text_of(cmd: &LabelCmd) -> &Line
     }
 }
 
-/// A text with one byte more.
+/// A text with one more byte.
 fn with_byte(alloc: Global, text: &Line, byte: u8) -> Result<Line, NoMemory>
     requires room { length text.now < LINE }
     requires printable { is_printable byte ≡ true }

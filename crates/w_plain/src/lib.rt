@@ -1,6 +1,6 @@
 //! The plain widgets: a window of one colour, one of a tile that is repeated in all directions, and
-//! one with a line of text. Each paints a part of its picture whatever was there, and so the patch of
-//! a command paints the whole window anew.
+//! one with a line of text. Each paints a part of its picture over any old pixels, so the patch of a
+//! command paints the whole window anew.
 #![tactic(auto)]
 
 mod boards;

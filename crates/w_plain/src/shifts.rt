@@ -5,7 +5,7 @@ ghost use Rattle.w_plain.specs.Shifts.{IsShift};
 use std::marker::Model;
 use tr_base::Point;
 
-/// How far a tile is moved, seen as a point: each coordinate is within -4096 to 4096.
+/// The move of a tile; its model is a point. Each coordinate is within -4096 to 4096.
 #[derive(Clone, Copy, Debug)]
 pub struct Shift {
     h: i32,
@@ -37,7 +37,7 @@ impl Shift {
         }
     }
 
-    /// Tells what each shift keeps. Nothing runs.
+    /// Tells the invariant of shifts. Nothing runs.
     pub fn invariant(&self)
         ensures { IsShift self.now }
     {
@@ -55,7 +55,7 @@ impl Shift {
         }
     }
 
-    /// Whether both move a tile as far.
+    /// Whether both are the same move.
     pub fn same(&self, other: &Shift) -> bool
         ensures { IsTrue result ↔ (self.now ≡ other.now) }
     {

@@ -14,22 +14,22 @@ pub struct Solid {
     pub tint: u8,
 }
 
-/// What a Solid can be told.
+/// A command of a Solid.
 #[derive(Clone, Copy, Debug, PartialEq, Eq)]
 pub enum SolidCmd {
-    /// The colour is this one.
+    /// Sets the colour.
     Tint(u8),
 }
 
 impl Solid {
-    /// A window of this colour, as far as the kind of the pixels has it.
+    /// A window of this colour, cut to the kind of the pixels.
     pub fn new(tint: u8) -> Solid
         ensures { result ≡ record { tint = tint } }
     {
         Solid { tint }
     }
 
-    /// Tells what each solid keeps. Nothing runs.
+    /// Tells the invariant of solids. Nothing runs.
     pub fn invariant(&self)
         ensures { spec.IsSolid self.now }
     {
