@@ -1,9 +1,11 @@
 -- Private contracts alone cite this file.
 -- The order of a region's rectangles, and those of one row.
-use Rattle.std.specs.Prelude.{◌≡◌, ℕ, ◌≤◌, ℤ, ◌⊎◌, ◌≤ℤ◌, ◌<ℤ◌, List, [], ◌∷◌, length}
+use Rattle.std.specs.Prelude.{◌≡◌, ℕ, ◌≤◌, ℤ, ◌⊎◌, ◌≤ℤ◌, ◌<ℤ◌, false, ◌&&◌, List, [], ◌∷◌, length, slice_index_or}
 use Rattle.std.specs.List.{AllByRecursion, AllWithin}
-use Rattle.tr_base.specs.Rects.{Edges}
+use Rattle.tr_base.specs.declared.Point.{Point}
+use Rattle.tr_base.specs.Rects.{Edges, InReach}
 use Rattle.tr_region.specs.declared.rows.Band.{Band}
+use Rattle.tr_region.specs.Points.{holds}
 use Rattle.tr_region.specs.Rows.{HoldsRow, IsNearest}
 
 -- the rectangle holds points
@@ -33,3 +35,9 @@ pub record IsBandOf (r : Edges) (region : List Edges) (low high : ℕ) (b : Band
   pub north : IsNearest r.north low high b.north
   pub south : IsNearest r.south low high b.south
   pub rows : (y : ℤ) → r.north ≤ℤ y → y <ℤ r.south → HoldsRow region b.rects.now y
+
+-- north of a row two lists have no point in common, and at the row the first rectangle of one of them has ended
+pub record AreApartUntil (row : ℤ) (first second : List Edges) : Type 0 where
+  pub reach : InReach row
+  pub apart : (p : Point) → p.v <ℤ row → holds first p && holds second p ≡ false
+  pub ended : (d : Edges) → ((slice_index_or first 0 d).south ≤ℤ row) ⊎ ((slice_index_or second 0 d).south ≤ℤ row)

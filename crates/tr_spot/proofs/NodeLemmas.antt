@@ -1,8 +1,9 @@
 -- Nodes by their numbers, and that a child is a node, one deeper than its parent.
 use Rattle.std.proofs.Common.{◌≡◌, ℕ, suc, ◌+◌, ◌<◌, ◌≤◌, Bool, true, false, cond, ◌||◌, ◌==◌, List, [], ◌∷◌, Some, length, get_or, inl, inr, refl, sym, ap, ◌∙◌}
-use Rattle.std.specs.List.{find}
+use Rattle.std.specs.List.{find, All}
 use Rattle.std.proofs.lemmas.Bool.{cases_lt}
 use Rattle.std.proofs.lemmas.List.{get_or_past}
+use Rattle.std.proofs.lemmas.List.Elements.{All-from_get_or}
 use Rattle.tr_base.specs.declared.NodeId.{NodeId}
 use Rattle.tr_base.proofs.RectLemmas.{false-true}
 use Rattle.tr_base.proofs.BoolLemmas.{or_true, same_number}
@@ -50,6 +51,10 @@ pub listed_below : (t : Nodes) → IsForest t → (n : NodeId) (cs : List NodeId
     IsBelow t n (get_or cs i zero_node)
 listed_below t forest n cs i is lt = child_below t forest n (get_or cs i zero_node)
     (ap (λ (ks : List NodeId). is_among (get_or cs i zero_node) ks) (sym is) ∙ among_at cs i zero_node lt)
+
+-- the children of a node are nodes
+pub children_are_nodes : (t : Nodes) → IsForest t → (n : NodeId) (cs : List NodeId) → cs ≡ (node t n).children → All (IsNode t) cs
+children_are_nodes t forest n cs is = All-from_get_or (IsNode t) cs zero_node (λ i lt. (listed_below t forest n cs i is lt).is_node)
 
 -- what is found is in the list, and passes the test
 pub find_among : (test : NodeId → Bool) (cs : List NodeId) (c : NodeId) → find test cs ≡ Some c → is_among c cs ≡ true

@@ -1,4 +1,4 @@
-ghost use Rattle.std.specs.Prelude.{◌≡◌, ◌<◌, ◌&&◌, IfOk};
+ghost use Rattle.std.specs.Prelude.{◌≡◌, ◌<◌, ◌&&◌, not, length, All, IfOk};
 ghost use Rattle.tr_base.specs.declared.Point.{Point};
 ghost use Rattle.tr_base.specs.Rects.{has_point, whole_of};
 ghost use Rattle.tr_region.specs.Points.{holds};
@@ -12,6 +12,9 @@ use std::alloc::Global;
 use tr_base::{LeafId, NoMemory, NodeId, whole};
 use tr_region::Region;
 use tr_tree::{NodeKind, Tree};
+
+/// The domains of more nodes than these are united before they are removed from a region of more rectangles.
+const MANY: usize = 64;
 
 /// The points that belong to a leaf.
 pub fn visible(alloc: Global, tree: &Tree, leaf: LeafId) -> Result<Region, NoMemory>
@@ -127,12 +130,12 @@ fn passed_on(
         holds r p
         ≡ holds part p && is_it child (front tree.now p (node tree.now.nodes parent).children)) }
 {
-    let mut left = part.within(&tree.domain(child))?;
-    for sibling in tree.children(parent) {
+    let left = part.within(&tree.domain(child))?;
+    let siblings = tree.children(parent);
+    for (count, sibling) in siblings.iter().enumerate() {
         if sibling.0 == child.0 {
-            return Ok(left);
+            return outside_all(alloc, tree, &siblings[..count], left);
         }
-        left = left.outside(&tree.domain(*sibling))?;
     }
     drop(left);
     Ok(Region::empty(alloc))
@@ -145,9 +148,48 @@ fn uncovered(alloc: Global, tree: &Tree, n: NodeId, part: Region) -> Result<Regi
     ensures { IfOk result (λ r. (p : Point) →
         holds r p ≡ holds part p && is_nobody (front tree.now p (node tree.now.nodes n).children)) }
 {
+    outside_all(alloc, tree, tree.children(n), part)
+}
+
+/// The points of a part of the plane that none of the nodes' domains has. The domains are removed one by
+/// one, and each removal costs a walk over all points that are left. If many are left and many domains are to
+/// come, their union is removed at once.
+fn outside_all(
+    alloc: Global,
+    tree: &Tree,
+    nodes: &[NodeId],
+    part: Region,
+) -> Result<Region, NoMemory>
+    requires { All (λ n. IsNode tree.now.nodes n) nodes.now }
+    ensures { IfOk result (λ r. (p : Point) →
+        holds r p ≡ holds part p && is_nobody (front tree.now p nodes.now)) }
+{
     let mut left = part;
-    for child in tree.children(n) {
-        left = left.outside(&tree.domain(*child))?;
+    for (at, n) in nodes.iter().enumerate() {
+        if nodes.len() - at > MANY && left.rects().len() > MANY {
+            let all = covered(alloc, tree, &nodes[at..])?;
+            let rest = left.less(&all);
+            drop(all);
+            return rest;
+        }
+        left = left.outside(&tree.domain(*n))?;
     }
     Ok(left)
+}
+
+/// The points that the domain of one of the nodes has. Both halves are united first, so that each rectangle
+/// takes part in few unions.
+fn covered(alloc: Global, tree: &Tree, nodes: &[NodeId]) -> Result<Region, NoMemory>
+    requires nodes { All (λ n. IsNode tree.now.nodes n) nodes.now }
+    requires some { 0 < length nodes.now }
+    ensures { IfOk result (λ r. (p : Point) →
+        holds r p ≡ not (is_nobody (front tree.now p nodes.now))) }
+{
+    let half = nodes.len() / 2;
+    if half == 0 {
+        return Region::of_rect(alloc, tree.domain(nodes[0]));
+    }
+    let first = covered(alloc, tree, &nodes[..half])?;
+    let second = covered(alloc, tree, &nodes[half..])?;
+    first.union(&second)
 }
