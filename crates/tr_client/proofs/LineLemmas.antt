@@ -153,9 +153,9 @@ colour-moved look first lines q inside =
 
 -- a line that is written below the others makes the picture of one line more
 pub line-makes : (look : Look) (part : Edges) (lines : List (List ℕ)) (line : List ℕ) (q : Point) → has_point part q ≡ true →
-    Makes look.kind (deed look (Text part (begin_of (length lines)) plain line) q) (colour_in look lines q) (colour_in look (lines ++ line ∷ []) q)
+    Makes look.kind (deed look (Text plain part (begin_of (length lines)) line) q) (colour_in look lines q) (colour_in look (lines ++ line ∷ []) q)
 line-makes look part lines line q here =
-    let text : Paint = Text part (begin_of (length lines)) plain line in
+    let text : Paint = Text plain part (begin_of (length lines)) line in
     subst (λ (new : ℕ). Makes look.kind (deed look text q) (colour_in look lines q) new) (colour-more look lines line q)
     (text-makes look part (begin_of (length lines)) line q (colour_in look lines q) here)
 
@@ -168,10 +168,10 @@ cleared_painting look part =
 -- while a part is painted, one line more is written below those that are
 pub line_pushed : (look : Look) (part : Edges) (batch : List Paint) (lines : List (List ℕ)) (line : List ℕ) (above : ℕ) →
     above ≡ length lines → IsPainting look part batch (colour_in look lines) →
-    IsPainting look part (batch ++ kept (Text part (begin_of above) plain line)) (colour_in look (lines ++ line ∷ []))
+    IsPainting look part (batch ++ kept (Text plain part (begin_of above) line)) (colour_in look (lines ++ line ∷ []))
 line_pushed look part batch lines line above is painted =
     let new = colour_in look (lines ++ line ∷ []) in
-    let text : Paint = Text part (begin_of (length lines)) plain line in
-    subst (λ (n : ℕ). IsPainting look part (batch ++ kept (Text part (begin_of n) plain line)) (colour_in look (lines ++ line ∷ []))) (sym is)
+    let text : Paint = Text plain part (begin_of (length lines)) line in
+    subst (λ (n : ℕ). IsPainting look part (batch ++ kept (Text plain part (begin_of n) line)) (colour_in look (lines ++ line ∷ []))) (sym is)
     (painting_more look part batch text (colour_in look lines) new painted (λ q here. line-makes look part lines line q here)
     (meet-inside part (cells_of (begin_of (length lines)) (length line))))

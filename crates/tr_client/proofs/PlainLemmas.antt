@@ -33,12 +33,12 @@ pixel-text kind false bit = pixel-bit kind 0 (omega arith)
 
 -- a tile gives each point the colour of its bit
 pub tile-gives : (look : Look) (part : Edges) (tile : Tile) (at : Point) (q : Point) → has_point part q ≡ true →
-    deed look (Texture part plain tile at) q ≡ Value (colour_of (tile_bit tile (q.h -ℤ at.h) (q.v -ℤ at.v)))
+    deed look (Texture plain part tile at) q ≡ Value (colour_of (tile_bit tile (q.h -ℤ at.h) (q.v -ℤ at.v)))
 tile-gives look part tile at q here = rw here (ap (λ n. Value n) (plain-colour look.kind (tile_bit tile (q.h -ℤ at.h) (q.v -ℤ at.v))))
 
 -- a text gives each point of its cells the colour of its bit, and leaves the others
 pub text-makes : (look : Look) (part : Edges) (at : Point) (text : List ℕ) (q : Point) (old : ℕ) → has_point part q ≡ true →
-    Makes look.kind (deed look (Text part at plain text) q) old
+    Makes look.kind (deed look (Text plain part at text) q) old
     (cond (has_point (cells_of at (length text)) q) (colour_of (text_bit look.font at text q)) old)
 text-makes look part at text q old here =
     rw (has_point-meet_of part (cells_of at (length text)) q, here) (by_cell (has_point (cells_of at (length text)) q))

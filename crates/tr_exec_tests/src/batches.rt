@@ -2,7 +2,7 @@
 use super::ends::made;
 use std::process::Abort;
 use tr_base::{Line, Op, Pair, Pixmap, Point, Rect, Size, Tile};
-use tr_paint::{Batch, Paint};
+use tr_paint::{Batch, Paint, SharedPixmap};
 
 const F: Pair = Pair {
     zero: Op::Bg,
@@ -40,11 +40,12 @@ fn all(rt: &(impl Abort + AllocGlobal)) -> Batch {
         }),
     );
     let pixels = made(rt, Vec::from_slice(rt.alloc(), &[1, 2, 3, 4, 5, 6]));
+    let pixmap = Pixmap::new(Size { wide: 2, high: 3 }, pixels);
     made(
         rt,
         batch.push(Paint::Pixels {
             clip,
-            src: Pixmap::new(Size { wide: 2, high: 3 }, pixels),
+            src: made(rt, SharedPixmap::of(rt.alloc(), pixmap)),
             delta,
         }),
     );

@@ -7,7 +7,7 @@ ghost use Rattle.tr_exec.specs.Executions.{IsOrigin, RegionLiesOn};
 use super::ends::made;
 use std::process::Abort;
 use tr_base::{Font, Kind, Line, Op, Pair, Pixmap, Point, Rect, Size, Tile, whole};
-use tr_paint::{Batch, Paint};
+use tr_paint::{Batch, Paint, SharedPixmap};
 use tr_region::Region;
 use tr_screen::Screen;
 use tr_testing::Numbers;
@@ -121,9 +121,10 @@ impl Draw {
     }
 
     /// A picture of four columns and two rows.
-    fn pixmap(&mut self, rt: &(impl Abort + AllocGlobal)) -> Pixmap {
+    fn pixmap(&mut self, rt: &(impl Abort + AllocGlobal)) -> SharedPixmap {
         let pixels = made(rt, Vec::from_slice(rt.alloc(), &self.tile().rows));
-        Pixmap::new(Size { wide: 4, high: 2 }, pixels)
+        let pixmap = Pixmap::new(Size { wide: 4, high: 2 }, pixels);
+        made(rt, SharedPixmap::of(rt.alloc(), pixmap))
     }
 
     fn paint(&mut self, rt: &(impl Abort + AllocGlobal)) -> Paint

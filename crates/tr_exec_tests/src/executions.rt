@@ -5,7 +5,7 @@ use super::ends::made;
 use std::process::Abort;
 use tr_base::{Env, Font, Kind, Line, Op, Pair, Pixmap, Point, Rect, Size, Tile, whole};
 use tr_exec::execute;
-use tr_paint::{Batch, Paint};
+use tr_paint::{Batch, Paint, SharedPixmap};
 use tr_region::Region;
 use tr_screen::Screen;
 
@@ -119,11 +119,12 @@ fn picture(rt: &(impl Abort + AllocGlobal)) -> Batch {
     let clip = Rect::edges(0, 4, 0, 1);
     let mut batch = Batch::new(rt.alloc());
     let pixels = made(rt, Vec::from_slice(rt.alloc(), &[3, 4]));
+    let pixmap = Pixmap::new(Size { wide: 2, high: 1 }, pixels);
     made(
         rt,
         batch.push(Paint::Pixels {
             clip,
-            src: Pixmap::new(Size { wide: 2, high: 1 }, pixels),
+            src: made(rt, SharedPixmap::of(rt.alloc(), pixmap)),
             delta: Point { h: 1, v: 0 },
         }),
     );

@@ -175,7 +175,7 @@ fn op_at(font: &Font, paint: &Paint, q: Point) -> Op
             let from = earlier(q, *delta);
             chosen(*ops, tile_bit(tile, from.h, from.v))
         }
-        Paint::Pixels { src, delta, .. } => Op::Set(src.at(earlier(q, *delta))),
+        Paint::Pixels { src, delta, .. } => Op::Set(src.pixmap().at(earlier(q, *delta))),
         Paint::Text { at, ops, text, .. } => chosen(*ops, cell_bit(font, text, earlier(q, *at))),
         Paint::Scroll { .. } | Paint::Spoil { .. } => Op::Transparent,
     }

@@ -32,9 +32,9 @@ pub record IsNearRect (e : Edges) : Type 0 where
 -- all coordinates of a command are near
 abbrev pub IsNearPaint : Paint → Type 0
 IsNearPaint (Tint clip op) = IsNearRect clip
-IsNearPaint (Texture clip ops tile delta) = IsNearRect clip × IsNearPoint delta
+IsNearPaint (Texture ops clip tile delta) = IsNearRect clip × IsNearPoint delta
 IsNearPaint (Pixels clip src delta) = IsNearRect clip × IsNearPoint delta
-IsNearPaint (Text clip at ops text) = IsNearRect clip × IsNearPoint at
+IsNearPaint (Text ops clip at text) = IsNearRect clip × IsNearPoint at
 IsNearPaint (Scroll clip delta) = IsNearRect clip × IsNearPoint delta
 IsNearPaint (Spoil clip) = IsNearRect clip
 
@@ -45,9 +45,9 @@ cells_of at n = rect_of at.h (at.h +ℤ pos (8 * n)) at.v (at.v +ℤ pos 8)
 -- the points that a command can touch: its clip, or the part of the clip in the cells of the command's text, or in its picture
 abbrev pub area : Paint → Edges
 area (Tint clip op) = clip
-area (Texture clip ops tile delta) = clip
+area (Texture ops clip tile delta) = clip
 area (Pixels clip src delta) = meet_of clip (shifted (whole_of src.size) delta)
-area (Text clip at ops text) = meet_of clip (cells_of at (length text))
+area (Text ops clip at text) = meet_of clip (cells_of at (length text))
 area (Scroll clip delta) = clip
 area (Spoil clip) = clip
 
@@ -66,9 +66,9 @@ both_opaque ops = opaque ops.zero && opaque ops.one
 -- the pixels after a command don't depend on those before it
 abbrev pub is_opaque : Paint → Bool
 is_opaque (Tint clip op) = opaque op
-is_opaque (Texture clip ops tile delta) = both_opaque ops
+is_opaque (Texture ops clip tile delta) = both_opaque ops
 is_opaque (Pixels clip src delta) = true
-is_opaque (Text clip at ops text) = both_opaque ops
+is_opaque (Text ops clip at text) = both_opaque ops
 is_opaque (Scroll clip delta) = false
 is_opaque (Spoil clip) = false
 
@@ -81,8 +81,8 @@ text_bit font at text q =
 -- the operation of a command at a point of its area, for a font; Scroll and Spoil have none
 abbrev pub op_at : List (List ℕ) → Paint → Point → Op
 op_at font (Tint clip op) q = op
-op_at font (Texture clip ops tile delta) q = chosen ops (tile_bit tile (q.h -ℤ delta.h) (q.v -ℤ delta.v))
+op_at font (Texture ops clip tile delta) q = chosen ops (tile_bit tile (q.h -ℤ delta.h) (q.v -ℤ delta.v))
 op_at font (Pixels clip src delta) q = Set (pixmap_at src (before_shift q delta))
-op_at font (Text clip at ops text) q = chosen ops (text_bit font at text q)
+op_at font (Text ops clip at text) q = chosen ops (text_bit font at text q)
 op_at font (Scroll clip delta) q = Transparent
 op_at font (Spoil clip) q = Transparent

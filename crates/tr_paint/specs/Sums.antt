@@ -18,9 +18,9 @@ points_in e = (sides_of e).0 * (sides_of e).1
 -- the work for a point of a command's area; for a filled point it is 1
 abbrev pub weight : Paint → ℕ
 weight (Tint clip op) = 1
-weight (Texture clip ops tile delta) = 2
+weight (Texture ops clip tile delta) = 2
 weight (Pixels clip src delta) = 1
-weight (Text clip at ops text) = 3
+weight (Text ops clip at text) = 3
 weight (Scroll clip delta) = 2
 weight (Spoil clip) = 1
 

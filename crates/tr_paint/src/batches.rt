@@ -53,7 +53,8 @@ impl Batch {
         if area.is_empty() {
             return Ok(());
         }
-        let sums = self.sums.with(&Sums::of(&paint, area));
+        let mut sums = self.sums;
+        sums.add(&paint, &area);
         self.paints.push(paint)?;
         self.sums = sums;
         Ok(())

@@ -7,9 +7,11 @@
 mod batches;
 mod hulls;
 mod paints;
+mod pictures;
 mod sums;
 
 pub use batches::Batch;
 pub use hulls::hull;
 pub use paints::{NEAR, Paint};
+pub use pictures::SharedPixmap;
 pub use sums::{Scrolls, points_in};

@@ -1,7 +1,9 @@
 ghost use Rattle.std.specs.Prelude.{◌≡◌, ◌*◌, ◌≤ℤ◌, pos, length, IfOk};
 ghost use Rattle.tr_paint.specs.Paints as spec;
 
-use tr_base::{Line, NoMemory, Op, Pair, Pixmap, Point, Rect, Tile, moved, opaque, whole};
+use crate::pictures::SharedPixmap;
+use std::mem::size_of;
+use tr_base::{Line, NoMemory, Op, Pair, Point, Rect, Tile, moved, opaque, whole};
 
 /// The greatest distance of a paint command's coordinate from 0.
 pub const NEAR: i32 = 16_384;
@@ -11,6 +13,8 @@ const CELL: i32 = 8;
 
 /// A paint command, in the coordinates of the window that it paints in. Each edge of a clip and each
 /// coordinate of `delta` and `at` lies within -16,384 to 16,384.
+///
+/// A pair of operations comes first among the fields: it fills the bytes after the tag.
 #[derive(Debug, Drop)]
 pub enum Paint {
     /// Applies the operation at each point.
@@ -21,23 +25,23 @@ pub enum Paint {
     /// Applies the operation for the tile's bit. The tile is repeated in all directions from `delta`
     /// on.
     Texture {
-        clip: Rect,
         ops: Pair,
+        clip: Rect,
         tile: Tile,
         delta: Point,
     },
     /// Writes the pixels of a picture whose north-west corner lies at `delta`.
     Pixels {
         clip: Rect,
-        src: Pixmap,
+        src: SharedPixmap,
         delta: Point,
     },
     /// Applies the operation for the glyph's bit in each cell of a text, whose north-west corner lies
     /// at `at`.
     Text {
+        ops: Pair,
         clip: Rect,
         at: Point,
-        ops: Pair,
         text: Line,
     },
     /// Moves pixels by `delta`: each point of the clip gets the pixel that the point `delta` before it
@@ -52,6 +56,9 @@ pub enum Paint {
     },
 }
 
+// Millions of commands may wait in memory.
+const _: () = prove!(size_of::<Paint>() == 40);
+
 impl Paint {
     /// The points that it can touch: its clip, or the part of the clip in the cells of its text, of 8 by 8
     /// points each, or in its picture.
@@ -65,7 +72,9 @@ impl Paint {
             | Paint::Texture { clip, .. }
             | Paint::Scroll { clip, .. }
             | Paint::Spoil { clip } => *clip,
-            Paint::Pixels { clip, src, delta } => clip.meet(&whole(src.size()).shift(*delta)),
+            Paint::Pixels { clip, src, delta } => {
+                clip.meet(&whole(src.pixmap().size()).shift(*delta))
+            }
             Paint::Text { clip, at, text, .. } => clip.meet(&cells(*at, text)),
         }
     }
@@ -92,13 +101,13 @@ impl Paint {
                 op: *op,
             },
             Paint::Texture {
-                clip,
                 ops,
+                clip,
                 tile,
                 delta,
             } => Paint::Texture {
-                clip: *clip,
                 ops: *ops,
+                clip: *clip,
                 tile: *tile,
                 delta: *delta,
             },
@@ -108,14 +117,14 @@ impl Paint {
                 delta: *delta,
             },
             Paint::Text {
+                ops,
                 clip,
                 at,
-                ops,
                 text,
             } => Paint::Text {
+                ops: *ops,
                 clip: *clip,
                 at: *at,
-                ops: *ops,
                 text: text.copy()?,
             },
             Paint::Scroll { clip, delta } => Paint::Scroll {

@@ -44,18 +44,17 @@ impl Sums {
         }
     }
 
-    /// The sums of one command with this area.
-    pub fn of(paint: &Paint, area: Rect) -> Sums
+    /// Adds a command with this area after the others.
+    pub fn add(&mut self, paint: &Paint, area: &Rect)
         requires near { IsNearPaint paint.now }
-        requires area { area ≡ area_of paint.now }
-        ensures { spec.AreSums result (paint.now ∷ []) }
+        requires area { area.now ≡ area_of paint.now }
+        ensures { (front : List Paint) → spec.AreSums self.old front →
+            spec.AreSums self.new (front ++ paint.now ∷ []) }
     {
-        Sums {
-            hull: area,
-            cost: points_in(&area).saturating_mul(weight(paint)),
-            spoils: matches!(paint, Paint::Spoil { .. }),
-            scrolls: scrolls_of(paint),
-        }
+        self.hull = hull(&self.hull, area);
+        self.cost = self.cost.saturating_add(cost_of_one(paint, area));
+        self.spoils = either(self.spoils, is_spoil(paint));
+        self.scrolls = both_scrolls(&self.scrolls, &scrolls_of(paint));
     }
 
     /// The sums of commands followed by others.
@@ -79,7 +78,7 @@ pub(crate) fn sums_of(paints: &[Paint]) -> Sums
 {
     let mut sums = Sums::none();
     for paint in paints {
-        sums = sums.with(&Sums::of(paint, paint.area()));
+        sums.add(paint, &paint.area());
     }
     sums
 }
@@ -101,6 +100,21 @@ fn weight(paint: &Paint) -> u64
         Paint::Texture { .. } | Paint::Scroll { .. } => 2,
         Paint::Text { .. } => 3,
     }
+}
+
+/// The estimated work of executing a command with this area.
+fn cost_of_one(paint: &Paint, area: &Rect) -> u64
+    requires { area.now ≡ area_of paint.now }
+    ensures { result ≡ spec.cost_of (paint.now ∷ []) }
+{
+    points_in(area).saturating_mul(weight(paint))
+}
+
+/// Whether a command makes the pixels of its points unknown.
+fn is_spoil(paint: &Paint) -> bool
+    ensures { result ≡ spec.is_spoil paint.now }
+{
+    matches!(paint, Paint::Spoil { .. })
 }
 
 /// Whether one of the two is true.

@@ -50,9 +50,9 @@ module _ (e : Exposure) (look : Look) (cs : List Paint) (keeps : LosesNothingOf 
     -- within its area
     inside : (c : Paint) → Spares e c → has_point (area c) q ≡ true → is_none (after_deed look.kind (deed_within look c q) before q) ≡ false
     inside (Tint clip op) spares has = given (Tint clip op) (is_opaque (Tint clip op))
-    inside (Texture clip ops tile delta) spares has = given (Texture clip ops tile delta) (is_opaque (Texture clip ops tile delta))
+    inside (Texture ops clip tile delta) spares has = given (Texture ops clip tile delta) (is_opaque (Texture ops clip tile delta))
     inside (Pixels clip src delta) spares has = given (Pixels clip src delta) (is_opaque (Pixels clip src delta))
-    inside (Text clip at ops text) spares has = given (Text clip at ops text) (is_opaque (Text clip at ops text))
+    inside (Text ops clip at text) spares has = given (Text ops clip at text) (is_opaque (Text ops clip at text))
     inside (Scroll clip delta) spares has = brought clip delta spares has
     inside (Spoil clip) spares has = absurd spares
 
@@ -90,9 +90,9 @@ AreSparing e Various = ⊥
 -- a command that is no spoil spares what is known, where the scrolls do
 spares-one : (e : Exposure) (s : Scrolls) (c : Paint) → AreSparing e s → is_spoil c ≡ false → IsOneOf s c → Spares e c
 spares-one e s (Tint clip op) sparing clean is = tt
-spares-one e s (Texture clip ops tile delta) sparing clean is = tt
+spares-one e s (Texture ops clip tile delta) sparing clean is = tt
 spares-one e s (Pixels clip src delta) sparing clean is = tt
-spares-one e s (Text clip at ops text) sparing clean is = tt
+spares-one e s (Text ops clip at text) sparing clean is = tt
 spares-one e Absent (Scroll clip delta) sparing clean is = absurd is
 spares-one e (Alike c d) (Scroll clip delta) sparing clean is = (
   sparing.0,

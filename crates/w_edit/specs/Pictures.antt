@@ -50,7 +50,7 @@ strip size i = strips_between size i (i + 1)
 
 -- the line of a strip is written; a line that the text doesn't have is empty, and so is its area
 abbrev pub written : Size → Contents → ℕ → Paint
-written size x i = Text (strip size i) (begin_of i) plain (line_at x (top size x + i))
+written size x i = Text plain (strip size i) (begin_of i) (line_at x (top size x + i))
 
 -- the strip becomes background, and its line is written
 abbrev pub put : Size → Contents → ℕ → List Paint

@@ -57,14 +57,14 @@ lines_next lines Clear = []
 
 -- a line is written below `above` others
 abbrev pub written_below : Size → ℕ → List ℕ → List Paint
-written_below size above line = batch_of (Text (whole_of size) (begin_of above) plain line ∷ [])
+written_below size above line = batch_of (Text plain (whole_of size) (begin_of above) line ∷ [])
 
 -- the lines of a window that is full with `count` lines move upwards, and a line is written in place of the last one
 abbrev pub moved_up : Size → ℕ → List ℕ → List Paint
 moved_up size count line =
     let last = count - 1 in
     batch_of (Scroll (strips_between size 0 last) upwards ∷ Tint (strips_between size last count) Bg
-    ∷ Text (whole_of size) (begin_of last) plain line ∷ [])
+    ∷ Text plain (whole_of size) (begin_of last) line ∷ [])
 
 -- the most lines that a window shows
 abbrev pub most_shown : Size → ℕ

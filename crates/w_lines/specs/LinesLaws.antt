@@ -38,7 +38,7 @@ use Rattle.w_lines.specs.Lines.{IsLines, IsLinesCmd, most_kept_lines, newest_lin
 written_patch : (look : Look) (size : Size) (lines : List (List ℕ)) (line : List ℕ) →
     IsPatch look size (written_below size (length lines) line) (colour_in look lines) (colour_in look (lines ++ line ∷ []))
 written_patch look size lines line =
-    let text : Paint = Text (whole_of size) (begin_of (length lines)) plain line in
+    let text : Paint = Text plain (whole_of size) (begin_of (length lines)) line in
     patch_by_run look size (text ∷ []) (colour_in look lines) (colour_in look (lines ++ line ∷ []))
     (λ q here. makes-left look.kind (deed look text q) (colour_in look lines) q _ _ refl
     (line-makes look (whole_of size) lines line q here))
@@ -87,7 +87,7 @@ moved_patch look size (first ∷ lines) line count long some =
     tint = Tint (strips_between size (length lines) (length lines + 1)) Bg
 
     text : Paint
-    text = Text (whole_of size) (begin_of (length lines)) plain line
+    text = Text plain (whole_of size) (begin_of (length lines)) line
 
     old : Point → ℕ
     old = colour_in look (first ∷ lines)

@@ -26,7 +26,7 @@ use Rattle.w_plain.specs.Boards.{IsBoard, IsBoardCmd, board_pic, board_next, boa
 pub board_painting : (look : Look) (size : Size) (part : Edges) (x : Board) →
     IsPainting look part (board_paints part x) (board_pic look size x)
 board_painting look size part x =
-    painting_alone look part (Texture part plain x.tile x.shift) (board_pic look size x) (tile-gives look part x.tile x.shift) (λ q h. h)
+    painting_alone look part (Texture plain part x.tile x.shift) (board_pic look size x) (tile-gives look part x.tile x.shift) (λ q h. h)
 
 pub board_contents : (x : Board) (cmd : BoardCmd) → IsBoard x → IsBoardCmd cmd → IsBoard (board_next x cmd)
 board_contents x (Tile tile) valid known = record { shift = valid.shift }

@@ -42,7 +42,7 @@ board_next x (Shift shift) = record x { shift = shift }
 
 -- the commands that paint a part of the picture
 abbrev pub board_paints : Edges → Board → List Paint
-board_paints part x = batch_of (Texture part plain x.tile x.shift ∷ [])
+board_paints part x = batch_of (Texture plain part x.tile x.shift ∷ [])
 
 -- all of the window is painted with the new tile at the new shift
 abbrev pub board_patch : Look → Size → Board → BoardCmd → List Paint

@@ -33,7 +33,7 @@ use Rattle.w_plain.specs.Labels.{IsLabel, IsLabelCmd, label_pic, label_next, lab
 pub label_painting : (look : Look) (size : Size) (part : Edges) (x : Label) →
     IsPainting look part (label_paints part x) (label_pic look size x)
 label_painting look size part x =
-    painting_pushed look part (Tint part Bg ∷ []) (Written part origin plain x.text) (λ q. 0) (label_pic look size x)
+    painting_pushed look part (Tint part Bg ∷ []) (Written plain part origin x.text) (λ q. 0) (label_pic look size x)
     (painting_alone look part (Tint part Bg) (λ q. 0) (λ q here. rw here refl) (λ q h. h))
     (λ q here. text-makes look part origin x.text q 0 here)
     (meet-inside part (cells_of origin (length x.text)))

@@ -41,7 +41,7 @@ label_next x (Text text) = record { text = text }
 
 -- the commands that paint a part of the picture: the background, and the text over it
 abbrev pub label_paints : Edges → Label → List Paint
-label_paints part x = batch_of (Tint part Bg ∷ Written part origin plain x.text ∷ [])
+label_paints part x = batch_of (Tint part Bg ∷ Written plain part origin x.text ∷ [])
 
 -- all of the window is painted with the new text
 abbrev pub label_patch : Look → Size → Label → LabelCmd → List Paint

@@ -7,7 +7,7 @@ earlier-requires-clause-delta c = near-origin c.in-Pixels.delta (rw c.in-Pixels.
 
 pub at-requires : goal.at-requires
 at-requires c =
-    rw c.earlier.ensures.value
+    rw (c.pixmap.ensures, c.earlier.ensures.value)
     (pixels_part c.in-Pixels.clip c.in-Pixels.src.size c.in-Pixels.delta c.args.q (rw c.in-Pixels.is at c.requires.area))
 
 pub cell_bit-requires : goal.cell_bit-requires

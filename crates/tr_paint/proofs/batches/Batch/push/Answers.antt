@@ -12,7 +12,7 @@ invariant_of-self-2 c =
     full-area c.args.paint c.area-area.result c.area-area.ensures.value c.is_empty.ensures.invariant (λ e. false-true (c.if-is_empty.ensures.value.1 e)) in
     rw c.in_ok-push.ensures.items (record {
       batch = batch-append _ _ c.self.invariant.batch (record { near = c.requires; some = some }, tt);
-      known = c.with-sums.ensures _ _ c.self.invariant.known c.of.ensures;
+      known = c.add.ensures _ c.self.invariant.known;
     })
 
 pub returns-clause-ok : goal.returns-clause-ok
