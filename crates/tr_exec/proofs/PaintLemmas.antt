@@ -1,5 +1,6 @@
 -- A walk that paints: a run more, and some rows more.
 use Rattle.std.proofs.Common.{◌≡◌, ℕ, ◌+◌, ◌<◌, ◌≤◌, ◌⊎◌, inl, inr, ℤ, pos, ◌≤ℤ◌, ◌<ℤ◌, Bool, true, false, ◌&&◌, ◌||◌, List, [], ◌∷◌, take, get_or, length, refl, sym, ◌∙◌, ap, subst, arith}
+use Rattle.std.specs.Prelude.{unsigned_abs}
 use Rattle.std.specs.Ordering.{int_eq}
 use Rattle.std.specs.Int.{int_min, int_max}
 use Rattle.std.proofs.lemmas.Int.{ints, clamps}
@@ -16,11 +17,11 @@ use Rattle.tr_region.proofs.BandRows.{int_cases}
 use Rattle.tr_region.proofs.ColumnLemmas.{some_at, none_west}
 use Rattle.tr_screen.specs.Pictures.{Picture, pixel_of}
 use Rattle.tr_screen.specs.Runs.{in_run, in_rows, IsOn, IsRun, Repaints}
-use Rattle.tr_screen.proofs.Repainting.{painted_more, repaints_none}
-use Rattle.tr_screen.proofs.RunLemmas.{there, tests_of_run}
+use Rattle.tr_screen.proofs.Repainting.{painted_more, repaints_by, repaints_none, repaints_same}
+use Rattle.tr_screen.proofs.RunLemmas.{abs_is, there, tests_of_run}
 use Rattle.tr_repair.specs.Walks.{in_columns, in_part, in_row, run_of}
 use Rattle.tr_repair.proofs.WalkLemmas.{or_and, part_more, part_of_row, band_of_row, band_from, row_more, row_of_run, run_on}
-use Rattle.tr_exec.specs.Walks.{AreOn, HasRow, Meets, in_area, in_columns_of}
+use Rattle.tr_exec.specs.Walks.{AreOn, HasColumns, HasRow, Meets, in_area, in_columns_of}
 
 pub and_assoc : (a b c : Bool) → (a && b) && c ≡ a && (b && c)
 and_assoc true b c = refl
@@ -189,6 +190,54 @@ rows_had area high n s across north south v from to = (first, last (int_cases ar
     last : (area.south ≤ℤ pos v) ⊎ (pos v <ℤ area.south) → pos v <ℤ area.south
     last (inr lt) = lt
     last (inl ge) = absurd (omega (arith, ints, (south.same (pos v) (omega (arith, ints)) (omega (arith, ints, south.to))).0 ge))
+
+-- the tests of a point that lies in some rows, and those by which a coordinate lies between two edges
+rows_tests : (n s : ℕ) (p : Point) → in_rows n s p ≡ true → (pos n ≤ℤ p.v) × (p.v <ℤ pos s)
+rows_tests n s p t = (grind (arith, ints), grind (arith, ints))
+
+lies_between : (a b x : ℤ) → a ≤ℤ x → x <ℤ b → between a b x ≡ true
+lies_between a b x low high = grind (arith, ints)
+
+-- where the area and the one rectangle of a band have all columns of a screen, the band's points in the area are its rows
+pub whole_rows : (size : Size) (rects : List Edges) (area r : Edges) (n s : ℕ) → HasColumns size.wide area → HasColumns size.wide r →
+    ((x : ℤ) → area.west ≤ℤ x → x <ℤ area.east → in_spans (spans_of (r ∷ [])) x ≡ in_spans (spans_of rects) x) →
+    ((v : ℕ) → n ≤ v → v < s → HasRow area v) →
+    (p : Point) → IsOn size p → in_area (in_band n s rects) area p ≡ in_rows n s p
+whole_rows size rects area r n s wide all columns rows p on = by_rows (in_rows n s p) refl
+  where
+    held : in_spans (spans_of rects) p.h ≡ true
+    held =
+        let at = there size p on in
+        let west : area.west ≤ℤ p.h = omega (arith, ints, wide.0, at.west) in
+        let east : p.h <ℤ area.east = omega (arith, ints, wide.1, at.east) in
+        let first : r.west ≤ℤ p.h = omega (arith, ints, all.0, at.west) in
+        let last : p.h <ℤ r.east = omega (arith, ints, all.1, at.east) in
+        sym (columns p.h west east) ∙ rw (lies_between r.west r.east p.h first last) refl
+
+    has : in_rows n s p ≡ true → has_point area p ≡ true
+    has t =
+        let at = there size p on in
+        let v = abs_is p.v at.north in
+        let tests = rows_tests n s p t in
+        let low : n ≤ unsigned_abs p.v = omega (arith, ints, v, tests.0) in
+        let high : unsigned_abs p.v < s = omega (arith, ints, v, tests.1) in
+        let row = rows (unsigned_abs p.v) low high in
+        let west : area.west ≤ℤ p.h = omega (arith, ints, wide.0, at.west) in
+        let east : p.h <ℤ area.east = omega (arith, ints, wide.1, at.east) in
+        let north : area.north ≤ℤ p.v = omega (arith, ints, v, row.0) in
+        let south : p.v <ℤ area.south = omega (arith, ints, v, row.1) in
+        and_from (between area.west area.east p.h) (between area.north area.south p.v)
+        (lies_between area.west area.east p.h west east) (lies_between area.north area.south p.v north south)
+
+    by_rows : (t : Bool) → in_rows n s p ≡ t → in_area (in_band n s rects) area p ≡ t
+    by_rows false e = and_left (in_band n s rects p) (has_point area p) (and_left (in_rows n s p) (in_columns rects p) e)
+    by_rows true e = and_from (in_band n s rects p) (has_point area p) (and_from (in_rows n s p) (in_columns rects p) e held) (has e)
+
+-- rows that were filled with what a brush gives each point are painted
+pub rows_filled : (held : Point → Bool) (rows : Point → Bool) (x : ℕ) (f : Point → ℕ → ℕ) (old new : Picture) → Repaints rows (λ _. x) old new →
+    ((p : Point) → IsOn old.size p → held p ≡ rows p) → ((p : Point) (pixel : ℕ) → f p pixel ≡ x) → Repaints held (λ p. f p (pixel_of old p)) old new
+rows_filled held rows x f old new filled same one =
+    repaints_by held (λ _. x) (λ p. f p (pixel_of old p)) old new (repaints_same rows held (λ _. x) old new filled same) (λ p t. sym (one p (pixel_of old p)))
 
 -- a row of one rectangle is the list of that rectangle
 pub one_rect : (row : List Edges) (i : ℕ) (r : Edges) → length row ≡ 1 → i ≡ 0 → r ≡ get_or row i r → row ≡ r ∷ []

@@ -53,6 +53,14 @@ repaints_as test other f g old new h same pixels = record {
   points = λ p on. h.points p on ∙ ap (λ b. cond b (f p) (pixel_of old p)) (sym (same p)) ∙ ap (λ x. cond (other p) x (pixel_of old p)) (sym (pixels p));
 }
 
+-- nothing changes where each point gets its own pixel
+pub repaints_own : (test : Point → Bool) (old : Picture) → Repaints test (λ p. pixel_of old p) old old
+repaints_own test old = record { size = refl; kind = refl; points = λ p on. either (test p) (pixel_of old p) }
+  where
+    either : (b : Bool) (x : ℕ) → x ≡ cond b x x
+    either true x = refl
+    either false x = refl
+
 -- what holds of two lists place by place holds at a place
 pub zip_at : {A B : Type 0} (R : A → B → Type 0) (xs : List A) (ys : List B) (i : ℕ) (x : A) (y : B) → AllZip R xs ys → i < length xs →
     x ≡ get_or xs i x → y ≡ get_or ys i y → R x y
@@ -62,7 +70,7 @@ zip_at R (a ∷ xs) (b ∷ ys) zero x y all below is_x is_y = rw (is_x, is_y) al
 zip_at R (a ∷ xs) (b ∷ ys) (suc i) x y all below is_x is_y = zip_at R xs ys i x y all.1 (omega (arith, below)) is_x is_y
 
 -- where an operation is opaque, what it leaves doesn't depend on the old pixel
-opaque-eff : (kind : Kind) (op : Op) (old : ℕ) → opaque op ≡ true → eff kind op old ≡ eff kind op 0
+pub opaque-eff : (kind : Kind) (op : Op) (old : ℕ) → opaque op ≡ true → eff kind op old ≡ eff kind op 0
 opaque-eff kind Bg old h = refl
 opaque-eff kind Fg old h = refl
 opaque-eff kind Transparent old h = absurd cc

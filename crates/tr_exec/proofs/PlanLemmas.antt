@@ -52,13 +52,13 @@ lost-within look (Tint clip op) known q =
     let c = Tint clip op in
     lost-painted look.kind (is_opaque c) (eff look.kind (op_at look.font c q) 0)
     (Change (op_at look.font c q)) Keeps known q (none-map _ (known q))
-lost-within look (Texture clip ops tile delta) known q =
-    let c = Texture clip ops tile delta in
+lost-within look (Texture ops clip tile delta) known q =
+    let c = Texture ops clip tile delta in
     lost-painted look.kind (is_opaque c) (eff look.kind (op_at look.font c q) 0)
     (Change (op_at look.font c q)) Keeps known q (none-map _ (known q))
 lost-within look (Pixels clip src delta) known q = refl
-lost-within look (Text clip at ops text) known q =
-    let c = Text clip at ops text in
+lost-within look (Text ops clip at text) known q =
+    let c = Text ops clip at text in
     lost-painted look.kind (is_opaque c) (eff look.kind (op_at look.font c q) 0)
     (Change (op_at look.font c q)) Keeps known q (none-map _ (known q))
 lost-within look (Scroll clip delta) known q = refl
@@ -187,13 +187,13 @@ moved-is (Tint clip op) origin visible rect moved within made p = made p ∙ sti
     still : (b : Bool) → moved_by (cond b Tells Keeps) rect visible p ≡ false
     still true = refl
     still false = refl
-moved-is (Texture clip ops tile delta) origin visible rect moved within made p = made p ∙ still (is_opaque (Texture clip ops tile delta))
+moved-is (Texture ops clip tile delta) origin visible rect moved within made p = made p ∙ still (is_opaque (Texture ops clip tile delta))
   where
     still : (b : Bool) → moved_by (cond b Tells Keeps) rect visible p ≡ false
     still true = refl
     still false = refl
 moved-is (Pixels clip src delta) origin visible rect moved within made p = made p
-moved-is (Text clip at ops text) origin visible rect moved within made p = made p ∙ still (is_opaque (Text clip at ops text))
+moved-is (Text ops clip at text) origin visible rect moved within made p = made p ∙ still (is_opaque (Text ops clip at text))
   where
     still : (b : Bool) → moved_by (cond b Tells Keeps) rect visible p ≡ false
     still true = refl

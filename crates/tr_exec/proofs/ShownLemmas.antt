@@ -77,18 +77,18 @@ not_both false b h = refl
 untouched : (look : Look) (c : Paint) (origin : Point) (visible : List Edges) (old new : Picture) (p : Point) → IsPainted look c origin visible old new →
     IsOn old.size p → in_sight c origin visible p ≡ false → pixel_of new p ≡ pixel_of old p
 untouched look (Tint clip op) origin visible old new p r on fails = left_alone r p on fails
-untouched look (Texture clip ops tile delta) origin visible old new p r on fails = left_alone r p on fails
+untouched look (Texture ops clip tile delta) origin visible old new p r on fails = left_alone r p on fails
 untouched look (Pixels clip src delta) origin visible old new p r on fails = left_alone r p on fails
-untouched look (Text clip at ops text) origin visible old new p r on fails = left_alone r p on fails
+untouched look (Text ops clip at text) origin visible old new p r on fails = left_alone r p on fails
 untouched look (Scroll clip delta) origin visible old new p r on fails = left_alone r p on (not_both _ _ fails)
 untouched look (Spoil clip) origin visible old new p r on fails = ap (λ (s : Picture). pixel_of s p) r
 
 same_size : (look : Look) (c : Paint) (origin : Point) (visible : List Edges) (old new : Picture) → IsPainted look c origin visible old new →
     (new.size ≡ old.size) × (new.kind ≡ old.kind)
 same_size look (Tint clip op) origin visible old new r = (r.size, r.kind)
-same_size look (Texture clip ops tile delta) origin visible old new r = (r.size, r.kind)
+same_size look (Texture ops clip tile delta) origin visible old new r = (r.size, r.kind)
 same_size look (Pixels clip src delta) origin visible old new r = (r.size, r.kind)
-same_size look (Text clip at ops text) origin visible old new r = (r.size, r.kind)
+same_size look (Text ops clip at text) origin visible old new r = (r.size, r.kind)
 same_size look (Scroll clip delta) origin visible old new r = (r.size, r.kind)
 same_size look (Spoil clip) origin visible old new r = (ap (λ (s : Picture). s.size) r, ap (λ (s : Picture). s.kind) r)
 
@@ -176,15 +176,15 @@ module _ (look : Look) (origin : Point) (visible bad : List Edges) (first : Pict
               repainted r p there (sight (Tint clip op) h)
               ∙ painted-done look.kind (opaque op) op (λ r. after look (base_of origin visible bad first) batch r)
               (before_shift p origin) (pixel_of mid p) x (λ o. o) told e
-          by_command (Texture clip ops tile delta) r h e =
-              let d = Texture clip ops tile delta in
+          by_command (Texture ops clip tile delta) r h e =
+              let d = Texture ops clip tile delta in
               repainted r p there (sight d h)
               ∙ painted-done look.kind (both_opaque ops) (op_at look.font d (before_shift p origin))
               (λ r. after look (base_of origin visible bad first) batch r) (before_shift p origin) (pixel_of mid p) x
               (opaque-chosen ops _) told e
           by_command (Pixels clip src delta) r h e = repainted r p there (sight (Pixels clip src delta) h) ∙ some_is _ x e
-          by_command (Text clip at ops text) r h e =
-              let d = Text clip at ops text in
+          by_command (Text ops clip at text) r h e =
+              let d = Text ops clip at text in
               repainted r p there (sight d h)
               ∙ painted-done look.kind (both_opaque ops) (op_at look.font d (before_shift p origin))
               (λ r. after look (base_of origin visible bad first) batch r) (before_shift p origin) (pixel_of mid p) x

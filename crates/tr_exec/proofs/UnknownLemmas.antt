@@ -41,3 +41,16 @@ pub points_same : {E : Type 0} (answer : Result (List Edges) E) (f g : Point →
     ((p : Point) → f p ≡ g p) → IfOk answer (λ r. (p : Point) → holds r p ≡ g p)
 points_same (Ok r) f g told same = λ p. told p ∙ same p
 points_same (Err e) f g told same = tt
+
+-- points that stay as they are, in an area or not
+pub kept_within : (v a u : Bool) → (u ≡ true → v ≡ true) → u ≡ v && cond a (not v || u) (not v || u)
+kept_within true true u in_v = refl
+kept_within true false u in_v = refl
+kept_within false a true in_v = cc (in_v refl)
+kept_within false a false in_v = refl
+
+-- nothing is unknown after all that is told
+pub none_within : (v a : Bool) → false ≡ v && cond a false (not v || false)
+none_within true true = refl
+none_within true false = refl
+none_within false a = refl

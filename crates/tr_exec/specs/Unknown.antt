@@ -1,6 +1,6 @@
 -- Private contracts alone cite this file.
 -- The visible points that are unknown after a command, computed without pixels.
-use Rattle.std.specs.Prelude.{◌≡◌, Bool, true, false, ◌&&◌, ◌||◌, not, is_none, if◌then◌else◌, List}
+use Rattle.std.specs.Prelude.{◌≡◌, Bool, true, false, ◌&&◌, ◌||◌, not, is_none, if◌then◌else◌, List, [], ◌∷◌}
 use Rattle.tr_base.specs.declared.Point.{Point}
 use Rattle.tr_base.specs.Rects.{Edges, before_shift, has_point}
 use Rattle.tr_region.specs.Points.{holds}
@@ -37,6 +37,14 @@ unseen visible unknown p = not (holds visible p) || holds unknown p
 abbrev pub unknown_after : Effect → List Edges → List Edges → List Edges → Point → Bool
 unknown_after effect area visible unknown p =
     holds visible p && (if holds area p then lost_by effect (unseen visible unknown) p else unseen visible unknown p)
+
+-- an effect moves no point, and leaves the same points unknown, whatever its area
+abbrev pub keeps_known : Effect → List Edges → Bool
+keeps_known Tells [] = true
+keeps_known Tells (r ∷ rects) = false
+keeps_known Loses unknown = false
+keeps_known Keeps unknown = true
+keeps_known (Moves delta) unknown = false
 
 -- the unknown points are the visible ones whose colour after the batch isn't known
 abbrev pub TellsUnknown : Look → Base → List Paint → Point → List Edges → List Edges → Type 0

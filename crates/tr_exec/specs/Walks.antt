@@ -19,6 +19,10 @@ AreOn size test = (p : Point) → test p ≡ true → IsOn size p
 abbrev pub HasRow : Edges → ℕ → Type 0
 HasRow area v = (area.north ≤ℤ pos v) × (pos v <ℤ area.south) × (area.west <ℤ area.east)
 
+-- the rectangle has all columns of a screen of this width
+abbrev pub HasColumns : ℕ → Edges → Type 0
+HasColumns wide r = (r.west ≤ℤ pos 0) × (pos wide ≤ℤ r.east)
+
 -- the rectangle, cut to the columns of the area
 abbrev pub in_columns_of : Edges → Edges → Edges
 in_columns_of area r = record { west = int_max r.west area.west; east = int_min r.east area.east; north = r.north; south = r.south }

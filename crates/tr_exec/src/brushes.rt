@@ -2,7 +2,7 @@
 ghost use Rattle.std.specs.Prelude.{◌≡◌, ◌*◌, ℕ, if◌then◌else◌, ◌-ℤ◌, ◌<ℤ◌, ◌≤ℤ◌, pos, neg_ℤ, true, length, slice_index, unsigned_abs};
 ghost use Rattle.tr_base.specs.declared.Point.{Point};
 ghost use Rattle.tr_base.specs.Rects.{InReach, has_point, whole_of, rect_of, before_shift};
-ghost use Rattle.tr_base.specs.Ops.{eff};
+ghost use Rattle.tr_base.specs.Ops.{exchanged};
 ghost use Rattle.tr_base.specs.Tiles.{tile_bit};
 ghost use Rattle.tr_base.specs.Pixmaps.{pixmap_at};
 ghost use Rattle.tr_paint.specs.Paints.{text_bit};
@@ -11,20 +11,25 @@ ghost use Rattle.tr_kernel.specs.Masks.{painted};
 ghost use Rattle.tr_screen.specs.Runs.{in_run, point_in};
 ghost use Rattle.tr_exec.specs.Strokes.{IsCorner};
 
-use crate::strokes::{
-    GlyphRows, Lettering, letters_run, pixels_run, text_run, texture_run, tint_run,
-};
+use crate::strokes::{GlyphRows, Lettering, letters_run, pixels_run, text_run, texture_run};
 use crate::walks::Brush;
-use tr_base::{Kind, Op, Pixmap, Point, Rect, Tile};
-use tr_kernel::Mask;
+use tr_base::{Kind, Pixmap, Point, Rect, Tile};
+use tr_kernel::{Mask, exchange_row, fill_row};
 use tr_screen::Run;
 
-/// Applies one operation.
+/// Gives each point one pixel.
 #[derive(Drop)]
-pub(crate) struct TintBrush {
+pub(crate) struct FillBrush {
     pub area: Rect,
-    pub kind: Kind,
-    pub op: Op,
+    pub pixel: u8,
+}
+
+/// Exchanges two pixels.
+#[derive(Drop)]
+pub(crate) struct ExchangeBrush {
+    pub area: Rect,
+    pub x: u8,
+    pub y: u8,
 }
 
 /// Applies the operation for the bit of a tile that begins at `at`.
@@ -75,17 +80,35 @@ pub(crate) struct LettersBrush<'a> {
         (before_shift p at) ≡ true },
 }
 
-impl Brush for TintBrush {
+impl Brush for FillBrush {
     ghost area = { λ b. b.area };
 
-    ghost pixel = { λ b p old. eff b.kind b.op old };
+    ghost pixel = { λ b p old. b.pixel };
+
+    fn area(&self) -> Rect {
+        self.area
+    }
+
+    fn filling(&self) -> Option<u8> {
+        Some(self.pixel)
+    }
+
+    fn paint(&self, _run: Run, pixels: &mut [u8]) {
+        fill_row(pixels, self.pixel);
+    }
+}
+
+impl Brush for ExchangeBrush {
+    ghost area = { λ b. b.area };
+
+    ghost pixel = { λ b p old. exchanged b.x b.y old };
 
     fn area(&self) -> Rect {
         self.area
     }
 
     fn paint(&self, _run: Run, pixels: &mut [u8]) {
-        tint_run(self.kind, self.op, pixels);
+        exchange_row(pixels, self.x, self.y);
     }
 }
 

@@ -4,6 +4,7 @@ ghost use Rattle.tr_exec.specs.Unknown as spec;
 
 use tr_base::Point;
 use tr_paint::Paint;
+use tr_region::Region;
 
 /// The effect of a command on the knowledge of the points of its area.
 #[derive(Clone, Copy)]
@@ -29,5 +30,17 @@ pub(crate) fn effect_of(paint: &Paint) -> Effect
         Paint::Spoil { .. } => Effect::Loses,
         _ if paint.is_opaque() => Effect::Tells,
         _ => Effect::Keeps,
+    }
+}
+
+/// Whether an effect moves no point and leaves the same points unknown, in any area: then the area
+/// needn't be computed.
+pub(crate) fn keeps_known(effect: Effect, unknown: &Region) -> bool
+    ensures { result ≡ spec.keeps_known effect unknown.now }
+{
+    match effect {
+        Effect::Tells => unknown.is_empty(),
+        Effect::Keeps => true,
+        Effect::Loses | Effect::Moves(_) => false,
     }
 }

@@ -9,6 +9,7 @@ mod plans;
 mod sites;
 mod strokes;
 mod texts;
+mod tints;
 mod walks;
 
 pub use execs::{execute, execute_known};

@@ -14,9 +14,10 @@ ghost use Rattle.tr_exec.specs.Strokes.{IsCorner};
 ghost use Rattle.tr_exec.specs.Unknown.{IsMovedBy};
 ghost use Rattle.tr_exec.specs.Painted.{IsPainted, ShowsBatch};
 
-use crate::brushes::{PixelsBrush, TextureBrush, TintBrush};
+use crate::brushes::{PixelsBrush, TextureBrush};
 use crate::sites::Site;
 use crate::texts::{PlacedText, paint_text};
+use crate::tints::{Tint, paint_tint};
 use crate::walks::paint_within;
 use tr_base::{Env, Point, moved};
 use tr_kernel::Mask;
@@ -57,12 +58,12 @@ impl Site<'_> {
         let area = self.area(paint);
         match paint {
             Paint::Tint { op, .. } => {
-                let brush = TintBrush {
+                let tint = Tint {
                     area,
                     kind: env.kind,
                     op: *op,
                 };
-                paint_within(screen, self.visible, &brush);
+                paint_tint(screen, self.visible, tint);
             }
             Paint::Texture {
                 ops,
@@ -82,7 +83,7 @@ impl Site<'_> {
                 let brush = PixelsBrush {
                     area,
                     kind: env.kind,
-                    src,
+                    src: src.pixmap(),
                     at: self.place(*delta),
                 };
                 paint_within(screen, self.visible, &brush);

@@ -7,7 +7,7 @@ ghost use Rattle.tr_paint.specs.Traces.{Look};
 ghost use Rattle.tr_exec.specs.Executions.{IsOrigin, RegionLiesOn, greatest_screen, base_of};
 ghost use Rattle.tr_exec.specs.Unknown.{IsMovedBy, bad_after};
 
-use crate::effects::effect_of;
+use crate::effects::{effect_of, keeps_known};
 use crate::sites::Site;
 use tr_base::NoMemory;
 use tr_paint::Batch;
@@ -37,10 +37,14 @@ impl Site<'_> {
         let mut moves = Vec::with_capacity(self.alloc, batch.len())?;
         let mut unknown = self.visible.meet(bad)?;
         for paint in batch.paints() {
-            let area = Region::of_rect(self.alloc, self.area(paint))?;
             let effect = effect_of(paint);
-            moves.push(self.moved_by(effect, &area)?)?;
-            unknown = self.unknown_after(effect, &area, unknown)?;
+            if keeps_known(effect, &unknown) {
+                moves.push(Region::empty(self.alloc))?;
+            } else {
+                let area = Region::of_rect(self.alloc, self.area(paint))?;
+                moves.push(self.moved_by(effect, &area)?)?;
+                unknown = self.unknown_after(effect, &area, unknown)?;
+            }
         }
         let bad = bad.minus(self.visible)?.union(&unknown)?;
         Ok(Plan { moves, bad })

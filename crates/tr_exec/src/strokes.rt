@@ -2,7 +2,7 @@ ghost use Rattle.std.specs.Prelude.{◌≡◌, ◌<◌, ◌≤◌, ◌+◌, ◌/
 ghost use Rattle.std.specs.List.{AllPass};
 ghost use Rattle.std.specs.Simd.Lanes.{chunk, put_chunk};
 ghost use Rattle.tr_base.specs.Lines.{is_printable};
-ghost use Rattle.tr_base.specs.Ops.{eff, resolved as resolved_of};
+ghost use Rattle.tr_base.specs.Ops.{resolved as resolved_of};
 ghost use Rattle.tr_base.specs.Tiles.{tile_bit, tile_index as place_in_tile};
 ghost use Rattle.tr_base.specs.Fonts.{glyph_of, glyph_bit};
 ghost use Rattle.tr_base.specs.Pixmaps.{pixmap_at};
@@ -10,23 +10,11 @@ ghost use Rattle.tr_kernel.specs.Masks.{painted};
 ghost use Rattle.tr_exec.specs.Strokes.{IsWithin, IsInCells, AreGlyphRows, east_of, by_turns};
 
 use std::simd::prelude::*;
-use tr_base::{Font, Kind, LINE, Line, Op, Pixmap, Point, Tile, eff, place_of, resolved};
-use tr_kernel::{Letters, Mask, copy_row, exchange_row, fill_row, letter_row};
+use tr_base::{Font, Kind, LINE, Line, Pixmap, Point, Tile, place_of, resolved};
+use tr_kernel::{Letters, Mask, copy_row, letter_row};
 
 /// The number of bytes of the glyphs of the longest text.
 const BITS: usize = 8 * LINE;
-
-/// Applies one operation to each pixel of a run.
-pub(crate) fn tint_run(kind: Kind, op: Op, pixels: &mut [u8])
-    ensures { (k : ℕ) → k < length pixels.old →
-        slice_index pixels.new k ≡ eff kind op (slice_index pixels.old k) }
-{
-    match op {
-        Op::Transparent => {}
-        Op::Exchange(a, b) => exchange_row(pixels, resolved(kind, a), resolved(kind, b)),
-        Op::Bg | Op::Fg | Op::Set(_) => fill_row(pixels, eff(kind, op, 0)),
-    }
-}
 
 /// Paints a run through a tile. The run begins at the point `at` of the tile.
 pub(crate) fn texture_run(mask: &Mask, tile: &Tile, at: Point, pixels: &mut [u8])

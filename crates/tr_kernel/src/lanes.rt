@@ -50,7 +50,8 @@ fn write(pixel: u8) -> Step
     }
 }
 
-fn exchange(x: u8, y: u8) -> Step
+/// The step that exchanges two pixels.
+pub(crate) fn exchange(x: u8, y: u8) -> Step
     ensures { (old : ℕ) → old < 2 ^ 8 → stepped result old ≡ exchanged x y old }
 {
     Step {

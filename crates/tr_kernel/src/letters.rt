@@ -1,5 +1,5 @@
-//! Rows of the glyphs of letters side by side, written in two colours, eight pixels at a time.
-ghost use Rattle.std.specs.Prelude.{◌≡◌, ◌<◌, ◌≤◌, ◌+◌, ◌-◌, ◌*◌, ◌/◌, ◌%◌, ℕ, if◌then◌else◌, length, slice_index, bit_xor};
+//! Rows of the glyphs of letters side by side, written in two colours, two letters at a time.
+ghost use Rattle.std.specs.Prelude.{◌≡◌, ◌<◌, ◌≤◌, ◌+◌, ◌-◌, ◌*◌, ◌/◌, ◌%◌, ◌++◌, ℕ, if◌then◌else◌, length, slice_index, bit_xor};
 ghost use Rattle.std.specs.List.{AllPass};
 ghost use Rattle.tr_base.specs.Lines.{is_printable};
 ghost use Rattle.tr_kernel.specs.Letters.{bit_in_letters, inked, pixel_in};
@@ -81,7 +81,7 @@ fn write_from_edge(row: &mut [u8], source: &[u8], text: &[u8], inks: Inks)
     }
 }
 
-/// Writes whole letters.
+/// Writes whole letters: two at a time, and the last one of an odd number.
 #[inline(always)]
 fn write_whole(row: &mut [u8], source: &[u8], text: &[u8], inks: Inks)
     requires source { length source.now ≡ 760 }
@@ -90,9 +90,43 @@ fn write_whole(row: &mut [u8], source: &[u8], text: &[u8], inks: Inks)
     ensures { (k : ℕ) → k < length row.old →
         slice_index row.new k ≡ inked inks (pixel_in source.now text.now k) }
 {
-    for (i, byte) in text.iter().enumerate() {
-        letter_pixels(source, place_of(*byte), inks).copy_to_slice(&mut row[8 * i..]);
+    for i in 0..text.len() / 2 {
+        let near = place_of(text[2 * i]);
+        let far = place_of(text[2 * i + 1]);
+        pair_pixels(source, near, far, inks).copy_to_slice(&mut row[16 * i..]);
     }
+    if text.len() % 2 == 1 {
+        let last = text.len() - 1;
+        letter_pixels(source, place_of(text[last]), inks).copy_to_slice(&mut row[8 * last..]);
+    }
+}
+
+/// Eight pixels of a row of all glyphs from one place on, and eight from another, in two colours.
+#[inline(always)]
+fn pair_pixels(source: &[u8], near: usize, far: usize, inks: Inks) -> u8x16
+    requires near { near + 8 ≤ length source.now }
+    requires far { far + 8 ≤ length source.now }
+    ensures lanes { length result ≡ 16 }
+    ensures near { (h : ℕ) → h < 8 →
+        slice_index result h ≡ inked inks (slice_index source.now (near + h)) }
+    ensures far { (h : ℕ) → h < 8 →
+        slice_index result (8 + h) ≡ inked inks (slice_index source.now (far + h)) }
+{
+    let both = side_by_side(
+        u8x8::from_slice(&source[near..]),
+        u8x8::from_slice(&source[far..]),
+    );
+    (both & u8x16::splat(inks.change)) ^ u8x16::splat(inks.zero)
+}
+
+/// The pixels of two letters as those of one row.
+#[inline(always)]
+fn side_by_side(near: u8x8, far: u8x8) -> u8x16
+    requires near { length near ≡ 8 }
+    requires far { length far ≡ 8 }
+    ensures { result ≡ near ++ far }
+{
+    near.shuffle(far, [0, 1, 2, 3, 4, 5, 6, 7, 8, 9, 10, 11, 12, 13, 14, 15])
 }
 
 /// Eight pixels of a row of all glyphs, in two colours.

@@ -1,12 +1,12 @@
 //! Rows painted through a pattern of bits, 16 pixels at a time.
 ghost use Rattle.std.specs.Prelude.{◌≡◌, ◌<◌, ◌≤◌, ◌+◌, ◌*◌, ◌-◌, ◌/◌, ℕ, length, slice_index, if◌then◌else◌};
 ghost use Rattle.std.specs.Bool.{OnFalse};
-ghost use Rattle.tr_base.specs.Ops.{eff};
+ghost use Rattle.tr_base.specs.Ops.{eff, exchanged};
 ghost use Rattle.tr_base.specs.Tiles.{is_set};
 ghost use Rattle.tr_kernel.specs.Masks.{bit_in_byte, bit_in_cells, painted, masked};
 ghost use Rattle.tr_kernel.specs.Steps.{AreStill, stepped_by};
 
-use crate::lanes::{Steps, step_of};
+use crate::lanes::{Steps, exchange, step_of};
 use crate::patterns::{Byte, Cells, Pattern, WholeCells};
 use std::marker::Model;
 use std::simd::prelude::*;
@@ -103,6 +103,20 @@ fn paint_cells(row: &mut [u8], steps: Steps, cells: &[u8], phase: u8)
     let (first, rest) = row.split_at_mut(n);
     paint(first, steps, &Cells { cells, phase });
     paint(rest, steps, &WholeCells { cells: &cells[1..] });
+}
+
+/// Exchanges two pixels in a row, 16 pixels at a time: with one step for both bits, no bit matters.
+pub(crate) fn exchange_pixels(row: &mut [u8], x: u8, y: u8)
+    ensures { (k : ℕ) → k < length row.old →
+        slice_index row.new k ≡ exchanged x y (slice_index row.old k) }
+{
+    let step = exchange(x, y);
+    let steps = Steps {
+        one: step,
+        zero: step,
+    };
+    let pattern = Byte { bits: 0, phase: 0 };
+    paint_by::<Byte, true>(row, steps, &pattern);
 }
 
 /// Paints a row by a pattern.

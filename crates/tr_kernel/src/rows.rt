@@ -1,9 +1,9 @@
-//! Whole rows: by a call of std if it has one, and else by a plain loop, which compiles to vector code.
+//! Whole rows: by a call of std if it has one, and else by lanes.
 ghost use Rattle.std.specs.Prelude.{◌≡◌, ◌<◌, ◌+◌, ◌≤◌, ℕ, length, map, replicate, slice_index};
 ghost use Rattle.tr_base.specs.Ops as spec;
 ghost use Rattle.tr_kernel.specs.Rows.{copied_within};
 
-use tr_base::exchanged;
+use crate::masks::exchange_pixels;
 
 /// Each pixel becomes `value`.
 pub fn fill_row(row: &mut [u8], value: u8)
@@ -19,9 +19,7 @@ pub fn exchange_row(row: &mut [u8], x: u8, y: u8)
     ensures each { (k : ℕ) → k < length row.old → slice_index row.new k
         ≡ spec.exchanged x y (slice_index row.old k) }
 {
-    for pixel in row.iter_mut() {
-        *pixel = exchanged(x, y, *pixel);
-    }
+    exchange_pixels(row, x, y);
 }
 
 /// Each pixel of `to` becomes that of `from`.

@@ -17,7 +17,7 @@ use Rattle.tr_screen.specs.declared.runs.Run.{Run}
 use Rattle.tr_screen.specs.Pictures.{pixel_of, picture_of, written_at}
 use Rattle.tr_screen.specs.Runs.{in_run, in_rows, run_before, start_of, width_of, column_in, point_in, IsRun, IsOn, Repaints}
 use Rattle.tr_screen.specs.RunLending.{run_overwritten}
-use Rattle.tr_screen.specs.Copies.{IsCopied}
+use Rattle.tr_screen.specs.Copies.{IsCopied, IsFilled}
 use Rattle.tr_screen.proofs.PictureLemmas.{pixel_of-picture_of, concat-first_chunks, written_at-is}
 
 -- a coordinate from 0 on is a number
@@ -304,6 +304,23 @@ moved_rows size kind old new north south from d order fits straight first last c
         sym (add-mul (unsigned_abs q.v) north size.wide)
         ∙ ap (λ n. n * size.wide) rows ∙ add-mul from (unsigned_abs p.v) size.wide in
         (on', omega arith)
+
+-- rows were filled
+pub filled_rows : (size : Size) (kind : Kind) (old new : List ℕ) (north south pixel : ℕ) → north ≤ south →
+    IsFilled old new (north * size.wide) ((south - north) * size.wide) pixel →
+    Repaints (in_rows north south) (λ _. pixel) (picture_of size kind old) (picture_of size kind new)
+filled_rows size kind old new north south pixel order h =
+    painted_places size kind old new (in_rows north south) (north * size.wide) ((south - north) * size.wide) places (λ _. pixel) h.before h.behind gets
+  where
+    places : HasPlaces size (in_rows north south) (north * size.wide) ((south - north) * size.wide)
+    places = rows_places size north south order
+
+    gets : (p : Point) → IsOn size p → in_rows north south p ≡ true → get_or new (place size p) 0 ≡ pixel
+    gets p on t =
+        let at = places.inside p on t in
+        let k : ℕ = place size p - north * size.wide in
+        let target : place size p ≡ north * size.wide + k = omega (arith, at.0) in
+        ap (λ n. get_or new n 0) target ∙ h.filled k (omega (arith, at.0, at.1))
 
 -- what is written over a list, index by index
 written_long : (xs w : List ℕ) (i : ℕ) → i + length w ≤ length xs → written_at xs i w ≡ take i xs ++ (w ++ drop (i + length w) xs)

@@ -1,7 +1,7 @@
 ghost use Rattle.std.specs.Prelude.{◌≡◌, ◌+◌, ◌≤◌, ◌<◌, length};
-ghost use Rattle.tr_screen.specs.Copies.{IsCopied};
+ghost use Rattle.tr_screen.specs.Copies.{IsCopied, IsFilled};
 
-use tr_kernel::{copy_row, copy_rows_within};
+use tr_kernel::{copy_row, copy_rows_within, fill_row};
 
 /// From this distance on, a copy that overlaps its source is made in pieces as long as the distance,
 /// which don't overlap their sources. Measured at distances of 8 and of 8192 alone: `bench_rows`.
@@ -61,4 +61,12 @@ pub fn copy_through(pixels: &mut [u8], from: usize, to: usize, spare: &mut [u8])
     let count = spare.len();
     copy_row(spare, &pixels[from..from + count]);
     copy_row(&mut pixels[to..to + count], spare);
+}
+
+/// Gives `count` pixels side by side this value.
+pub fn fill_pixels(pixels: &mut [u8], start: usize, count: usize, pixel: u8)
+    requires { start + count ≤ length pixels.old }
+    ensures { IsFilled pixels.old pixels.new start count pixel }
+{
+    fill_row(&mut pixels[start..start + count], pixel);
 }

@@ -4,8 +4,8 @@ use Rattle.tr_exec.specs.Walks.{IsRowOf}
 use Rattle.tr_exec.proofs.PaintLemmas.{one_rect}
 use Rattle.tr_exec.proofs.walks.paint_band.Goals as goal
 
-pub paint_rows-requires-clause-row : goal.paint_rows-requires-clause-row
-paint_rows-requires-clause-row g c =
+pub paint_single-requires-clause-row : goal.paint_single-requires-clause-row
+paint_single-requires-clause-row g c =
     let west = cast-in_reach _ c.west.ensures.reach in
     let east = cast-in_reach _ c.east.ensures.reach in
     subst (IsRowOf (g.B.Brush.area c.args.brush.now) c.args.band.now.rects.now)
@@ -16,8 +16,8 @@ paint_rows-requires-clause-row g c =
       meet = rw (west, c.west.ensures.value, east, c.east.ensures.value, c.area-area.ensures) at c.between-row.ensures.meet;
     })
 
-pub paint_rows-requires-else-row-eq1-clause-row : goal.paint_rows-requires-else-row-eq1-clause-row
-paint_rows-requires-else-row-eq1-clause-row g c =
+pub paint_rows-requires-clause-row : goal.paint_rows-requires-clause-row
+paint_rows-requires-clause-row g c =
     let west = cast-in_reach _ c.west.ensures.reach in
     let east = cast-in_reach _ c.east.ensures.reach in
     record {

@@ -8,6 +8,10 @@ use Rattle.tr_exec.specs.Walks.{in_area}
 use Rattle.tr_exec.proofs.PaintLemmas.{on_sized, rows_had, rows_paint, band_in_area, band_on, walk_whole}
 use Rattle.tr_exec.proofs.walks.paint_within.Goals as goal
 
+pub paint_band-requires-clause-high : goal.paint_band-requires-clause-high
+paint_band-requires-clause-high g c =
+    rw (c.loop-v.invariant.done.size, ← c.size-high.ensures.value) (omega (arith, c.first_band-band.ensures.to, c.nearest_row-south.ensures.to))
+
 pub paint_band-requires-clause-rows : goal.paint_band-requires-clause-rows
 paint_band-requires-clause-rows g c = λ v from to.
     let area = g.B.Brush.area c.args.brush.now in

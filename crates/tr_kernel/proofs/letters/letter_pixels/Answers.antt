@@ -7,10 +7,10 @@ use Rattle.tr_kernel.proofs.letters.letter_pixels.Goals as goal
 
 pub returns-clause-lanes : goal.returns-clause-lanes
 returns-clause-lanes c =
-    let a = c.args in length-ink_lanes a.inks (chunk a.place 8 a.source.now) (length-chunk a.place 8 a.source.now c.requires)
+    let a = c.args in length-ink_lanes 8 a.inks (chunk a.place 8 a.source.now) (length-chunk a.place 8 a.source.now c.requires)
 
 pub returns-clause-each : goal.returns-clause-each
 returns-clause-each c h lt =
     let a = c.args in
-    lane_inked a.inks (chunk a.place 8 a.source.now) h (length-chunk a.place 8 a.source.now c.requires) lt
+    lane_inked 8 a.inks (chunk a.place 8 a.source.now) h (length-chunk a.place 8 a.source.now c.requires) lt
     ∙ ap (inked a.inks) (get_or-chunk a.place 8 a.source.now h 0 lt)

@@ -17,7 +17,7 @@ use Rattle.tr_exec.proofs.sites.Site.paint.Goals as goal
 pub invariant_of-brush-in-Pixels : goal.invariant_of-brush-in-Pixels
 invariant_of-brush-in-Pixels c = record {
   corner = c.place-in-Pixels.ensures.corner;
-  within = rw c.place-in-Pixels.ensures.value
+  within = rw (c.pixmap.ensures, c.place-in-Pixels.ensures.value)
       (pixels_within c.area-area.result c.in-Pixels.clip c.in-Pixels.src.size c.args.self.now.origin c.in-Pixels.delta
       (rw c.in-Pixels.is at c.area-area.ensures));
 }
@@ -48,8 +48,8 @@ returns-in-Texture c =
     let old = c.args.screen.now in
     let kind = c.args.env.now.kind in
     let area = rw c.in-Texture.is at c.area-area.ensures in
-    rw c.in-Texture.is (repaints_as _ _ _ _ old c.paint_within-in-Texture.new.screen
-    (rw (c.of.ensures, c.place.ensures.value) at c.paint_within-in-Texture.ensures)
+    rw c.in-Texture.is (repaints_as _ _ _ _ old c.paint_within.new.screen
+    (rw (c.of.ensures, c.place.ensures.value) at c.paint_within.ensures)
     (λ p. ap (λ b. holds visible p && b) (sym (area p)))
     (λ p. ap (λ (r : Point). eff kind (chosen c.in-Texture.ops (tile_bit c.in-Texture.tile r.h r.v)) (pixel_of old p))
     (before-both origin p c.in-Texture.delta)))
@@ -61,7 +61,8 @@ returns-in-Pixels c =
     let old = c.args.screen.now in
     let kind = c.args.env.now.kind in
     let area = rw c.in-Pixels.is at c.area-area.ensures in
-    rw c.in-Pixels.is (repaints_as _ _ _ _ old c.paint_within-in-Pixels.new.screen (rw c.place-in-Pixels.ensures.value at c.paint_within-in-Pixels.ensures)
+    rw c.in-Pixels.is (repaints_as _ _ _ _ old c.paint_within-in-Pixels.new.screen
+    (rw (c.pixmap.ensures, c.place-in-Pixels.ensures.value) at c.paint_within-in-Pixels.ensures)
     (λ p. ap (λ b. holds visible p && b) (sym (area p)))
     (λ p. ap (λ (r : Point). resolved kind (pixmap_at c.in-Pixels.src r)) (before-both origin p c.in-Pixels.delta)))
 

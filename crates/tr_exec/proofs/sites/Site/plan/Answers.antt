@@ -2,9 +2,10 @@ use Rattle.std.proofs.Common.{◌≡◌, ◌+◌, ◌∷◌, [], ◌++◌, take,
 use Rattle.std.proofs.lemmas.List.{take_more, take_all}
 use Rattle.tr_region.specs.Points.{holds}
 use Rattle.tr_paint.specs.declared.Paint.{Paint}
-use Rattle.tr_exec.proofs.PlanInvariant.{planned_none, planned_more}
+use Rattle.tr_exec.proofs.PlanInvariant.{planned_kept, planned_none, planned_more}
 use Rattle.tr_exec.proofs.PlanLemmas.{bad-is, zip_long}
 use Rattle.tr_exec.proofs.sites.Site.plan.Goals as goal
+use Rattle.tr_exec.proofs.sites.Site.plan.Goals.{then-keeps_known+in_ok-push, else-keeps_known+in_ok-area+in_ok-moved_by+in_ok-push-2+in_ok-unknown-2}
 
 pub loop-paint-init : goal.loop-paint-init
 loop-paint-init c = planned_none _ _ _ c.in_ok-moves.moves.items c.in_ok-unknown.unknown c.in_ok-moves.ensures.items c.in_ok-unknown.ensures.points
@@ -16,11 +17,20 @@ loop-paint-preserved c =
     let item = c.paint-item.result in
     let next : take (i + 1) items ≡ take i items ++ item ∷ [] =
     take_more items i item c.loop-paint-test.true ∙ ap (λ (x : Paint). take i items ++ x ∷ []) (sym c.paint-item.is) in
-    rw (next, c.in_ok-push.ensures.items) (planned_more _ _ _ (take i items) c.loop-paint.moves.items c.loop-paint.unknown item
-    c.in_ok-area.area c.in_ok-moved_by.field-0 c.in_ok-unknown-2.unknown c.loop-paint.invariant
-    (λ p. c.in_ok-area.ensures.points p ∙ c.area.ensures p)
-    (rw c.effect_of-effect.ensures.value at c.in_ok-moved_by.ensures)
-    (rw c.effect_of-effect.ensures.value at c.in_ok-unknown-2.ensures))
+    let effect = c.effect_of-effect.ensures.value in
+    rw next (elim c.if-keeps_known.branch [
+      | then-keeps_known+in_ok-push w ↦
+          rw (w.moves-is, w.unknown-is, w.in_ok-push.ensures.items)
+          (planned_kept _ _ _ (take i items) c.loop-paint.moves.items c.loop-paint.unknown item w.empty.result c.loop-paint.invariant
+          (rw effect at (sym c.keeps_known.ensures ∙ w.if-keeps_known.true)) w.empty.ensures)
+      | else-keeps_known+in_ok-area+in_ok-moved_by+in_ok-push-2+in_ok-unknown-2 w ↦
+          rw (w.moves-is, w.unknown-is, w.in_ok-push-2.ensures.items)
+          (planned_more _ _ _ (take i items) c.loop-paint.moves.items c.loop-paint.unknown item
+          w.in_ok-area.area w.in_ok-moved_by.field-0 w.in_ok-unknown-2.unknown c.loop-paint.invariant
+          (λ p. w.in_ok-area.ensures.points p ∙ w.area.ensures p)
+          (rw effect at w.in_ok-moved_by.ensures)
+          (rw effect at w.in_ok-unknown-2.ensures))
+    ])
 
 pub returns-clause-count : goal.returns-clause-count
 returns-clause-count c =
