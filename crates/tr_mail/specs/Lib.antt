@@ -1,3 +1,4 @@
 pub mod Mails
 pub mod Deliveries
 pub mod Bounds
+pub mod Sizes

@@ -1,13 +1,16 @@
-ghost use Rattle.std.specs.Prelude.{◌≡◌, ◌<◌, ◌≤◌, ◌+◌, length, [], false, IfErr, OnOk, OnErr};
+ghost use Rattle.std.specs.Prelude.{◌≡◌, ◌<◌, ◌≤◌, ◌+◌, length, [], false, None, IfErr, OnOk, OnErr};
 ghost use Rattle.tr_base.specs.Rects.{InReach};
 ghost use Rattle.tr_base.specs.Layouts.{IsDomain};
-ghost use Rattle.tr_forest.specs.Nodes.{leaf_count};
+ghost use Rattle.tr_forest.specs.Nodes.{is_leaf, leaf_count};
+ghost use Rattle.tr_forest.specs.Edits.{IsEdit, refusal};
+ghost use Rattle.tr_tree.specs.Trees.{edited_tree};
 ghost use Rattle.tr_spot.specs.Spots as spots;
 ghost use Rattle.tr_base.specs.Ops as ops;
 ghost use Rattle.tr_spot.specs.Leaves as leaves;
 ghost use Rattle.tr_desk.specs.Faults.{time_fault};
 ghost use Rattle.tr_mail.specs.Deliveries as spec;
 ghost use Rattle.tr_mail.specs.Bounds.{IsUnbounded, is_bounded};
+ghost use Rattle.tr_mail.specs.Sizes.{keeps_sizes};
 
 use crate::mails::Mail;
 use crate::outboxes::Outbox;
@@ -15,7 +18,7 @@ use tr_base::{Event, Kind, LeafId, Point, Rect, Spot};
 use tr_cage::{Cage, holds};
 use tr_desk::DeskFault;
 use tr_spot::{in_leaf, leaf_size, spot_at};
-use tr_tree::Tree;
+use tr_tree::{Edit, NodeKind, Tree};
 
 impl Mail {
     /// The cursor moves. Each window whose cage doesn't hold the cursor is told the cursor's place.
@@ -73,6 +76,30 @@ impl Mail {
         out.clear();
         self.reshape_all(was, is, out);
         self.tell_all(is, out);
+    }
+
+    /// Like `edited`, after this edit. If the edit keeps the size and the kind of each window, no window is
+    /// asked for them.
+    pub fn edited_by(&mut self, was: &Tree, tree: &Tree, edit: &Edit, out: &mut Outbox)
+        requires root { spots.HasRoot tree.now }
+        requires before { leaf_count was.now.nodes ≡ length self.old.inboxes }
+        requires leaves { leaf_count tree.now.nodes ≡ length self.old.inboxes }
+        requires edit { IsEdit was.now.nodes edit.now }
+        requires allowed { refusal was.now.nodes edit.now ≡ None }
+        requires is { tree.now ≡ edited_tree was.now edit.now }
+        ensures sent { record { mail = self.new; sent = out.new } ≡
+            spec.tree_edited was.now tree.now self.old }
+        ensures few { length out.new ≤ length self.old.inboxes + length self.old.inboxes }
+    {
+        // They tell the prover that the nodes are a forest, with at most 32 leaves.
+        let _ = was.count();
+        let _ = self.leaves();
+        if keeps_sizes(was, edit) {
+            out.clear();
+            self.tell_all(tree, out);
+        } else {
+            self.edited(was, tree, out);
+        }
     }
 
     /// Tells each leaf, in the order of their numbers, the cursor's place, if its cage doesn't hold it.
@@ -175,6 +202,28 @@ impl Mail {
         let size = leaf_size(is, leaf);
         let kind = is.kind();
         self.send(leaf, Event::Reshape { size, kind }, out);
+    }
+}
+
+/// Whether the edit alone shows that each window keeps its size and its kind.
+fn keeps_sizes(was: &Tree, edit: &Edit) -> bool
+    requires { IsEdit was.now.nodes edit.now }
+    ensures { result ≡ keeps_sizes was.now.nodes edit.now }
+{
+    match edit {
+        Edit::Tint { .. } => true,
+        Edit::Lift { .. } => true,
+        Edit::Move { child, .. } => is_leaf(was.kind_of(*child)),
+        _ => false,
+    }
+}
+
+fn is_leaf(kind: NodeKind) -> bool
+    ensures { result ≡ is_leaf kind }
+{
+    match kind {
+        NodeKind::Leaf { .. } => true,
+        _ => false,
     }
 }
 

@@ -57,17 +57,20 @@ alter_line actor held edit answer sent = record {
 }
 
 module _ {C M : Type 0} (client : Ghosts C M) where
+  -- an edit of the opening's nodes is one of the present ones
+  pub edit_now : {opening : List (Item C)} {lines : List (JournalLine M)} {parts : Parts C} (edit : Edit) →
+      IsStage client opening lines parts → IsEdit (tree_of opening).nodes edit → IsEdit parts.surface.tree.nodes edit
+  edit_now {opening} {lines} {parts} edit stage is =
+      subst (λ (t : Seen). IsEdit t.nodes edit) (sym stage.kept.tree) (values_now client opening lines parts (steps.Alter edit) stage is)
+
   -- the tree has as many leaves still after the edit of a step that isn't refused
   pub leaves_after : {opening : List (Item C)} {lines : List (JournalLine M)} {parts : Parts C} {after : Seen} (edit : Edit) →
       IsStage client opening lines parts → IsForest parts.surface.tree.nodes → IsEdit (tree_of opening).nodes edit →
       refusal parts.surface.tree.nodes edit ≡ None → after ≡ edited_tree parts.surface.tree edit → leaf_count after.nodes ≡ leaf_count (tree_of opening).nodes
   leaves_after {opening} {lines} {parts} edit stage forest is allowed after_is =
       ap (λ (t : Seen). leaf_count t.nodes) after_is
-      ∙ (follows_edited parts.surface.tree.nodes edit forest now allowed).values.leaf_count
+      ∙ (follows_edited parts.surface.tree.nodes edit forest (edit_now edit stage is) allowed).values.leaf_count
       ∙ leaves_count client stage
-    where
-      now : IsEdit parts.surface.tree.nodes edit
-      now = subst (λ (t : Seen). IsEdit t.nodes edit) (sym stage.kept.tree) (values_now client opening lines parts (steps.Alter edit) stage is)
 
   -- what is told of the parts of a stage of a state over an edit of the tree that isn't refused
   pub record IsEdited (m : State C M) (edit : Edit) (old new : Parts C) : Type 0 where

@@ -107,13 +107,13 @@ module _ {C M : Type 0} (client : Ghosts C M) where
     pub sound : IsSound client m
     pub agrees : Agrees client m parts.surface.screen
 
-  -- the parts are those of the state after the journal, from the opening on, and the machine makes each of its lines
+  -- the parts are those of the replay of the journal over the opening, and the machine makes each line of the journal
   pub record IsStage (opening : List (Item C)) (lines : List (JournalLine M)) (parts : Parts C) : Type 0 where
     pub kept : RepresentsState (replay client opening lines) parts
     pub like : IsOf opening (replay client opening lines)
     pub legal : IsLegal client opening lines
 
-  -- the state of a stage: its opening, and then its journal
+  -- the state of a stage: the replay of its journal over its opening
   abbrev pub state : StageView C M → State C M
   state s = replay client s.opening s.journal
 

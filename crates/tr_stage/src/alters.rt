@@ -12,8 +12,9 @@ use tr_forest::{Edit, EditRefused};
 use tr_journal::{Answer, Reply, Step};
 
 impl<C: Client> Stage<C> {
-    /// Edits the tree of windows, if the edit isn't refused: each point with its right colour stays good, and
-    /// the windows get events of it.
+    /// Edits the tree of windows, if the edit isn't refused. A good point stays good if it shows the same as
+    /// before, in its place or moved along with a child, or if its window keeps it. The windows get events
+    /// of the edit.
     pub(crate) fn alter(&mut self, by: &By, edit: Edit) -> Result<Reply, NoMemory>
         requires allowed { let t = (tree_of self.old.opening).nodes in
             IsFor {M = C.Cmd} t by.now.actor by.now.level (Step.Alter edit) }
@@ -29,15 +30,14 @@ impl<C: Client> Stage<C> {
         self.windows.obeys_keeping();
         // An edit may send two deliveries to each leaf instead of one.
         self.journal.reserve(2)?;
-        let former = self.former.take();
-        match self.surface.alter(&edit, &self.windows, former) {
+        match self.surface.alter(&edit, &self.windows) {
             Ok(was) => {
                 let is = self.surface.tree();
                 was.domains_are_small();
                 is.domains_are_small();
                 self.windows.refit(&was, is);
-                self.mail.edited(&was, is, &mut self.sent);
-                self.former = Some(was);
+                self.mail.edited_by(&was, is, &edit, &mut self.sent);
+                self.surface.keep_former(was, edit);
                 let entry = by.entry(Step::Alter { edit }, Answer::Done, self.sent.len());
                 Ok(write(&mut self.journal, entry, Answer::Done, self.sent.as_slice()))
             }

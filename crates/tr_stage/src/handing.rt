@@ -114,7 +114,7 @@ impl<C: Client> Stage<C> {
         ensures err_prepared { IfErr result (λ p. p ≡ prepared) }
         ensures screen { self.new.screen ≡ self.old.screen }
     {
-        // Called for their clauses: the nodes are a forest, and a content remains after the commands.
+        // Called for their clauses: the nodes are a forest, and the content after the commands is valid.
         let _ = self.surface.tree();
         let _kept = prepared.to.keeps(prepared.size, prepared.size);
         // Takes room first, so that nothing can fail after the window has changed.

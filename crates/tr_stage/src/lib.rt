@@ -1,6 +1,6 @@
 //! The stage: a tree of windows with their contents, the screen that shows them, and the input devices.
-//! The machine replays its journal over its opening, which gives its state; its screen agrees with that
-//! state.
+//! The machine's replay of the stage's journal over its opening gives the stage's state; the screen agrees
+//! with that state.
 #![tactic(auto)]
 
 mod acts;

@@ -26,8 +26,8 @@ use tr_tree::Tree;
 use tr_windows::{Exposure, Windows};
 
 impl<C: Client> Stage<C> {
-    /// Executes the waiting commands of a leaf, or a painting of all their points, if the result is the same
-    /// and costs less.
+    /// Executes the waiting commands of a leaf, or a painting of all their points, if that has the same
+    /// effect and costs less.
     pub(crate) fn flush(&mut self, by: &By, leaf: LeafId) -> Result<Reply, NoMemory>
         requires allowed { let t = (tree_of self.old.opening).nodes in
             IsFor {M = C.Cmd} t by.now.actor by.now.level (Step.Flush leaf) }
@@ -98,7 +98,7 @@ impl<C: Client> Stage<C> {
     }
 }
 
-/// A painting that replaces the waiting commands of a leaf, if the result is the same and costs less.
+/// A painting that has the same effect as the waiting commands of a leaf and costs less, if there is one.
 fn flushing<C: Client>(
     surface: &Surface,
     windows: &Windows<C>,
@@ -134,7 +134,8 @@ fn either<'a>(painting: &'a Option<Batch>, waiting: &'a Batch) -> &'a Batch
     }
 }
 
-/// The place of a leaf's window on the screen.
+/// The size of a leaf's window, a rectangle that has its bad visible points, and whether each of its points
+/// is visible.
 pub(crate) fn exposure_of(surface: &Surface, leaf: LeafId) -> Result<Exposure, NoMemory>
     requires { leaf.0 < leaf_count surface.now.tree.nodes }
     ensures stands { IfOk result (IsExposure surface.now leaf) }

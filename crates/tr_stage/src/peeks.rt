@@ -67,7 +67,7 @@ impl<C: Client> Stage<C> {
         Ok(count)
     }
 
-    /// The number of stale points of a leaf. The call overwrites the leaf's points of `wanted`.
+    /// The number of stale points of a leaf. The call may overwrite the leaf's points of `wanted`.
     fn stale_in(&self, leaf: LeafId, wanted: &mut Screen) -> Result<u32, NoMemory>
         requires leaf { leaf.0 < leaf_count (tree_of self.now.opening).nodes }
         requires size { wanted.old.size ≡ self.now.screen.size }

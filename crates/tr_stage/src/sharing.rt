@@ -166,7 +166,7 @@ impl<C: Client> Stage<C> {
     }
 
     /// Puts a leaf's painted bad points onto the screen, while no command waits for the leaf. This is the
-    /// painter's step `Repaint`, but only the leaf's share of the work. For want of memory no step is made.
+    /// painter's step `Repaint`, with only the leaf's share held. For want of memory no step is made.
     pub fn put_painted(&mut self, painted: Painted) -> Result<(), NoMemory>
         requires leaf { painted.leaf.0 < leaf_count (tree_of self.old.opening).nodes }
         requires idle { leaf_batch C.Client (state C.Client self.old) painted.leaf ≡ [] }

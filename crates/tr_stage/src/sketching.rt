@@ -41,7 +41,7 @@ impl<C: Client> Stage<C> {
         self.flush_by(&By { actor, level }, leaf, sketch)
     }
 
-    /// The same, with an actor and its locks.
+    /// The same; `by` has the actor and the locks that it holds.
     fn flush_by(&mut self, by: &By, leaf: LeafId, sketch: &Sketch<C>) -> Result<Reply, NoMemory>
         requires allowed { let t = (tree_of self.old.opening).nodes in
             IsFor {M = C.Cmd} t by.now.actor by.now.level (Step.Flush leaf) }

@@ -18,7 +18,6 @@ use tr_journal::{Actor, Journal, Opening, Reply, Step};
 use tr_levels::Held;
 use tr_mail::{Mail, Outbox};
 use tr_surface::Surface;
-use tr_tree::Tree;
 use tr_windows::Windows;
 
 /// A tree of windows with their contents, the screen that shows them, and the input devices, together
@@ -32,9 +31,6 @@ pub struct Stage<C: Client> {
     pub(crate) alloc: Global,
     pub(crate) opening: Opening<C>,
     pub(crate) surface: Surface,
-    /// The tree before the last edit; the next edit reuses its memory. There is none before the first edit,
-    /// and after one that failed.
-    pub(crate) former: Option<Tree>,
     pub(crate) windows: Windows<C>,
     pub(crate) mail: Mail,
     /// The deliveries of the last step of the input devices, or of the last edit. The list is kept, so that
@@ -95,7 +91,6 @@ impl<C: Client> Stage<C> {
             alloc,
             opening,
             surface,
-            former: None,
             windows,
             mail,
             sent,

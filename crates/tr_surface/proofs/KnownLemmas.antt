@@ -1,22 +1,25 @@
 -- Which points are known after a tree step, and that none is where the kind changes.
-use Rattle.std.proofs.Common.{◌≡◌, Bool, true, false, cond, not, ◌&&◌, ◌||◌, ◌==◌, Option, Some, None, refl, sym, ap, ◌∙◌}
+use Rattle.std.proofs.Common.{◌≡◌, Bool, true, false, cond, not, ◌&&◌, ◌||◌, ◌==◌, List, [], Option, Some, None, refl, sym, ap, ◌∙◌}
 use Rattle.std.specs.Prelude.{IsSome}
 use Rattle.tr_base.specs.declared.Point.{Point}
 use Rattle.tr_base.specs.declared.Kind.{Kind}
 use Rattle.tr_base.specs.declared.NodeId.{NodeId}
 use Rattle.tr_base.specs.declared.Spot.{Spot}
 use Rattle.tr_base.specs.declared.Spot.TheVariants as spots
+use Rattle.tr_base.specs.Rects.{Edges}
 use Rattle.tr_base.proofs.BoolLemmas.{from_false-true}
 use Rattle.tr_base.specs.Ops.{same_kind}
+use Rattle.tr_region.specs.Points.{holds}
 use Rattle.tr_forest.specs.declared.NodeKind.{NodeKind}
 use Rattle.tr_forest.specs.declared.NodeKind.TheVariants as kinds
 use Rattle.tr_forest.specs.Nodes.{node}
 use Rattle.tr_tree.specs.Trees.{Seen}
-use Rattle.tr_spot.specs.Spots.{HasRoot, owner, spot, spot_on, spot_below}
+use Rattle.tr_spot.specs.Spots.{HasRoot, owner, region_of, spot, spot_on, spot_below}
 use Rattle.tr_spot.specs.Leaves.{same_size}
-use Rattle.tr_surface.specs.Surfaces.{is_on}
+use Rattle.tr_surface.specs.Surfaces.{Shown, any_holds, is_bad, is_on}
 use Rattle.tr_surface.specs.TreeSteps.{Keeping, is_kept, same_point, source_by, survives}
-use Rattle.tr_surface.specs.Survivors.{change, good_by}
+use Rattle.tr_surface.specs.Survivors.{change, change_to, good_by}
+use Rattle.tr_surface.proofs.GoodLemmas.{any_none, bad_is}
 
 -- a good point is on the screen, its source was, and survives
 pub record IsGood (k : Keeping) (was is : Seen) (moved : Option NodeId) (bad : Point → Bool) (p : Point) : Type 0 where
@@ -104,6 +107,20 @@ on_is t root p on = ap (λ b. is_off (cond b (spot_below t p t.nodes.root) spots
     by_root : (o : Option NodeId) → IsSome o → is_off (spot_below t p o) ≡ false
     by_root None some = from_false-true some
     by_root (Some r) some = on_node t p (owner t r p) (node t.nodes (owner t r p)).kind
+
+-- where none is good, none stays so
+pub none_left : (k : Keeping) (s : Shown) (is : Seen) (moved : Option NodeId) → ((n : NodeId) → region_of s.good n ≡ []) → (p : Point) →
+    good_by k (change_to s is moved) p ≡ false
+none_left k s is moved none p =
+    let q : Point = source_by s.tree is moved p in
+    let empty : any_holds s.good q ≡ false = any_none s.good q (λ i lt. ap (λ (r : List Edges). holds r q) (none (record { 0 = i }))) in
+    by_tests (is_on is p) (is_on s.tree q) (is_bad s q) (survives k (spot s.tree q) (spot is p))
+    (bad_is s q ∙ ap (λ b. is_on s.tree q && not b) empty)
+  where
+    by_tests : (a b c d : Bool) → c ≡ (b && true) → (a && b && not c && d) ≡ false
+    by_tests false b c d h = refl
+    by_tests true false c d h = refl
+    by_tests true true c d h = ap (λ x. not x && d) h
 
 -- where the kind changes no point stays good
 pub none_good : (k : Keeping) (was is : Seen) (moved : Option NodeId) (bad : Point → Bool) → HasRoot is → same_kind was.kind is.kind ≡ false → (p : Point) →

@@ -1,4 +1,5 @@
 pub mod Surfaces
+pub mod Formers
 pub mod Frames
 pub mod TreeSteps
 pub mod Survivors

@@ -1,17 +1,21 @@
-ghost use Rattle.std.specs.Prelude.{◌≡◌, true, false, None, IfOk, IfErr, IfSome, IsTrue, OnOk, OnErr};
+ghost use Rattle.std.specs.Prelude.{◌≡◌, true, false, [], Option, None, IfOk, IfErr, IfSome, IsTrue, OnOk, OnErr};
 ghost use Rattle.tr_base.specs.declared.Point.{Point};
+ghost use Rattle.tr_base.specs.declared.NodeId.{NodeId};
 ghost use Rattle.tr_base.specs.Ops.{same_kind};
 ghost use Rattle.tr_region.specs.Points.{holds};
 ghost use Rattle.tr_screen.specs.Pictures.{pixel_of};
 ghost use Rattle.tr_forest.specs.Nodes.{IsNode, leaf_count, node};
 ghost use Rattle.tr_forest.specs.Edits.{IsCause, IsEdit, refusal};
 ghost use Rattle.tr_tree.specs.Trees.{edited_tree};
+ghost use Rattle.tr_spot.specs.Spots.{HasRoot, region_of};
+ghost use Rattle.tr_surface.specs.Formers.{IsFormer};
 ghost use Rattle.tr_surface.specs.Surfaces.{is_bad};
-ghost use Rattle.tr_surface.specs.TreeSteps.{bad_after_edit, child_of as spec_child, first_node, good_after, moved_child as spec_moved, source};
+ghost use Rattle.tr_surface.specs.TreeSteps.{Keeping, bad_after_edit, child_of as spec_child, first_node, good_after, moved_child as spec_moved, source};
 ghost use Rattle.tr_surface.specs.TreeChanges.{IsCover};
 ghost use Rattle.tr_surface.specs.Survivors as spec;
 
 use crate::covers::Cover;
+use crate::formers::Former;
 use crate::goods::way_of;
 use crate::keepers::Keeper;
 use crate::surfaces::{Surface, empty_regions};
@@ -26,14 +30,8 @@ use tr_tree::{Edit, EditRefused, Tree};
 impl Surface {
     /// Applies the edit to the tree, and returns the old tree. A point of the screen stays good if it shows
     /// the same as before, in its place or moved along with a child, or if its window keeps it. It then gets
-    /// the pixel of its source. All other points are bad. An `Err` changes nothing. The new tree is made in
-    /// the memory of `former`, if there is one.
-    pub fn alter<K: Keeper>(
-        &mut self,
-        edit: &Edit,
-        keeper: &K,
-        former: Option<Tree>,
-    ) -> Result<Tree, EditRefused>
+    /// the pixel of its source. All other points are bad. An `Err` changes nothing.
+    pub fn alter<K: Keeper>(&mut self, edit: &Edit, keeper: &K) -> Result<Tree, EditRefused>
         requires edit { IsEdit self.old.tree.nodes edit.now }
         requires leaves { K.leaves keeper.now ≡ leaf_count self.old.tree.nodes }
         ensures was { IfOk result (λ tree. tree ≡ self.old.tree) }
@@ -51,7 +49,7 @@ impl Surface {
     {
         // Tells the prover that the nodes are a forest.
         let _ = self.tree.count();
-        let is = self.edited(edit, former)?;
+        let is = edited(&self.tree, &mut self.former, edit)?;
         let Ok(known) = self.known(&is, edit, keeper) else {
             drop(is);
             return Err(EditRefused::NoMemory);
@@ -66,25 +64,14 @@ impl Surface {
         Ok(mem::replace(&mut self.tree, is))
     }
 
-    /// The tree after the edit, in the memory of `former`, if there is one.
-    fn edited(&self, edit: &Edit, former: Option<Tree>) -> Result<Tree, EditRefused>
-        requires { IsEdit self.now.tree.nodes edit.now }
-        ensures tree { IfOk result (λ is. is ≡ edited_tree self.now.tree edit.now) }
-        ensures allowed { OnOk result (refusal self.now.tree.nodes edit.now ≡ None) }
-        ensures cause { IfErr result (λ e. IsCause (refusal self.now.tree.nodes edit.now) e) }
+    /// Keeps the tree that `alter` returned, and its edit. The next edit makes its tree of these: by the same
+    /// edit again, or by a copy in this tree's memory.
+    pub fn keep_former(&mut self, tree: Tree, edit: Edit)
+        requires edit { IsEdit tree.nodes edit }
+        requires tree { edited_tree tree edit ≡ self.old.tree }
+        ensures { self.new ≡ self.old }
     {
-        if let Some(fault) = self.tree.refusal(edit) {
-            drop(former);
-            return Err(EditRefused::Fault(fault));
-        }
-        let mut is = copy_into(&self.tree, former)?;
-        match is.edit(edit) {
-            Ok(()) => Ok(is),
-            Err(e) => {
-                drop(is);
-                Err(e)
-            }
-        }
+        self.former = Some(Former { tree, edit });
     }
 
     /// The good points of the tree after the edit.
@@ -101,7 +88,7 @@ impl Surface {
         // Tells the prover that the nodes are a forest.
         let _ = self.tree.count();
         let count = is.count();
-        if is_other(self.tree.kind(), is.kind()) {
+        if self.is_lost(is) {
             let good = empty_regions(self.alloc, count)?;
             let follows = Region::empty(self.alloc);
             return Ok(Known { good, follows });
@@ -120,20 +107,79 @@ impl Surface {
         let known = known?;
         Ok(known)
     }
-}
 
-/// A copy of a tree, in the memory of another, if there is one.
-fn copy_into(tree: &Tree, former: Option<Tree>) -> Result<Tree, NoMemory>
-    ensures { IfOk result (λ t. t ≡ tree.now) }
-{
-    match former {
-        Some(former) => tree.copy_into(former),
-        None => tree.copy(),
+    /// Whether the new tree's pixels are of another kind, or no point is good: then no point stays good.
+    fn is_lost(&self, is: &Tree) -> bool
+        requires { HasRoot is.now }
+        ensures lost { IsTrue result → (k : Keeping) (moved : Option NodeId) (p : Point) →
+            spec.good_by k (spec.change_to self.now is.now moved) p ≡ false }
+        ensures kind { result ≡ false → is.now.kind ≡ self.now.tree.kind }
+    {
+        if is_other(self.tree.kind(), is.kind()) {
+            return true;
+        }
+        are_empty(&self.good)
     }
 }
 
-/// The cover of the child that an edit moves or brings to the front, or `None` if no point is good or other
-/// nodes may move too. Without a child the cover is empty.
+/// The tree after the edit. It takes the former tree, unless the edit is refused.
+fn edited(tree: &Tree, former: &mut Option<Former>, edit: &Edit) -> Result<Tree, EditRefused>
+    requires edit { IsEdit tree.now.nodes edit.now }
+    requires former { IfSome former.old (IsFormer tree.now) }
+    ensures tree { IfOk result (λ is. is ≡ edited_tree tree.now edit.now) }
+    ensures allowed { OnOk result (refusal tree.now.nodes edit.now ≡ None) }
+    ensures cause { IfErr result (λ e. IsCause (refusal tree.now.nodes edit.now) e) }
+    ensures used { OnOk result (former.new ≡ None) }
+    ensures kept { IfSome former.new (IsFormer tree.now) }
+{
+    if let Some(fault) = tree.refusal(edit) {
+        return Err(EditRefused::Fault(fault));
+    }
+    let mut is = again(tree, former.take())?;
+    match is.edit(edit) {
+        Ok(()) => Ok(is),
+        Err(e) => {
+            drop(is);
+            Err(e)
+        }
+    }
+}
+
+/// A second tree that equals the present one: the former tree after the last edit, if that edit places few
+/// nodes, or else a copy, in the memory of the former tree, if there is one.
+fn again(tree: &Tree, former: Option<Former>) -> Result<Tree, NoMemory>
+    requires { IfSome former (IsFormer tree.now) }
+    ensures { IfOk result (λ t. t ≡ tree.now) }
+{
+    let Some(
+        Former {
+            tree: mut was,
+            edit,
+        },
+    ) = former
+    else {
+        return tree.copy();
+    };
+    if places_few(&edit) && was.edit(&edit).is_ok() {
+        return Ok(was);
+    }
+    tree.copy_into(was)
+}
+
+/// Whether an edit leaves most nodes in their places. Contracts don't mention it: a copy is the same tree.
+fn places_few(edit: &Edit) -> bool {
+    matches!(
+        edit,
+        Edit::Move { .. }
+            | Edit::Lift { .. }
+            | Edit::Offset { .. }
+            | Edit::Tint { .. }
+            | Edit::Rescreen { .. }
+    )
+}
+
+/// The cover of the child that an edit moves or brings to the front, or `None` if the edit attaches or
+/// detaches a child, or other nodes may move too. Without a child the cover is empty.
 fn cover_of(change: &TreeChange<'_>, edit: &Edit) -> Result<Option<Cover>, NoMemory>
     requires edit { IsEdit change.now.was.now.nodes edit.now }
     requires allowed { refusal change.now.was.now.nodes edit.now ≡ None }
@@ -145,14 +191,16 @@ fn cover_of(change: &TreeChange<'_>, edit: &Edit) -> Result<Option<Cover>, NoMem
     // Tells the prover that the nodes are a forest.
     let _ = change.was.count();
     let same_size = change.was.size() == change.is.size();
-    if is_hanging(edit) || !same_size || are_empty(change.good) {
+    if is_hanging(edit) || !same_size {
         return Ok(None);
     }
     change.cover(carried_child(change.was, edit))
 }
 
-/// Whether no region has a point. Contracts don't mention it: then there is nothing to find.
-fn are_empty(regions: &[Region]) -> bool {
+/// Whether no region has a point.
+fn are_empty(regions: &[Region]) -> bool
+    ensures { IsTrue result → (n : NodeId) → region_of regions.now n ≡ [] }
+{
     for region in regions {
         if !region.is_empty() {
             return false;

@@ -7,6 +7,7 @@ mod bads;
 mod covers;
 mod executes;
 mod fills;
+mod formers;
 mod frames;
 mod goods;
 mod keepers;

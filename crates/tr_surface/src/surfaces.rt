@@ -7,6 +7,7 @@ ghost use Rattle.tr_forest.specs.Nodes.{IsNode, leaf_count};
 ghost use Rattle.tr_spot.specs.Spots.{HasRoot, spot, is_in_leaf, region_of};
 ghost use Rattle.tr_surface.specs.Surfaces.{IsShown, is_bad, is_on};
 
+use crate::formers::Former;
 use std::alloc::Global;
 use std::marker::Model;
 use tr_base::{LeafId, NoMemory, NodeId};
@@ -20,6 +21,9 @@ use tr_tree::Tree;
 pub struct Surface {
     pub(crate) alloc: Global,
     pub(crate) tree: Tree,
+    /// The tree before the last edit. There is none before the first edit, nor after an `alter` that took it,
+    /// until `keep_former` is called.
+    pub(crate) former: Option<Former>,
     /// The good points of each node, by the nodes' numbers. They are its own: visible points of a leaf,
     /// points of another node's frame. All others are bad.
     pub(crate) good: Vec<Region>,
@@ -27,14 +31,17 @@ pub struct Surface {
 }
 
 impl Model for Surface {
+    ghost use Rattle.std.specs.Prelude.{IfSome};
     ghost use Rattle.tr_surface.specs.Surfaces.{Shown, IsShown};
+    ghost use Rattle.tr_surface.specs.Formers.{IsFormer};
 
     ghost Value = { Shown };
 
     ghost view = { λ s. record { tree = s.tree; screen = s.screen; good = s.good.items } };
 
     ghost invariant = { λ s.
-        IsShown (record { tree = s.tree; screen = s.screen; good = s.good.items }) };
+        IsShown (record { tree = s.tree; screen = s.screen; good = s.good.items })
+        × IfSome s.former (IsFormer s.tree) };
 }
 
 impl Surface {
@@ -56,6 +63,7 @@ impl Surface {
         Ok(Surface {
             alloc,
             tree,
+            former: None,
             good,
             screen,
         })

@@ -18,7 +18,7 @@ use Rattle.tr_forest.specs.Edits.{IsEdit, edited, refusal, changed, without, tur
 use Rattle.tr_forest.specs.Forests.{IsForest}
 use Rattle.tr_forest.proofs.FamilyLemmas.{by_id, greatest_member, parent_is_node, test_same}
 use Rattle.tr_tree.specs.declared.layouts.Layout.{Layout}
-use Rattle.tr_tree.specs.Wishes.{shape_of}
+use Rattle.tr_tree.specs.Wishes.{shape, shape_of}
 use Rattle.tr_tree.specs.Ready.{HasShapes, keeps_shapes}
 use Rattle.tr_tree.proofs.LayoutLemmas.{part_same}
 use Rattle.tr_tree.proofs.ShapeLemmas.{shapes_like}
@@ -68,7 +68,7 @@ lifted_maxima down s child cs among =
     let at = λ (u : Lengths → ℕ). lifted_length u down s child cs among in
     rw (at (λ l. l.lo), at (λ l. l.pref), at (λ l. l.hi)) refl
 
-lifted_shape : (k : NodeKind) (s : NodeId → Shapes) (child : NodeId) (cs : List NodeId) → is_z k ≡ true → is_among child cs ≡ true →
+pub lifted_shape : (k : NodeKind) (s : NodeId → Shapes) (child : NodeId) (cs : List NodeId) → is_z k ≡ true → is_among child cs ≡ true →
     shape_of k (map s (child ∷ without child cs)) ≡ shape_of k (map s cs)
 lifted_shape kinds.Z s child cs z among = rw (lifted_maxima false s child cs among, lifted_maxima true s child cs among) refl
 lifted_shape k s child cs z among = cc
@@ -97,14 +97,21 @@ pub first_passed : (b : Bool) (x : NodeFault) (o : Option NodeFault) → cond b 
 first_passed true x o h = cc
 first_passed false x o h = refl
 
--- an edit leaves the shapes if the node that it changes wants the same as before, whatever its children want
+-- all nodes want what they wanted if the changed one does, whatever its children want
+pub changed_shape : (t : Nodes) (n : NodeId) (change : Entry → Entry) → IsNode t n →
+    ((s : NodeId → Shapes) →
+    shape_of (change (node t n)).kind (map s (change (node t n)).children) ≡ shape_of (node t n).kind (map s (node t n).children)) →
+    (m : NodeId) → shape (changed n change t) m ≡ shape t m
+changed_shape t n change inside same m = shapes_like t (changed n change t)
+    (λ k s. part_same (λ (x : Entry). shape_of x.kind (map s x.children)) t n (change (node t n)) k inside (same s)) m
+
+-- so an edit leaves the table right
 one_changed : (t : Nodes) (n : NodeId) (change : Entry → Entry) (l : Layout) → IsNode t n →
     ((s : NodeId → Shapes) →
     shape_of (change (node t n)).kind (map s (change (node t n)).children) ≡ shape_of (node t n).kind (map s (node t n).children)) →
     HasShapes t l → HasShapes (changed n change t) l
 one_changed t n change l inside same has = record {
-  each = λ m. has.each m ∙ sym (shapes_like t (changed n change t)
-      (λ k s. part_same (λ (x : Entry). shape_of x.kind (map s x.children)) t n (change (node t n)) k inside (same s)) m);
+  each = λ m. has.each m ∙ sym (changed_shape t n change inside same m);
 }
 
 lifted_kept : (t : Nodes) → IsForest t → (child : NodeId) (l : Layout) (o : Option NodeId) → (node t child).parent ≡ o →

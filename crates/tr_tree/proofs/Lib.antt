@@ -9,3 +9,4 @@ pub mod DomainLemmas
 pub mod LayLemmas
 pub mod PlaceLemmas
 pub mod StayLemmas
+pub mod MoveLemmas

@@ -1,18 +1,18 @@
 -- Private contracts alone cite this file.
 -- The tables of a tree.
-use Rattle.std.specs.Prelude.{◌≡◌, ℕ, ◌<◌, ◌-◌, Bool, true, false, Some, length, vec_len, vec_capacity}
+use Rattle.std.specs.Prelude.{◌≡◌, ℕ, ◌<◌, ◌-◌, Bool, true, false, Some, length, get_or, vec_len, vec_capacity}
+use Rattle.tr_base.specs.declared.Point.{Point}
 use Rattle.tr_base.specs.declared.NodeId.{NodeId}
 use Rattle.tr_base.specs.declared.Kind.{Kind}
 use Rattle.tr_base.specs.declared.Size.{Size}
-use Rattle.tr_base.specs.Layouts.{IsDomain}
-use Rattle.tr_base.specs.Rects.{IsScreenSize}
+use Rattle.tr_base.specs.Layouts.{preferred_place, IsDomain}
+use Rattle.tr_base.specs.Rects.{Edges, empty_rect, IsScreenSize}
 use Rattle.tr_forest.specs.declared.Edit.{Edit}
 use Rattle.tr_forest.specs.declared.Edit.TheVariants as edits
-use Rattle.tr_forest.specs.declared.NodeKind.TheVariants as kinds
 use Rattle.tr_forest.specs.Nodes.{Nodes, node}
 use Rattle.tr_tree.specs.declared.layouts.Layout.{Layout}
 use Rattle.tr_tree.specs.Wishes.{shape}
-use Rattle.tr_tree.specs.Places.{domain}
+use Rattle.tr_tree.specs.Places.{child_places, domain, index_of}
 use Rattle.tr_tree.specs.Tables.{shape_in, domain_in}
 use Rattle.tr_forest.specs.Families.{depth, is_under}
 use Rattle.tr_tree.specs.Laying.{on_screen, laid, IsAt, HasDomain}
@@ -45,9 +45,10 @@ pub record IsLaidOut (t : Nodes) (size : Size) (l : Layout) : Type 0 where
 pub record HasOtherDomains (t : Nodes) (size : Size) (n : NodeId) (l : Layout) : Type 0 where
   pub each : (m : NodeId) → is_under t n m ≡ false → HasDomain (laid t size) m l.domains.items
 
--- the parent of a node, if it has one, is a Z
-pub record IsInZ (t : Nodes) (n : NodeId) : Type 0 where
-  pub parent : (p : NodeId) → (node t n).parent ≡ Some p → (node t p).kind ≡ kinds.Z
+-- the parent of a node, if it has one, places the node at this offset
+pub record IsPlacedAt (t : Nodes) (n : NodeId) (at : Point) : Type 0 where
+  pub place : (p : NodeId) (e : Edges) → (node t n).parent ≡ Some p →
+      get_or (child_places t p e) (index_of n (node t p).children) empty_rect ≡ preferred_place e at (shape t n)
 
 -- the tables and the room have the same entries
 pub record HaveSamePlaces (a b : Layout) : Type 0 where

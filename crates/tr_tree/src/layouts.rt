@@ -1,12 +1,13 @@
 ghost use Rattle.std.specs.Prelude.{◌≡◌, ◌+◌, ℕ, IfOk, OnOk, length};
 ghost use Rattle.tr_base.specs.Rects.{IsScreenSize};
+ghost use Rattle.tr_base.specs.Layouts.{farthest, IsOffset};
 ghost use Rattle.tr_forest.specs.Nodes.{IsNode};
 
 use crate::domains::{Plan, lay, lay_out};
 use crate::rooms::Room;
 use crate::wishes::{fill_shapes, no_shapes};
 use std::alloc::Global;
-use tr_base::{NoMemory, NodeId, Rect, Shapes, Size, empty_place, preferred_place};
+use tr_base::{NoMemory, NodeId, Point, Rect, Shapes, Size, empty_place, preferred_place};
 use tr_forest::Forest;
 
 /// The shapes and the domain of each node, and the room in which they are computed.
@@ -18,7 +19,7 @@ pub(crate) struct Layout {
 }
 
 impl Layout {
-    ghost use Rattle.tr_tree.specs.Ready.{HavePlaces, HasShapes, IsLaidOut, IsInZ, HasOtherDomains, HaveSamePlaces, HasSpare};
+    ghost use Rattle.tr_tree.specs.Ready.{HavePlaces, HasShapes, IsLaidOut, IsPlacedAt, HasOtherDomains, HaveSamePlaces, HasSpare};
 
     /// The layout of no nodes.
     pub(crate) fn new(alloc: Global) -> Layout
@@ -72,13 +73,15 @@ impl Layout {
         lay_out(&plan, &mut self.room, &mut self.domains);
     }
 
-    /// Computes the domains of a child with a new offset, and of all nodes below it. It takes no memory.
-    pub(crate) fn place_moved(&mut self, forest: &Forest, size: Size, child: NodeId)
+    /// Computes the domains of a child that its parent places at a new offset, and of all nodes below it. It
+    /// takes no memory.
+    pub(crate) fn place_moved(&mut self, forest: &Forest, size: Size, child: NodeId, at: Point)
         requires size { IsScreenSize size }
         requires places { HavePlaces (length forest.now.entries) self.old }
         requires shapes { HasShapes forest.now self.old }
         requires child { IsNode forest.now child }
-        requires z { IsInZ forest.now child }
+        requires offset { IsOffset farthest at }
+        requires placed { IsPlacedAt forest.now child at }
         requires others { HasOtherDomains forest.now size child self.old }
         ensures { IsLaidOut forest.now size self.new }
     {
@@ -90,7 +93,7 @@ impl Layout {
         };
         let rect = self.domains[usize::from(parent.0)];
         let shapes = self.shapes[usize::from(child.0)];
-        let place = preferred_place(&rect, forest.at_of(child), &shapes);
+        let place = preferred_place(&rect, at, &shapes);
         self.domains[usize::from(child.0)] = place;
         let plan = Plan {
             forest,

@@ -109,7 +109,16 @@ impl Tree {
             Edit::Rescreen { .. } => {}
             // Each child of a Z has its own offset, so their order doesn't affect their domains.
             Edit::Lift { .. } => {}
-            Edit::Move { child, .. } => self.layout.place_moved(&self.forest, self.size, *child),
+            Edit::Move { child, at } => {
+                self.layout
+                    .place_moved(&self.forest, self.size, *child, *at);
+            }
+            Edit::Offset { node, by } => {
+                if let [child, ..] = self.forest.children(*node) {
+                    self.layout
+                        .place_moved(&self.forest, self.size, *child, *by);
+                }
+            }
             _ => {
                 if keeps_shapes(edit) {
                     self.layout.place(&self.forest, self.size);

@@ -24,7 +24,7 @@ count-requires-in-loop-region c =
     let size = c.count.ensures.size in
     let items = c.deref-region-items.result.now in
     let own : AreOwn c.self.inside.tree items =
-    subst (λ (g : List (List Edges)). AreOwn c.self.inside.tree g) (sym c.deref-region-items.ensures.value) c.self.invariant.own in
+    subst (λ (g : List (List Edges)). AreOwn c.self.inside.tree g) (sym c.deref-region-items.ensures.value) c.self.invariant.0.own in
     in_square c.region-item.result c.rects.ensures.invariant
     (on_greatest c.self.inside.tree.size c.region-item.result
     (record { some_wide = size.some_wide; wide = size.wide; some_high = size.some_high; high = size.high })
@@ -45,7 +45,7 @@ taken : (c : goal.After-count-in-loop-region) → c.loop-region.count
 taken c =
     let s = c.args.self.now in
     let items = c.deref-region-items.result.now in
-    let shown : IsShown s = subst (λ (w : Shown). IsShown w) c.self.view_is c.self.invariant in
+    let shown : IsShown s = subst (λ (w : Shown). IsShown w) c.self.view_is c.self.invariant.0 in
     let same : items ≡ s.good = c.deref-region-items.ensures.value ∙ ap (λ (w : Shown). w.good) c.self.view_is in
     let own : AreOwn s.tree items = subst (λ (g : List (List Edges)). AreOwn s.tree g) (sym same) shown.own in
     c.loop-region.invariant

@@ -19,7 +19,7 @@ use Rattle.tr_surface.proofs.surfaces.Surface.execute.Goals as goal
 
 pub execute_known-known-requires-clause-visible : goal.execute_known-known-requires-clause-visible
 execute_known-known-requires-clause-visible c =
-    visible_on c.self.inside.tree c.args.leaf c.self.inside.screen.size c.in_ok-visible.visible c.self.invariant.size
+    visible_on c.self.inside.tree c.args.leaf c.self.inside.screen.size c.in_ok-visible.visible c.self.invariant.0.size
     (subst (λ (s : Shown). IsVisible s.tree c.args.leaf c.in_ok-visible.visible) (sym c.self.view_is) c.in_ok-visible.ensures)
 
 pub execute_known-known-requires-clause-good : goal.execute_known-known-requires-clause-good
@@ -33,8 +33,8 @@ execute_known-known-requires-clause-good c = λ p h.
     } in
     let at : c.index.result.now ≡ region_of c.self.inside.good.items n =
     read_region c.self.inside.good.items n c.from.result c.index.result.now c.index.ensures c.from.ensures
-    (omega (arith, c.self.invariant.own.count, c.node_of-n.ensures.node.within)) in
-    good_seen in_it c.self.invariant c.args.leaf n c.in_ok-visible.visible seen p (ap (λ (r : List Edges). holds r p) (sym at) ∙ h)
+    (omega (arith, c.self.invariant.0.own.count, c.node_of-n.ensures.node.within)) in
+    good_seen in_it c.self.invariant.0 c.args.leaf n c.in_ok-visible.visible seen p (ap (λ (r : List Edges). holds r p) (sym at) ∙ h)
 
 pub invariant_of-self-2 : goal.invariant_of-self-2
 invariant_of-self-2 c =
@@ -46,12 +46,14 @@ invariant_of-self-2 c =
       are = subst (λ (s : Shown). IsVisible s.tree c.args.leaf c.in_ok-visible.visible) (sym c.self.view_is) c.in_ok-visible.ensures;
     } in
     let own : AreOwn c.self.inside.tree (set c.self.inside.good.items n.0 c.in_ok-known.known) =
-    own_with c.self.inside.tree c.self.inside.good.items c.self.invariant.own n c.node_of-n.ensures.node c.in_ok-known.known
+    own_with c.self.inside.tree c.self.inside.good.items c.self.invariant.0.own n c.node_of-n.ensures.node c.in_ok-known.known
     (λ p h. of_leaf in_it c.args.leaf n c.in_ok-visible.visible seen p ∙ sym (seen.are p)
-    ∙ and_left (holds c.in_ok-visible.visible p) _ (sym (c.in_ok-known.ensures.good p) ∙ h)) in
-    stays_shown c.self.inside.tree c.self.inside.good.items (set c.self.inside.good.items c.from-2.result c.in_ok-known.known)
-    c.self.inside.screen c.execute_known-known.new.screen c.self.invariant c.in_ok-known.ensures.size c.in_ok-known.ensures.kind
-    (subst (λ (i : ℕ). AreOwn c.self.inside.tree (set c.self.inside.good.items i c.in_ok-known.known)) (sym c.from-2.ensures) own)
+    ∙ and_left (holds c.in_ok-visible.visible p) _ (sym (c.in_ok-known.ensures.good p) ∙ h)) in (
+      stays_shown c.self.inside.tree c.self.inside.good.items (set c.self.inside.good.items c.from-2.result c.in_ok-known.known)
+          c.self.inside.screen c.execute_known-known.new.screen c.self.invariant.0 c.in_ok-known.ensures.size c.in_ok-known.ensures.kind
+          (subst (λ (i : ℕ). AreOwn c.self.inside.tree (set c.self.inside.good.items i c.in_ok-known.known)) (sym c.from-2.ensures) own),
+      c.self.invariant.1,
+    )
 
 executed : (c : goal.After-drop-index_mut) → IsExecuted c.args.self.now
     (record { tree = c.self.inside.tree; screen = c.execute_known-known.new.screen; good = set c.self.inside.good.items c.from-2.result c.in_ok-known.known })
@@ -72,8 +74,8 @@ executed c =
     } in
     let found : c.index.result.now ≡ region_of c.self.inside.good.items n =
     read_region c.self.inside.good.items n c.from.result c.index.result.now c.index.ensures c.from.ensures
-    (omega (arith, c.self.invariant.own.count, c.node_of-n.ensures.node.within)) in
-    let after : IsShown new = invariant_of-self-2 c in
+    (omega (arith, c.self.invariant.0.own.count, c.node_of-n.ensures.node.within)) in
+    let after : IsShown new = (invariant_of-self-2 c).0 in
     let at = c.origin_of-origin.ensures.value in
     let look = look_of c.kind-kind.result c.args.font.now in
     let own_look = look_of c.self.inside.tree.kind c.args.font.now in
@@ -82,20 +84,20 @@ executed c =
     let wanted = λ (p : Point). colour_after own_look (leaf_base in_it c.args.leaf) c.args.batch.now (leaf_corner in_it.tree c.args.leaf) p in
     let colour : (p : Point) → by_good c.index.result.now p ≡ wanted p = λ p.
     ap (λ (r : List Edges). by_good r p) found
-    ∙ colour_is in_it c.self.invariant c.args.leaf n visible seen look c.args.batch.now c.origin_of-origin.result p at
+    ∙ colour_is in_it c.self.invariant.0 c.args.leaf n visible seen look c.args.batch.now c.origin_of-origin.result p at
     ∙ ap (λ (kind : Kind). colour_after (look_of kind c.args.font.now) (leaf_base in_it c.args.leaf) c.args.batch.now (leaf_corner in_it.tree c.args.leaf) p)
     c.kind-kind.ensures in
-    let on = λ (p : Point). ap (λ (size : Size). has_point (whole_of size) p) c.self.invariant.size in
+    let on = λ (p : Point). ap (λ (size : Size). has_point (whole_of size) p) c.self.invariant.0.size in
     let set_at : new.good ≡ set in_it.good n.0 c.in_ok-known.known =
     ap (λ (i : ℕ). set c.self.inside.good.items i c.in_ok-known.known) c.from-2.ensures in
     subst (λ (t : Shown). IsExecuted t new c.args.font.now c.args.leaf c.args.batch.now) c.self.view_is (record {
       known = λ p x in_leaf is. c.in_ok-known.ensures.known p x (seen.are p ∙ in_leaf) (colour p ∙ is);
-      unknown = λ p in_leaf. bad_seen in_it new c.self.invariant after c.args.leaf n visible seen c.in_ok-known.known refl set_at (is_none (wanted p)) p
+      unknown = λ p in_leaf. bad_seen in_it new c.self.invariant.0 after c.args.leaf n visible seen c.in_ok-known.known refl set_at (is_none (wanted p)) p
           (c.in_ok-known.ensures.good p ∙ ap (λ o. holds visible p && not (is_none o)) (colour p)) in_leaf;
       untouched = λ p in_leaf none. c.in_ok-known.ensures.untouched p (seen.are p ∙ in_leaf)
           (ap (λ (o : Point). touches c.args.batch.now (before_shift p o)) at ∙ none);
       pixels = λ p here hidden. c.in_ok-known.ensures.pixels p (on p ∙ here) (seen.are p ∙ hidden);
-      others = λ p hidden. bad_unseen in_it new c.self.invariant after c.args.leaf n visible seen c.in_ok-known.known refl set_at p hidden;
+      others = λ p hidden. bad_unseen in_it new c.self.invariant.0 after c.args.leaf n visible seen c.in_ok-known.known refl set_at p hidden;
     })
 
 pub returns-clause-known : goal.returns-clause-known

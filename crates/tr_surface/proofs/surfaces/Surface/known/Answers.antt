@@ -1,19 +1,16 @@
 use Rattle.std.proofs.Common.{◌≡◌, true, false, ◌&&◌, List, [], Option, length, sym, ap, subst, ◌∙◌}
 use Rattle.tr_base.specs.declared.Point.{Point}
 use Rattle.tr_base.specs.declared.NodeId.{NodeId}
-use Rattle.tr_base.specs.declared.Kind.{Kind}
 use Rattle.tr_base.specs.Rects.{Edges}
 use Rattle.tr_base.proofs.BoolLemmas.{and_false}
-use Rattle.tr_base.specs.Ops.{same_kind}
 use Rattle.tr_region.specs.Points.{holds}
 use Rattle.tr_forest.specs.Forests.{IsForest}
 use Rattle.tr_tree.specs.Trees.{Seen}
 use Rattle.tr_spot.specs.Spots.{HasRoot, region_of}
-use Rattle.tr_surface.specs.Surfaces.{AreOwn, Shown, any_holds, is_bad}
+use Rattle.tr_surface.specs.Surfaces.{AreOwn, Shown, any_holds}
 use Rattle.tr_surface.specs.TreeSteps.{moved_child}
-use Rattle.tr_surface.specs.Survivors.{AreGoodAfter, AreSides, IsLike, change_to, follows_by, good_at, good_by, is_below_moved}
+use Rattle.tr_surface.specs.Survivors.{AreGoodAfter, AreSides, IsLike, change_to, follows_by, good_at, is_below_moved}
 use Rattle.tr_surface.proofs.GoodLemmas.{any_none}
-use Rattle.tr_surface.proofs.KnownLemmas.{none_good}
 use Rattle.tr_surface.proofs.EditLemmas.{like_edited, rooted}
 use Rattle.tr_surface.proofs.TreeChangeLemmas.{AreFound, AreKin, good_found, follows_found}
 use Rattle.tr_surface.proofs.surfaces.Surface.known.Goals as goal
@@ -31,45 +28,35 @@ empty_own t regions count none = record {
 empty_none : (regions : List (List Edges)) → ((n : NodeId) → region_of regions n ≡ []) → (p : Point) → any_holds regions p ≡ false
 empty_none regions none p = any_none regions p (λ i lt. ap (λ (r : List Edges). holds r p) (none (record { 0 = i })))
 
-pub returns-then-is_other-clause-good : goal.returns-then-is_other-clause-good
-returns-then-is_other-clause-good g c =
+pub is_lost-requires : goal.is_lost-requires
+is_lost-requires g c =
     let s = c.args.self.now in
-    let is = c.args.is.now in
-    let edit = c.args.edit.now in
-    let k = g.K.Keeper.keeping c.args.keeper.now in
     let at : c.self.inside.tree ≡ s.tree = ap (λ (w : Shown). w.tree) c.self.view_is in
     let forest : IsForest s.tree.nodes = subst (λ (u : Seen). IsForest u.nodes) at c.count.ensures.invariant in
-    let like : IsLike s.tree is =
-    subst (λ (u : Seen). IsLike s.tree u) (sym c.requires.is) (like_edited s.tree edit forest c.requires.edit c.requires.allowed) in
-    let root : HasRoot is = rooted s.tree is like (subst (λ (u : Seen). HasRoot u) at c.self.invariant.root) in
-    let other : same_kind s.tree.kind is.kind ≡ false =
-    ap (λ (x : Kind). same_kind x is.kind) (sym (c.kind.ensures ∙ ap (λ (u : Seen). u.kind) at))
-    ∙ ap (λ (x : Kind). same_kind c.kind.result x) (sym c.kind-2.ensures) ∙ c.is_other.ensures.other c.if-is_other.true in
-    let after : AreGoodAfter k (change_to s is (moved_child s.tree edit)) c.in_ok-good.good.items = record {
+    let like : IsLike s.tree c.args.is.now =
+    subst (λ (u : Seen). IsLike s.tree u) (sym c.requires.is) (like_edited s.tree c.args.edit.now forest c.requires.edit c.requires.allowed) in
+    rooted s.tree c.args.is.now like (subst (λ (u : Seen). HasRoot u) at c.self.invariant.0.root)
+
+pub returns-then-is_lost-clause-good : goal.returns-then-is_lost-clause-good
+returns-then-is_lost-clause-good g c =
+    let s = c.args.self.now in
+    let is = c.args.is.now in
+    let k = g.K.Keeper.keeping c.args.keeper.now in
+    let after : AreGoodAfter k (change_to s is (moved_child s.tree c.args.edit.now)) c.in_ok-good.good.items = record {
       own = empty_own is c.in_ok-good.good.items (c.in_ok-good.ensures.count ∙ c.count-count.ensures.count) c.in_ok-good.ensures.empty;
       any = λ p. empty_none c.in_ok-good.good.items c.in_ok-good.ensures.empty p
-          ∙ sym (none_good k s.tree is (moved_child s.tree edit) (is_bad s) root other p);
+          ∙ sym (c.is_lost.ensures.lost c.if-is_lost.true k (moved_child s.tree c.args.edit.now) p);
     } in
     after
 
-pub returns-then-is_other-clause-follows : goal.returns-then-is_other-clause-follows
-returns-then-is_other-clause-follows g c = λ p.
+pub returns-then-is_lost-clause-follows : goal.returns-then-is_lost-clause-follows
+returns-then-is_lost-clause-follows g c = λ p.
     let s = c.args.self.now in
     let is = c.args.is.now in
-    let edit = c.args.edit.now in
+    let moved = moved_child s.tree c.args.edit.now in
     let k = g.K.Keeper.keeping c.args.keeper.now in
-    let at : c.self.inside.tree ≡ s.tree = ap (λ (w : Shown). w.tree) c.self.view_is in
-    let forest : IsForest s.tree.nodes = subst (λ (u : Seen). IsForest u.nodes) at c.count.ensures.invariant in
-    let like : IsLike s.tree is =
-    subst (λ (u : Seen). IsLike s.tree u) (sym c.requires.is) (like_edited s.tree edit forest c.requires.edit c.requires.allowed) in
-    let root : HasRoot is = rooted s.tree is like (subst (λ (u : Seen). HasRoot u) at c.self.invariant.root) in
-    let other : same_kind s.tree.kind is.kind ≡ false =
-    ap (λ (x : Kind). same_kind x is.kind) (sym (c.kind.ensures ∙ ap (λ (u : Seen). u.kind) at))
-    ∙ ap (λ (x : Kind). same_kind c.kind.result x) (sym c.kind-2.ensures) ∙ c.is_other.ensures.other c.if-is_other.true in
-    let none : good_by k (change_to s is (moved_child s.tree edit)) p ≡ false =
-    none_good k s.tree is (moved_child s.tree edit) (is_bad s) root other p in
     ap (λ (r : List Edges). holds r p) c.empty-follows.ensures
-    ∙ sym (ap (λ b. is_below_moved is (moved_child s.tree edit) p && b) none ∙ and_false (is_below_moved is (moved_child s.tree edit) p))
+    ∙ sym (ap (λ b. is_below_moved is moved p && b) (c.is_lost.ensures.lost c.if-is_lost.true k moved p) ∙ and_false (is_below_moved is moved p))
 
 pub invariant_of-change : goal.invariant_of-change
 invariant_of-change g c =
@@ -80,9 +67,9 @@ invariant_of-change g c =
     let forest : IsForest s.tree.nodes = subst (λ (u : Seen). IsForest u.nodes) at c.count.ensures.invariant in
     let like : IsLike c.self.inside.tree is = subst (λ (u : Seen). IsLike u is) (sym at)
     (subst (λ (u : Seen). IsLike s.tree u) (sym c.requires.is) (like_edited s.tree edit forest c.requires.edit c.requires.allowed)) in
-    let kind : is.kind ≡ c.self.inside.tree.kind = sym c.kind-2.ensures ∙ c.is_other.ensures.same c.if-is_other.false ∙ c.kind.ensures in
+    let kind : is.kind ≡ c.self.inside.tree.kind = c.is_lost.ensures.kind c.if-is_lost.false ∙ sym (ap (λ (u : Seen). u.kind) at) in
     let sides : AreSides c.self.inside.tree is c.self.inside.good.items =
-    record { leaves = like.leaves; count = like.count; kind = kind; own = c.self.invariant.own } in
+    record { leaves = like.leaves; count = like.count; kind = kind; own = c.self.invariant.0.own } in
     record {
       sides = subst (λ (gs : List (List Edges)). AreSides c.self.inside.tree is gs) (sym c.deref.ensures.value) sides;
       child = c.moved_child-moved.ensures.node;
@@ -101,7 +88,7 @@ returns-clause-good g c =
     let forest : IsForest s.tree.nodes = subst (λ (u : Seen). IsForest u.nodes) at c.count.ensures.invariant in
     let like : IsLike c.self.inside.tree is = subst (λ (u : Seen). IsLike u is) (sym at)
     (subst (λ (u : Seen). IsLike s.tree u) (sym c.requires.is) (like_edited s.tree edit forest c.requires.edit c.requires.allowed)) in
-    let kind : is.kind ≡ c.self.inside.tree.kind = sym c.kind-2.ensures ∙ c.is_other.ensures.same c.if-is_other.false ∙ c.kind.ensures in
+    let kind : is.kind ≡ c.self.inside.tree.kind = c.is_lost.ensures.kind c.if-is_lost.false ∙ sym (ap (λ (u : Seen). u.kind) at) in
     let kin : AreKin c.self.inside.tree is =
     record { forests = record { before = c.count.ensures.invariant; after = c.count-count.ensures.invariant }; like = like; kind = kind } in
     let found : AreFound k in_it is moved good = record {
@@ -110,7 +97,7 @@ returns-clause-good g c =
           ∙ ap (λ (gs : List (List Edges)). good_at k c.self.inside.tree is moved gs n p) c.deref.ensures.value;
     } in
     let after : AreGoodAfter k (change_to in_it is moved) good =
-    good_found k in_it is c.self.invariant kin (rooted c.self.inside.tree is like c.self.invariant.root) moved good found in
+    good_found k in_it is c.self.invariant.0 kin (rooted c.self.inside.tree is like c.self.invariant.0.root) moved good found in
     subst (λ (w : Shown). AreGoodAfter k (change_to w is (moved_child w.tree edit)) good) c.self.view_is
     (subst (λ (o : Option NodeId). AreGoodAfter k (change_to in_it is o) good) c.moved_child-moved.ensures.child after)
 
@@ -127,7 +114,7 @@ returns-clause-follows g c = λ p.
     let forest : IsForest s.tree.nodes = subst (λ (u : Seen). IsForest u.nodes) at c.count.ensures.invariant in
     let like : IsLike c.self.inside.tree is = subst (λ (u : Seen). IsLike u is) (sym at)
     (subst (λ (u : Seen). IsLike s.tree u) (sym c.requires.is) (like_edited s.tree edit forest c.requires.edit c.requires.allowed)) in
-    let kind : is.kind ≡ c.self.inside.tree.kind = sym c.kind-2.ensures ∙ c.is_other.ensures.same c.if-is_other.false ∙ c.kind.ensures in
+    let kind : is.kind ≡ c.self.inside.tree.kind = c.is_lost.ensures.kind c.if-is_lost.false ∙ sym (ap (λ (u : Seen). u.kind) at) in
     let kin : AreKin c.self.inside.tree is =
     record { forests = record { before = c.count.ensures.invariant; after = c.count-count.ensures.invariant }; like = like; kind = kind } in
     let found : AreFound k in_it is moved good = record {
@@ -137,6 +124,6 @@ returns-clause-follows g c = λ p.
     } in
     let its : holds c.in_ok-known.known.follows p ≡ follows_by k (change_to in_it is moved) p =
     c.in_ok-known.ensures.follows p
-    ∙ follows_found k in_it is c.self.invariant kin (rooted c.self.inside.tree is like c.self.invariant.root) moved good found p in
+    ∙ follows_found k in_it is c.self.invariant.0 kin (rooted c.self.inside.tree is like c.self.invariant.0.root) moved good found p in
     subst (λ (w : Shown). holds c.in_ok-known.known.follows p ≡ follows_by k (change_to w is (moved_child w.tree edit)) p) c.self.view_is
     (subst (λ (o : Option NodeId). holds c.in_ok-known.known.follows p ≡ follows_by k (change_to in_it is o) p) c.moved_child-moved.ensures.child its)

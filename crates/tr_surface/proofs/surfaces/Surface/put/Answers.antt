@@ -17,7 +17,7 @@ within s in_it leaf part same h = subst (λ (w : Shown). (p : Point) → holds p
 pub put_pixels-requires-clause-on : goal.put_pixels-requires-clause-on
 put_pixels-requires-clause-on c = λ p h.
     let in_it : Shown = record { tree = c.self.inside.tree; screen = c.self.inside.screen; good = c.self.inside.good.items } in
-    ap (λ (size : Size). has_point (whole_of size) p) c.self.invariant.size
+    ap (λ (size : Size). has_point (whole_of size) p) c.self.invariant.0.size
     ∙ in_leaf_on c.self.inside.tree c.args.leaf p (within c.args.self.now in_it c.args.leaf c.args.part.now c.self.view_is c.requires.part p h)
 
 pub invariant_of-self : goal.invariant_of-self
@@ -26,15 +26,17 @@ invariant_of-self c =
     let n = c.node_of-n.result in
     let at : c.index.result.now ≡ region_of c.self.inside.good.items n =
     read_region c.self.inside.good.items n c.from.result c.index.result.now c.index.ensures c.from.ensures
-    (omega (arith, c.self.invariant.own.count, c.node_of-n.ensures.node.within)) in
+    (omega (arith, c.self.invariant.0.own.count, c.node_of-n.ensures.node.within)) in
     let union : (p : Point) → holds c.in_ok-more.more p ≡ (holds (region_of c.self.inside.good.items n) p || holds c.args.part.now p) =
     λ p. c.in_ok-more.ensures.points p ∙ ap (λ (r : List Edges). holds r p || holds c.args.part.now p) at in
     let own : AreOwn c.self.inside.tree (set c.self.inside.good.items n.0 c.in_ok-more.more) =
-    put_own in_it c.self.invariant c.args.leaf n c.node_of-n.ensures.node c.node_of-n.ensures.leaf c.args.part.now c.in_ok-more.more union
-    (within c.args.self.now in_it c.args.leaf c.args.part.now c.self.view_is c.requires.part) in
-    stays_shown c.self.inside.tree c.self.inside.good.items (set c.self.inside.good.items c.from-2.result c.in_ok-more.more)
-    c.self.inside.screen c.put_pixels.new.screen c.self.invariant c.put_pixels.ensures.size c.put_pixels.ensures.kind
-    (subst (λ (i : ℕ). AreOwn c.self.inside.tree (set c.self.inside.good.items i c.in_ok-more.more)) (sym c.from-2.ensures) own)
+    put_own in_it c.self.invariant.0 c.args.leaf n c.node_of-n.ensures.node c.node_of-n.ensures.leaf c.args.part.now c.in_ok-more.more union
+    (within c.args.self.now in_it c.args.leaf c.args.part.now c.self.view_is c.requires.part) in (
+      stays_shown c.self.inside.tree c.self.inside.good.items (set c.self.inside.good.items c.from-2.result c.in_ok-more.more)
+          c.self.inside.screen c.put_pixels.new.screen c.self.invariant.0 c.put_pixels.ensures.size c.put_pixels.ensures.kind
+          (subst (λ (i : ℕ). AreOwn c.self.inside.tree (set c.self.inside.good.items i c.in_ok-more.more)) (sym c.from-2.ensures) own),
+      c.self.invariant.1,
+    )
 
 pub returns-clause-bad : goal.returns-clause-bad
 returns-clause-bad c = λ p.
@@ -47,11 +49,11 @@ returns-clause-bad c = λ p.
     } in
     let at : c.index.result.now ≡ region_of c.self.inside.good.items n =
     read_region c.self.inside.good.items n c.from.result c.index.result.now c.index.ensures c.from.ensures
-    (omega (arith, c.self.invariant.own.count, c.node_of-n.ensures.node.within)) in
+    (omega (arith, c.self.invariant.0.own.count, c.node_of-n.ensures.node.within)) in
     let union : (q : Point) → holds c.in_ok-more.more q ≡ (holds (region_of c.self.inside.good.items n) q || holds c.args.part.now q) =
     λ q. c.in_ok-more.ensures.points q ∙ ap (λ (r : List Edges). holds r q || holds c.args.part.now q) at in
-    let after : IsShown new = invariant_of-self c in
+    let after : IsShown new = (invariant_of-self c).0 in
     subst (λ (w : Shown). is_bad new p ≡ (is_bad w p && not (holds c.args.part.now p))) c.self.view_is
-    (bad_put in_it new c.self.invariant after c.args.leaf n c.node_of-n.ensures.node c.node_of-n.ensures.leaf c.args.part.now c.in_ok-more.more union
+    (bad_put in_it new c.self.invariant.0 after c.args.leaf n c.node_of-n.ensures.node c.node_of-n.ensures.leaf c.args.part.now c.in_ok-more.more union
     (within c.args.self.now in_it c.args.leaf c.args.part.now c.self.view_is c.requires.part) refl
     (ap (λ (i : ℕ). set c.self.inside.good.items i c.in_ok-more.more) c.from-2.ensures) p)

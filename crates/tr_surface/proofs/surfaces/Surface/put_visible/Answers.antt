@@ -33,19 +33,21 @@ paint_within-requires c = λ p h.
     let n = c.node_of-n.result in
     let at : c.index.result.now ≡ region_of c.self.inside.good.items n =
     read_region c.self.inside.good.items n c.from.result c.index.result.now c.index.ensures c.from.ensures
-    (omega (arith, c.self.invariant.own.count, c.node_of-n.ensures.node.within)) in
+    (omega (arith, c.self.invariant.0.own.count, c.node_of-n.ensures.node.within)) in
     let seen : IsVisible c.self.inside.tree c.args.leaf c.index.result.now = λ p.
     ap (λ (r : List Edges). holds r p) at
-    ∙ all_visible in_it c.self.invariant c.args.leaf n c.node_of-n.ensures.node c.node_of-n.ensures.leaf
+    ∙ all_visible in_it c.self.invariant.0 c.args.leaf n c.node_of-n.ensures.node c.node_of-n.ensures.leaf
     (subst (λ (s : Shown). (q : Point) → is_in_leaf c.args.leaf (spot s.tree q) ≡ true → is_bad s q ≡ false) (sym c.self.view_is) c.requires.good) p in
     let region = c.index.result.now in
-    visible_on c.self.inside.tree c.args.leaf c.self.inside.screen.size region c.self.invariant.size seen p
+    visible_on c.self.inside.tree c.args.leaf c.self.inside.screen.size region c.self.invariant.0.size seen p
     (and_parts (holds region p) (has_point c.shift-area.result p) h).0
 
 pub invariant_of-self : goal.invariant_of-self
-invariant_of-self c =
-    stays_shown c.self.inside.tree c.self.inside.good.items c.self.inside.good.items c.self.inside.screen c.paint_within.new.screen
-    c.self.invariant c.paint_within.ensures.size c.paint_within.ensures.kind c.self.invariant.own
+invariant_of-self c = (
+  stays_shown c.self.inside.tree c.self.inside.good.items c.self.inside.good.items c.self.inside.screen c.paint_within.new.screen
+      c.self.invariant.0 c.paint_within.ensures.size c.paint_within.ensures.kind c.self.invariant.0.own,
+  c.self.invariant.1,
+)
 
 pub returns-clause-pixels : goal.returns-clause-pixels
 returns-clause-pixels c =
@@ -53,10 +55,10 @@ returns-clause-pixels c =
     let n = c.node_of-n.result in
     let at : c.index.result.now ≡ region_of c.self.inside.good.items n =
     read_region c.self.inside.good.items n c.from.result c.index.result.now c.index.ensures c.from.ensures
-    (omega (arith, c.self.invariant.own.count, c.node_of-n.ensures.node.within)) in
+    (omega (arith, c.self.invariant.0.own.count, c.node_of-n.ensures.node.within)) in
     let seen : IsVisible c.self.inside.tree c.args.leaf c.index.result.now = λ p.
     ap (λ (r : List Edges). holds r p) at
-    ∙ all_visible in_it c.self.invariant c.args.leaf n c.node_of-n.ensures.node c.node_of-n.ensures.leaf
+    ∙ all_visible in_it c.self.invariant.0 c.args.leaf n c.node_of-n.ensures.node c.node_of-n.ensures.leaf
     (subst (λ (s : Shown). (q : Point) → is_in_leaf c.args.leaf (spot s.tree q) ≡ true → is_bad s q ≡ false) (sym c.self.view_is) c.requires.good) p in
     let leaf = c.args.leaf in
     let clip = c.args.clip.now in

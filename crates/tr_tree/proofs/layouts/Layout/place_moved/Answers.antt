@@ -42,9 +42,9 @@ lay-requires-clause-own c =
     shape_read t c.args.child l.shapes.items c.from-2.result c.index-2.result.now
     (omega (arith, c.requires.child.within, c.requires.places.shapes)) c.from-2.ensures c.index-2.ensures (c.requires.shapes.each c.args.child) in
     rw c.from-3.ensures
-    (child_has t c.args.size l c.args.child parent c.index.result.now c.preferred_place-place.result c.at_of.result c.index-2.result.now
-    l.domains.items c.count.ensures.invariant up c.requires.z c.requires.others (omega (arith, c.requires.child.within, c.requires.places.domains))
-    here c.at_of.ensures wants c.preferred_place-place.ensures.place c.preferred_place-place.ensures.near)
+    (child_has t c.args.size l c.args.child parent c.index.result.now c.preferred_place-place.result c.args.at c.index-2.result.now
+    l.domains.items c.count.ensures.invariant up c.requires.placed c.requires.others (omega (arith, c.requires.child.within, c.requires.places.domains))
+    here wants c.preferred_place-place.ensures.place c.preferred_place-place.ensures.near)
 
 pub returns : goal.returns
 returns c =
