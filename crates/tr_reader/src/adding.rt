@@ -51,6 +51,7 @@ impl<'a> Reader<'a> {
     }
 
     /// Adds a step of the actor.
+    #[inline(always)]
     fn add_step(&mut self, actor: Actor, step: Step<WidgetCmd>) -> Result<(), NoMemory>
         requires place { allows self.old.place step_line ≡ true }
         requires playable { IsPlayable (nodes_so_far self.old) (actor, step) }
@@ -123,6 +124,7 @@ impl<'a> Reader<'a> {
     }
 
     /// Adds the meaning of a line to that of the lines before it. Its second word is `name`.
+    #[inline(always)]
     pub fn add(&mut self, name: &'a str, meaning: Meaning) -> Result<(), LineRefused>
         requires sound { IsSoundMeaning self.old name.now meaning }
         requires room { is_one_too_many self.old meaning ≡ false }

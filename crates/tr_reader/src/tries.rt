@@ -118,6 +118,7 @@ impl<'a> Reader<'a> {
     }
 
     /// A step or a sync comes after `begin`.
+    #[inline(always)]
     pub fn in_steps(&self) -> Result<(), Code>
         ensures { Answers (not (allows self.now.place step_line)) B5 (λ _. ⊤) result }
     {
@@ -194,6 +195,7 @@ impl<'a> Reader<'a> {
     }
 
     /// Whether a line is a command for another widget than the leaf's.
+    #[inline(always)]
     pub fn is_foreign(&self, meaning: &Meaning) -> bool
         ensures { result ≡ is_foreign self.now meaning.now }
     {
@@ -207,6 +209,7 @@ impl<'a> Reader<'a> {
     }
 
     /// Whether a line is one node, leaf, report or sync too many.
+    #[inline(always)]
     pub fn is_one_too_many(&self, meaning: &Meaning) -> bool
         ensures result { result ≡ is_one_too_many self.now meaning.now }
         ensures invariant { IsSoFar self.now }

@@ -31,6 +31,10 @@ no_at (b ∷ bs) none = ne_eqb b 64 (λ e. none bs (subst (λ (x : ℕ). b ∷ b
 rest_is : (n : ℕ) (ws : List (Bor (List ℕ))) → take (length ws - n) (drop n ws) ≡ drop n ws
 rest_is n ws = take_all (length ws - n) (drop n ws) (omega (arith, length-drop n ws))
 
+-- what stands where a list of words has none
+abbrev pub no_word : Bor (List ℕ)
+no_word = record { ref_ptr = (0, 0); now = [] }
+
 pub one_word : (ws : List (Bor (List ℕ))) (d : Bor (List ℕ)) → 1 ≤ length ws →
     texts ws ≡ (get_or ws 0 d).now ∷ texts (take (length ws - 1) (drop 1 ws))
 one_word [] d le = absurd (omega arith)
@@ -133,6 +137,10 @@ no_act_word v leaf (a ∷ ws) le = absurd (omega arith)
 pub reads_by : (c : SoFar) (fs gs : List Form) (ws : List (List ℕ)) (r : Result Meaning LineRefused) →
     among c.version fs ws ≡ among c.version gs ws → Reads c gs ws r → Reads c fs ws r
 reads_by c fs gs ws r e h = subst (λ (o : Option Form). ReadsAs c o ws r) (sym e) h
+
+-- what is read of these words is read of the same words
+pub reads_words : (c : SoFar) (fs : List Form) (ws vs : List (List ℕ)) (r : Result Meaning LineRefused) → ws ≡ vs → Reads c fs vs r → Reads c fs ws r
+reads_words c fs ws vs r same h = subst (λ (l : List (List ℕ)). Reads c fs l r) (sym same) h
 
 -- the words have the one form that counts, where what it asks of them beside their number is so
 pub reads_one : (c : SoFar) (f : Form) (ws : List (List ℕ)) (b : Bool) (r : Result Meaning LineRefused) → b ≡ true →

@@ -7,6 +7,7 @@ use Rattle.std.proofs.lemmas.List.Sums.{count_by-le-length}
 use Rattle.std.proofs.lemmas.Option.{none-some}
 use Rattle.std.specs.Prelude.{◌==◌}
 use Rattle.std.specs.List.{slice_split}
+use Rattle.std.specs.Borrow.{Bor}
 use Rattle.tr_grammar.specs.declared.Code.{Code}
 use Rattle.tr_grammar.specs.declared.Code.TheVariants.{B1, B8}
 use Rattle.tr_grammar.specs.declared.LineRefused.{LineRefused}
@@ -19,6 +20,7 @@ use Rattle.tr_grammar.specs.Meanings.{meaning_of}
 use Rattle.tr_grammar.specs.States.{SoFar, nothing_yet}
 use Rattle.tr_grammar.specs.Faults.{first_of, word_faults, line_faults, fault_as, fault_of, has_ended}
 use Rattle.tr_grammar.specs.Scripts.{Refusal, after_meaning, after_as, after_line, first_bad_line, after_all_lines, refused_at}
+use Rattle.tr_words.specs.Answers.{texts}
 use Rattle.tr_reader.specs.Adding.{IsFault}
 use Rattle.tr_script.specs.Reading.{word_fault, meaning_as, ReadsAs}
 
@@ -77,6 +79,11 @@ pub record IsLoud (c : SoFar) (bytes : List ℕ) : Type 0 where
   pub plain : is_plain bytes ≡ true
   pub loud : is_silent bytes ≡ false
   pub early : has_ended c.place ≡ false
+
+-- the words that a list was given are those of the line
+pub cut_words : (given made : List (Bor (List ℕ))) (line bytes : List ℕ) → given ≡ made → texts made ≡ words_of line → line ≡ bytes →
+    texts given ≡ words_of bytes
+cut_words given made line bytes same cut is = ap texts same ∙ cut ∙ ap words_of is
 
 -- its fault is one of its words
 pub fault_of_words : (c : SoFar) (n : ℕ) (bytes : List ℕ) → IsLoud c bytes →

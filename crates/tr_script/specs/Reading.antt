@@ -1,6 +1,6 @@
 -- Private contracts alone cite this file.
 -- The results of the readers of lines.
-use Rattle.std.specs.Prelude.{◌≡◌, ℕ, List, [], ◌∷◌, ◌++◌, Bool, true, false, not, is_none, is_some, is_err, ◌||◌, if◌then◌else◌, codes, Option, Some, None, Result, Ok, Err, ⊤}
+use Rattle.std.specs.Prelude.{◌≡◌, ◌<◌, ◌⊎◌, OnOk, OnErr, IfErr, ℕ, List, [], ◌∷◌, ◌++◌, Bool, true, false, not, is_none, is_some, is_err, ◌||◌, if◌then◌else◌, codes, Option, Some, None, Result, Ok, Err, ⊤}
 use Rattle.tr_grammar.specs.declared.Code.{Code}
 use Rattle.tr_grammar.specs.declared.Code.TheVariants.{B1, B2, B3, B4, B5}
 use Rattle.tr_grammar.specs.declared.LineRefused.{LineRefused}
@@ -8,11 +8,12 @@ use Rattle.tr_grammar.specs.declared.LineRefused.TheVariants as refused
 use Rattle.tr_grammar.specs.declared.Meaning.{Meaning}
 use Rattle.tr_grammar.specs.declared.Meaning.TheVariants as meanings
 use Rattle.tr_grammar.specs.Words.{word_at, nat_of, int_of, is_name, is_number, is_shape, is_signed}
-use Rattle.tr_grammar.specs.Forms.{Form, Version, Screen, Glyph, Put, PutAt, Root, Begin, Mouse, Motion, Key, Attach, AttachAt, Detach, Tint, Widen, Offset, Fix, Move, Lift, Show, Turn, Reshape, Resize, Rescreen, Sync, Dump, Peek, Journal, Where, Inbox, End, SetTint, SetTile, SetShift, SetText, AddLine, Clear, AddRect, AddSwap, AddExchange, Undo, SetBar, InsertText, EraseByte, SplitLine, GoTo, CopyText, PasteClip, among}
+use Rattle.tr_grammar.specs.Forms.{Form, Version, Screen, Glyph, Put, PutAt, Root, Begin, Mouse, Motion, Key, Attach, AttachAt, Detach, Tint, Widen, Offset, Fix, Move, Lift, Show, Turn, Reshape, Resize, Rescreen, Sync, Dump, Peek, Journal, Where, Inbox, End, SetTint, SetTile, SetShift, SetText, AddLine, Clear, AddRect, AddSwap, AddExchange, Undo, SetBar, InsertText, EraseByte, SplitLine, GoTo, CopyText, PasteClip, among, form_of}
 use Rattle.tr_grammar.specs.Meanings.{meaning_of}
 use Rattle.tr_grammar.specs.States.{SoFar}
 use Rattle.tr_grammar.specs.Names.{number_of, numbered}
-use Rattle.tr_grammar.specs.Faults.{Sort, opening_line, step_line, allows, first_of, nodes_so_far, word_faults}
+use Rattle.tr_grammar.specs.Faults.{Sort, opening_line, step_line, allows, first_of, nodes_so_far, word_faults, fault_as}
+use Rattle.tr_grammar.specs.Scripts.{after_as}
 use Rattle.tr_forest.specs.Nodes.{IsNode}
 use Rattle.tr_journal.specs.Steps.{IsLeaf}
 use Rattle.tr_journal.specs.declared.Actor.{Actor}
@@ -29,7 +30,7 @@ use Rattle.tr_words.specs.declared.LeafWords.{LeafWords}
 use Rattle.tr_words.specs.declared.ShapeWords.{ShapeWords}
 use Rattle.tr_script.specs.declared.act_lines.EdgeWords.{EdgeWords}
 use Rattle.tr_script.specs.declared.act_lines.ActLine.{ActLine}
-use Rattle.tr_reader.specs.Adding.{IsSoundMeaning}
+use Rattle.tr_reader.specs.Adding.{IsFault, IsSoundMeaning}
 
 -- the first fault of the words, given their form
 abbrev pub word_fault : SoFar → Option Form → List (List ℕ) → Option Code
@@ -50,6 +51,22 @@ ReadsAs c form ws (Err (refused.Fault e)) = word_fault c form ws ≡ Some e
 -- the same, if the form of the words is the first of these forms that fits them
 abbrev pub Reads : SoFar → List Form → List (List ℕ) → Result Meaning LineRefused → Type 0
 Reads c fs ws answer = ReadsAs c (among c.version fs ws) ws answer
+
+-- the first fault of line n with these words, after c
+abbrev pub words_fault : SoFar → ℕ → List (List ℕ) → Option Code
+words_fault c n ws = fault_as c n (form_of c.version ws) ws
+
+-- the meaning of the lines of c and of one more with these words
+abbrev pub after_words : SoFar → List (List ℕ) → SoFar
+after_words c ws = after_as c (form_of c.version ws) ws
+
+-- the reader has taken line n with these words, if they have no fault, and else it is unchanged; but after the 100,000th line it may
+-- include the refused line
+pub record TakesWords (c : SoFar) (n : ℕ) (ws : List (List ℕ)) (new : SoFar) (answer : Result Unit LineRefused) : Type 0 where
+  pub none : OnOk answer (words_fault c n ws ≡ None)
+  pub next : OnOk answer (new ≡ after_words c ws)
+  pub fault : IfErr answer (IsFault (words_fault c n ws))
+  pub err : OnErr answer ((new ≡ c) ⊎ ((100000 < n) × (new ≡ after_words c ws)))
 
 -- all of these are false
 abbrev pub AreFalse : List Bool → Type 0

@@ -137,7 +137,8 @@ pub fn read_desk(reader: &Reader, first: &str, words: &[&str]) -> Result<Meaning
     }
 }
 
-fn read_mouse(reader: &Reader, words: &[&str]) -> Result<Meaning, LineRefused>
+#[inline(always)]
+pub fn read_mouse(reader: &Reader, words: &[&str]) -> Result<Meaning, LineRefused>
     ensures { Reads reader.now (Mouse ∷ []) (codes "mouse" ∷ texts words.now) result }
 {
     let [at, way, button] = words else {
@@ -150,7 +151,8 @@ fn read_mouse(reader: &Reader, words: &[&str]) -> Result<Meaning, LineRefused>
     Ok(on_desk(Step::Mouse { time, button, down }))
 }
 
-fn read_motion(reader: &Reader, words: &[&str]) -> Result<Meaning, LineRefused>
+#[inline(always)]
+pub fn read_motion(reader: &Reader, words: &[&str]) -> Result<Meaning, LineRefused>
     ensures { Reads reader.now (Motion ∷ []) (codes "motion" ∷ texts words.now) result }
 {
     let [at, h, v] = words else {
@@ -160,7 +162,8 @@ fn read_motion(reader: &Reader, words: &[&str]) -> Result<Meaning, LineRefused>
     Ok(on_desk(Step::Motion { time, at }))
 }
 
-fn read_key(reader: &Reader, words: &[&str]) -> Result<Meaning, LineRefused>
+#[inline(always)]
+pub fn read_key(reader: &Reader, words: &[&str]) -> Result<Meaning, LineRefused>
     ensures { Reads reader.now (Key ∷ []) (codes "key" ∷ texts words.now) result }
 {
     let [at, code] = words else {
@@ -253,7 +256,8 @@ fn read_fix(reader: &Reader, words: &[&str]) -> Result<Meaning, LineRefused>
     Ok(altering(Edit::Fix { node, size }))
 }
 
-fn read_move(reader: &Reader, words: &[&str]) -> Result<Meaning, LineRefused>
+#[inline(always)]
+pub fn read_move(reader: &Reader, words: &[&str]) -> Result<Meaning, LineRefused>
     ensures { Reads reader.now (Move ∷ []) (codes "move" ∷ texts words.now) result }
 {
     let [child, h, v] = words else {
@@ -263,7 +267,8 @@ fn read_move(reader: &Reader, words: &[&str]) -> Result<Meaning, LineRefused>
     Ok(altering(Edit::Move { child, at }))
 }
 
-fn read_lift(reader: &Reader, words: &[&str]) -> Result<Meaning, LineRefused>
+#[inline(always)]
+pub fn read_lift(reader: &Reader, words: &[&str]) -> Result<Meaning, LineRefused>
     ensures { Reads reader.now (Lift ∷ []) (codes "lift" ∷ texts words.now) result }
 {
     let [child] = words else {

@@ -9,10 +9,10 @@ ghost use Rattle.tr_grammar.specs.Scripts.{after_meaning, after_line};
 ghost use Rattle.tr_words.specs.Answers.{texts};
 ghost use Rattle.tr_reader.specs.Adding.{IsFault, IsSoundMeaning, is_at_steps};
 ghost use Rattle.tr_script.specs.Apart.{TakesStep, stays_at_steps};
-ghost use Rattle.tr_script.specs.Reading.{Reads, SaysStep, plain_forms};
+ghost use Rattle.tr_script.specs.Reading.{Reads, SaysStep, TakesWords, plain_forms};
 
 use crate::act_lines::read_at;
-use crate::desk_lines::read_desk;
+use crate::desk_lines::{read_desk, read_key, read_lift, read_motion, read_mouse, read_move};
 use crate::leaf_lines::read_leaf;
 use crate::opening_lines::{
     read_begin, read_glyph, read_node, read_put, read_root, read_screen, read_version,
@@ -21,6 +21,7 @@ use crate::refusals::NO_FORM;
 use crate::report_lines::{
     read_dump, read_end, read_inbox, read_journal, read_peek, read_sync, read_where,
 };
+use crate::widget_lines::{read_line, read_rect, read_swap, read_undo};
 use std::alloc::Global;
 use tr_base::NoMemory;
 use tr_grammar::{Code, LineRefused, Meaning};
@@ -180,6 +181,7 @@ pub fn take_step<'a>(
 }
 
 /// Adds the meaning of the line of this number to those before it. Its second word is `name`.
+#[inline(always)]
 fn take_meaning<'a>(
     reader: &mut Reader<'a>,
     number: usize,
@@ -206,6 +208,130 @@ fn take_meaning<'a>(
         return Err(LineRefused::Fault(Code::B7));
     }
     Ok(())
+}
+
+/// Adds the meaning of the line with these words, or refuses the line.
+#[inline(always)] // so that no call copies the meaning
+fn take_read<'a>(
+    reader: &mut Reader<'a>,
+    number: usize,
+    words: &[&'a str],
+    read: Result<Meaning, LineRefused>,
+) -> Result<(), LineRefused>
+    requires { Reads reader.old forms (texts words.now) read }
+    ensures { TakesWords reader.old number (texts words.now) reader.new result }
+{
+    match read {
+        Ok(meaning) => take_meaning(reader, number, second(words), meaning),
+        Err(e) => Err(e),
+    }
+}
+
+/// Takes the words of a line of a leaf's actor: the first one is an @ and the leaf's name, and `rest` has
+/// the others. The most common figures, and lines of text, have arms of their own.
+fn take_act<'a>(
+    reader: &mut Reader<'a>,
+    number: usize,
+    words: &[&'a str],
+    leaf: &str,
+    rest: &[&str],
+    line: &str,
+) -> Result<(), LineRefused>
+    requires words { texts words.now ≡ (64 ∷ leaf.now) ∷ texts rest.now }
+    requires line { words_of line.now ≡ texts words.now }
+    requires printable { AllPass is_printable line.now }
+    ensures { TakesWords reader.old number (texts words.now) reader.new result }
+{
+    match rest {
+        [] => take_read(reader, number, words, Err(NO_FORM)),
+        [act, values @ ..] => match *act {
+            "line" => {
+                let read = read_line(reader, leaf, values, line);
+                take_read(reader, number, words, read)
+            }
+            "undo" => {
+                let read = read_undo(reader, leaf, values);
+                take_read(reader, number, words, read)
+            }
+            "rect" => {
+                let read = read_rect(reader, leaf, values);
+                take_read(reader, number, words, read)
+            }
+            "swap" => {
+                let read = read_swap(reader, leaf, values);
+                take_read(reader, number, words, read)
+            }
+            _ => {
+                let read = read_at(reader, leaf, rest, line);
+                take_read(reader, number, words, read)
+            }
+        },
+    }
+}
+
+/// Takes the words of a line: the first one and the others. The most common steps of the desk have arms of
+/// their own.
+fn take_first<'a>(
+    alloc: Global,
+    reader: &mut Reader<'a>,
+    number: usize,
+    words: &[&'a str],
+    first: &str,
+    rest: &[&str],
+    line: &str,
+) -> Result<(), LineRefused>
+    requires words { texts words.now ≡ first.now ∷ texts rest.now }
+    requires line { words_of line.now ≡ texts words.now }
+    requires printable { AllPass is_printable line.now }
+    ensures { TakesWords reader.old number (texts words.now) reader.new result }
+{
+    match first {
+        "motion" => {
+            let read = read_motion(reader, rest);
+            take_read(reader, number, words, read)
+        }
+        "mouse" => {
+            let read = read_mouse(reader, rest);
+            take_read(reader, number, words, read)
+        }
+        "key" => {
+            let read = read_key(reader, rest);
+            take_read(reader, number, words, read)
+        }
+        "move" => {
+            let read = read_move(reader, rest);
+            take_read(reader, number, words, read)
+        }
+        "lift" => {
+            let read = read_lift(reader, rest);
+            take_read(reader, number, words, read)
+        }
+        _ => {
+            let read = read_first(alloc, reader, first, rest, line);
+            take_read(reader, number, words, read)
+        }
+    }
+}
+
+/// Takes the words of a line that isn't silent.
+fn take_words<'a>(
+    alloc: Global,
+    reader: &mut Reader<'a>,
+    number: usize,
+    words: &[&'a str],
+    line: &str,
+) -> Result<(), LineRefused>
+    requires line { words_of line.now ≡ texts words.now }
+    requires printable { AllPass is_printable line.now }
+    ensures { TakesWords reader.old number (texts words.now) reader.new result }
+{
+    match words {
+        [] => take_read(reader, number, words, Err(NO_FORM)),
+        [first, rest @ ..] => match first.strip_prefix('@') {
+            Some(leaf) => take_act(reader, number, words, leaf, rest, line),
+            None => take_first(alloc, reader, number, words, first, rest, line),
+        },
+    }
 }
 
 /// Reads the line of this number. After an `Err` the reader is unchanged; but after the 100,000th line it
@@ -237,6 +363,5 @@ pub fn take_line<'a>(
         return Err(LineRefused::Fault(Code::B8));
     }
     words_into(line, words)?;
-    let meaning = read_words(alloc, reader, words, line)?;
-    take_meaning(reader, number, second(words), meaning)
+    take_words(alloc, reader, number, words, line)
 }

@@ -129,7 +129,8 @@ fn read_text(
     Ok(acting(leaf, WidgetCmd::Label(LabelCmd::Text(text))))
 }
 
-fn read_line(
+#[inline(always)]
+pub fn read_line(
     reader: &Reader,
     leaf: &str,
     _values: &[&str],
@@ -176,7 +177,8 @@ fn rect(reader: &Reader, leaf: &str, edges: &EdgeWords, tint: &str) -> Result<Me
     Ok(acting(leaf, WidgetCmd::Canvas(CanvasCmd::Rect { area, tint })))
 }
 
-fn read_rect(reader: &Reader, leaf: &str, values: &[&str]) -> Result<Meaning, LineRefused>
+#[inline(always)]
+pub fn read_rect(reader: &Reader, leaf: &str, values: &[&str]) -> Result<Meaning, LineRefused>
     ensures { Reads reader.now (AddRect ∷ [])
         ((64 ∷ leaf.now) ∷ codes "rect" ∷ texts values.now) result }
 {
@@ -192,7 +194,8 @@ fn read_rect(reader: &Reader, leaf: &str, values: &[&str]) -> Result<Meaning, Li
     rect(reader, leaf, &edges, tint)
 }
 
-fn read_swap(reader: &Reader, leaf: &str, values: &[&str]) -> Result<Meaning, LineRefused>
+#[inline(always)]
+pub fn read_swap(reader: &Reader, leaf: &str, values: &[&str]) -> Result<Meaning, LineRefused>
     ensures { Reads reader.now (AddSwap ∷ [])
         ((64 ∷ leaf.now) ∷ codes "swap" ∷ texts values.now) result }
 {
@@ -268,7 +271,8 @@ fn exchange(
     Ok(acting(leaf, WidgetCmd::Canvas(CanvasCmd::Exchange { area, a, b })))
 }
 
-fn read_undo(reader: &Reader, leaf: &str, values: &[&str]) -> Result<Meaning, LineRefused>
+#[inline(always)]
+pub fn read_undo(reader: &Reader, leaf: &str, values: &[&str]) -> Result<Meaning, LineRefused>
     ensures { Reads reader.now (Undo ∷ [])
         ((64 ∷ leaf.now) ∷ codes "undo" ∷ texts values.now) result }
 {

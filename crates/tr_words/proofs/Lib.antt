@@ -1,3 +1,4 @@
+mod LaneLemmas
 mod LineLemmas
 mod Numbers
 mod WordLemmas

@@ -45,7 +45,8 @@ none_before e bytes at none k d within =
     let same : get_or (take at bytes) k d ≡ slice_index bytes k = grind (arith, common_steps) in
     ap (is_just e) same ∙ is_false (is_just e (slice_index bytes k)) (none k short)
 
-same_byte : (bytes : List ℕ) (k d : ℕ) → k < length bytes → get_or bytes k d ≡ slice_index bytes k
+-- a byte that is there, whatever stands for one that is not
+pub same_byte : (bytes : List ℕ) (k d : ℕ) → k < length bytes → get_or bytes k d ≡ slice_index bytes k
 same_byte bytes k d within = grind (arith, common_steps)
 
 -- up to the first byte that cuts a text there is its first piece

@@ -1,6 +1,7 @@
 -- The results of the readers of words.
-use Rattle.std.specs.Prelude.{◌≡◌, ◌≤◌, ℕ, Bool, true, false, List, [], ◌∷◌, map, length, slice_index, Option, Some, None, Result, Ok, Err, ⊤}
+use Rattle.std.specs.Prelude.{◌≡◌, ◌≤◌, ℕ, Bool, true, false, not, List, [], ◌∷◌, map, length, slice_index, Option, Some, None, Result, Ok, Err, ⊤}
 use Rattle.std.specs.Borrow.{Bor}
+use Rattle.tr_base.specs.Lines.{is_printable}
 use Rattle.tr_grammar.specs.declared.codes.Code.{Code}
 use Rattle.tr_grammar.specs.declared.codes.LineRefused.{LineRefused}
 use Rattle.tr_grammar.specs.declared.codes.LineRefused.TheVariants as refused
@@ -29,6 +30,10 @@ Chooses ts w x (Some y) = (is_one_of ts w ≡ true) × (y ≡ x)
 -- the first byte is a digit, and a word that begins with 0 has no more bytes; only private contracts cite this definition
 abbrev pub BeginsNumber : List ℕ → Type 0
 BeginsNumber w = (48 ≤ slice_index w 0) × (slice_index w 0 ≤ 57) × (slice_index w 0 ≡ 48 → length w ≡ 1)
+
+-- the byte is outside hex 20 to 7e; only private contracts cite this definition
+abbrev pub is_unprintable : ℕ → Bool
+is_unprintable b = not (is_printable b)
 
 -- these are the words of a text, which is the rest of a line; only private contracts cite this definition
 abbrev pub AreWordsOf : List (List ℕ) → List ℕ → Type 0

@@ -2,6 +2,7 @@
 //! returns the value or the code of its fault.
 #![tactic(auto)]
 
+mod lanes;
 mod texts;
 mod values;
 mod words;

@@ -1,23 +1,18 @@
 //! A text is cut into lines, and a line into words.
 ghost use Rattle.std.specs.Prelude.{◌≡◌, ◌<◌, [], ◌∷◌, ◌++◌, ◌==◌, true, false, IfOk, OnOk, OnErr, MatchOption, IfSome, drop, length, List, ℕ};
-ghost use Rattle.std.specs.List.{list_all, slice_split, AllPass};
+ghost use Rattle.std.specs.List.{slice_split, AllPass};
 ghost use Rattle.tr_base.specs.Lines.{is_printable};
 ghost use Rattle.tr_grammar.specs.Words.{words_of, rest_after};
 ghost use Rattle.tr_grammar.specs.Texts.{is_plain, is_silent, ends_empty, without_empty_end, lines_of};
 ghost use Rattle.tr_words.specs.Answers.{AreWordsOf, texts};
 
+use crate::lanes::{are_printable, first_space};
 use memchr::memchr;
 use std::alloc::{AllocError, Global};
-use tr_base::{NoMemory, is_printable};
+use tr_base::NoMemory;
 
 /// The most bytes that a line may have.
 const MOST_BYTES: usize = 1024;
-
-fn are_printable(line: &[u8]) -> bool
-    ensures { result ≡ list_all is_printable line.now }
-{
-    line.iter().all(|byte| is_printable(*byte))
-}
 
 #[tactic(auto, unfolding(tr_grammar::specs::Texts::is_plain))]
 fn is_plain(line: &[u8]) -> bool
@@ -36,10 +31,8 @@ pub fn plain_text(line: &[u8]) -> Option<&str>
     if !is_plain(line) {
         return None;
     }
-    match str::from_utf8(line) {
-        Ok(text) => Some(text),
-        Err(_) => None,
-    }
+    // Printable bytes are ASCII, so the bytes are UTF-8.
+    Some(unsafe { str::from_utf8_unchecked(line) })
 }
 
 /// Whether a line means nothing: it has no byte, or is a comment.
@@ -59,7 +52,7 @@ fn at_space(text: &str) -> Option<(&str, &str)>
     ensures shorter { IfSome result (λ p. length p.1.now < length text.now) }
     ensures printable { AllPass is_printable text.now → IfSome result (λ p. AllPass is_printable p.1.now) }
 {
-    match memchr(b' ', text.as_bytes()) {
+    match first_space(text.as_bytes()) {
         Some(at) => Some((&text[..at], &text[at + 1..])),
         None => None,
     }

@@ -5,6 +5,7 @@ use Rattle.tr_grammar.specs.Words.{words_of}
 use Rattle.tr_grammar.specs.Forms.{forms}
 use Rattle.tr_words.specs.Answers.{texts}
 use Rattle.tr_script.specs.Reading.{Reads}
+use Rattle.tr_script.proofs.LineLemmas.{cut_words}
 use Rattle.tr_script.proofs.StepLemmas.{IsLoudStep, IsTaken, not_beyond, beyond, far_taken, plain_taken, silent_taken, words_taken, said_taken, answer_is, taken_is, left_is}
 use Rattle.tr_script.proofs.lines.take_step.Goals as goal
 
@@ -36,7 +37,7 @@ taken c =
     let m = c.in-Ok.meaning in
     let few = not_beyond c.args.number (omega arith) in
     let is_cut : texts c.deref.result.now ≡ words_of bytes =
-    ap texts c.deref.ensures.value ∙ c.in_ok-words_into.ensures.ok ∙ ap words_of c.in-Some.ensures.value.1 in
+    cut_words _ _ _ _ c.deref.ensures.value c.in_ok-words_into.ensures.ok c.in-Some.ensures.value.1 in
     let told : Reads reader forms (texts c.deref.result.now) (Ok m) = c.in-Ok.ensures in
     let read : Reads reader forms (words_of bytes) (Ok m) = subst (λ (ws : List (List ℕ)). Reads reader forms ws (Ok m)) is_cut told in
     let loud : IsLoudStep reader bytes = record {
@@ -65,7 +66,7 @@ returns-in-Err-Fault-clause-answer c =
     let bytes = c.args.bytes.now in
     let e = c.in-Err-Fault.field-0-0 in
     let is_cut : texts c.deref.result.now ≡ words_of bytes =
-    ap texts c.deref.ensures.value ∙ c.in_ok-words_into.ensures.ok ∙ ap words_of c.in-Some.ensures.value.1 in
+    cut_words _ _ _ _ c.deref.ensures.value c.in_ok-words_into.ensures.ok c.in-Some.ensures.value.1 in
     let answer = Err (refused.Fault e) in
     let told : Reads reader forms (texts c.deref.result.now) answer = rw c.in-Err-Fault.field-0-is at c.in-Err-Fault.ensures in
     let read : Reads reader forms (words_of bytes) answer = subst (λ (ws : List (List ℕ)). Reads reader forms ws answer) is_cut told in
