@@ -1,7 +1,9 @@
 -- What a session's end says of the stage that comes back.
-use Rattle.std.proofs.Common.{◌≡◌, ℕ, ◌+◌, ◌<◌, Bool, true, false, nat_lt, ◌==◌, cond, List, [], ◌∷◌, ◌++◌, length, take, drop, get_or, map, refl, sym, ap, subst, ◌∙◌, arith, All}
-use Rattle.std.proofs.lemmas.Bool.{eq-eqb, le-ltb, lt-ltb, ltb-true, ltb-false}
-use Rattle.std.proofs.lemmas.List.{drop-map, ext_get_or, get_or-map, get_or-take, length-map, length-take-le, take-append-drop, take-map, take_all}
+use Rattle.std.proofs.Common.{◌≡◌, ℕ, zero, suc, ◌+◌, ◌<◌, Bool, true, false, nat_lt, ◌==◌, cond, List, [], ◌∷◌, ◌++◌, length, take, drop, get_or, map, refl, sym, ap, subst, ◌∙◌, arith, All}
+use Rattle.std.specs.List.{range_with_len}
+use Rattle.std.proofs.lemmas.Bool.{eq-eqb, eqb-true, le-ltb, lt-ltb, ltb-true, ltb-false}
+use Rattle.std.proofs.lemmas.List.{drop-map, ext_get_or, length-take-le, take-append-drop, take-map, take_all}
+use Rattle.std.proofs.lemmas.List.FromFn.{get_or-map-range_with_len, length-map-range_with_len}
 use Rattle.std.proofs.lemmas.List.Elements.{All-head, All-tail}
 use Rattle.tr_client.specs.declared.clients.Client.{Ghosts}
 use Rattle.tr_forest.specs.Nodes.{Nodes, leaf_count}
@@ -10,7 +12,8 @@ use Rattle.tr_journal.specs.declared.items.Item.{Item}
 use Rattle.tr_journal.specs.declared.steps.Actor.{Actor}
 use Rattle.tr_journal.specs.declared.steps.Actor.TheVariants.{Leaf, Desk, Painter, Player}
 use Rattle.tr_journal.specs.declared.steps.Step.{Step}
-use Rattle.tr_journal.specs.Actors.{entries_of, is_maker, steps_by, steps_of}
+use Rattle.tr_journal.specs.Actors.{entries_of, is_by, is_maker, steps_by, steps_of}
+use Rattle.tr_journal.proofs.ActorLemmas.{actor_same}
 use Rattle.tr_journal.specs.Differences.{Matches, account_of}
 use Rattle.tr_journal.specs.Journals.{JournalLine}
 use Rattle.tr_journal.specs.Lists.{HasList, ListsView, list_of}
@@ -24,7 +27,7 @@ use Rattle.tr_run.proofs.LineLemmas.{legal_later}
 use Rattle.tr_parts.specs.Turns.{HasRun, IsPartStep}
 use Rattle.tr_server.specs.declared.closing.CloseRefused.{CloseRefused}
 use Rattle.tr_server.specs.declared.closing.CloseRefused.TheVariants as refused
-use Rattle.tr_server.specs.Closing.{HasDiffered, IfDiffers, IsClosed, lists_of}
+use Rattle.tr_server.specs.Closing.{HasDiffered, IfDiffers, IsClosed, lists_of, made_by}
 use Rattle.tr_server.specs.Passes.{AreFresh, PassView, fresh_pass, worker}
 use Rattle.tr_server.specs.Servers.{ServerView}
 use Rattle.tr_play.specs.Lists.{AreListed}
@@ -169,11 +172,29 @@ pub record HasMadeAll {M : Type 0} (leaves : ℕ) (before after : List (PassView
 abbrev lists_with : {M : Type 0} → List (List (Step M)) → List (Step M) → List (Step M) → ListsView M
 lists_with leaves desk player = record { leaves = leaves; desk = desk; player = player }
 
+-- the steps of an actor's pass, by its place among the others
+made_at : {M : Type 0} (actor : Actor) (passes : List (PassView M)) (i : ℕ) (d : PassView M) → i < length passes →
+    is_by actor (get_or passes i d).actor ≡ true → ((j : ℕ) → j < i → is_by actor (get_or passes j d).actor ≡ false) →
+    made_by actor passes ≡ (get_or passes i d).mine
+made_at actor [] i d low here before = absurd (omega (arith, low))
+made_at actor (p ∷ ps) zero d low here before = ap (λ (b : Bool). cond b p.mine (made_by actor ps)) here
+made_at actor (p ∷ ps) (suc i) d low here before =
+    ap (λ (b : Bool). cond b p.mine (made_by actor ps)) (before 0 (omega arith))
+    ∙ made_at actor ps i d (omega (arith, low)) here (λ j lower. before (suc j) (omega (arith, lower)))
+
+-- two leaves have two clients
+other_leaf : (i j : ℕ) → j < i → is_by (Leaf (record { 0 = i })) (Leaf (record { 0 = j })) ≡ false
+other_leaf i j lower = by_test (j == i) refl
+  where
+    by_test : (same : Bool) → (j == i) ≡ same → (j == i) ≡ false
+    by_test true same = absurd (omega (arith, lower, eqb-true j i same))
+    by_test false same = same
+
 -- then the steps of the passes are the lists
 pub made_all : {M : Type 0} (leaves : ℕ) (before after : List (PassView M)) (lists : ListsView M) → HasMadeAll leaves before after lists →
     lists_of leaves after (fresh_pass Player) ≡ lists
 made_all {M} leaves before after lists is =
-    ap (λ (ls : List (List (Step M))). lists_with ls (get_or after leaves none).mine []) clients
+    ap (λ (ls : List (List (Step M))). lists_with ls (made_by Desk after) []) clients
     ∙ ap (λ (ls : List (Step M)). lists_with lists.leaves ls []) desk
     ∙ ap (λ (ls : List (Step M)). lists_with lists.leaves lists.desk ls) (sym is.player)
   where
@@ -191,19 +212,34 @@ made_all {M} leaves before after lists is =
         (is.taken i none (omega (arith, low, many)))
         (is.are_whole i none (omega (arith, low, many, is.many)))
 
-    desk : (get_or after leaves none).mine ≡ lists.desk
-    desk = of_worker leaves Desk (omega arith) (desk_worker leaves) refl
+    actor_at : (i : ℕ) → i < leaves + 2 → (get_or after i none).actor ≡ worker leaves i
+    actor_at i low =
+        (is.taken i none (omega (arith, low, many))).actor ∙ ap (λ (p : PassView M). p.actor) (is.fresh.fresh i none low)
 
-    clients : map (λ (p : PassView M). p.mine) (take leaves after) ≡ lists.leaves
+    by_first : (i : ℕ) (actor : Actor) → i < leaves + 2 → worker leaves i ≡ actor →
+        ((j : ℕ) → j < i → is_by actor (worker leaves j) ≡ false) → made_by actor after ≡ (get_or after i none).mine
+    by_first i actor low same others =
+        made_at actor after i none (omega (arith, low, many, is.many))
+        (ap (λ (a : Actor). is_by actor a) (actor_at i low ∙ same) ∙ actor_same actor)
+        (λ j lower. ap (λ (a : Actor). is_by actor a) (actor_at j (omega (arith, low, lower))) ∙ others j lower)
+
+    desk : made_by Desk after ≡ lists.desk
+    desk =
+        by_first leaves Desk (omega arith) (desk_worker leaves) (λ j lower. ap (λ (a : Actor). is_by Desk a) (leaf_worker leaves j lower))
+        ∙ of_worker leaves Desk (omega arith) (desk_worker leaves) refl
+
+    own : ℕ → List (Step M)
+    own k = made_by (Leaf (record { 0 = k })) (fresh_pass Player ∷ after)
+
+    clients : map own (range_with_len 0 leaves) ≡ lists.leaves
     clients =
-        let taken : length (take leaves after) ≡ leaves = length-take-le leaves after (omega (arith, many, is.many)) in
-        let size : length (map (λ (p : PassView M). p.mine) (take leaves after)) ≡ leaves =
-        length-map (take leaves after) (λ (p : PassView M). p.mine) ∙ taken in
-        ext_get_or [] (map (λ (p : PassView M). p.mine) (take leaves after)) lists.leaves (size ∙ sym is.count)
+        let size = length-map-range_with_len own 0 leaves in
+        ext_get_or [] (map own (range_with_len 0 leaves)) lists.leaves (size ∙ sym is.count)
         (λ i below.
         let low : i < leaves = omega (arith, below, size) in
-        get_or-map (λ (p : PassView M). p.mine) (take leaves after) i none [] (omega (arith, low, taken))
-        ∙ ap (λ (p : PassView M). p.mine) (get_or-take leaves after i none low)
+        get_or-map-range_with_len own 0 leaves i i [] low (omega arith)
+        ∙ by_first i (Leaf (record { 0 = i })) (omega (arith, low)) (leaf_worker leaves i low)
+        (λ j lower. ap (λ (a : Actor). is_by (Leaf (record { 0 = i })) a) (leaf_worker leaves j (omega (arith, low, lower))) ∙ other_leaf i j lower)
         ∙ of_worker i (Leaf (record { 0 = i })) (omega (arith, low)) (leaf_worker leaves i low) refl)
 
 -- ---- what its end says of the stage with which a session began

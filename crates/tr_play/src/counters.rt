@@ -10,7 +10,7 @@ const MOST_LOOKS: u32 = 50;
 /// The milliseconds for which the painter sleeps before it looks again, if no worker wakes it.
 const NAP: u64 = 2;
 
-/// The milliseconds for which the painter rests between two repaints: it makes about sixty a second.
+/// The milliseconds for which the painter rests between two repaints: it makes at most about sixty a second.
 const REST: u64 = 16;
 
 /// A number of steps that is never reached: no thread waits.

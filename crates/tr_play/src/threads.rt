@@ -29,7 +29,7 @@ pub struct Workers<'a, R, G> {
     pub gate: &'a G,
 }
 
-/// The painter may repaint once more for each this many steps of a part.
+/// The number of steps of a part for which the painter may repaint once more.
 pub(crate) const STEPS_A_REPAINT: usize = 16;
 
 /// Makes the steps of a part on a stage, by threads: no thread has steps of two actors. Meanwhile the painter

@@ -1,5 +1,5 @@
 -- A sketch of what waiting commands leave is one of the leaf's present content, once they are handed over.
-use Rattle.std.proofs.Common.{◌≡◌, List, [], ◌∷◌, Option, Some, None, map, fold, length, refl, sym, ap, ap₂, subst, ◌∙◌}
+use Rattle.std.proofs.Common.{◌≡◌, List, [], ◌∷◌, Option, Some, None, map, fold, length, refl, sym, ap, ap₂, subst, subst₂, ◌∙◌}
 use Rattle.std.specs.Option.{option_map}
 use Rattle.std.proofs.lemmas.List.Sums.{fold-append}
 use Rattle.tr_base.specs.declared.LeafId.{LeafId}
@@ -10,6 +10,7 @@ use Rattle.tr_sketch.specs.Sketches.{SketchView}
 use Rattle.tr_levels.specs.declared.Level.{Level}
 use Rattle.tr_book.specs.Books.{PreparedView}
 use Rattle.tr_journal.specs.declared.steps.Actor.TheVariants.{Leaf}
+use Rattle.tr_journal.specs.declared.steps.Step.{Step}
 use Rattle.tr_machine.specs.Handing.{act_steps}
 use Rattle.tr_machine.specs.Windows.{Window, Command, content, changed_content}
 use Rattle.tr_machine.specs.States.{State, content_of, window_of}
@@ -18,7 +19,7 @@ use Rattle.tr_machine.proofs.HandingLemmas.{handed, replay_handed, with_commands
 use Rattle.tr_machine.proofs.JournalLemmas.{replay-append}
 use Rattle.tr_machine.proofs.ListLemmas.{window_here}
 use Rattle.tr_stage.specs.Sketching.{IsSketchOf}
-use Rattle.tr_stage.specs.Stages.{StageView, state}
+use Rattle.tr_stage.specs.Stages.{KeepsOthers, StageView, state}
 use Rattle.tr_server.specs.Drawings.{IsDrawnOf}
 use Rattle.tr_server.specs.Handing.{with_acts}
 
@@ -43,6 +44,24 @@ module _ {C M : Type 0} (client : Ghosts C M) where
           ≡ option_map (λ x. runs.content_after client x cmds) (option_map (content client) o)
       by_window None = refl
       by_window (Some w) = ap (λ (x : C). Some x) (content_with cmds w)
+
+  -- the state of a stage to which commands of a leaf were handed over
+  pub state_handed : (s new : StageView C M) (leaf : LeafId) (cmds : List M) (levels : List (List Level)) → length levels ≡ length cmds →
+      new.opening ≡ s.opening → new.journal ≡ (with_acts client s leaf cmds levels).journal →
+      state client new ≡ handed client leaf cmds (state client s)
+  state_handed s new leaf cmds levels counts opening journal =
+      ap₂ (λ o j. replay client o j) opening journal
+      ∙ replay-append client s.opening s.journal (lines_by client (Leaf leaf) (state client s) (act_steps leaf cmds levels))
+      ∙ replay_handed client (state client s) leaf cmds levels counts
+
+  -- a step that leaves the other pixels after commands were handed over leaves those that were there before
+  pub others_handed : (s mid new : StageView C M) (leaf : LeafId) (cmds : List M) (levels : List (List Level)) (step : Step M) →
+      length levels ≡ length cmds → mid.opening ≡ s.opening → mid.journal ≡ (with_acts client s leaf cmds levels).journal →
+      mid.screen ≡ s.screen → KeepsOthers (state client mid).tree step mid.screen new.screen →
+      KeepsOthers (state client s).tree step s.screen new.screen
+  others_handed s mid new leaf cmds levels step counts opening journal screen others =
+      subst₂ (λ t picture. KeepsOthers t step picture new.screen)
+      (ap (λ (m : State C M). m.tree) (state_handed s mid leaf cmds levels counts opening journal)) screen others
 
   -- commands that were prepared over the present content of a leaf of a stage, and a sketch of what they leave
   pub record IsDrawnAt (s : StageView C M) (leaf : LeafId) (p : PreparedView C M) (sketch : SketchView C) : Type 0 where
@@ -69,7 +88,4 @@ module _ {C M : Type 0} (client : Ghosts C M) where
       n = state client s
 
       after : state client new ≡ handed client leaf p.commands n
-      after =
-          ap₂ (λ o j. replay client o j) opening journal
-          ∙ replay-append client s.opening s.journal (lines_by client (Leaf leaf) n (act_steps leaf p.commands levels))
-          ∙ replay_handed client n leaf p.commands levels counts
+      after = state_handed s new leaf p.commands levels counts opening journal

@@ -1,27 +1,39 @@
 -- The results of the end of a session.
-use Rattle.std.specs.Prelude.{◌≡◌, ℕ, ◌+◌, ◌≤◌, ⊤, List, [], ◌∷◌, ◌++◌, map, take, length, sum_by, slice_index_or}
-use Rattle.tr_journal.specs.declared.steps.Actor.TheVariants.{Desk}
+use Rattle.std.specs.Prelude.{◌≡◌, ℕ, ◌+◌, ◌≤◌, ⊤, if◌then◌else◌, List, [], ◌∷◌, ◌++◌, map, length, sum_by}
+use Rattle.std.specs.List.{range_with_len}
+use Rattle.tr_journal.specs.declared.steps.Actor.{Actor}
+use Rattle.tr_journal.specs.declared.steps.Actor.TheVariants.{Leaf, Desk, Player}
 use Rattle.tr_journal.specs.declared.steps.Step.{Step}
+use Rattle.tr_journal.specs.Actors.{is_by}
 use Rattle.tr_journal.specs.Differences.{Matches, account_of}
 use Rattle.tr_journal.specs.Lists.{ListsView}
 use Rattle.tr_stage.specs.Stages.{StageView}
 use Rattle.tr_server.specs.declared.closing.CloseRefused.{CloseRefused}
 use Rattle.tr_server.specs.declared.closing.CloseRefused.TheVariants as refused
 use Rattle.tr_server.specs.Differing.{DiffersView, IsDifference}
-use Rattle.tr_server.specs.Passes.{PassView, fresh_pass}
+use Rattle.tr_server.specs.Passes.{PassView}
 use Rattle.tr_server.specs.Servers.{ServerView}
 
--- the steps made with the passes of a session: those of the leaves' clients by the passes' places, and after them the desk's
+-- the steps that were made with an actor's pass: the first of these that is the actor's
+abbrev pub made_by : {M : Type 0} → Actor → List (PassView M) → List (Step M)
+made_by actor [] = []
+made_by actor (pass ∷ passes) = if is_by actor pass.actor then pass.mine else made_by actor passes
+
+-- the steps that were made with the passes of a session, in a list for each actor but the painter, whatever the order of the passes
 abbrev pub lists_of : {M : Type 0} → ℕ → List (PassView M) → PassView M → ListsView M
 lists_of leaves workers player = record {
-  leaves = map (λ pass. pass.mine) (take leaves workers);
-  desk = (slice_index_or workers leaves (fresh_pass Desk)).mine;
-  player = player.mine;
+  leaves = map (λ n. made_by (Leaf (record { 0 = n })) (player ∷ workers)) (range_with_len 0 leaves);
+  desk = made_by Desk (player ∷ workers);
+  player = made_by Player (player ∷ workers);
 }
 
 -- the number of journal entries that these passes count
 abbrev pub made_with : {M : Type 0} → List (PassView M) → PassView M → ℕ
 made_with workers player = sum_by (λ pass. pass.made) workers + player.made
+
+-- the number of steps that were made with these passes
+abbrev pub steps_with : {M : Type 0} → List (PassView M) → PassView M → ℕ
+steps_with workers player = sum_by (λ pass. length pass.mine) workers + length player.mine
 
 -- a stage has the opening of its server, and first the entries with which the server began; after them, for each actor but the
 -- painter, it has just the steps of the actor's list, in their order; there are at least as many entries as the passes count
@@ -42,10 +54,11 @@ abbrev pub IfDiffers : {C M : Type 0} → CloseRefused C M → (DiffersView C M 
 IfDiffers refused.NoMemory P = ⊤
 IfDiffers (refused.Differs d) P = P d
 
--- only private contracts cite this definition: the last of some passes is taken back, with its steps and the number of entries that it
--- counts
-pub record TakesLast {M : Type 0} (old new : List (PassView M)) (steps : List (Step M)) (before after : ℕ) : Type 0 where
+-- only private contracts cite this definition: the last of some passes is taken back, with its actor, its steps and the number of entries
+-- that it counts
+pub record TakesLast {M : Type 0} (old new : List (PassView M)) (actor : Actor) (steps : List (Step M)) (before after : ℕ) : Type 0 where
   pub pass : PassView M
   pub passes : old ≡ new ++ pass ∷ []
+  pub actor_is : actor ≡ pass.actor
   pub steps_are : steps ≡ pass.mine
   pub counted : after ≡ before + pass.made

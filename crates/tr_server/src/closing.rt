@@ -1,9 +1,11 @@
-ghost use Rattle.std.specs.Prelude.{◌≡◌, ◌+◌, ◌<◌, ◌≤◌, [], map, take, length, vec_len, replicate, sum_by, slice_index_or, IfOk, IfErr, OnOk};
+ghost use Rattle.std.specs.Prelude.{◌≡◌, ℕ, ◌+◌, ◌<◌, ◌↔◌, if◌then◌else◌, length, vec_len, sum_by, Some, IsTrue, IfSome, IfOk, IfErr, OnOk};
 ghost use Rattle.tr_forest.specs.Nodes.{leaf_count};
+ghost use Rattle.tr_journal.specs.declared.Actor.{Actor};
+ghost use Rattle.tr_journal.specs.Actors.{is_by};
 ghost use Rattle.tr_journal.specs.Differences.{Matches, account_of};
-ghost use Rattle.tr_journal.specs.Lists.{no_steps};
+ghost use Rattle.tr_journal.specs.Lists.{HasList, list_of, no_steps};
 ghost use Rattle.tr_journal.specs.Openings.{tree_of};
-ghost use Rattle.tr_server.specs.Closing.{HasDiffered, IfDiffers, IsClosed, TakesLast, lists_of, made_with};
+ghost use Rattle.tr_server.specs.Closing.{HasDiffered, IfDiffers, IsClosed, TakesLast, lists_of, made_by, made_with, steps_with};
 ghost use Rattle.tr_server.specs.Differing.{IsDifference};
 
 use crate::passes::{Pass, Passes};
@@ -15,7 +17,7 @@ use std::alloc::Global;
 use std::marker::Model;
 use std::sync::Wait;
 use std::sync::ledger::Share;
-use tr_base::{LeafId, NoMemory};
+use tr_base::{Command, NoMemory};
 use tr_client::Client;
 use tr_journal::{Actor, Difference, Journal, Lists, Opening, Step};
 use tr_levels::Ladder;
@@ -24,6 +26,8 @@ use tr_stage::Stage;
 /// The reason why `Server::close` returns no stage.
 #[derive(Drop)]
 pub enum CloseRefused<C: Client> {
+    /// Out of memory; or the number of new entries isn't the number of the passes' steps, for which there is
+    /// no `Difference`.
     NoMemory,
     /// The stage differs from the passes of the session.
     Differs(Differs<C>),
@@ -103,12 +107,17 @@ impl<C: Client> Differs<C> {
 impl<C: Client, L: Session> Server<C, L> {
     /// Ends the session: hands over the commands that wait in each window, takes all passes back, and
     /// compares the stage with the opening and journal with which the server began, and with the steps of
-    /// the passes. It consumes the server and the passes, whatever it returns.
+    /// each actor's pass, in whatever order the passes come. It consumes the server and the passes, whatever
+    /// it returns.
     pub fn close<R: Wait>(self, rt: &R, passes: Passes<C, L>) -> Result<Stage<C>, CloseRefused<C>>
         requires { vec_len passes.workers ≡ L.leaves + 2 }
         ensures ok { let workers = passes.workers.items in
             let lists = lists_of L.leaves workers passes.player in
             IfOk result (λ s. IsClosed self lists (made_with workers passes.player) s) }
+
+        // So the painter made as many steps as its pass has.
+        ensures whole { let workers = passes.workers.items in
+            IfOk result (λ s. length s.journal ≡ length self.kept + steps_with workers passes.player) }
         ensures differs { let workers = passes.workers.items in
             let lists = lists_of L.leaves workers passes.player in
             IfErr result (λ e. IfDiffers e (λ d.
@@ -125,16 +134,18 @@ impl<C: Client, L: Session> Server<C, L> {
         } = self;
         drop(windows);
         let Passes { workers, player } = passes;
+        let who = player.actor();
         let (steps, mut all) = player.spend();
         let Ok(mut lists) = lists else {
             spend_all(workers);
             drop((locked, opening, kept, steps, all));
             return Err(CloseRefused::NoMemory);
         };
-        lists.put(Actor::Player, steps);
-        gather(workers, &mut lists, &mut all);
+        let due = due_with(Some(kept.len()), steps.len());
+        let due = gather(workers, &mut lists, &mut all, due);
+        put_own(&mut lists, who, steps);
         let stage = locked.into_inner().end(all);
-        compare(stage, opening, kept, lists)
+        compare(stage, opening, kept, lists, due)
     }
 
     /// Hands over the waiting commands of each window, and makes lists for the passes' steps.
@@ -162,73 +173,105 @@ fn hand_over_each<C: Client, L: Session, R: Wait>(
     Ok(())
 }
 
-/// Takes the workers' passes back: their steps go into the lists by their places, the painter's steps aside,
-/// and their parts of the ledger are joined.
+/// Takes passes back, the last one first: the steps of each become its actor's list, and its part of the
+/// ledger joins the others. Returns how many entries are due, with these steps beside those that were due
+/// before.
 fn gather<C: Client, L: Session>(
     workers: Vec<Pass<C, L>>,
     lists: &mut Lists<C::Cmd>,
     all: &mut Share<L>,
-)
-    requires count { vec_len workers ≡ length lists.old.leaves + 2 }
-    requires blank { lists.old.leaves ≡ replicate (length lists.old.leaves) [] }
-    ensures leaves { lists.new.leaves
-        ≡ map (λ pass. pass.mine) (take (length lists.old.leaves) workers.items) }
-    ensures desk { (d : _) →
-        lists.new.desk ≡ (slice_index_or workers.items (length lists.old.leaves) d).mine }
-    ensures player { lists.new.player ≡ lists.old.player }
+    due: Option<usize>,
+) -> Option<usize>
+    requires { lists.old ≡ no_steps (length lists.old.leaves) }
+    ensures count { length lists.new.leaves ≡ length lists.old.leaves }
+    ensures lists { (actor : Actor) → HasList (length lists.old.leaves) actor →
+        list_of lists.new actor ≡ made_by actor workers.items }
     ensures made { all.new.amount ≡ all.old.amount + sum_by (λ pass. pass.made) workers.items }
+    ensures due { (n : ℕ) → IfSome due (λ d. d ≡ n) →
+        IfSome result (λ d. d ≡ n + sum_by (λ pass. length pass.mine) workers.items) }
 {
     let mut workers = workers;
-    let _ = take_last(&mut workers, all);
-    let desk = take_last(&mut workers, all);
-    lists.put(Actor::Desk, desk);
-    gather_leaves(workers, lists, all);
-}
-
-/// The same for the passes of the leaves' clients.
-fn gather_leaves<C: Client, L: Session>(
-    workers: Vec<Pass<C, L>>,
-    lists: &mut Lists<C::Cmd>,
-    all: &mut Share<L>,
-)
-    requires count { vec_len workers ≡ length lists.old.leaves }
-    requires blank { lists.old.leaves ≡ replicate (length lists.old.leaves) [] }
-    ensures leaves { lists.new.leaves ≡ map (λ pass. pass.mine) workers.items }
-    ensures desk { lists.new.desk ≡ lists.old.desk }
-    ensures player { lists.new.player ≡ lists.old.player }
-    ensures made { all.new.amount ≡ all.old.amount + sum_by (λ pass. pass.made) workers.items }
-{
-    let mut workers = workers;
-    let leaves = lists.leaves();
-    for k in 0..leaves {
-        let steps = take_last(&mut workers, all);
-        lists.put(Actor::Leaf(LeafId(leaves - 1 - k)), steps);
+    let mut all_due = due;
+    let count = workers.len();
+    for k in 0..count {
+        let (actor, steps) = take_last(&mut workers, all);
+        all_due = due_with(all_due, steps.len());
+        put_own(lists, actor, steps);
     }
     workers.destroy_empty();
+    all_due
 }
 
-/// Takes the last pass back: its steps, and its part of the ledger, which is joined to the others.
+/// The sum of the two numbers. `None` means a number that doesn't fit into a `usize`.
+fn due_with(due: Option<usize>, more: usize) -> Option<usize>
+    ensures { (n : ℕ) → IfSome due (λ d. d ≡ n) → IfSome result (λ d. d ≡ n + more) }
+{
+    match due {
+        Some(due) => due.checked_add(more),
+        None => None,
+    }
+}
+
+/// Whether exactly `count` are due.
+fn is_due(due: Option<usize>, count: usize) -> bool
+    ensures { IsTrue result → due ≡ Some count }
+{
+    match due {
+        Some(due) => due == count,
+        None => false,
+    }
+}
+
+/// Takes the last pass back: its actor, its steps, and its part of the ledger, which is joined to the others.
 fn take_last<C: Client, L: Session>(
     workers: &mut Vec<Pass<C, L>>,
     all: &mut Share<L>,
-) -> Vec<Step<C::Cmd>>
+) -> (Actor, Vec<Step<C::Cmd>>)
     requires { 0 < vec_len workers.old }
-    ensures { TakesLast workers.old.items workers.new.items result.items all.old.amount all.new.amount }
+    ensures { TakesLast workers.old.items workers.new.items result.0 result.1.items
+        all.old.amount all.new.amount }
 {
-    let (steps, share) = workers.pop().unwrap().spend();
+    let pass = workers.pop().unwrap();
+    let actor = pass.actor();
+    let (steps, share) = pass.spend();
     all.merge(share);
-    steps
+    (actor, steps)
 }
 
-/// The stage, if it has the given entries and steps.
+/// Replaces the steps of an actor by these, if the actor has a list.
+fn put_own<M: Command>(lists: &mut Lists<M>, who: Actor, steps: Vec<Step<M>>)
+    ensures count { length lists.new.leaves ≡ length lists.old.leaves }
+    ensures lists { (actor : Actor) → HasList (length lists.old.leaves) actor →
+        list_of lists.new actor ≡ (if is_by actor who then steps.items else list_of lists.old actor) }
+{
+    if has_list(lists.leaves(), who) {
+        lists.put(who, steps);
+    }
+}
+
+/// Whether an actor has a list, given the number of leaves.
+fn has_list(leaves: u8, actor: Actor) -> bool
+    ensures { IsTrue result ↔ HasList leaves actor }
+{
+    match actor {
+        Actor::Leaf(leaf) => leaf.0 < leaves,
+        Actor::Desk => true,
+        Actor::Painter => false,
+        Actor::Player => true,
+    }
+}
+
+/// The stage, if it has the given entries and steps, and its journal has as many entries as are due.
 fn compare<C: Client>(
     stage: Stage<C>,
     opening: Opening<C>,
     kept: Journal<C::Cmd>,
     lists: Lists<C::Cmd>,
+    due: Option<usize>,
 ) -> Result<Stage<C>, CloseRefused<C>>
     requires { length lists.leaves ≡ leaf_count (tree_of stage.opening).nodes }
     ensures stage { IfOk result (λ s. s ≡ stage) }
+    ensures due { OnOk result (due ≡ Some (length stage.journal)) }
     ensures matches { OnOk result (Matches (account_of opening kept.lines) lists
         (account_of stage.opening stage.journal)) }
     ensures differs { IfErr result (λ e. IfDiffers e (λ d. (d.stage ≡ stage) × (d.opening ≡ opening)
@@ -237,7 +280,12 @@ fn compare<C: Client>(
     match stage.audit(&opening, &kept, &lists) {
         Ok(None) => {
             drop((opening, kept, lists));
-            Ok(stage)
+            if is_due(due, stage.journal().len()) {
+                Ok(stage)
+            } else {
+                drop(stage);
+                Err(CloseRefused::NoMemory)
+            }
         }
         Ok(Some(difference)) => Err(CloseRefused::Differs(Differs {
             difference,

@@ -122,7 +122,8 @@ impl<C: Client, L: Session> Locked<C, L> {
         }
     }
 
-    /// The same, given a sketch of a leaf's present content, if there is one: a flush of that leaf puts it.
+    /// The same, given a sketch of a leaf's present content, if there is one: a flush of that leaf may put
+    /// it.
     fn step_with(
         &mut self,
         pass: &mut Pass<C, L>,
@@ -134,6 +135,9 @@ impl<C: Client, L: Session> Locked<C, L> {
         requires sketch { IfSome sketch.1 (IsSketchOf C.Client (state C.Client self.old) sketch.0) }
         ensures made { Makes C.Client self.old self.new pass.old.actor level step result }
         ensures pass { CountsStep pass.old pass.new step result }
+        ensures screen { IfOk result (λ r. paints step r.answer ≡ false → self.new.screen ≡ self.old.screen) }
+        ensures others { let t = (state C.Client self.old).tree in
+            OnOk result (KeepsOthers t step self.old.screen self.new.screen) }
     {
         let (leaf, sketch) = sketch;
         let Some(sketch) = sketch else {
@@ -159,6 +163,8 @@ impl<C: Client, L: Session> Locked<C, L> {
         requires sketch { IsSketchOf C.Client (state C.Client self.old) leaf sketch.now }
         ensures made { Makes C.Client self.old self.new pass.old.actor level (Step.Flush leaf) result }
         ensures pass { CountsStep pass.old pass.new (Step.Flush leaf) result }
+        ensures others { let t = (state C.Client self.old).tree in
+            OnOk result (KeepsOthers {M = C.Cmd} t (Step.Flush leaf) self.old.screen self.new.screen) }
     {
         if let Err(refused) = pass.mine.push(Step::Flush { leaf }) {
             drop(refused);
@@ -203,8 +209,8 @@ impl<C: Client, L: Session> Locked<C, L> {
         Ok(())
     }
 
-    /// Like `hand_over`. If the waiting commands were drawn, it also returns the sketch, which shows the
-    /// leaf's present content.
+    /// Like `hand_over`. If the waiting commands were drawn, and are prepared over the leaf's present
+    /// content, it also returns the sketch, which shows the content after them.
     fn hand_over_drawn(
         &mut self,
         leaf: LeafId,
@@ -353,6 +359,11 @@ impl<C: Client, L: Session> Locked<C, L> {
         ensures err_pass { OnErr result (pass.new ≡ pass.old) }
         ensures err_screen { OnErr result (self.new.screen ≡ self.old.screen) }
 
+        // The screen stays as it is, unless the step paints; and where it may not paint, each pixel stays.
+        ensures screen { IfOk result (λ r. paints step r.answer ≡ false → self.new.screen ≡ self.old.screen) }
+        ensures others { let t = (state C.Client self.old).tree in
+            OnOk result (KeepsOthers t step self.old.screen self.new.screen) }
+
         // If memory runs out, the commands still wait, or they were handed over, and no other step was made.
         ensures err { let cmds = basket.old.prepared.commands in let levels = basket.old.levels in
             OnErr result (((self.new.journal ≡ self.old.journal) × (basket.new.prepared.commands ≡ cmds)
@@ -360,6 +371,8 @@ impl<C: Client, L: Session> Locked<C, L> {
             ⊎ ((self.new.journal ≡ (with_acts C.Client self.old leaf cmds levels).journal)
             × (basket.new.prepared.commands ≡ []) × (basket.new.levels ≡ []))) }
     {
+        // Tells the prover that each waiting command has a level.
+        let _ = basket.waiting();
         let Ok(sketch) = self.hand_over_drawn(leaf, basket) else {
             drop(step);
             return Err(NoMemory);
@@ -394,7 +407,7 @@ fn fits<C: Client>(stage: &Stage<C>, leaf: LeafId, prepared: &Prepared<C>) -> bo
     is_current(prepared, content, stage.font(), stage.leaf_size(leaf), kind)
 }
 
-/// Makes a book's commands prepared over the leaf's present content.
+/// Prepares a book's commands over the leaf's present content, unless they are prepared over it already.
 fn fit<C: Client>(
     alloc: Global,
     stage: &Stage<C>,

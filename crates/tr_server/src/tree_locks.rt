@@ -102,6 +102,9 @@ impl<C: Client, L: Session> Mu<'_, C, L> {
         }) }
         ensures err { OnErr result ((self.new.journal ≡ self.old.journal)
             ⊎ HandedOver C.Client window.now self.old self.new) }
+        ensures screen { IfOk result (λ r. paints step r.answer ≡ false → self.new.screen ≡ self.old.screen) }
+        ensures others { let t = (state C.Client self.old).tree in
+            OnOk result (KeepsOthers t step self.old.screen self.new.screen) }
         ensures err_screen { OnErr result (self.new.screen ≡ self.old.screen) }
         ensures err_pass { OnErr result (pass.new ≡ pass.old) }
     {

@@ -105,6 +105,7 @@ impl<C: Client, L: Session> Window<C, L> {
         }) }
         ensures err { OnErr result ((mu.new.journal ≡ mu.old.journal)
             ⊎ HandedOver C.Client self.now mu.old mu.new) }
+        ensures screen { OnOk result (mu.new.screen ≡ mu.old.screen) }
         ensures err_screen { OnErr result (mu.new.screen ≡ mu.old.screen) }
         ensures err_pass { OnErr result (pass.new ≡ pass.old) }
     {

@@ -164,3 +164,19 @@ fn what_waits_comes_before_a_step_of_its_client(rt: HostRuntime) {
     let lines = [Line::Posted(7), Line::Posted(8), Line::Mark];
     assert!(rt; leaves_lines(&rt, Trial::Marked, &lines));
 }
+
+/// A command is posted, and then the client's pass and the desk's change places.
+pub fn post_and_exchange<C: Coloured, L: Session, R: Wait + Abort>(
+    rt: &R,
+    server: &Server<C, L>,
+    workers: &mut [Pass<C, L>],
+) {
+    assert!(rt; workers.len() == 3);
+    post(rt, window(rt, server), &mut workers[0], 7);
+    workers.swap(0, 1);
+}
+
+#[test]
+fn passes_may_change_places(rt: HostRuntime) {
+    assert!(rt; leaves_lines(&rt, Trial::Exchanged, &[Line::Posted(7)]));
+}

@@ -5,7 +5,7 @@ ghost use Rattle.tr_server.specs.Sessions.{HasIds};
 use super::beside::act_beside;
 use super::ends::made;
 use super::openings::{Coloured, stage_of_one};
-use super::rows::{fill_again, fill_and_act, hand_over_later, post_and_mark};
+use super::rows::{fill_again, fill_and_act, hand_over_later, post_and_exchange, post_and_mark};
 use super::shares::{give_back, paint_share, repaint_twice};
 use std::marker::Brand;
 use std::process::Abort;
@@ -35,6 +35,8 @@ pub enum Trial {
     GivenBack,
     /// A share is painted, and put onto the screen.
     Painted,
+    /// A command is posted, and then two passes change places.
+    Exchanged,
 }
 
 /// Makes the calls of a trial, with the passes of the client, the desk and the painter.
@@ -54,6 +56,7 @@ fn make<C: Coloured, L: Session, R: Threads + Wait + Sync + Abort>(
         Trial::Repainted => repaint_twice(rt, server, workers),
         Trial::GivenBack => give_back(rt, server),
         Trial::Painted => paint_share(rt, server, workers),
+        Trial::Exchanged => post_and_exchange(rt, server, workers),
     }
 }
 
