@@ -49,6 +49,23 @@ sync
 end
 ";
 
+/// The same two windows. The first one's client makes one command, and the second one's makes two.
+const TINTS: &[u8] = b"trestle 1
+screen 4 1 map8
+node r h 0
+leaf a 2 2 2 1 1 1 solid 1
+leaf b 2 2 2 1 1 1 solid 2
+put a r
+put b r
+root r
+begin
+@a tint 3
+@b tint 4
+@b tint 5
+sync
+end
+";
+
 /// How often a client looks whether the other one has come so far.
 const TRIES: u32 = 100_000_000;
 
@@ -62,6 +79,14 @@ struct SecondFirst {
 }
 
 impl SecondFirst {
+    /// A gate that nobody has reached.
+    fn new() -> SecondFirst {
+        SecondFirst {
+            asked: AtomicU32::new(0),
+            begun: AtomicU32::new(0),
+        }
+    }
+
     /// Waits until the second window's client has begun its second step, and says whether it did.
     fn came(&self) -> bool {
         for _ in 0..TRIES {
@@ -93,6 +118,22 @@ impl Gate for SecondFirst {
     }
 }
 
+/// The same gate, but open, as the program's is: it is asked before commands.
+#[derive(Drop)]
+struct OpenSecondFirst {
+    gate: SecondFirst,
+}
+
+impl Gate for OpenSecondFirst {
+    fn turn<R: Wait>(&self, rt: &R, actor: Actor, k: u32) {
+        self.gate.turn(rt, actor, k);
+    }
+
+    fn is_open(&self) -> bool {
+        true
+    }
+}
+
 /// Whether the first mark is that of the second window's client.
 fn is_second_first(stage: &Stage<Widget>) -> bool {
     let journal = stage.journal();
@@ -105,11 +146,16 @@ fn is_second_first(stage: &Stage<Widget>) -> bool {
     false
 }
 
-/// Whether threads play the script as the gate has it, and the text says so.
-fn is_played<R: Threads + Wait + Sync + Abort + AllocGlobal>(rt: &R, gate: &SecondFirst) -> bool {
+/// Plays a script at a gate. Returns whether the text says that threads played it, and the stage after all
+/// steps.
+fn played<R: Threads + Wait + Sync + Abort + AllocGlobal, G: Gate + Sync>(
+    rt: &R,
+    script: &[u8],
+    gate: &G,
+) -> (bool, Option<Stage<Widget>>) {
     let alloc = rt.alloc();
     let words = words_of(rt, &["play"]);
-    let mut source = SteadySource::new(made(rt, Vec::from_slice(alloc, MARKS)));
+    let mut source = SteadySource::new(made(rt, Vec::from_slice(alloc, script)));
     let mut sink = MemorySink::new(alloc, 4, Vec::new(alloc));
     let (status, stage) = trestle_call(
         rt,
@@ -120,6 +166,12 @@ fn is_played<R: Threads + Wait + Sync + Abort + AllocGlobal>(rt: &R, gate: &Seco
         gate,
     ).into_stage();
     let is_told = status == 0 && sink.written().ends_with(b"played threads\n");
+    (is_told, stage)
+}
+
+/// Whether threads play the marks as the gate has it, and the text says so.
+fn is_played<R: Threads + Wait + Sync + Abort + AllocGlobal>(rt: &R, gate: &SecondFirst) -> bool {
+    let (is_told, stage) = played(rt, MARKS, gate);
     match stage {
         Some(stage) => {
             let is_played = is_told && is_second_first(&stage);
@@ -132,10 +184,23 @@ fn is_played<R: Threads + Wait + Sync + Abort + AllocGlobal>(rt: &R, gate: &Seco
 
 #[test]
 fn the_gate_is_asked_before_each_step(rt: HostRuntime) {
-    let gate = SecondFirst {
-        asked: AtomicU32::new(0),
-        begun: AtomicU32::new(0),
-    };
+    let gate = SecondFirst::new();
     let is_played = is_played(&rt, &gate);
     assert!(rt; is_played && gate.asked.load(Ordering::SeqCst) == 20);
+}
+
+/// Whether threads play the commands, and the text says so.
+fn is_told<R: Threads + Wait + Sync + Abort + AllocGlobal>(rt: &R, gate: &OpenSecondFirst) -> bool {
+    let (is_told, stage) = played(rt, TINTS, gate);
+    drop(stage);
+    is_told
+}
+
+#[test]
+fn an_open_gate_is_asked_before_each_command(rt: HostRuntime) {
+    let open = OpenSecondFirst {
+        gate: SecondFirst::new(),
+    };
+    let is_told = is_told(&rt, &open);
+    assert!(rt; is_told && open.gate.asked.load(Ordering::SeqCst) == 3);
 }

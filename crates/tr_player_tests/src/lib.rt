@@ -1,7 +1,9 @@
-//! Tests of the top call where reads, writes and memory fail, and of a gate that it asks. Nothing but tests
-//! is in here: other calls that don't fail are tried by the linked program.
+//! Tests of the top call if reads, writes or memory fail, of a gate that it asks, and of the last lines of a
+//! script that is played again. This crate has only tests; the linked program tries the other calls.
 #![tactic(auto)]
 
+#[cfg(test)]
+mod again;
 #[cfg(test)]
 mod ends;
 #[cfg(test)]

@@ -28,7 +28,7 @@ use Rattle.tr_serial.specs.Outputs.{widgets}
 use Rattle.tr_server.specs.Differing.{DiffersView}
 use Rattle.tr_parts.specs.Plays.{HasInterleaved, journal_texts, played_threads}
 use Rattle.tr_play.specs.Plays.{part_of, parts_of}
-use Rattle.tr_threads.specs.Threads.{HasDifferedIn, IsPlayedByThreads, again_text, threads_text}
+use Rattle.tr_threads.specs.Threads.{HasDifferedIn, IsPlayedByThreads, again_text, last_text, threads_text}
 use Rattle.tr_threads.proofs.NamedLemmas.{difference_named, steps_named}
 
 module _ (s : Script) (playable : IsPlayableScript s) where
@@ -98,13 +98,16 @@ played_by stage text s items names parts (Ok end) opens named parted played writ
 played_by stage text s items names parts (Err e) opens named parted played written = tt
 
 -- the last two lines, as they are written
-pub last_are : (s : Script) (d : DiffersView Widget WidgetCmd) (before text last : List ℕ) (names : Names) (difference : Difference WidgetCmd) →
-    names ≡ s.names → difference ≡ d.difference → before ≡ [] → text ≡ before ++ differs_text widget_words names difference →
-    last ≡ text ++ codes "played again\n" → last ≡ again_text s d
+pub last_are : {M : Type 0} (words : M → List ℕ) (names : Names) (difference : Difference M) (before text last : List ℕ) → before ≡ [] →
+    text ≡ before ++ differs_text words names difference → last ≡ text ++ codes "played again\n" → last ≡ last_text words names difference
+unfolding last_text
+last_are words names difference before text last none line end =
+    end ∙ ap (λ (t : List ℕ). t ++ codes "played again\n") (line ∙ ap (λ (b : List ℕ). b ++ differs_text words names difference) none)
+
+-- those of a script, by its names and by what a session found
+pub again_is : (s : Script) (d : DiffersView Widget WidgetCmd) (names : Names) (difference : Difference WidgetCmd) → names ≡ s.names →
+    difference ≡ d.difference → last_text widget_words names difference ≡ again_text s d
 unfolding again_text
-last_are s d before text last names difference named same none line end =
-    end
-    ∙ ap (λ (t : List ℕ). t ++ codes "played again\n") (line
-    ∙ ap (λ (b : List ℕ). b ++ differs_text widget_words names difference) none
-    ∙ ap (λ (ns : Names). differs_text widget_words ns difference) named
-    ∙ ap (λ (x : Difference WidgetCmd). differs_text widget_words s.names x) same)
+again_is s d names difference named same =
+    ap (λ (ns : Names). last_text widget_words ns difference) named
+    ∙ ap (λ (x : Difference WidgetCmd). last_text widget_words s.names x) same

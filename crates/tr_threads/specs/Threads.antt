@@ -1,5 +1,7 @@
 -- The result of a script that threads play.
 use Rattle.std.specs.Prelude.{◌≡◌, ℕ, List, ◌++◌, Option, Some, None, codes}
+use Rattle.tr_journal.specs.declared.differences.Difference.{Difference}
+use Rattle.tr_journal.specs.Names.{Names}
 use Rattle.tr_widget.specs.declared.Widget.{Widget}
 use Rattle.tr_widget.specs.declared.WidgetCmd.{WidgetCmd}
 use Rattle.tr_widget.specs.Widgets.{widget_words}
@@ -26,9 +28,13 @@ pub record IsPlayedByThreads (s : Script) (stage : StageView Widget WidgetCmd) (
 abbrev pub HasDifferedIn : Script → DiffersView Widget WidgetCmd → Type 0
 HasDifferedIn s d = DiffersInPart widgets s.opening (parts_of s.parts) d
 
--- the last two lines if all is played again: the difference, and that it is so
+-- the last two lines, where a script is played again: the difference, and that the script was played again
+unfoldable pub last_text : {M : Type 0} → (M → List ℕ) → Names → Difference M → List ℕ
+last_text words names difference = differs_text words names difference ++ codes "played again\n"
+
+-- these lines for a script, by what a session found
 unfoldable pub again_text : Script → DiffersView Widget WidgetCmd → List ℕ
-again_text s d = differs_text widget_words s.names d.difference ++ codes "played again\n"
+again_text s d = last_text widget_words s.names d.difference
 
 -- a script was played again on one thread, after this difference
 pub record IsPlayedAgain (s : Script) (d : DiffersView Widget WidgetCmd) (stage : StageView Widget WidgetCmd) (text : List ℕ) : Type 0 where

@@ -2,6 +2,8 @@
 //! from its passes, all is played again on one thread.
 #![tactic(auto)]
 
+mod lines;
 mod plays;
 
+pub use lines::again_lines;
 pub use plays::{Threaded, threads};

@@ -4,11 +4,11 @@ ghost use Rattle.tr_server.specs.Closing.{IfDiffers};
 ghost use Rattle.tr_serial.specs.Outputs.{out_text, serial_journal};
 ghost use Rattle.tr_threads.specs.Threads.{IsPlayedByThreads, IsThreaded, HasDifferedIn, again_text};
 
+use crate::lines::again_lines;
 use std::alloc::Global;
 use std::sync::Wait;
 use std::thread::Threads;
 use tr_base::NoMemory;
-use tr_dump::differs_line;
 use tr_output::Output;
 use tr_parts::stands;
 use tr_play::{Gate, Workers, play};
@@ -151,7 +151,7 @@ fn play_with(alloc: Global, script: Script, last: &[u8]) -> Result<Played, NoMem
     Ok(played)
 }
 
-/// The last two lines: the difference, and that all was played again.
+/// The last two lines of a script that is played again since a session found this.
 fn last_lines(
     alloc: Global,
     script: &Script,
@@ -163,8 +163,5 @@ fn last_lines(
 {
     // Called for its clause: the journal that was found is one of the machine.
     stands(differs.stage());
-    let mut text = Vec::new(alloc);
-    differs_line(differs.difference(), &script.names, &mut text)?;
-    text.extend_from_slice(b"played again\n")?;
-    Ok(text)
+    again_lines(alloc, &script.names, differs.difference())
 }
