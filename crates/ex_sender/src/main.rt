@@ -1,65 +1,65 @@
-//! A program to copy from: it sends to standard output what a screen shows as it changes, cut by cut, and
-//! begins a new stream after the 64th cut. A window system settles its stage before each `send`, and sends
-//! the stage's screen in place of this one.
+//! A program to copy from: a window moves on a stage, and the program sends to standard output the screen
+//! after each move, cut by cut. After the 64th cut it begins a new stream.
 //!
-//!     ex_sender | head -c 838 | ex_viewer      # the first stream alone: a reader begins anew at a Screen
+//!     ex_sender | head -c 1830 | ex_viewer
 #![tactic(auto)]
+
+mod stages;
+mod stops;
 
 ghost use Rattle.std.specs.Prelude.{◌<◌};
 ghost use Rattle.tr_mirror.specs.Standings.{most_groups};
 
-use std::alloc::Global;
+use crate::stages::{move_window, start};
+use crate::stops::Stopped;
 use std::io;
-use std::io::ErrorKind;
-use tr_base::{Kind, NoMemory, Size};
+use tr_client::Client;
 use tr_mirror::{Writer, has_its_pixels};
 use tr_screen::Screen;
+use tr_stage::Stage;
+use w_plain::Solid;
 
-const SCREEN: Size = Size { wide: 64, high: 4 };
-
-/// So many screens are sent, in more than one stream.
+/// The number of screens: more than one stream has.
 const SCREENS: u16 = 100;
 
 fn main(rt: HostRuntime) -> io::Result<()> {
-    let mut screen = Screen::blank(rt.alloc(), SCREEN, Kind::Map8).map_err(out_of_memory)?;
+    let mut stage = start(rt.alloc(), Solid::new(7))?;
+    send_all(&rt, &mut stage)?;
+    Ok(())
+}
+
+/// Moves the window, and sends the screen after each move.
+fn send_all<R: Print + AllocGlobal, C: Client>(
+    rt: &R,
+    stage: &mut Stage<C>,
+) -> Result<(), Stopped> {
     let mut writer = Writer::new();
     let mut group = Vec::new(rt.alloc());
     for number in 0..SCREENS {
-        change(&mut screen, number);
-        send(&rt, &mut writer, &screen, &mut group)?;
+        move_window(stage, number)?;
+        // Before that a pixel may be bad, or a command may wait for it.
+        stage.settle()?;
+        send(rt, &mut writer, stage.screen(), &mut group)?;
     }
     Ok(())
 }
 
-/// Changes a pixel: a bar grows, row after row.
-fn change(screen: &mut Screen, number: u16) {
-    let size = screen.size();
-    let v = number / size.wide;
-    if v < size.high {
-        let h = number % size.wide;
-        screen.row_mut(v)[usize::from(h)] = 7;
-    }
-}
-
-/// Sends a screen: what differs from the one that was sent last, or all of it in a new stream. `group` is
-/// room for it, which is used again.
+/// Sends a screen: the pixels that changed since the last one, or all of it in a new stream. `group` is
+/// memory that each call uses again.
 fn send<R: Print + AllocGlobal>(
     rt: &R,
     writer: &mut Writer,
     screen: &Screen,
     group: &mut Vec<u8>,
-) -> io::Result<()> {
+) -> Result<(), Stopped> {
     if writer.is_full() {
         writer.restart();
     }
     if !has_its_pixels(screen) {
-        return Err(io::Error::from(ErrorKind::InvalidData));
+        return Err(Stopped::Refused);
     }
     group.clear();
-    writer.append(screen, group).map_err(out_of_memory)?;
-    rt.write_all(group)
-}
-
-fn out_of_memory(_error: NoMemory) -> io::Error {
-    io::Error::from(ErrorKind::OutOfMemory)
+    writer.append(screen, group)?;
+    rt.write_all(group)?;
+    Ok(())
 }
