@@ -1,4 +1,4 @@
--- The laws of streams: the first fault is the one in the table, and a stream is a sequence of groups.
+-- The terms in which the functions of src/laws.rt state the laws of streams: the first fault by the list of faults, and streams as groups.
 use Rattle.std.specs.Prelude.{◌≡◌, ℕ, ◌+◌, ◌<◌, ◌≤◌, ◌⊎◌, true, List, [], ◌∷◌, ◌++◌, length, Option, Some, None, replicate, slice_index}
 use Rattle.std.specs.List.{flat_map, list_all}
 use Rattle.tr_base.specs.Rects.{IsScreenSize}
@@ -87,7 +87,8 @@ abbrev pub with_rows_drawn : Picture → List Record → Picture
 with_rows_drawn p [] = p
 with_rows_drawn p (r ∷ rs) = with_rows_drawn (drawn_by p r.header r.pixels) rs
 
--- the start of a group: a Screen, after which the picture is blank, or no record, and the picture of the last cut
+-- the start of a group: a Screen with a kind and a size from 1 to 1024 each way, without pixels, and then a blank picture; or no record,
+-- and the picture of the last cut
 abbrev pub BeginsWith : Option Picture → List Record → Picture → Type 0
 BeginsWith last [] base = last ≡ Some base
 BeginsWith last (r ∷ []) base = (r ≡ screen_record base) × (base ≡ blank_of base.size base.kind) × IsScreenSize base.size

@@ -73,7 +73,7 @@ records_within (suc n) s bytes =
     record_at bytes ∷ records_within n (after_record s (header_of bytes) (pixels_of bytes)) (drop (record_len bytes) bytes)
     else []
 
--- The whole records of a stream before its first fault. Each has 5 bytes at least, so there are fewer records than bytes.
+-- The whole records of a stream before its first fault. Each has 5 bytes at least, so there are no more records than bytes.
 abbrev pub records_of : List ℕ → List Record
 records_of stream = records_within (length stream) stream_start stream
 
