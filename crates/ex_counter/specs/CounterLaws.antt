@@ -1,5 +1,5 @@
 -- A Counter obeys the laws of clients.
--- Proofs of an impl's laws: of its crate, an impl may cite just specs/. No contract cites them.
+-- These proofs are in specs/ because an impl may cite nothing else of its crate. No contract cites them.
 use Rattle.std.proofs.Common.{◌≡◌, ℕ, ◌+◌, ◌<◌, ◌≤◌, ◌^◌, ◌==◌, ◌&&◌, min, ℤ, pos, Bool, true, false, cond, [], ◌∷◌, Some, None, refl, ap, ◌∙◌, arith}
 use Rattle.std.specs.Prelude.{IfSome}
 use Rattle.std.proofs.lemmas.Int.{ints}

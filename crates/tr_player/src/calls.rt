@@ -93,7 +93,8 @@ pub fn serial_call<S: Source, K: Sink>(
     ensures statuses { (status : Status) × (result.status ≡ code status) }
     ensures rising { (S.faults source.old ≤ S.faults source.new) × (K.faults sink.old ≤ K.faults sink.new) }
 
-    // All at once: one of the answers is due, and was delivered. The clauses below follow.
+    // All at once: memory ran out before an answer, or one of the answers is due, and was written, or a fault
+    // or want of memory came in the way. The clauses below follow.
     ensures answered { IsAnswered (asked_by (texts_of words.now))
         (source_change S.Source source.old source.new) result (sink_change K.Sink sink.old sink.new) }
 
@@ -193,11 +194,11 @@ pub fn serial_call<S: Source, K: Sink>(
     deliver(sink, response)
 }
 
-/// Plays a script by threads if the words are `play`, else does the same as `serial_call`. For `play` one
-/// thread makes the steps of each leaf's client, one those of the desk, and the painter's thread brings
-/// the screen up to date meanwhile. It asks the gate before each step of a script, unless the gate says
-/// that it lets no thread wait. The text is the script's reports, and `played threads`. If a session finds
-/// a stage that differs from its passes, all is played again on one thread, and the text says so.
+/// Plays a script by threads if the words are `play`, else does the same as `serial_call`. For `play` each
+/// leaf's client has a thread that makes its steps, the desk has one, too, and the painter's thread brings
+/// the screen up to date meanwhile. A thread calls the gate before each step of a script, unless the gate
+/// says that it makes no thread wait. The text is the script's reports, and `played threads`. If a session
+/// finds a stage that differs from its passes, all is played again on one thread, and the text says so.
 ///
 /// The threads take locks, so with `play` the call may wait; it returns if each thread returns.
 pub fn trestle_call<R: Threads + Wait + Sync, S: Source, K: Sink, G: Gate + Sync>(
@@ -211,7 +212,8 @@ pub fn trestle_call<R: Threads + Wait + Sync, S: Source, K: Sink, G: Gate + Sync
     ensures statuses { (status : Status) × (result.status ≡ code status) }
     ensures rising { (S.faults source.old ≤ S.faults source.new) × (K.faults sink.old ≤ K.faults sink.new) }
 
-    // All at once: one of the answers is due, and was delivered. The clauses below follow.
+    // All at once: memory ran out before an answer, or one of the answers is due, and was written, or a fault
+    // or want of memory came in the way. The clauses below follow.
     ensures answered { IsAnswered (command_of (texts_of words.now))
         (source_change S.Source source.old source.new) result (sink_change K.Sink sink.old sink.new) }
 
@@ -284,7 +286,7 @@ pub fn trestle_call<R: Threads + Wait + Sync, S: Source, K: Sink, G: Gate + Sync
         OfOneThread (command_of (texts_of words.now)) (S.left source.old) (λ command bytes.
         IsReadBack command (script_of bytes)) }
 
-    // `play`: threads made the steps of the script in the bytes read, in any order. The stage's journal is
+    // `play`: threads made the steps of the script in the bytes read, in some order. The stage's journal is
     // one of the machine and interleaves the script, and the text is that of this very journal.
     ensures threads { result.status ≡ code Status.Done → IsNone result.differs →
         OfThreads (command_of (texts_of words.now)) (S.left source.old) (λ bytes.
