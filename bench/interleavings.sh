@@ -1,5 +1,5 @@
 #!/bin/sh
-# Plays random scripts on threads, several at once, so that the threads' orders differ, and judges what each wrote by `serial`.
+# Plays random scripts on threads, several at once, so that the threads' orders differ, and judges what they wrote by `serial`.
 #
 #     bench/interleavings.sh [COUNT] [PROGRAM] [SEED]
 #

@@ -1,5 +1,5 @@
 #!/usr/bin/env python3
-"""Plays random scripts by `play`, several at once, and judges each by `serial`.
+"""Plays random scripts by `play`, several at once, and judges by `serial` each that has room for a journal at its end.
 
     judges/interleavings.py PROGRAM [COUNT [SEED]]
     judges/interleavings.py --write NUMBER
@@ -8,9 +8,9 @@ PROGRAM is a linked trestle. The scripts have the numbers from SEED on, 1 if it 
 if it is left out; `--write` prints the script of a number. Each gets a journal at its end, and how that judges it stands in
 judges/model/threads.py.
 
-It prints how many scripts were played, how many of them by threads to their end, and how many in another order than the
-script's. The status is 1 where one is judged wrong, which is left in a file beside what was written; and where there are
-twenty or more and none has another order, since then no threads were at work."""
+It prints how many scripts were played, how many of them ended with `played threads`, which one thread can do too, and how
+many in another order than the script's. The status is 1 if one is judged wrong, which is left in a file beside what was
+written, and if there are twenty or more and none has another order."""
 
 import concurrent.futures
 import os
