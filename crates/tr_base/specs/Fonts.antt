@@ -19,12 +19,12 @@ abbrev pub glyph_bit : List (List ℕ) → ℕ → ℕ → ℕ → Bool
 glyph_bit font byte h v = is_set (slice_index (glyph_of font byte) v) h
 
 -- the pixel of a bit: 255 if it is set, and else 0
-abbrev pub pixel_of : Bool → ℕ
-pixel_of bit = if bit then 255 else 0
+abbrev pub pixel_of_bit : Bool → ℕ
+pixel_of_bit bit = if bit then 255 else 0
 
 -- the pixels row by row: in each row each of the 95 glyphs has its eight pixels
 pub record HasPixels (glyphs : List (List ℕ)) (pixels : List ℕ) : Type 0 where
   pub count : length glyphs ≡ 95
   pub size : length pixels ≡ 6080
   pub each : (v place h : ℕ) → v < 8 → place < 95 → h < 8 → slice_index pixels (760 * v + (8 * place + h))
-      ≡ pixel_of (is_set (slice_index (slice_index_or glyphs place box_glyph) v) h)
+      ≡ pixel_of_bit (is_set (slice_index (slice_index_or glyphs place box_glyph) v) h)

@@ -95,7 +95,7 @@ impl Font {
         ensures length { length result.now ≡ ROW }
         ensures each { (byte h : ℕ) → 32 ≤ byte → byte ≤ 126 → h < 8 →
             slice_index result.now (8 * (byte - 32) + h)
-            ≡ spec.pixel_of (spec.glyph_bit self.now byte h v) }
+            ≡ spec.pixel_of_bit (spec.glyph_bit self.now byte h v) }
     {
         &self.pixels[ROW * v..ROW * v + ROW]
     }
@@ -133,7 +133,7 @@ fn put_glyph(pixels: &mut [u8], place: usize, glyph: [u8; 8])
     requires size { length pixels.old ≡ 8 * ROW }
     requires place { place < GLYPHS }
     ensures put { (v h : ℕ) → v < 8 → h < 8 → slice_index pixels.new (ROW * v + (8 * place + h))
-        ≡ spec.pixel_of (is_set_at (slice_index glyph v) h) }
+        ≡ spec.pixel_of_bit (is_set_at (slice_index glyph v) h) }
     ensures others { (v other h : ℕ) → other < GLYPHS → other ≢ place → h < 8 →
         slice_index pixels.new (ROW * v + (8 * other + h))
         ≡ slice_index pixels.old (ROW * v + (8 * other + h)) }
@@ -146,7 +146,7 @@ fn put_glyph(pixels: &mut [u8], place: usize, glyph: [u8; 8])
 /// Puts the pixels of eight bits at a place.
 fn put_bits(pixels: &mut [u8], at: usize, bits: u8)
     requires { at + 8 ≤ length pixels.old }
-    ensures put { (h : ℕ) → h < 8 → slice_index pixels.new (at + h) ≡ spec.pixel_of (is_set_at bits h) }
+    ensures put { (h : ℕ) → h < 8 → slice_index pixels.new (at + h) ≡ spec.pixel_of_bit (is_set_at bits h) }
     ensures before { (k : ℕ) → k < at → slice_index pixels.new k ≡ slice_index pixels.old k }
     ensures behind { (k : ℕ) → at + 8 ≤ k → slice_index pixels.new k ≡ slice_index pixels.old k }
 {
@@ -157,7 +157,7 @@ fn put_bits(pixels: &mut [u8], at: usize, bits: u8)
 
 /// The pixel of a bit.
 fn pixel_of(bit: bool) -> u8
-    ensures { result ≡ spec.pixel_of bit }
+    ensures { result ≡ spec.pixel_of_bit bit }
 {
     if bit { 255 } else { 0 }
 }

@@ -10,7 +10,7 @@ use Rattle.std.proofs.lemmas.List.{get_or-take, get_or-drop, get_or-replicate, l
 use Rattle.std.proofs.lemmas.List.Elements.{All-get_or, All-take, All-drop}
 use Rattle.std.proofs.lemmas.Simd.{get_or-zip2, length-zip2, get_or-chunk, length-chunk}
 use lib.Lanes.{zip2, chunk}
-use Rattle.tr_base.specs.Fonts.{glyph_of, glyph_bit, pixel_of}
+use Rattle.tr_base.specs.Fonts.{glyph_of, glyph_bit, pixel_of_bit}
 use Rattle.tr_base.specs.Lines.{is_printable}
 use Rattle.tr_kernel.specs.Letters.{bit_in_letters, inked, pixel_in}
 use Rattle.tr_kernel.specs.declared.letters.Inks.{Inks}
@@ -30,7 +30,8 @@ pub printable_front : (text : List ℕ) (m : ℕ) → AllPass is_printable text 
 printable_front text m all = let P = λ (c : ℕ). is_printable c ≡ true in All-take P m text all
 
 -- the pixel of a bit in two colours
-pub two_colours : (bit : Bool) (one other : ℕ) → one < 2 ^ 8 → other < 2 ^ 8 → bit_xor (bit_and (pixel_of bit) (bit_xor one other)) other ≡ cond bit one other
+pub two_colours : (bit : Bool) (one other : ℕ) → one < 2 ^ 8 → other < 2 ^ 8 →
+    bit_xor (bit_and (pixel_of_bit bit) (bit_xor one other)) other ≡ cond bit one other
 two_colours true one other small_one small_other =
     let small = xor_of_8 one other small_one small_other in
     ap (λ n. bit_xor n other) (and_comm 255 (bit_xor one other) ∙ and_mask (bit_xor one other) 8 ∙ omega arith)
@@ -40,7 +41,7 @@ two_colours false one other small_one small_other =
 
 -- a pixel in a column of letters, from the row of all glyphs
 pub pixel_is : (font : List (List ℕ)) (source text : List ℕ) (v : ℕ) (inks : Inks) (one column : ℕ) → AllPass is_printable text
-    → ((byte h : ℕ) → 32 ≤ byte → byte ≤ 126 → h < 8 → get_or source (8 * (byte - 32) + h) 0 ≡ pixel_of (glyph_bit font byte h v))
+    → ((byte h : ℕ) → 32 ≤ byte → byte ≤ 126 → h < 8 → get_or source (8 * (byte - 32) + h) 0 ≡ pixel_of_bit (glyph_bit font byte h v))
     → inks.change ≡ bit_xor one inks.zero → one < 2 ^ 8 → inks.zero < 2 ^ 8 → column < 8 * length text
     → inked inks (pixel_in source text column) ≡ cond (bit_in_letters font text v column) one inks.zero
 pixel_is font source text v inks one column printable each change small_one small_zero within =
@@ -50,7 +51,7 @@ pixel_is font source text v inks one column printable each change small_one smal
     let range = printable_at text letter printable (omega arith) in
     let place : h % 8 ≡ column % 8 = omega arith in
     ap₂ (λ p d. bit_xor (bit_and p d) inks.zero) (each byte h range.0 range.1 (omega arith)
-    ∙ ap (λ q. pixel_of (bit_at (get_or (glyph_of font byte) v 0) (7 - q) == 1)) place) change
+    ∙ ap (λ q. pixel_of_bit (bit_at (get_or (glyph_of font byte) v 0) (7 - q) == 1)) place) change
     ∙ two_colours (bit_in_letters font text v column) one inks.zero small_one small_zero
 
 -- so many lanes in two colours

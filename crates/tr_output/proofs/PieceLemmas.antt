@@ -11,7 +11,7 @@ use Rattle.hex.proofs.HexLemmas.{length-encode_with}
 use Rattle.tr_output.specs.declared.pieces.Piece.{Piece}
 use Rattle.tr_output.specs.declared.pieces.Piece.TheVariants.{Bytes, Row}
 use Rattle.tr_output.specs.Texts.{row_text}
-use Rattle.tr_output.specs.Pieces.{IsKeptAt, IsWithin, piece_text, pieces_text}
+use Rattle.tr_output.specs.Pieces.{IsKeptAt, IsPieceWithin, piece_text, pieces_text}
 
 -- a range of what was kept before more came
 range_grown : (pixels more : List ℕ) (start end : ℕ) → start ≤ end → end ≤ length pixels →
@@ -28,24 +28,24 @@ range_new pixels more =
     ap (λ t. take (length pixels + length more - length pixels) t) (drop-append_seam pixels more) ∙ ap (λ n. take n more) many ∙ take-length more
 
 -- the text of a piece is the same where more pixels are kept
-piece_grown : (pixels more : List ℕ) (piece : Piece) → IsWithin (length pixels) piece → piece_text (pixels ++ more) piece ≡ piece_text pixels piece
+piece_grown : (pixels more : List ℕ) (piece : Piece) → IsPieceWithin (length pixels) piece → piece_text (pixels ++ more) piece ≡ piece_text pixels piece
 piece_grown pixels more (Bytes bytes) within = refl
 piece_grown pixels more (Row start wide) within = ap row_text (range_grown pixels more start (start + wide) (omega arith) within.0)
 
-pub pieces_grown : (pixels more : List ℕ) (pieces : List Piece) → All (IsWithin (length pixels)) pieces →
+pub pieces_grown : (pixels more : List ℕ) (pieces : List Piece) → All (IsPieceWithin (length pixels)) pieces →
     pieces_text (pixels ++ more) pieces ≡ pieces_text pixels pieces
 pieces_grown pixels more [] all = refl
 pieces_grown pixels more (piece ∷ pieces) all =
-    ap (λ t. t ++ pieces_text (pixels ++ more) pieces) (piece_grown pixels more piece (All-head (IsWithin (length pixels)) piece pieces all))
-    ∙ ap (λ t. piece_text pixels piece ++ t) (pieces_grown pixels more pieces (All-tail (IsWithin (length pixels)) piece pieces all))
+    ap (λ t. t ++ pieces_text (pixels ++ more) pieces) (piece_grown pixels more piece (All-head (IsPieceWithin (length pixels)) piece pieces all))
+    ∙ ap (λ t. piece_text pixels piece ++ t) (pieces_grown pixels more pieces (All-tail (IsPieceWithin (length pixels)) piece pieces all))
 
 -- and they are within these, too
-within_more : (few many : ℕ) → few ≤ many → (piece : Piece) → IsWithin few piece → IsWithin many piece
+within_more : (few many : ℕ) → few ≤ many → (piece : Piece) → IsPieceWithin few piece → IsPieceWithin many piece
 within_more few many more (Bytes bytes) within = tt
 within_more few many more (Row start wide) within = (omega (arith, within.0), within.1)
 
-pub all_within_more : (few many : ℕ) (pieces : List Piece) → few ≤ many → All (IsWithin few) pieces → All (IsWithin many) pieces
-all_within_more few many pieces more all = All-weaker (IsWithin few) (IsWithin many) (within_more few many more) pieces all
+pub all_within_more : (few many : ℕ) (pieces : List Piece) → few ≤ many → All (IsPieceWithin few) pieces → All (IsPieceWithin many) pieces
+all_within_more few many pieces more all = All-weaker (IsPieceWithin few) (IsPieceWithin many) (within_more few many more) pieces all
 
 -- a piece more
 pub one_more : (pixels : List ℕ) (pieces : List Piece) (piece : Piece) →
@@ -61,7 +61,7 @@ kept_row pixels pieces start row kept =
     one_more pixels pieces (Row start (length row)) ∙ ap (λ r. pieces_text pixels pieces ++ row_text r) kept.same
 
 -- a row of which the pixels are kept now
-pub new_row : (pixels : List ℕ) (pieces : List Piece) (row : List ℕ) → All (IsWithin (length pixels)) pieces →
+pub new_row : (pixels : List ℕ) (pieces : List Piece) (row : List ℕ) → All (IsPieceWithin (length pixels)) pieces →
     pieces_text (pixels ++ row) (pieces ++ Row (length pixels) (length row) ∷ []) ≡ pieces_text pixels pieces ++ row_text row
 new_row pixels pieces row all =
     one_more (pixels ++ row) pieces (Row (length pixels) (length row))
@@ -79,7 +79,7 @@ taken_more f xs k x d within is =
     ∙ ap (λ t. flat_map f (take k xs) ++ t) (append-nil (f x))
 
 -- how long the line of a row is
-pub row_long : (pixels : List ℕ) (many start wide : ℕ) (piece : Piece) → piece ≡ Row start wide → IsWithin many piece →
+pub row_long : (pixels : List ℕ) (many start wide : ℕ) (piece : Piece) → piece ≡ Row start wide → IsPieceWithin many piece →
     length pixels ≡ many → 2 * wide + 1 ≡ length (piece_text pixels piece)
 row_long pixels many start wide piece is within same =
     let here = rw is at within in

@@ -16,9 +16,9 @@ abbrev pub pieces_text : List ℕ → List Piece → List ℕ
 pieces_text pixels pieces = flat_map (piece_text pixels) pieces
 
 -- a row is within this many kept pixels, and is no wider than a screen
-abbrev pub IsWithin : ℕ → Piece → Type 0
-IsWithin many (Bytes bytes) = ⊤
-IsWithin many (Row start wide) = (start + wide ≤ many) × (wide ≤ 1024)
+abbrev pub IsPieceWithin : ℕ → Piece → Type 0
+IsPieceWithin many (Bytes bytes) = ⊤
+IsPieceWithin many (Row start wide) = (start + wide ≤ many) × (wide ≤ 1024)
 
 -- the pixels of this row are kept from `start` on
 pub record IsKeptAt (pixels : List ℕ) (start : ℕ) (row : List ℕ) : Type 0 where

@@ -3,8 +3,8 @@ ghost use Rattle.std.specs.Prelude.{◌≡◌, ◌+◌, ◌*◌, ◌≤◌, ◌+
 ghost use Rattle.std.specs.Prelude.{length, slice_range, vec_len, vec_capacity};
 ghost use Rattle.tr_io.specs.Faults.{HasFault};
 ghost use Rattle.tr_io.specs.Streams.{Grew, GrewByPrefix};
-ghost use Rattle.tr_output.specs.Lines.{IsLine};
-ghost use Rattle.tr_output.specs.Pieces.{IsWithin, piece_text, pieces_text};
+ghost use Rattle.tr_output.specs.Lines.{SpellsRow};
+ghost use Rattle.tr_output.specs.Pieces.{IsPieceWithin, piece_text, pieces_text};
 ghost use Rattle.tr_output.specs.Sending.{Sends, HasStopped};
 ghost use Rattle.tr_output.specs.Texts.{row_text};
 ghost use Rattle.tr_output.specs.Buffers.{IsFresh};
@@ -82,14 +82,14 @@ fn put_row<K: Sink>(
 ) -> Result<(), Failed>
     requires wide { wide ≤ 1024 }
     requires within { start + wide ≤ length pixels.now }
-    requires lines { All (IsLine pixels.now) buffer.old.lines.items }
+    requires lines { All (SpellsRow pixels.now) buffer.old.lines.items }
     requires count { vec_len buffer.old.lines ≡ LINES }
     requires room { vec_len buffer.old.bytes + (2 * wide + 1) ≤ K.room sink.old }
     ensures ok { OnOk result (Sends K.Sink sink.old sink.new buffer.old.bytes.items buffer.new.bytes.items
         (row_text (slice_range pixels.now start (start + wide)))) }
     ensures err { OnErr result (HasStopped K.Sink sink.old sink.new buffer.old.bytes.items
         (row_text (slice_range pixels.now start (start + wide)))) }
-    ensures lines { All (IsLine pixels.now) buffer.new.lines.items }
+    ensures lines { All (SpellsRow pixels.now) buffer.new.lines.items }
     ensures count { vec_len buffer.new.lines ≡ LINES }
     ensures rising { K.faults sink.old ≤ K.faults sink.new }
 {
@@ -106,15 +106,15 @@ fn put_piece<K: Sink>(
     piece: &Piece,
     pixels: &[u8],
 ) -> Result<(), Failed>
-    requires within { IsWithin (length pixels.now) piece.now }
-    requires lines { All (IsLine pixels.now) buffer.old.lines.items }
+    requires within { IsPieceWithin (length pixels.now) piece.now }
+    requires lines { All (SpellsRow pixels.now) buffer.old.lines.items }
     requires count { vec_len buffer.old.lines ≡ LINES }
     requires room { vec_len buffer.old.bytes + length (piece_text pixels.now piece.now) ≤ K.room sink.old }
     ensures ok { OnOk result (Sends K.Sink sink.old sink.new buffer.old.bytes.items buffer.new.bytes.items
         (piece_text pixels.now piece.now)) }
     ensures err { OnErr result (HasStopped K.Sink sink.old sink.new buffer.old.bytes.items
         (piece_text pixels.now piece.now)) }
-    ensures lines { All (IsLine pixels.now) buffer.new.lines.items }
+    ensures lines { All (SpellsRow pixels.now) buffer.new.lines.items }
     ensures count { vec_len buffer.new.lines ≡ LINES }
     ensures rising { K.faults sink.old ≤ K.faults sink.new }
 {
@@ -131,8 +131,8 @@ fn put_pieces<K: Sink>(
     pieces: &[Piece],
     pixels: &[u8],
 ) -> Result<(), Failed>
-    requires within { All (IsWithin (length pixels.now)) pieces.now }
-    requires lines { All (IsLine pixels.now) buffer.old.lines.items }
+    requires within { All (IsPieceWithin (length pixels.now)) pieces.now }
+    requires lines { All (SpellsRow pixels.now) buffer.old.lines.items }
     requires count { vec_len buffer.old.lines ≡ LINES }
     requires room { vec_len buffer.old.bytes + length (pieces_text pixels.now pieces.now) ≤ K.room sink.old }
     ensures ok { OnOk result (Sends K.Sink sink.old sink.new buffer.old.bytes.items buffer.new.bytes.items
@@ -155,7 +155,7 @@ pub(crate) fn write_pieces<K: Sink>(
     pixels: &[u8],
     tail: &[u8],
 ) -> Result<(), Failed>
-    requires within { All (IsWithin (length pixels.now)) pieces.now }
+    requires within { All (IsPieceWithin (length pixels.now)) pieces.now }
     requires fresh { IsFresh buffer.old }
     requires room { length (pieces_text pixels.now pieces.now ++ tail.now) ≤ K.room sink.old }
     ensures ok { OnOk result (Grew (K.written sink.old) (K.written sink.new)

@@ -27,11 +27,11 @@ impl Model for Kept {
 
     ghost Value = { List ℕ };
 
-    ghost use Rattle.tr_output.specs.Pieces.{IsWithin, pieces_text};
+    ghost use Rattle.tr_output.specs.Pieces.{IsPieceWithin, pieces_text};
 
     ghost view = { λ k. pieces_text k.pixels.items k.pieces.items };
 
-    ghost invariant = { λ k. All (IsWithin (length k.pixels.items)) k.pieces.items };
+    ghost invariant = { λ k. All (IsPieceWithin (length k.pixels.items)) k.pieces.items };
 }
 
 impl Kept {

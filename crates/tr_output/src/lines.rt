@@ -1,6 +1,6 @@
 //! The last spelled lines.
 ghost use Rattle.std.specs.Prelude.{◌≡◌, ℕ, ◌+◌, ◌*◌, ◌<◌, ◌≤◌, List, All, IfOk, length, take, slice_range, vec_len};
-ghost use Rattle.tr_output.specs.Lines.{IsLine};
+ghost use Rattle.tr_output.specs.Lines.{SpellsRow};
 ghost use Rattle.tr_output.specs.Texts.{row_text};
 
 use std::alloc::Global;
@@ -23,7 +23,7 @@ pub(crate) struct Line {
 impl Line {
     /// The line of no pixels.
     fn new(alloc: Global) -> Result<Line, NoMemory>
-        ensures { IfOk result (λ line. (pixels : List ℕ) → IsLine pixels line) }
+        ensures { IfOk result (λ line. (pixels : List ℕ) → SpellsRow pixels line) }
     {
         Ok(Line {
             start: 0,
@@ -36,8 +36,8 @@ impl Line {
     pub(crate) fn spell(&mut self, pixels: &[u8], start: usize, wide: usize)
         requires wide { wide ≤ 1024 }
         requires within { start + wide ≤ length pixels.now }
-        requires line { IsLine pixels.now self.old }
-        ensures line { IsLine pixels.now self.new }
+        requires line { SpellsRow pixels.now self.old }
+        ensures line { SpellsRow pixels.now self.new }
         ensures text { take (2 * wide + 1) self.new.text.items
             ≡ row_text (slice_range pixels.now start (start + wide)) }
     {
@@ -62,7 +62,7 @@ fn spell_row(row: &[u8], text: &mut [u8])
 
 /// Lines of no pixels.
 pub(crate) fn no_lines(alloc: Global) -> Result<Vec<Line>, NoMemory>
-    ensures lines { IfOk result (λ lines. (pixels : List ℕ) → All (IsLine pixels) lines.items) }
+    ensures lines { IfOk result (λ lines. (pixels : List ℕ) → All (SpellsRow pixels) lines.items) }
     ensures count { IfOk result (λ lines. vec_len lines ≡ LINES) }
 {
     let mut lines = Vec::with_capacity(alloc, LINES)?;

@@ -3,7 +3,7 @@ ghost use Rattle.std.specs.Prelude.{◌≡◌, ℕ, ◌+◌, ◌*◌, ◌<◌, �
 ghost use Rattle.std.specs.Prelude.{All, IfSome, length, vec_len, vec_capacity};
 ghost use Rattle.std.specs.List.{flat_map};
 ghost use Rattle.tr_output.specs.Texts.{row_text};
-ghost use Rattle.tr_output.specs.Pieces.{IsKeptAt, IsWithin, piece_text, pieces_text};
+ghost use Rattle.tr_output.specs.Pieces.{IsKeptAt, IsPieceWithin, piece_text, pieces_text};
 
 use tr_kernel::first_difference;
 use tr_screen::Screen;
@@ -74,10 +74,10 @@ fn push_row(pieces: &mut Vec<Piece>, pixels: &mut Vec<u8>, dumps: &Dumps, row: &
     requires wide { length row.now ≤ 1024 }
     requires room { vec_len pieces.old < vec_capacity pieces.old }
     requires pixels { vec_len pixels.old + length row.now ≤ vec_capacity pixels.old }
-    requires within { All (IsWithin (length pixels.old.items)) pieces.old.items }
+    requires within { All (IsPieceWithin (length pixels.old.items)) pieces.old.items }
     ensures text { pieces_text pixels.new.items pieces.new.items
         ≡ pieces_text pixels.old.items pieces.old.items ++ row_text row.now }
-    ensures within { All (IsWithin (length pixels.new.items)) pieces.new.items }
+    ensures within { All (IsPieceWithin (length pixels.new.items)) pieces.new.items }
     ensures count { vec_len pieces.new ≡ vec_len pieces.old + 1 }
     ensures room { vec_capacity pieces.new ≡ vec_capacity pieces.old }
     ensures pixels { (vec_len pixels.new ≤ vec_len pixels.old + length row.now)
@@ -103,10 +103,10 @@ pub(crate) fn push_rows(
     requires pieces { vec_len pieces.old + screen.now.size.high ≤ vec_capacity pieces.old }
     requires pixels { vec_len pixels.old + screen.now.size.high * screen.now.size.wide
         ≤ vec_capacity pixels.old }
-    requires within { All (IsWithin (length pixels.old.items)) pieces.old.items }
+    requires within { All (IsPieceWithin (length pixels.old.items)) pieces.old.items }
     ensures text { pieces_text pixels.new.items pieces.new.items
         ≡ pieces_text pixels.old.items pieces.old.items ++ flat_map row_text screen.now.rows }
-    ensures within { All (IsWithin (length pixels.new.items)) pieces.new.items }
+    ensures within { All (IsPieceWithin (length pixels.new.items)) pieces.new.items }
 {
     for v in 0..screen.size().high {
         push_row(pieces, pixels, dumps, screen.row(v));
@@ -115,7 +115,7 @@ pub(crate) fn push_rows(
 
 /// The number of bytes of a piece's text.
 fn len_of(piece: &Piece, many: usize) -> usize
-    requires { IsWithin many piece.now }
+    requires { IsPieceWithin many piece.now }
     ensures { (pixels : List ℕ) → length pixels ≡ many → result ≡ length (piece_text pixels piece.now) }
 {
     match piece {
@@ -126,7 +126,7 @@ fn len_of(piece: &Piece, many: usize) -> usize
 
 /// The number of bytes of the text of pieces over this many pixels, at most 2^64 - 1.
 pub(crate) fn len_of_all(pieces: &[Piece], many: usize) -> usize
-    requires { All (IsWithin many) pieces.now }
+    requires { All (IsPieceWithin many) pieces.now }
     ensures { (pixels : List ℕ) → length pixels ≡ many →
         result ≡ min (length (pieces_text pixels pieces.now)) usize.MAX }
 {

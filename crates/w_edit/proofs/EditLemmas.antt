@@ -9,7 +9,7 @@ use Rattle.tr_paint.specs.declared.Paint.{Paint}
 use Rattle.w_edit.specs.declared.changes.Edit.{Edit}
 use Rattle.w_edit.specs.declared.changes.Edit.TheVariants.{Line, Joined, Broken}
 use Rattle.w_edit.specs.Contents.{Contents, below, with_lines}
-use Rattle.w_edit.specs.Edits.{IsEditOf, edited}
+use Rattle.w_edit.specs.Edits.{IsEditOf, edited_contents}
 
 -- the last line of those that stand before others is another
 pub last_set : (xs rest : List (List ℕ)) (n : ℕ) (line : List ℕ) → n < length xs →
@@ -33,26 +33,26 @@ last_set xs rest n line within =
 
 -- the caret's line is another
 pub line_made : (x y : Contents) (edit : Edit) (line : List ℕ) (column : ℕ) → x ≡ y → edit ≡ Line line column →
-    x.row < length x.lines → with_lines x (set x.lines x.row line) x.row column ≡ edited y edit
+    x.row < length x.lines → with_lines x (set x.lines x.row line) x.row column ≡ edited_contents y edit
 line_made x y edit line column same is within =
     ap (λ (lines : List (List ℕ)). with_lines x lines x.row column)
     (ap (λ (lines : List (List ℕ)). set lines x.row line) (sym (take-append-drop (x.row + 1) x.lines))
     ∙ last_set x.lines (below x) x.row line within)
-    ∙ ap (λ (z : Contents). edited z (Line line column)) same
-    ∙ ap (λ (e : Edit). edited y e) (sym is)
+    ∙ ap (λ (z : Contents). edited_contents z (Line line column)) same
+    ∙ ap (λ (e : Edit). edited_contents y e) (sym is)
 
 -- the caret's line is gone, and the one above it is another
 pub joined_made : (x y : Contents) (edit : Edit) (rest : List (List ℕ)) (line : List ℕ) (column : ℕ) →
     x ≡ y → edit ≡ Joined line column → IsEditOf y edit → x.row < length x.lines →
     rest ≡ take x.row x.lines ++ drop (x.row + 1) x.lines →
-    with_lines x (set rest (x.row - 1) line) (x.row - 1) column ≡ edited y edit
+    with_lines x (set rest (x.row - 1) line) (x.row - 1) column ≡ edited_contents y edit
 joined_made x y edit rest line column same is can within gone =
     ap (λ (lines : List (List ℕ)). with_lines x lines (x.row - 1) column)
     (ap (λ (lines : List (List ℕ)). set lines (x.row - 1) line)
     (gone ∙ ap (λ (n : ℕ). take n x.lines ++ below x) (omega (arith, some)))
     ∙ last_set x.lines (below x) (x.row - 1) line (omega (arith, within)))
-    ∙ ap (λ (z : Contents). edited z (Joined line column)) same
-    ∙ ap (λ (e : Edit). edited y e) (sym is)
+    ∙ ap (λ (z : Contents). edited_contents z (Joined line column)) same
+    ∙ ap (λ (e : Edit). edited_contents y e) (sym is)
   where
     later : 0 < y.row
     later = subst (λ (e : Edit). IsEditOf y e) is can
@@ -63,12 +63,12 @@ joined_made x y edit rest line column same is can within gone =
 -- one line is behind the caret's, and the caret's is another
 pub broken_made : (x y : Contents) (edit : Edit) (more : List (List ℕ)) (front back : List ℕ) →
     x ≡ y → edit ≡ Broken front back → x.row < length x.lines → more ≡ insert x.lines (x.row + 1) back →
-    with_lines x (set more x.row front) (x.row + 1) 0 ≡ edited y edit
+    with_lines x (set more x.row front) (x.row + 1) 0 ≡ edited_contents y edit
 broken_made x y edit more front back same is within come =
     ap (λ (lines : List (List ℕ)). with_lines x lines (x.row + 1) 0)
     (ap (λ (lines : List (List ℕ)). set lines x.row front) come ∙ last_set x.lines (back ∷ below x) x.row front within)
-    ∙ ap (λ (z : Contents). edited z (Broken front back)) same
-    ∙ ap (λ (e : Edit). edited y e) (sym is)
+    ∙ ap (λ (z : Contents). edited_contents z (Broken front back)) same
+    ∙ ap (λ (e : Edit). edited_contents y e) (sym is)
 
 -- commands stay at the front of a batch that grows, where those that it has then stay at the front of more
 pub front_stays : (old mid new more : List Paint) → mid ≡ old ++ more → take (length mid) new ≡ mid → take (length old) new ≡ old

@@ -92,7 +92,8 @@ makes-rewritten look size x y q here some same others =
     put-run look size y (caret_strip size y) (with_caret look size x) q here ∙ by_test (strip_of q == caret_strip size y) refl
   where
     by_test : (b : Bool) → (strip_of q == caret_strip size y) ≡ b →
-        cond b (line_colour look (caret_strip size y) (line_for size y (caret_strip size y)) q) (with_caret look size x q) ≡ bare look size y q
+        cond b (line_colour look (caret_strip size y) (line_for size y (caret_strip size y)) q) (with_caret look size x q)
+        ≡ bare look size y q
     by_test true is = put-bare look size y (caret_strip size y) q (caret-shown size y some) is
     by_test false apart =
         turned-other x.column (caret_strip size x) q (bare look size x q) (rows-from size q here)

@@ -107,7 +107,8 @@ is_lowered size x is same = record {
 }
 
 -- two lines were joined
-is_raised : (size : Size) (x : Contents) → IsContents x → 0 < x.row → top size (joined_above x) ≡ top size x → IsRaised size x (joined_above x)
+is_raised : (size : Size) (x : Contents) → IsContents x → 0 < x.row → top size (joined_above x) ≡ top size x →
+    IsRaised size x (joined_above x)
 is_raised size x is some same = record {
   next = let first = top-row size (joined_above x) in omega arith;
   over = λ k less.
@@ -147,7 +148,8 @@ leads-joined look size x is some row = by_test (top size (joined_above x) == top
         (let i = caret_strip size (joined_above x) in
         let last = room size - 1 in
         LeadsByCommand look size x (joined_above x)
-        (cond b (raised size (i + 1) last ∷ put size (joined_above x) last ++ put size (joined_above x) i) (whole_painting size (joined_above x))))
+        (cond b (raised size (i + 1) last ∷ put size (joined_above x) last ++ put size (joined_above x) i)
+        (whole_painting size (joined_above x))))
     by_test true same =
         let first : top size (joined_above x) ≡ top size x = eqb-true (top size (joined_above x)) (top size x) same in
         with_mark look size x (joined_above x)
@@ -172,7 +174,8 @@ leads-broken look size x is some = by_test (top size (broken x) == top size x) r
         (λ q here. makes-broken look size x (broken x) q here some (is_lowered size x is first))
     by_test false other = leads-repainted look size x (broken x)
 
-leads-moved : (look : Look) (size : Size) (x y : Contents) → 0 < room size → x.lines ≡ y.lines → LeadsByCommand look size x y (caret_moved size x y)
+leads-moved : (look : Look) (size : Size) (x y : Contents) → 0 < room size → x.lines ≡ y.lines →
+    LeadsByCommand look size x y (caret_moved size x y)
 leads-moved look size x y some lines =
     by_tests (top size y == top size x) (top size y == top size x + 1) (top size x == top size y + 1) refl refl refl
   where
@@ -227,7 +230,8 @@ editor_patches look size x cmd is known small = by_tests (room size == 0) (is_co
     same-copy Paste a q copy = cc
 
     by_tests : (z c a : Bool) → (room size == 0) ≡ z → is_copy cmd ≡ c → acts x cmd ≡ a →
-        IsPatch look size (cond (z || c || not a) [] (batch_of (patch_without_mark size x (effect x cmd) cmd ++ mark size (effect x cmd) ∷ [])))
+        IsPatch look size (cond (z || c || not a) [] (batch_of
+        (patch_without_mark size x (effect x cmd) cmd ++ mark size (effect x cmd) ∷ [])))
         (λ q. cond z 0 (with_caret look size x q)) (λ q. cond z 0 (with_caret look size (cond a (effect x cmd) x) q))
     by_tests true c a none copy does = no_patch look size _ _ (λ q here. refl)
     by_tests false true a some copy does = no_patch look size _ _ (λ q here. same-copy cmd a q copy)
@@ -266,7 +270,8 @@ no-repainted size y flat none =
     both_none (Tint (whole_of size) Bg ∷ []) (map (written size y) (range_with_len 0 (length (shown_lines size y)))) (rw none refl)
     (no-lines size y (range_with_len 0 (length (shown_lines size y))) flat)
 
-no-painted : (size : Size) (x y : Contents) (cmd : EditorCmd) → size.wide ≡ 0 → whole_of size ≡ empty_rect → AreNone (patch_without_mark size x y cmd)
+no-painted : (size : Size) (x y : Contents) (cmd : EditorCmd) → size.wide ≡ 0 → whole_of size ≡ empty_rect →
+    AreNone (patch_without_mark size x y cmd)
 no-painted size x y (Insert text) flat none = no-put size y (caret_strip size y) flat
 no-painted size x y Erase flat none = by_tests (x.column == 0) (top size y == top size x)
   where
@@ -374,7 +379,8 @@ editor_keeping look from to x is small small' =
         Survives (cond (t && n) (meet_of (whole_of from) (whole_of to)) empty_rect) from to (editor_pic look from x) (editor_pic look to x)
     by_tests true true first count =
         survives-meet from to (editor_pic look from x) (editor_pic look to x)
-        (λ q h k. same_colour (eqb-true (top from x) (top to x) first) (eqb-true (length (shown_lines from x)) (length (shown_lines to x)) count) q
+        (λ q h k. same_colour (eqb-true (top from x) (top to x) first)
+        (eqb-true (length (shown_lines from x)) (length (shown_lines to x)) count) q
         (room from == 0) (room to == 0) refl refl)
     by_tests true false first count = survives-nothing from to (editor_pic look from x) (editor_pic look to x)
     by_tests false n first count = survives-nothing from to (editor_pic look from x) (editor_pic look to x)

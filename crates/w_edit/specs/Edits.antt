@@ -6,12 +6,12 @@ use Rattle.w_edit.specs.declared.changes.Edit.TheVariants.{Line, Joined, Broken,
 use Rattle.w_edit.specs.Contents.{Contents, above, below, with_lines}
 
 -- the content after an edit
-abbrev pub edited : Contents → Edit → Contents
-edited x (Line line column) = with_lines x (above x ++ line ∷ below x) x.row column
-edited x (Joined line column) = with_lines x (take (x.row - 1) x.lines ++ line ∷ below x) (x.row - 1) column
-edited x (Broken front back) = with_lines x (above x ++ front ∷ back ∷ below x) (x.row + 1) 0
-edited x (Caret row column) = with_lines x x.lines row column
-edited x (Clip text) = record { lines = x.lines; row = x.row; column = x.column; clip = text }
+abbrev pub edited_contents : Contents → Edit → Contents
+edited_contents x (Line line column) = with_lines x (above x ++ line ∷ below x) x.row column
+edited_contents x (Joined line column) = with_lines x (take (x.row - 1) x.lines ++ line ∷ below x) (x.row - 1) column
+edited_contents x (Broken front back) = with_lines x (above x ++ front ∷ back ∷ below x) (x.row + 1) 0
+edited_contents x (Caret row column) = with_lines x x.lines row column
+edited_contents x (Clip text) = record { lines = x.lines; row = x.row; column = x.column; clip = text }
 
 -- lines are joined only if there is a line above the caret's
 abbrev pub IsEditOf : Contents → Edit → Type 0
@@ -19,5 +19,5 @@ IsEditOf x (Joined line column) = 0 < x.row
 IsEditOf x edit = Unit {0}
 
 -- an edit of one content makes another one
-abbrev pub Makes : Contents → Edit → Contents → Type 0
-Makes x edit y = IsEditOf x edit × (edited x edit ≡ y)
+abbrev pub MakesContents : Contents → Edit → Contents → Type 0
+MakesContents x edit y = IsEditOf x edit × (edited_contents x edit ≡ y)

@@ -190,7 +190,8 @@ no_feed line is = All-weaker (λ c. is_printable c ≡ true) (λ c. (c == feed) 
 lines-back : (over : List (List ℕ)) (last : List ℕ) → All IsLine over → IsLine last → split_lines (ended over ++ last) ≡ over ++ last ∷ []
 lines-back [] last all is = slice_split_none (λ b. b == feed) last (no_feed last is)
 lines-back (first ∷ over) last all is =
-    ap (λ bytes. split_lines bytes) (append_assoc (first ++ feed ∷ []) (ended over) last ∙ append_assoc first (feed ∷ []) (ended over ++ last))
+    ap (λ bytes. split_lines bytes)
+    (append_assoc (first ++ feed ∷ []) (ended over) last ∙ append_assoc first (feed ∷ []) (ended over ++ last))
     ∙ slice_split_at (λ b. b == feed) first feed (ended over ++ last) (no_feed first (All-head IsLine first over all)) refl
     ∙ ap (λ (lines : List (List ℕ)). first ∷ lines) (lines-back over last (All-tail IsLine first over all) is)
 

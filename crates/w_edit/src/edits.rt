@@ -3,7 +3,7 @@ ghost use Rattle.tr_base.specs.Lines.{IsLine};
 ghost use Rattle.tr_paint.specs.Traces.{Look};
 ghost use Rattle.tr_client.specs.Laws.{IsWindowSize};
 ghost use Rattle.w_edit.specs.Contents as spec;
-ghost use Rattle.w_edit.specs.Edits.{IsEditOf, Makes, edited};
+ghost use Rattle.w_edit.specs.Edits.{IsEditOf, MakesContents, edited_contents};
 ghost use Rattle.w_edit.specs.Flat.{flat_text, flat_next};
 ghost use Rattle.w_edit.specs.Pictures.{editor_patch};
 
@@ -97,8 +97,8 @@ impl Editor {
     /// The change that an effective command makes.
     fn edit(&self, alloc: Global, cmd: &EditorCmd) -> Result<Edit, NoMemory>
         requires { spec.acts self.now cmd.now ≡ true }
-        ensures made { IfOk result (λ edit. Makes self.now edit (spec.effect self.now cmd.now)) }
-        ensures contents { IfOk result (λ edit. spec.IsContents (edited self.now edit)) }
+        ensures made { IfOk result (λ edit. MakesContents self.now edit (spec.effect self.now cmd.now)) }
+        ensures contents { IfOk result (λ edit. spec.IsContents (edited_contents self.now edit)) }
     {
         self.invariant();
         cmd.known();
@@ -116,7 +116,7 @@ impl Editor {
     /// Puts bytes at the caret.
     fn inserted(&self, alloc: Global, text: &Line) -> Result<Edit, NoMemory>
         requires { spec.fits self.now text.now ≡ true }
-        ensures { IfOk result (λ edit. Makes self.now edit (spec.inserted self.now text.now)) }
+        ensures { IfOk result (λ edit. MakesContents self.now edit (spec.inserted self.now text.now)) }
     {
         let bytes = text.bytes();
         let front = line_in_a_row(alloc, self.before(), bytes)?;
@@ -129,7 +129,7 @@ impl Editor {
     /// Removes the byte before the caret.
     fn erased(&self, alloc: Global) -> Result<Edit, NoMemory>
         requires { 0 < self.now.column }
-        ensures { IfOk result (λ edit. Makes self.now edit (spec.erased self.now)) }
+        ensures { IfOk result (λ edit. MakesContents self.now edit (spec.erased self.now)) }
     {
         let column = self.column - 1;
         Ok(Edit::Line {
@@ -141,7 +141,7 @@ impl Editor {
     /// Joins the caret's line to the one above it.
     fn joined(&self, alloc: Global) -> Result<Edit, NoMemory>
         requires { spec.can_join self.now ≡ true }
-        ensures { IfOk result (λ edit. Makes self.now edit (spec.joined_above self.now)) }
+        ensures { IfOk result (λ edit. MakesContents self.now edit (spec.joined_above self.now)) }
     {
         let upper = self.upper().bytes();
         Ok(Edit::Joined {
@@ -152,7 +152,7 @@ impl Editor {
 
     /// Breaks the line at the caret.
     fn broken(&self, alloc: Global) -> Result<Edit, NoMemory>
-        ensures { IfOk result (λ edit. Makes self.now edit (spec.broken self.now)) }
+        ensures { IfOk result (λ edit. MakesContents self.now edit (spec.broken self.now)) }
     {
         Ok(Edit::Broken {
             front: Line::of(alloc, self.before())?,
@@ -162,7 +162,7 @@ impl Editor {
 
     /// Moves the caret.
     fn moved(&self, row: &RowNumber, column: &ColumnNumber) -> Edit
-        ensures { Makes self.now result (spec.caret_to self.now row.now column.now) }
+        ensures { MakesContents self.now result (spec.caret_to self.now row.now column.now) }
     {
         let (row, column) = self.nearest(row, column);
         Edit::Caret { row, column }
@@ -175,7 +175,7 @@ impl Editor {
         from: &ColumnNumber,
         to: &ColumnNumber,
     ) -> Result<Edit, NoMemory>
-        ensures { IfOk result (λ edit. Makes self.now edit (spec.copied self.now from.now to.now)) }
+        ensures { IfOk result (λ edit. MakesContents self.now edit (spec.copied self.now from.now to.now)) }
     {
         let (from, to) = (usize::from(from.number()), usize::from(to.number()));
         Ok(Edit::Clip(part(alloc, self.line().bytes(), from, to)?))
@@ -184,8 +184,8 @@ impl Editor {
     /// Makes an edit. If memory runs out, nothing changes.
     fn make(&mut self, edit: Edit) -> Result<(), NoMemory>
         requires edit { IsEditOf self.old edit }
-        requires contents { spec.IsContents (edited self.old edit) }
-        ensures ok { OnOk result (self.new ≡ edited self.old edit) }
+        requires contents { spec.IsContents (edited_contents self.old edit) }
+        ensures ok { OnOk result (self.new ≡ edited_contents self.old edit) }
         ensures err { OnErr result (self.new ≡ self.old) }
     {
         let row = self.row;

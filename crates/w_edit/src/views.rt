@@ -1,6 +1,6 @@
 ghost use Rattle.std.specs.Prelude.{◌≡◌, ◌≤◌, ◌<◌, ◌++◌, length, take, IfOk};
 ghost use Rattle.w_edit.specs.Contents as spec;
-ghost use Rattle.w_edit.specs.Edits.{IsEditOf, edited};
+ghost use Rattle.w_edit.specs.Edits.{IsEditOf, edited_contents};
 
 use crate::changes::Edit;
 use crate::editors::{Editor, MOST_LINES};
@@ -112,8 +112,8 @@ impl Editor {
     /// The content as an edit makes it.
     pub(crate) fn view_after<'a>(&'a self, edit: &'a Edit) -> View<'a>
         requires edit { IsEditOf self.now edit.now }
-        requires contents { spec.IsContents (edited self.now edit.now) }
-        ensures { result ≡ edited self.now edit.now }
+        requires contents { spec.IsContents (edited_contents self.now edit.now) }
+        ensures { result ≡ edited_contents self.now edit.now }
     {
         match edit {
             Edit::Line { line, column } => {
@@ -148,8 +148,8 @@ impl Editor {
         requires from { from ≤ length self.now.lines }
         requires contents { spec.IsContents (spec.with_lines self.now
             (take from self.now.lines ++ (new.0.now ++ (new.1.now ++ spec.below self.now))) row column) }
-        ensures { result ≡ spec.with_lines self.now
-            (take from self.now.lines ++ (new.entry.0.now ++ (new.entry.1.now ++ spec.below self.now))) row column }
+        ensures { result ≡ spec.with_lines self.now (take from self.now.lines
+            ++ (new.entry.0.now ++ (new.entry.1.now ++ spec.below self.now))) row column }
     {
         View {
             above: &self.lines[..from],

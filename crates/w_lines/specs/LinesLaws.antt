@@ -118,13 +118,15 @@ shown_more n lines line fits =
     ∙ last_of-all n (lines ++ line ∷ []) (omega (arith, length-append lines (line ∷ [])))
 
 -- a window without room shows it below the others without the first
-shown_full : (n : ℕ) (lines : List (List ℕ)) (line : List ℕ) → 0 < n → min n most_kept_lines ≤ length lines → length lines ≤ most_kept_lines →
+shown_full : (n : ℕ) (lines : List (List ℕ)) (line : List ℕ) → 0 < n → min n most_kept_lines ≤ length lines →
+    length lines ≤ most_kept_lines →
     newest_lines n (newest_lines most_kept_lines (lines ++ line ∷ [])) ≡ drop 1 (newest_lines n lines) ++ line ∷ []
 shown_full n lines line some full few =
     let all = lines ++ line ∷ [] in
     let more = length-append lines (line ∷ []) in
     let rest = length-drop (length all - most_kept_lines) all in
-    let at : length all - most_kept_lines + (length (newest_lines most_kept_lines all) - n) ≡ length lines - n + 1 = omega (arith, more, rest) in
+    let at : length all - most_kept_lines + (length (newest_lines most_kept_lines all) - n) ≡ length lines - n + 1
+    = omega (arith, more, rest) in
     drop-drop (length (newest_lines most_kept_lines all) - n) (length all - most_kept_lines) all
     ∙ ap (λ i. drop i all) at
     ∙ drop-append-le (length lines - n + 1) lines (line ∷ []) (omega arith)
@@ -158,7 +160,8 @@ line_patches look size x line valid = by_tests (most_shown size == 0) (nat_lt (l
 
     by_tests : (none fits : Bool) → (most_shown size == 0) ≡ none → nat_lt (length x) (most_shown size) ≡ fits →
         IsPatch look size (cond none [] (cond fits (written_below size (length x) line) (moved_up size (most_shown size) line)))
-        (colour_in look (newest_lines (room size) x)) (colour_in look (newest_lines (room size) (newest_lines most_kept_lines (x ++ line ∷ []))))
+        (colour_in look (newest_lines (room size) x))
+        (colour_in look (newest_lines (room size) (newest_lines most_kept_lines (x ++ line ∷ []))))
     by_tests true fits is fit =
         let zero : most_shown size ≡ 0 = eqb-true (most_shown size) 0 is in
         let no_room : room size ≡ 0 = omega arith in
