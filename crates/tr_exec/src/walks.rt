@@ -101,7 +101,7 @@ fn paint_single<B: Brush>(screen: &mut Screen, band: &Band<'_>, rect: Rect, brus
     if let Some(pixel) = filling_of_rows(brush, &rect, wide) {
         screen.fill_rows(band.north, band.south, pixel);
     } else {
-        // In a copy the compiler computes the columns once, and not for each row.
+        // This call has exactly one rectangle, whose columns are the same in each row.
         paint_rows(screen, band, &[rect], brush);
     }
 }

@@ -92,9 +92,8 @@ impl Steps {
         }
     }
 
-    /// The new values of 16 pixels. A pixel's bit is set if its byte of `bits` isn't 0. The compiler
-    /// moves the parts that don't depend on the pixels out of a loop that calls this, since there is no
-    /// branch: `EXCHANGES` is known at compile time.
+    /// The new values of 16 pixels. A pixel's bit is set if its byte of `bits` isn't 0. It has no branch:
+    /// `EXCHANGES` is a constant.
     #[inline(always)]
     pub fn lanes<const EXCHANGES: bool>(self, old: u8x16, bits: u8x16) -> u8x16
         requires { OnFalse EXCHANGES (AreStill self) }

@@ -128,7 +128,7 @@ fn paint<P: Pattern>(row: &mut [u8], steps: Steps, pattern: &P)
     if steps.exchange() {
         paint_by::<P, true>(row, steps, pattern);
     } else if steps.overwrite() {
-        // The same steps, but the compiler sees that they don't read the row.
+        // The same steps, written so that they don't read the row.
         paint_by::<P, false>(row, steps.overwriting(), pattern);
     } else {
         paint_by::<P, false>(row, steps, pattern);

@@ -25,8 +25,7 @@ impl Operation {
     }
 }
 
-/// An operation as a type. It serves the compiler: generic code is compiled once for each operation,
-/// without the branches that the operation never takes.
+/// An operation as a type, so that generic code has it as a constant.
 pub trait Known {
     ghost use Rattle.tr_region.specs.declared.operations.Operation.{Operation};
 
