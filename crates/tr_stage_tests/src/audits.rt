@@ -5,7 +5,7 @@ use super::played::Played;
 use super::runs::*;
 use std::process::Abort;
 use tr_base::Size;
-use tr_journal::{Actor, Apart, Difference, Step};
+use tr_journal::{Actor, Apart, Difference};
 use tr_widget::WidgetCmd;
 use w_plain::SolidCmd;
 

@@ -9,7 +9,6 @@ ghost use Rattle.tr_stage.specs.Stages as spec;
 use super::acts::By;
 use super::ends::made;
 use super::openings::{Part, Sample, opening_of};
-use super::traces::same_commands;
 use std::process::Abort;
 use tr_base::{Env, Event, LeafId, Line, NoMemory, Point, Selection, Size, whole};
 use tr_book::Book;
@@ -19,7 +18,6 @@ use tr_journal::{
     is_step, may,
 };
 use tr_levels::{Held, Level};
-use tr_paint::Batch;
 use tr_sketch::{Sketch, fits_screen};
 use tr_stage::{Peek, Stage, is_reservable};
 
@@ -215,12 +213,6 @@ pub fn row<'a, C: Client>(rt: &impl Abort, stage: &'a Stage<C>, v: u16) -> &'a [
     screen.row(v)
 }
 
-pub fn pixel<C: Client>(rt: &impl Abort, stage: &Stage<C>, p: Point) -> u8 {
-    let screen = stage.screen();
-    assert!(rt; whole(screen.size()).has(p));
-    screen.at(p)
-}
-
 pub fn entries<C: Client>(stage: &Stage<C>) -> usize {
     stage.journal().len()
 }
@@ -269,16 +261,6 @@ pub fn commands<C: Client>(rt: &impl Abort, stage: &Stage<C>, leaf: LeafId) -> u
     stage.batch(leaf).len()
 }
 
-pub fn has_commands<C: Client>(
-    rt: &impl Abort,
-    stage: &Stage<C>,
-    leaf: LeafId,
-    batch: &Batch,
-) -> bool {
-    allow_leaf(rt, stage, leaf);
-    same_commands(stage.batch(leaf), batch)
-}
-
 pub fn leaf_size<C: Client>(rt: &impl Abort, stage: &Stage<C>, leaf: LeafId) -> Size {
     allow_leaf(rt, stage, leaf);
     stage.leaf_size(leaf)
@@ -305,12 +287,4 @@ pub fn cursor<C: Client>(stage: &Stage<C>) -> Point {
 
 pub fn owner<C: Client>(stage: &Stage<C>, selection: Selection) -> Option<LeafId> {
     stage.desk().owner(selection)
-}
-
-pub fn time<C: Client>(stage: &Stage<C>) -> u32 {
-    stage.desk().time()
-}
-
-pub fn focus<C: Client>(stage: &Stage<C>) -> Option<LeafId> {
-    stage.desk().focus()
 }

@@ -1,5 +1,5 @@
-//! Tests of the stage: random runs against a slow model, and calls that no script makes. Nothing but tests
-//! is in here: what steps make of the screen, and what they send, is tried by scripts.
+//! Tests of the stage: calls that no script makes. Nothing but tests is in here: scripts try what steps make
+//! of the screen, and what they send.
 #![tactic(auto)]
 
 #[cfg(test)]
@@ -8,8 +8,6 @@ mod acts;
 mod audits;
 #[cfg(test)]
 mod calls;
-#[cfg(test)]
-mod draws;
 #[cfg(test)]
 mod ends;
 #[cfg(test)]
@@ -28,11 +26,3 @@ mod runs;
 mod shares;
 #[cfg(test)]
 mod sizes;
-#[cfg(test)]
-mod slow;
-#[cfg(test)]
-mod traces;
-#[cfg(test)]
-mod trials;
-#[cfg(test)]
-mod ways;

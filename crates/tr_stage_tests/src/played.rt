@@ -5,7 +5,6 @@ use super::openings::Part;
 use std::process::Abort;
 use tr_base::{Event, LeafId, Line, NoMemory, Point, Selection, Size};
 use tr_journal::{Delivery, Difference, Entry, Reply, Step};
-use tr_paint::Batch;
 use tr_stage::{Peek, Stage};
 use tr_widget::{Widget, WidgetCmd};
 
@@ -64,9 +63,6 @@ pub trait Played: Sized + Drop {
     /// A row of the screen.
     fn row(&self, rt: &impl Abort, v: u16) -> &[u8];
 
-    /// The pixel at a point of the screen.
-    fn pixel(&self, rt: &impl Abort, p: Point) -> u8;
-
     /// How many entries the journal has.
     fn entries(&self) -> usize;
 
@@ -91,9 +87,6 @@ pub trait Played: Sized + Drop {
     /// How many paint commands wait for a leaf.
     fn commands(&self, rt: &impl Abort, leaf: LeafId) -> usize;
 
-    /// Whether these commands wait for a leaf.
-    fn has_commands(&self, rt: &impl Abort, leaf: LeafId, batch: &Batch) -> bool;
-
     /// The size of a leaf's window.
     fn leaf_size(&self, rt: &impl Abort, leaf: LeafId) -> Size;
 
@@ -111,12 +104,6 @@ pub trait Played: Sized + Drop {
 
     /// Who owns a selection.
     fn owner(&self, selection: Selection) -> Option<LeafId>;
-
-    /// The present time.
-    fn time(&self) -> u32;
-
-    /// Which leaf has the mouse.
-    fn focus(&self) -> Option<LeafId>;
 }
 
 /// Each is one call, of a function without conditions: so the proof needn't write the laws out.
@@ -187,10 +174,6 @@ impl Played for Stage<Widget> {
         calls::row(rt, self, v)
     }
 
-    fn pixel(&self, rt: &impl Abort, p: Point) -> u8 {
-        calls::pixel(rt, self, p)
-    }
-
     fn entries(&self) -> usize {
         calls::entries(self)
     }
@@ -223,10 +206,6 @@ impl Played for Stage<Widget> {
         calls::commands(rt, self, leaf)
     }
 
-    fn has_commands(&self, rt: &impl Abort, leaf: LeafId, batch: &Batch) -> bool {
-        calls::has_commands(rt, self, leaf, batch)
-    }
-
     fn leaf_size(&self, rt: &impl Abort, leaf: LeafId) -> Size {
         calls::leaf_size(rt, self, leaf)
     }
@@ -249,13 +228,5 @@ impl Played for Stage<Widget> {
 
     fn owner(&self, selection: Selection) -> Option<LeafId> {
         calls::owner(self, selection)
-    }
-
-    fn time(&self) -> u32 {
-        calls::time(self)
-    }
-
-    fn focus(&self) -> Option<LeafId> {
-        calls::focus(self)
     }
 }

@@ -6,7 +6,7 @@ use super::runs::*;
 use std::process::Abort;
 use tr_base::{Click, Event, NodeId, Point, Rect, Selection, Size};
 use tr_cage::Cage;
-use tr_forest::{Edit, NodeKind};
+use tr_forest::Edit;
 use tr_journal::{Answer, Query};
 use tr_widget::WidgetCmd;
 use w_plain::SolidCmd;
@@ -33,7 +33,7 @@ fn clicked(time: u32, click: Click, button: u8, h: i32) -> Event {
 fn label_and_solid<P: Played>(rt: &(impl Abort + AllocGlobal)) -> P {
     let parts = [
         Part::Glyph,
-        Part::Node(NodeKind::H, 0),
+        Part::Row(0),
         Part::Leaf([1; 3], [1; 3], Shown::Label),
         Part::Leaf([1; 3], [1; 3], Shown::Solid(2)),
         Part::Put(1, 0, 0, 0),

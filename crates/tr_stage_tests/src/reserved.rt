@@ -5,13 +5,12 @@ use super::played::Played;
 use super::runs::*;
 use std::process::Abort;
 use tr_base::Size;
-use tr_forest::NodeKind;
 
 /// The stage of two windows of two points each, side by side, on a screen of one row. What they leave is the
 /// frame of node 0.
 pub fn two_beside<P: Played>(rt: &(impl Abort + AllocGlobal), wide: u16) -> P {
     let parts = [
-        Part::Node(NodeKind::H, 0),
+        Part::Row(0),
         Part::Leaf([2; 3], [1; 3], Shown::Solid(1)),
         Part::Leaf([2; 3], [1; 3], Shown::Solid(2)),
         Part::Put(1, 0, 0, 0),
