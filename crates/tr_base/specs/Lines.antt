@@ -1,5 +1,5 @@
 -- Short texts, each painted in one line.
-use Rattle.std.specs.Prelude.{◌≡◌, ℕ, ◌-◌, ◌≤◌, ◌&&◌, nat_le, Bool, List, ◌++◌, length, take, replicate}
+use Rattle.std.specs.Prelude.{ℕ, ◌≤◌, ◌&&◌, nat_le, Bool, List, length}
 use Rattle.std.specs.List.{AllPass}
 
 -- a byte that may occur in a text: 32 to 126
@@ -10,12 +10,3 @@ is_printable c = nat_le 32 c && nat_le c 126
 pub record IsLine (text : List ℕ) : Type 0 where
   pub short : length text ≤ 80
   pub printable : AllPass is_printable text
-
--- the 80 bytes in which a text is kept: its own bytes, and zeros after them
-abbrev pub padded : List ℕ → List ℕ
-padded text = text ++ replicate (80 - length text) 0
-
--- the first n of the bytes are a text
-pub record KeepsLine (bytes : List ℕ) (n : ℕ) : Type 0 where
-  pub line : IsLine (take n bytes)
-  pub count : n ≡ length (take n bytes)

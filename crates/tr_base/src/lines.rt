@@ -1,15 +1,20 @@
 ghost use Rattle.std.specs.Prelude.{◌≡◌, ◌≤◌, ◌↔◌, length, IsTrue, IfOk};
 ghost use Rattle.std.specs.List.{AllPass};
+ghost use Rattle.tr_base.specs.Kept.{CountFits, Keeps, text_of};
+ghost use Rattle.tr_base.specs.Kept as spec;
 ghost use Rattle.tr_base.specs.Lines.{IsLine, is_printable};
-ghost use Rattle.tr_base.specs.Lines as spec;
 
 use crate::errors::NoMemory;
 use std::alloc::Global;
 use std::marker::Model;
+use std::mem::size_of;
 use std::sync::Arc;
 
 /// The most bytes in a line.
 pub const LINE: usize = 80;
+
+/// The most bytes in a short text, which takes one small block of memory.
+const SHORT: usize = 46;
 
 /// A text of at most 80 bytes, each 32 to 126; its model is their list. Its copies share the bytes, so
 /// a copy takes no memory.
@@ -18,23 +23,30 @@ pub struct Line {
     kept: Arc<Kept>,
 }
 
-/// The bytes of a text, and zeros after them.
+/// How the bytes of a text are kept.
 #[derive(Debug, Drop)]
-struct Kept {
-    bytes: [u8; LINE],
-    len: u8,
+enum Kept {
+    /// At most 46 bytes, and zeros after them.
+    Short { len: u8, bytes: [u8; SHORT] },
+    /// More bytes.
+    Long(Vec<u8>),
 }
 
+// Commands and steps have lines in them. A block of a count and these 48 bytes takes 64 from malloc.
+const _: () = prove!(size_of::<Line>() == 8);
+
+const _: () = prove!(size_of::<Kept>() == 48);
+
 impl Model for Line {
-    ghost use Rattle.std.specs.Prelude.{ℕ, List, take};
+    ghost use Rattle.std.specs.Prelude.{ℕ, List};
     ghost use Rattle.std.specs.Arc.{arc_value};
-    ghost use Rattle.tr_base.specs.Lines.{KeepsLine};
+    ghost use Rattle.tr_base.specs.Kept.{text_of, KeepsLine};
 
     ghost Value = { List ℕ };
 
-    ghost view = { λ l. take (arc_value l.kept).len (arc_value l.kept).bytes };
+    ghost view = { λ l. text_of (arc_value l.kept) };
 
-    ghost invariant = { λ l. KeepsLine (arc_value l.kept).bytes (arc_value l.kept).len };
+    ghost invariant = { λ l. KeepsLine (arc_value l.kept) };
 }
 
 impl Line {
@@ -44,12 +56,8 @@ impl Line {
         requires printable { AllPass is_printable bytes.now }
         ensures { IfOk result (λ l. l ≡ bytes.now) }
     {
-        let kept = Kept {
-            bytes: padded(bytes),
-            len: bytes.len() as u8,
-        };
         Ok(Line {
-            kept: Arc::new(alloc, kept)?,
+            kept: Arc::new(alloc, Kept::of(alloc, bytes)?)?,
         })
     }
 
@@ -58,7 +66,7 @@ impl Line {
         ensures value { result.now ≡ self.now }
         ensures invariant { IsLine self.now }
     {
-        &self.kept.bytes[..usize::from(self.kept.len)]
+        self.kept.text()
     }
 
     /// A copy of the text.
@@ -78,6 +86,34 @@ impl Line {
     }
 }
 
+impl Kept {
+    /// A text with these bytes.
+    fn of(alloc: Global, bytes: &[u8]) -> Result<Kept, NoMemory>
+        ensures { IfOk result (λ kept. Keeps kept bytes.now) }
+    {
+        if bytes.len() <= SHORT {
+            return Ok(Kept::Short {
+                len: bytes.len() as u8,
+                bytes: padded(bytes),
+            });
+        }
+        let mut text = Vec::with_capacity(alloc, bytes.len())?;
+        text.extend_from_slice(bytes)?;
+        Ok(Kept::Long(text))
+    }
+
+    /// Its bytes.
+    fn text(&self) -> &[u8]
+        requires { CountFits self.now }
+        ensures { result.now ≡ text_of self.now }
+    {
+        match self {
+            Kept::Short { len, bytes } => &bytes[..usize::from(*len)],
+            Kept::Long(text) => text,
+        }
+    }
+}
+
 /// Whether the byte may occur in a text: 32 to 126.
 pub fn is_printable(byte: u8) -> bool
     ensures { result ≡ is_printable byte }
@@ -86,11 +122,11 @@ pub fn is_printable(byte: u8) -> bool
 }
 
 /// The bytes, and zeros after them.
-fn padded(bytes: &[u8]) -> [u8; LINE]
-    requires { length bytes.now ≤ LINE }
+fn padded(bytes: &[u8]) -> [u8; SHORT]
+    requires { length bytes.now ≤ SHORT }
     ensures { result ≡ spec.padded bytes.now }
 {
-    let mut kept = [0; LINE];
+    let mut kept = [0; SHORT];
     kept[..bytes.len()].copy_from_slice(bytes);
     kept
 }
