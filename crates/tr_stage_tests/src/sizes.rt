@@ -7,6 +7,6 @@ use tr_widget::WidgetCmd;
 #[test]
 fn steps_and_entries_are_short(rt: HostRuntime) {
     let (step, entry) = (size_of::<Step<WidgetCmd>>(), size_of::<Entry<WidgetCmd>>());
-    assert!(rt; step <= 40, "a step: {step}");
-    assert!(rt; entry <= 96, "an entry: {entry}");
+    assert!(rt; step <= 32, "a step: {step}");
+    assert!(rt; entry <= 72, "an entry: {entry}");
 }
