@@ -1,4 +1,5 @@
 mod LaneLemmas
 mod LineLemmas
-mod Numbers
+mod NumberCuts
+pub mod Numbers
 mod WordLemmas

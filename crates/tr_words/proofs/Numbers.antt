@@ -219,6 +219,10 @@ digit_is b low high = grind (arith, nat_tests)
 pub few_digits : (w : List ℕ) (i : ℕ) → length w ≤ 10 → i < length w → AllDigits 10 (take i w) → digits_value 10 (take i w) < 10 ^ 9
 few_digits w i short within digits = digits_value_short own (take i w) 9 digits (omega (arith, length-take i w))
 
+-- and at most ten
+pub ten_digits : (w : List ℕ) (i : ℕ) → i ≤ 10 → AllDigits 10 (take i w) → digits_value 10 (take i w) < 10 ^ 10
+ten_digits w i few digits = digits_value_short own (take i w) 10 digits (omega (arith, length-take i w))
+
 -- a word of digits that begins as a number does is the text of the number that they spell
 pub spelled : (w : List ℕ) → BeginsNumber w → AllDigits 10 w → digits_value 10 w < 2 ^ 64 → w ≡ decimal (digits_value 10 w)
 spelled [] begins digits small = absurd (omega (arith, begins))

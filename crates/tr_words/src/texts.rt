@@ -46,7 +46,8 @@ pub fn is_silent(line: &str) -> bool
 }
 
 /// The text before the first space and the text after it, if there is a space.
-fn at_space(text: &str) -> Option<(&str, &str)>
+#[inline(always)] // so that no call returns the pair through memory
+pub fn at_space(text: &str) -> Option<(&str, &str)>
     ensures words { MatchOption result (words_of text.now ≡ text.now ∷ [])
         (λ p. words_of text.now ≡ p.0.now ∷ words_of p.1.now) }
     ensures shorter { IfSome result (λ p. length p.1.now < length text.now) }

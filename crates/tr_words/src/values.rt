@@ -1,11 +1,11 @@
 //! The readers of single values. Each returns B2 if the word doesn't spell such a value, or spells
 //! one that is out of range.
-ghost use Rattle.std.specs.Prelude.{◌≡◌, ◌≤◌, ◌<◌, ◌≤ℤ◌, ◌↔◌, ◌^◌, ◌∷◌, ◌==◌, false, slice_index, ℕ, pos, neg_ℤ, not, ⊤, nat_le, length, IsTrue, IfOk, MatchOption, decimal};
+ghost use Rattle.std.specs.Prelude.{◌≡◌, ◌≤◌, ◌<◌, ◌≤ℤ◌, ◌↔◌, ◌^◌, [], ◌∷◌, ◌==◌, false, slice_index, ℕ, pos, neg_ℤ, not, ⊤, nat_le, length, IsTrue, IfOk, IfSome, MatchOption, decimal, take};
 ghost use Rattle.std.specs.List.{list_all, AllPass};
 ghost use Rattle.std.specs.Str.Parse.{AllDigits, digits_value};
 ghost use Rattle.tr_base.specs.Lines.{is_printable};
 ghost use Rattle.tr_grammar.specs.declared.codes.Code.TheVariants.{B2};
-ghost use Rattle.tr_grammar.specs.Words.{nat_of, int_of, hex_of, byte_of, is_number, is_signed, is_shape, is_hex, is_glyph_byte, is_name_byte, is_name};
+ghost use Rattle.tr_grammar.specs.Words.{words_of, nat_of, int_of, hex_of, byte_of, is_number, is_signed, is_shape, is_hex, is_glyph_byte, is_name_byte, is_name};
 ghost use Rattle.tr_words.specs.Answers.{Answers, AnswersOrWants, BeginsNumber};
 
 use crate::words::ShapeWords;
@@ -98,6 +98,55 @@ fn decimal_of(word: &str) -> Option<u32>
         return None;
     }
     Some(number as u32)
+}
+
+/// The number of the digits before the first space, and the place of that space, if at most ten digits and
+/// no other bytes are before it.
+#[inline(always)] // so that no call returns the pair through memory
+fn digits_to_space(text: &[u8]) -> Option<(u64, usize)>
+    ensures within { IfSome result (λ p. p.1 < length text.now) }
+    ensures few { IfSome result (λ p. p.1 ≤ 10) }
+    ensures space { IfSome result (λ p. slice_index text.now p.1 ≡ 32) }
+    ensures digits { IfSome result (λ p. AllDigits 10 (take p.1 text.now)) }
+    ensures value { IfSome result (λ p. p.0 ≡ digits_value 10 (take p.1 text.now)) }
+{
+    let mut number = 0;
+    for (at, byte) in text.iter().enumerate() {
+        if *byte == b' ' {
+            return Some((number, at));
+        }
+        if at >= MOST_DIGITS || !byte.is_ascii_digit() {
+            return None;
+        }
+        number = number * 10 + u64::from(*byte - b'0');
+    }
+    None
+}
+
+/// The number that the first word of a text spells, and the text after the space behind it.
+#[inline(always)]
+pub fn first_number(text: &str) -> Option<(u32, &str)>
+    ensures words { IfSome result (λ p. words_of text.now ≡ decimal p.0 ∷ words_of p.1.now) }
+    ensures small { IfSome result (λ p. p.0 < 2 ^ 32) }
+{
+    let bytes = text.as_bytes();
+    let (number, at) = digits_to_space(bytes)?;
+    if number > u64::from(u32::MAX) {
+        return None;
+    }
+    if !begins_number(&bytes[..at]) {
+        return None;
+    }
+    Some((number as u32, &text[at + 1..]))
+}
+
+/// The number that a text of one word spells.
+#[inline(always)]
+pub fn only_number(text: &str) -> Option<u32>
+    ensures { IfSome result (λ n. words_of text.now ≡ decimal n ∷ []) }
+{
+    let number = decimal_of(text)?;
+    Some(number)
 }
 
 /// A number from `low` to `high`, in decimal digits without a leading zero.
