@@ -1,5 +1,5 @@
 -- The sums of commands in a row.
-use Rattle.std.proofs.Common.{◌≡◌, ◌≢◌, ℕ, ◌+◌, ◌-◌, ◌*◌, ◌^◌, Bool, true, false, ◌||◌, List, [], ◌∷◌, ◌++◌, refl, sym, ap, ◌∙◌, ⊎_elim, take, arith}
+use Rattle.std.proofs.Common.{◌≡◌, ◌≢◌, ℕ, ◌+◌, ◌-◌, ◌*◌, ◌^◌, Bool, true, false, ◌||◌, List, [], ◌∷◌, ◌++◌, refl, sym, ap, ◌∙◌, ⊎_elim, take, arith, zero-add}
 use Rattle.std.specs.Prelude.{min, int_lt}
 use Rattle.std.proofs.lemmas.Bool.{or_cases, and_parts, or_left, or_right}
 use Rattle.std.proofs.lemmas.List.Folds.{list_any-append}
@@ -8,12 +8,14 @@ use Rattle.std.proofs.lemmas.List.Elements.{All-append, All-weaker, All-nil, All
 use Rattle.tr_base.specs.declared.Point.{Point}
 use Rattle.tr_base.specs.Rects.{Edges, IsRect, empty_rect, has_point}
 use Rattle.tr_paint.specs.declared.paints.Paint.{Paint}
+use Rattle.tr_paint.specs.declared.paints.Paint.TheVariants.{Scroll}
 use Rattle.tr_paint.specs.declared.sums.Scrolls.{Scrolls}
+use Rattle.tr_paint.specs.declared.sums.Scrolls.TheVariants.{Absent, Alike, Various}
 use Rattle.tr_paint.specs.Paints.{area, has_area}
 use Rattle.tr_paint.specs.Batches.{touches, IsKept, IsBatch}
 use Rattle.tr_paint.specs.Hulls.{HasAll}
 use Rattle.tr_paint.proofs.HullLemmas.{lies}
-use Rattle.tr_paint.specs.Sums.{points_in, weight, cost_of, IsOneOf, AreScrolls, IsHull}
+use Rattle.tr_paint.specs.Sums.{points_in, weight, cost_of, is_spoil, has_spoil, IsOneOf, AreScrolls, IsHull}
 
 -- the least rectangle round those of two lists
 pub hull-append : (e a b : Edges) (xs ys : List Paint) → HasAll e (has_point a) → HasAll e (has_point b) →
@@ -56,6 +58,26 @@ scrolls-append s t both xs ys first second some others =
 
 pub scrolls-one : (s : Scrolls) (c : Paint) → IsOneOf s c → AreScrolls s (c ∷ [])
 scrolls-one s c is = All-cons (IsOneOf s) c [] is (All-nil (IsOneOf s))
+
+-- what is no scroll is allowed by any summary
+pub no_scroll-one : (s : Scrolls) (c : Paint) → IsOneOf Absent c → IsOneOf s c
+no_scroll-one s (Scroll clip delta) h = absurd h
+no_scroll-one Absent c h = h
+no_scroll-one (Alike clip delta) c h = tt
+no_scroll-one Various c h = tt
+
+-- the cost of one command
+pub cost-one : (c : Paint) (n : ℕ) → n ≡ min (points_in (area c) * weight c) (2 ^ 64 - 1) → n ≡ cost_of (c ∷ [])
+cost-one c n h = h ∙ ap (λ (k : ℕ). min k (2 ^ 64 - 1)) (sym (zero-add (points_in (area c) * weight c)))
+
+-- what is no spoil adds none
+pub spoils-still : (c : Paint) (xs : List Paint) → is_spoil c ≡ false → has_spoil xs ≡ has_spoil (xs ++ c ∷ [])
+spoils-still c xs h =
+    sym (list_any-append is_spoil xs (c ∷ []) ∙ ap (λ (b : Bool). has_spoil xs || (b || false)) h ∙ alone (has_spoil xs))
+  where
+    alone : (b : Bool) → (b || false) ≡ b
+    alone true = refl
+    alone false = refl
 
 -- two batches in a row are one
 pub batch-append : (xs ys : List Paint) → IsBatch xs → IsBatch ys → IsBatch (xs ++ ys)

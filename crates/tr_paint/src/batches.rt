@@ -1,15 +1,15 @@
 ghost use Rattle.std.specs.Prelude.{◌≡◌, ◌<◌, ◌↔◌, ◌++◌, [], length, slice_get, take, Some, IsTrue, IfOk, OnOk, OnErr};
-ghost use Rattle.tr_paint.specs.Paints.{IsNearPaint};
+ghost use Rattle.tr_paint.specs.Paints.{IsNearPaint, IsNearPoint, IsNearRect};
 ghost use Rattle.tr_paint.specs.Sums.{AreNear, AreScrolls, IsHull, cost_of, has_spoil};
 ghost use Rattle.tr_base.specs.declared.Point.{Point};
 ghost use Rattle.tr_paint.specs.Traces.{Look, Base, after, left_by};
 ghost use Rattle.tr_paint.specs.Batches as spec;
 
-use crate::paints::Paint;
+use crate::paints::{Paint, cells};
 use crate::sums::{Scrolls, Sums, sums_of};
 use std::alloc::Global;
 use std::marker::Model;
-use tr_base::{NoMemory, Point, Rect};
+use tr_base::{Line, NoMemory, Op, Pair, Point, Rect};
 
 /// Paint commands in the order of their execution. The model is a list. Each command has an area that
 /// isn't empty. A batch also keeps sums over all of its commands, so that no call walks over them for
@@ -44,7 +44,78 @@ impl Batch {
     }
 
     /// Appends a command, unless its area is empty. If memory runs out, nothing changes.
+    #[inline(always)]
     pub fn push(&mut self, paint: Paint) -> Result<(), NoMemory>
+        requires { IsNearPaint paint }
+        ensures ok { OnOk result (self.new ≡ self.old ++ spec.kept paint) }
+        ensures err { OnErr result (self.new ≡ self.old) }
+    {
+        // Each caller names the sort of its command, so its copy of this call needs one arm.
+        match paint {
+            Paint::Tint { clip, op } => self.push_tint(clip, op),
+            Paint::Text {
+                ops,
+                clip,
+                at,
+                text,
+            } => self.push_text(ops, clip, at, text),
+            Paint::Scroll { clip, delta } => self.push_scroll(clip, delta),
+            other => self.push_any(other),
+        }
+    }
+
+    /// The same for a tint.
+    fn push_tint(&mut self, clip: Rect, op: Op) -> Result<(), NoMemory>
+        requires { IsNearRect clip }
+        ensures ok { OnOk result (self.new ≡ self.old ++ spec.kept (Paint.Tint clip op)) }
+        ensures err { OnErr result (self.new ≡ self.old) }
+    {
+        if clip.is_empty() {
+            return Ok(());
+        }
+        self.paints.push(Paint::Tint { clip, op })?;
+        self.sums.add_still(&clip, 1);
+        Ok(())
+    }
+
+    /// The same for a text.
+    fn push_text(&mut self, ops: Pair, clip: Rect, at: Point, text: Line) -> Result<(), NoMemory>
+        requires clip { IsNearRect clip }
+        requires at { IsNearPoint at }
+        ensures ok { OnOk result (self.new ≡ self.old ++ spec.kept (Paint.Text ops clip at text)) }
+        ensures err { OnErr result (self.new ≡ self.old) }
+    {
+        let area = clip.meet(&cells(at, &text));
+        if area.is_empty() {
+            return Ok(());
+        }
+        self.paints.push(Paint::Text {
+            ops,
+            clip,
+            at,
+            text,
+        })?;
+        self.sums.add_still(&area, 3);
+        Ok(())
+    }
+
+    /// The same for a scroll.
+    fn push_scroll(&mut self, clip: Rect, delta: Point) -> Result<(), NoMemory>
+        requires clip { IsNearRect clip }
+        requires delta { IsNearPoint delta }
+        ensures ok { OnOk result (self.new ≡ self.old ++ spec.kept (Paint.Scroll clip delta)) }
+        ensures err { OnErr result (self.new ≡ self.old) }
+    {
+        if clip.is_empty() {
+            return Ok(());
+        }
+        self.paints.push(Paint::Scroll { clip, delta })?;
+        self.sums.add_scroll(&clip, delta);
+        Ok(())
+    }
+
+    /// The same for a command of any sort.
+    fn push_any(&mut self, paint: Paint) -> Result<(), NoMemory>
         requires { IsNearPaint paint }
         ensures ok { OnOk result (self.new ≡ self.old ++ spec.kept paint) }
         ensures err { OnErr result (self.new ≡ self.old) }

@@ -144,7 +144,7 @@ fn are_opaque(ops: Pair) -> bool
 }
 
 /// The cells of a text that begins at a point.
-fn cells(at: Point, text: &Line) -> Rect
+pub(crate) fn cells(at: Point, text: &Line) -> Rect
     requires { spec.IsNearPoint at }
     ensures { result ≡ spec.cells_of at (length text.now) }
 {

@@ -1,6 +1,6 @@
-ghost use Rattle.std.specs.Prelude.{◌≡◌, ◌||◌, ◌++◌, ◌∷◌, [], List};
+ghost use Rattle.std.specs.Prelude.{◌≡◌, false, ◌||◌, ◌++◌, ◌∷◌, [], List};
 ghost use Rattle.tr_paint.specs.declared.paints.Paint.{Paint};
-ghost use Rattle.tr_paint.specs.Paints.{IsNearPaint, area as area_of};
+ghost use Rattle.tr_paint.specs.Paints.{IsNearPaint, IsNearPoint, IsNearRect, area as area_of};
 ghost use Rattle.tr_paint.specs.Batches.{IsBatch};
 ghost use Rattle.tr_paint.specs.Sums as spec;
 
@@ -55,6 +55,31 @@ impl Sums {
         self.cost = self.cost.saturating_add(cost_of_one(paint, area));
         self.spoils = either(self.spoils, is_spoil(paint));
         self.scrolls = both_scrolls(&self.scrolls, &scrolls_of(paint));
+    }
+
+    /// Adds a command that touches these points and has this weight. It is neither a scroll nor a spoil.
+    pub fn add_still(&mut self, touched: &Rect, weight: u64)
+        ensures { (front : List Paint) (c : Paint) → touched.now ≡ area_of c → weight ≡ spec.weight c →
+            spec.is_spoil c ≡ false → spec.IsOneOf Scrolls.Absent c →
+            spec.AreSums self.old front → spec.AreSums self.new (front ++ c ∷ []) }
+    {
+        self.hull = hull(&self.hull, touched);
+        self.cost = self
+            .cost
+            .saturating_add(points_in(touched).saturating_mul(weight));
+    }
+
+    /// Adds a scroll.
+    pub fn add_scroll(&mut self, clip: &Rect, delta: Point)
+        requires clip { IsNearRect clip.now }
+        requires delta { IsNearPoint delta }
+        ensures { (front : List Paint) → spec.AreSums self.old front →
+            spec.AreSums self.new (front ++ Paint.Scroll clip.now delta ∷ []) }
+    {
+        self.hull = hull(&self.hull, clip);
+        self.cost = self.cost.saturating_add(points_in(clip).saturating_mul(2));
+        let scroll = Scrolls::Alike { clip: *clip, delta };
+        self.scrolls = both_scrolls(&self.scrolls, &scroll);
     }
 
     /// The sums of commands followed by others.

@@ -4,7 +4,7 @@ use Rattle.tr_paint.specs.declared.paints.Paint.{Paint}
 use Rattle.tr_paint.specs.Paints.{has_area}
 use Rattle.tr_paint.specs.Batches as spec
 use Rattle.tr_paint.proofs.SumLemmas.{batch-append, full-area}
-use Rattle.tr_paint.proofs.batches.Batch.push.Goals as goal
+use Rattle.tr_paint.proofs.batches.Batch.push_any.Goals as goal
 
 pub invariant_of-self-2 : goal.invariant_of-self-2
 invariant_of-self-2 c =
