@@ -1,7 +1,7 @@
 -- What stands at a place of a list, and the texts up to there.
 use Rattle.std.proofs.Common.{◌≡◌, ◌+◌, ◌<◌, ℕ, zero, suc, List, [], ◌∷◌, ◌++◌, Some, take, map, get_or, length}
 use Rattle.std.proofs.Common.{ap, sym, refl, ◌∙◌, add-one, append-nil, append_assoc, arith}
-use Rattle.std.specs.Prelude.{slice_get}
+use Rattle.std.specs.Prelude.{IsSomeAnd, slice_get}
 use Rattle.std.specs.List.{enumerate_from, flat_map}
 use Rattle.std.proofs.Math.Seq.{take-suc}
 use Rattle.std.proofs.lemmas.Grind.{flat_map-append}
@@ -34,6 +34,23 @@ line_at n (line ∷ lines) zero number entry sent is first second =
     rw (← e, ← s, same) refl
 line_at n (line ∷ lines) (suc k) number entry sent is first second =
     line_at (n + 1) lines k number entry sent (omega arith) first second
+
+-- the line at a place, by its entry and by its deliveries
+whole_line_at : {M : Type 0} (lines : List (JournalLine M)) (k : ℕ) (entry : Entry M) (sent : List Delivery)
+    → slice_get (map (λ line. line.entry) lines) k ≡ Some entry → slice_get (map (λ line. line.sent) lines) k ≡ Some sent
+    → slice_get lines k ≡ Some (record { entry = entry; sent = sent })
+whole_line_at [] k entry sent first second = cc
+whole_line_at (line ∷ lines) zero entry sent first second =
+    let e : line.entry ≡ entry = cc in
+    let s : line.sent ≡ sent = cc in
+    rw (← e, ← s) refl
+whole_line_at (line ∷ lines) (suc k) entry sent first second = whole_line_at lines k entry sent first second
+
+-- what holds of that line holds of the one at the place
+pub holds_at : {M : Type 0} (P : JournalLine M → Type 0) (lines : List (JournalLine M)) (k : ℕ) (entry : Entry M) (sent : List Delivery)
+    → slice_get (map (λ line. line.entry) lines) k ≡ Some entry → slice_get (map (λ line. line.sent) lines) k ≡ Some sent
+    → P (record { entry = entry; sent = sent }) → IsSomeAnd (slice_get lines k) P
+holds_at P lines k entry sent first second holds = rw (whole_line_at lines k entry sent first second) holds
 
 -- what is appended to a text that holds all so far
 pub appended_more : (new mid old front text all : List ℕ) → mid ≡ old ++ front → new ≡ mid ++ text → all ≡ front ++ text → new ≡ old ++ all

@@ -14,7 +14,7 @@ use Rattle.tr_journal.specs.Journals.{JournalLine}
 use Rattle.tr_journal.specs.declared.peeks.Peek3.{Peek3}
 use Rattle.tr_dump.specs.Values.{spaced, line_text, kind_word, point_words, size_words, event_text}
 use Rattle.tr_journal.specs.Names.{Names, node_name, leaf_name}
-use Rattle.tr_dump.specs.Steps.{entry_text}
+use Rattle.tr_dump.specs.Steps.{answer_text, entry_text}
 
 -- the first line of a dump: the screen's size and kind
 abbrev pub dump_head : Picture → List ℕ
@@ -63,6 +63,15 @@ fate_text false = codes " "
 abbrev pub delivery_text : Names → Delivery → List ℕ
 delivery_text names delivery =
     codes "; " ++ leaf_name names delivery.leaf ++ fate_text delivery.dropped ++ event_text delivery.event
+
+-- a delivery on a line of its own
+abbrev pub sent_line : Names → Delivery → List ℕ
+sent_line names delivery =
+    leaf_name names delivery.leaf ++ fate_text delivery.dropped ++ event_text delivery.event ++ codes "\n"
+
+-- the outcome of a step: its answer, and its deliveries, each on a line
+abbrev pub outcome_text : {M : Type 0} → Names → JournalLine M → List ℕ
+outcome_text names line = (answer_text line.entry.reply.answer ++ codes "\n") ++ flat_map (sent_line names) line.sent
 
 -- an entry after its number, and the deliveries of its step
 abbrev pub journal_line : {M : Type 0} → (M → List ℕ) → Names → ℕ × JournalLine M → List ℕ

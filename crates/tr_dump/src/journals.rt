@@ -1,4 +1,4 @@
-ghost use Rattle.std.specs.Prelude.{◌≡◌, ◌+◌, ◌<◌, ◌^◌, [], ◌∷◌, ◌++◌, All, codes, decimal, length, OnOk, OnErr};
+ghost use Rattle.std.specs.Prelude.{◌≡◌, ◌+◌, ◌<◌, ◌^◌, [], ◌∷◌, ◌++◌, All, IsSomeAnd, codes, decimal, length, slice_get, OnOk, OnErr};
 ghost use Rattle.std.specs.List.{enumerate_from, flat_map};
 ghost use Rattle.tr_dump.specs.Begins.{Begins};
 ghost use Rattle.tr_journal.specs.Names.{HasLeaf, names_of};
@@ -7,6 +7,7 @@ ghost use Rattle.tr_dump.specs.Values.{spaced};
 ghost use Rattle.tr_dump.specs.Steps.{entry_text};
 ghost use Rattle.tr_dump.specs.Reports as spec;
 
+use crate::answers::append_answer;
 use crate::entries::append_entry;
 use crate::names::leaf_name;
 use crate::values::append_event;
@@ -125,4 +126,78 @@ fn fate_text(dropped: bool) -> &'static [u8]
     ensures { result.now ≡ spec.fate_text dropped }
 {
     if dropped { b" dropped " } else { b" " }
+}
+
+/// Appends the outcome of the step at index `k`, counted from 0: its answer, on a line, and then a line for
+/// each event that it sent.
+pub fn outcome<M: Command, N: NameOf>(
+    journal: &Journal<M>,
+    k: usize,
+    names: &N,
+    out: &mut Vec<u8>,
+) -> Result<(), NoMemory>
+    requires entry { k < length journal.now.lines }
+    requires named { All (IsNamedLine (names_of N.NameOf names.now)) journal.now.lines }
+    ensures ok { OnOk result (IsSomeAnd (slice_get journal.now.lines k) (λ line.
+        out.new.items ≡ out.old.items ++ spec.outcome_text (names_of N.NameOf names.now) line)) }
+    ensures err { OnErr result (out.new.items ≡ out.old.items) }
+{
+    let len = out.len();
+    let appended = append_outcome(journal, k, names, out);
+    or_nothing(appended, len, out)
+}
+
+/// Appends an answer and the deliveries after it, each on a line.
+#[tactic(auto, using(crate::proofs::BeginsLemmas::begins_itself, crate::proofs::BeginsLemmas::begins_before))]
+fn append_outcome<M: Command, N: NameOf>(
+    journal: &Journal<M>,
+    k: usize,
+    names: &N,
+    out: &mut Vec<u8>,
+) -> Result<(), NoMemory>
+    requires entry { k < length journal.now.lines }
+    requires named { All (IsNamedLine (names_of N.NameOf names.now)) journal.now.lines }
+    ensures ok { OnOk result (IsSomeAnd (slice_get journal.now.lines k) (λ line.
+        out.new.items ≡ out.old.items ++ spec.outcome_text (names_of N.NameOf names.now) line)) }
+    ensures err { OnErr result (Begins out.new.items out.old.items) }
+{
+    append_answer(&journal.get(k).reply.answer, out)?;
+    out.push(b'\n')?;
+    append_sent_lines(journal.sent(k), names, out)
+}
+
+/// Appends a line for each delivery.
+#[tactic(auto, using(crate::proofs::BeginsLemmas::begins_itself, crate::proofs::BeginsLemmas::begins_before))]
+fn append_sent_lines<N: NameOf>(
+    sent: &[Delivery],
+    names: &N,
+    out: &mut Vec<u8>,
+) -> Result<(), NoMemory>
+    requires { All (λ delivery. HasLeaf (names_of N.NameOf names.now) delivery.leaf) sent.now }
+    ensures ok { OnOk result (out.new.items ≡ out.old.items ++
+        flat_map (spec.sent_line (names_of N.NameOf names.now)) sent.now) }
+    ensures err { OnErr result (Begins out.new.items out.old.items) }
+{
+    for delivery in sent {
+        append_sent_line(delivery, names, out)?;
+    }
+    Ok(())
+}
+
+/// Appends a delivery on a line.
+#[tactic(auto, using(crate::proofs::BeginsLemmas::begins_itself, crate::proofs::BeginsLemmas::begins_before))]
+fn append_sent_line<N: NameOf>(
+    delivery: &Delivery,
+    names: &N,
+    out: &mut Vec<u8>,
+) -> Result<(), NoMemory>
+    requires { HasLeaf (names_of N.NameOf names.now) delivery.now.leaf }
+    ensures ok { OnOk result (out.new.items ≡
+        out.old.items ++ spec.sent_line (names_of N.NameOf names.now) delivery.now) }
+    ensures err { OnErr result (Begins out.new.items out.old.items) }
+{
+    out.extend_from_slice(leaf_name(names, delivery.leaf))?;
+    out.extend_from_slice(fate_text(delivery.dropped))?;
+    append_event(&delivery.event, out)?;
+    Ok(out.push(b'\n')?)
 }

@@ -18,7 +18,7 @@ mod words;
 
 pub use differs::differs_line;
 pub use dumps::dump;
-pub use journals::journal;
+pub use journals::{journal, outcome};
 pub use peeks::peek_line;
 pub use places::{inbox, place_line};
 pub use tr_journal::Peek3;

@@ -1,4 +1,4 @@
-ghost use Rattle.std.specs.Prelude.{◌≡◌, ◌++◌, [], ◌∷◌, false, not, ◌&&◌, ◌⊎◌, All, IsSome, IfOk, OnOk, OnErr};
+ghost use Rattle.std.specs.Prelude.{◌≡◌, ◌<◌, ◌-◌, ◌++◌, [], ◌∷◌, false, not, ◌&&◌, ◌⊎◌, All, IsSome, IsSomeAnd, IfOk, OnOk, OnErr, length, slice_get};
 ghost use Rattle.tr_levels.specs.declared.Level.TheVariants.{Mu};
 ghost use Rattle.tr_journal.specs.declared.Actor.TheVariants.{Painter, Player};
 ghost use Rattle.tr_journal.specs.declared.Query.TheVariants.{Dump};
@@ -8,6 +8,7 @@ ghost use Rattle.tr_journal.specs.Openings.{tree_of};
 ghost use Rattle.tr_journal.specs.Reports.{is_report};
 ghost use Rattle.tr_journal.specs.Steps.{IsOwn, IsQuery, stated};
 ghost use Rattle.tr_machine.specs.Pictures.{render};
+ghost use Rattle.tr_dump.specs.Reports.{outcome_text};
 ghost use Rattle.tr_journal.specs.Names.{names_of};
 ghost use Rattle.tr_machine.specs.Replays.{line_of_step, lines_of_steps};
 ghost use Rattle.tr_machine.specs.Settling.{settling_lines};
@@ -34,6 +35,7 @@ use std::alloc::Global;
 use std::marker::Model;
 use tr_base::NoMemory;
 use tr_client::Client;
+use tr_dump::outcome;
 use tr_journal::{Actor, NameOf, Opening, Query, Step, stated};
 use tr_output::Output;
 use tr_stage::Stage;
@@ -111,6 +113,38 @@ impl<'a, C: Client, N: NameOf> Run<'a, C, N> {
         }
     }
 
+    /// A run of a stage on which steps may have been made. Each of its nodes and leaves has a name, and so have
+    /// those in its journal.
+    pub fn over(alloc: Global, stage: Stage<C>, names: &'a N, mode: Mode) -> Run<'a, C, N>
+        requires { IsNamed C.Client (names_of N.NameOf names.now) stage }
+        ensures stage { result.stage ≡ stage }
+        ensures names { result.names ≡ names_of N.NameOf names.now }
+        ensures mode { result.mode ≡ mode }
+        ensures text { result.text ≡ [] }
+        ensures sum { result.sum ≡ 0 }
+    {
+        Run {
+            alloc,
+            stage,
+            names,
+            mode,
+            text: Output::new(alloc),
+            sum: 0,
+        }
+    }
+
+    /// Appends the outcome of the last step to `out`: its answer and the events that it sent.
+    pub fn outcome(&self, out: &mut Vec<u8>) -> Result<(), NoMemory>
+        requires { 0 < length self.now.stage.journal }
+        ensures ok { OnOk result (IsSomeAnd
+            (slice_get self.now.stage.journal (length self.now.stage.journal - 1))
+            (λ line. out.new.items ≡ out.old.items ++ outcome_text self.now.names line)) }
+        ensures err { OnErr result (out.new.items ≡ out.old.items) }
+    {
+        let journal = self.stage.journal();
+        outcome(journal, journal.len() - 1, self.names, out)
+    }
+
     /// An actor makes a step other than a report, holding exactly the step's levels. For want of memory
     /// nothing changes; but in a check the step may be made, and the text of the screen's lag be missing.
     pub fn make(&mut self, actor: Actor, step: Step<C::Cmd>) -> Result<(), NoMemory>
@@ -181,6 +215,7 @@ impl<'a, C: Client, N: NameOf> Run<'a, C, N> {
         ensures stage { result.stage ≡ self.entry.stage }
         ensures text { result.text ≡ self.entry.text }
         ensures sum { result.sum ≡ self.entry.sum }
+        ensures invariant { IsNamed C.Client self.entry.names self.entry.stage }
     {
         let Run {
             stage,
