@@ -1,4 +1,4 @@
-mod Cutting
+pub mod Cutting
 mod Decimals
 mod Passing
 mod Playing
