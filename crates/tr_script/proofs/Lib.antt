@@ -4,3 +4,4 @@ pub mod LineLemmas
 mod NameLemmas
 pub mod Pieces
 mod StepLemmas
+mod ApartLemmas

@@ -22,7 +22,8 @@ use Rattle.tr_grammar.specs.Faults.{first_of, word_faults, line_faults, fault_as
 use Rattle.tr_grammar.specs.Scripts.{Refusal, after_meaning, after_as, after_line, first_bad_line, after_all_lines, refused_at}
 use Rattle.tr_words.specs.Answers.{texts}
 use Rattle.tr_reader.specs.Adding.{IsFault}
-use Rattle.tr_script.specs.Reading.{word_fault, meaning_as, ReadsAs}
+use Rattle.tr_script.specs.Apart.{meaning_as}
+use Rattle.tr_script.specs.Reading.{word_fault, ReadsAs}
 
 -- ---- one line
 

@@ -1,7 +1,6 @@
 -- The nodes and leaves that words name are those of the opening.
-use Rattle.std.proofs.Common.{◌≡◌, ℕ, ◌<◌, false, List, [], length, Option, Some, None, Ok, Err, Result, refl, sym, arith}
+use Rattle.std.proofs.Common.{◌≡◌, ℕ, ◌<◌, false, List, length, Option, Some, None, Ok, Err, Result, refl, sym, arith}
 use Rattle.std.specs.Prelude.{is_none, unwrap_or, IfOk}
-use Prim.Native.Nat.{suc}
 use Rattle.std.proofs.lemmas.Bool.{false≢true}
 use Rattle.tr_base.specs.declared.NodeId.{NodeId}
 use Rattle.tr_base.specs.declared.LeafId.{LeafId}

@@ -23,8 +23,8 @@ use Rattle.tr_grammar.specs.Meanings.{meaning_of}
 use Rattle.tr_grammar.specs.Faults.{first_of, word_faults, line_faults, fault_as, fault_of, has_ended, is_declared_again, is_undeclared, is_foreign, is_refused, is_one_too_many, nodes_so_far}
 use Rattle.tr_grammar.specs.Scripts.{after_meaning, after_line, IsPlayable}
 use Rattle.tr_reader.specs.Adding.{is_at_steps, with_steps}
-use Rattle.tr_script.specs.Apart.{TakesStep, stays_at_steps}
-use Rattle.tr_script.specs.Reading.{word_fault, meaning_as, SaysStep, Reads}
+use Rattle.tr_script.specs.Apart.{TakesStep, meaning_as, stays_at_steps}
+use Rattle.tr_script.specs.Reading.{word_fault, SaysStep, Reads}
 use Rattle.tr_script.proofs.LineLemmas.{IsLoud, fault_of_words, next_of_words, fault_behind, after_said, refused_before}
 
 -- where tests are alike, so is whether any of them is passed

@@ -9,7 +9,6 @@ use Rattle.tr_grammar.specs.declared.Meaning.{Meaning}
 use Rattle.tr_grammar.specs.declared.Meaning.TheVariants as meanings
 use Rattle.tr_grammar.specs.Words.{word_at, nat_of, int_of, is_name, is_number, is_shape, is_signed}
 use Rattle.tr_grammar.specs.Forms.{Form, Version, Screen, Glyph, Put, PutAt, Root, Begin, Mouse, Motion, Key, Attach, AttachAt, Detach, Tint, Widen, Offset, Fix, Move, Lift, Show, Turn, Reshape, Resize, Rescreen, Sync, Dump, Peek, Journal, Where, Inbox, End, SetTint, SetTile, SetShift, SetText, AddLine, Clear, AddRect, AddSwap, AddExchange, Undo, SetBar, InsertText, EraseByte, SplitLine, GoTo, CopyText, PasteClip, among, form_of}
-use Rattle.tr_grammar.specs.Meanings.{meaning_of}
 use Rattle.tr_grammar.specs.States.{SoFar}
 use Rattle.tr_grammar.specs.Names.{number_of, numbered}
 use Rattle.tr_grammar.specs.Faults.{Sort, opening_line, step_line, allows, first_of, nodes_so_far, word_faults, fault_as}
@@ -31,16 +30,12 @@ use Rattle.tr_words.specs.declared.ShapeWords.{ShapeWords}
 use Rattle.tr_script.specs.declared.act_lines.EdgeWords.{EdgeWords}
 use Rattle.tr_script.specs.declared.act_lines.ActLine.{ActLine}
 use Rattle.tr_reader.specs.Adding.{IsFault, IsSoundMeaning}
+use Rattle.tr_script.specs.Apart.{meaning_as}
 
 -- the first fault of the words, given their form
 abbrev pub word_fault : SoFar → Option Form → List (List ℕ) → Option Code
 word_fault c None ws = Some B1
 word_fault c (Some f) ws = first_of (word_faults c f ws)
-
--- the meaning of the words, if they have a form
-abbrev pub meaning_as : SoFar → Option Form → List (List ℕ) → Option Meaning
-meaning_as c None ws = None
-meaning_as c (Some f) ws = Some (meaning_of c.names ws f)
 
 -- the meaning of the words of this form, which is in range, or their first fault
 abbrev pub ReadsAs : SoFar → Option Form → List (List ℕ) → Result Meaning LineRefused → Type 0

@@ -17,5 +17,5 @@ mod report_lines;
 mod scripts;
 mod widget_lines;
 
-pub use lines::{MOST_LINES, take_line, take_step};
+pub use lines::{MOST_LINES, meaning_of_line, take_line, take_step};
 pub use scripts::{read_script, refused_at};

@@ -1,14 +1,17 @@
 //! The reading of a line.
-ghost use Rattle.std.specs.Prelude.{◌≡◌, ◌<◌, ◌⊎◌, ◌∷◌, true, false, None, IfOk, IfErr, OnOk, OnErr};
+ghost use Rattle.std.specs.Prelude.{◌≡◌, ◌<◌, ◌⊎◌, [], ◌∷◌, true, false, Some, None, IfOk, IfErr, IfSome, OnOk, OnErr};
 ghost use Rattle.std.specs.List.{AllPass};
 ghost use Rattle.tr_base.specs.Lines.{is_printable};
 ghost use Rattle.tr_grammar.specs.Words.{words_of, word_at};
 ghost use Rattle.tr_grammar.specs.Forms.{forms};
-ghost use Rattle.tr_grammar.specs.Faults.{first_of, line_faults, fault_of, is_foreign};
+ghost use Rattle.tr_grammar.specs.declared.Code.TheVariants.{B7, B10};
+ghost use Rattle.tr_grammar.specs.declared.Place.TheVariants.{Gap};
+ghost use Rattle.tr_grammar.specs.Faults.{first_of, line_faults, fault_of, is_foreign, is_one_too_many};
 ghost use Rattle.tr_grammar.specs.Scripts.{after_meaning, after_line};
 ghost use Rattle.tr_words.specs.Answers.{texts};
 ghost use Rattle.tr_reader.specs.Adding.{IsFault, IsSoundMeaning, is_at_steps};
 ghost use Rattle.tr_script.specs.Apart.{TakesStep, stays_at_steps};
+ghost use Rattle.tr_script.specs.Apart as spec;
 ghost use Rattle.tr_script.specs.Reading.{Reads, SaysStep, TakesWords, plain_forms};
 
 use crate::act_lines::read_at;
@@ -364,4 +367,52 @@ pub fn take_line<'a>(
     }
     words_into(line, words)?;
     take_words(alloc, reader, number, words, line)
+}
+
+/// Reads a line separately from those before it, at a place where a step and a report may come. The reader
+/// knows their declarations, and doesn't add the line. Returns its meaning, if it isn't silent.
+#[tactic(auto, unfolding(tr_grammar::specs::Faults::fault_of, crate::specs::Apart::meaning_of_line))]
+pub fn meaning_of_line(
+    alloc: Global,
+    reader: &Reader,
+    bytes: &[u8],
+) -> Result<Option<Meaning>, LineRefused>
+    requires { reader.now.place ≡ Gap }
+    ensures none { OnOk result (fault_of reader.now 1 bytes.now ≡ None) }
+    ensures meaning { IfOk result (λ said. said ≡ spec.meaning_of_line reader.now bytes.now) }
+    ensures sound { IfOk result (λ said. IfSome said
+        (IsSoundMeaning reader.now (word_at (words_of bytes.now) 1))) }
+    ensures fault { IfErr result (IsFault (fault_of reader.now 1 bytes.now)) }
+{
+    let Some(line) = plain_text(bytes) else {
+        return Err(LineRefused::Fault(Code::B9));
+    };
+    if is_silent(line) {
+        return Ok(None);
+    }
+    let mut words = Vec::new(alloc);
+    words_into(line, &mut words)?;
+    match read_words(alloc, reader, &words, line) {
+        Ok(meaning) => own_meaning(reader, meaning),
+        Err(e) => Err(e),
+    }
+}
+
+/// The meaning, unless it is a command of another widget than its leaf's, or one report or sync too many.
+fn own_meaning(reader: &Reader, meaning: Meaning) -> Result<Option<Meaning>, LineRefused>
+    ensures own { IfOk result (λ said. said ≡ Some meaning) }
+    ensures none { OnOk result ((is_foreign reader.now meaning ≡ false)
+        × (is_one_too_many reader.now meaning ≡ false)) }
+    ensures fault { IfErr result (IsFault (first_of ((B10, is_foreign reader.now meaning)
+        ∷ (B7, is_one_too_many reader.now meaning) ∷ []))) }
+{
+    if reader.is_foreign(&meaning) {
+        drop(meaning);
+        return Err(LineRefused::Fault(Code::B10));
+    }
+    if reader.is_one_too_many(&meaning) {
+        drop(meaning);
+        return Err(LineRefused::Fault(Code::B7));
+    }
+    Ok(Some(meaning))
 }

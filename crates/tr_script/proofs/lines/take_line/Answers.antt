@@ -1,4 +1,4 @@
-use Rattle.std.proofs.Common.{◌≡◌, ℕ, List, sym, ap, ◌∙◌}
+use Rattle.std.proofs.Common.{◌≡◌, sym, ap, ◌∙◌}
 use Rattle.tr_grammar.specs.Texts.{is_silent}
 use Rattle.tr_grammar.specs.Words.{words_of}
 use Rattle.tr_grammar.specs.Faults.{fault_of}
