@@ -1,8 +1,8 @@
 //! The readers of the desk's steps. Each tests for its faults in the order of their codes.
-ghost use Rattle.std.specs.Prelude.{◌≡◌, [], ◌∷◌, ◌||◌, bytes_eq, codes, false, not, IfErr, IfOk, Some};
+ghost use Rattle.std.specs.Prelude.{◌≡◌, ◌≤◌, [], ◌∷◌, ◌||◌, bytes_eq, codes, false, not, pos, IfErr, IfOk, IfSome, Ok, Some};
 ghost use Rattle.tr_journal.specs.Steps.{IsButton, IsPosition, IsTime};
 ghost use Rattle.tr_grammar.specs.declared.Code.TheVariants.{B2};
-ghost use Rattle.tr_grammar.specs.Words.{int_of, is_number, is_signed, nat_of};
+ghost use Rattle.tr_grammar.specs.Words.{int_of, is_number, is_signed, nat_of, words_of};
 ghost use Rattle.tr_grammar.specs.Forms.{button_words, Mouse, Motion, Key, Attach, AttachAt, Detach};
 ghost use Rattle.tr_grammar.specs.Forms.{Tint, Widen, Offset, Fix, Move, Lift, Show, Turn, Reshape, Resize};
 ghost use Rattle.tr_grammar.specs.Forms.{Rescreen};
@@ -18,7 +18,7 @@ use tr_grammar::{Code, LineRefused, Meaning};
 use tr_journal::{Actor, Step};
 use tr_reader::Reader;
 use tr_widget::WidgetCmd;
-use tr_words::{ShapeWords, byte, place, shape, side, small, time};
+use tr_words::{ShapeWords, byte, first_number, only_number, place, shape, side, small, time};
 
 /// A step of the desk.
 fn on_desk(step: Step<WidgetCmd>) -> Meaning
@@ -171,6 +171,43 @@ pub fn read_key(reader: &Reader, words: &[&str]) -> Result<Meaning, LineRefused>
     };
     let (time, code) = plain(reader, key_of(at, code))?;
     Ok(on_desk(Step::Key { time, code }))
+}
+
+/// The greatest coordinate of the cursor.
+const MOST_PLACE: u32 = 8191;
+
+/// The place of a motion, if its coordinates are in range.
+fn place_of(h: u32, v: u32) -> Option<Point>
+    ensures { IfSome result (λ at. (h ≤ 8191) × (v ≤ 8191) × (at ≡ record { h = pos h; v = pos v })) }
+{
+    if h > MOST_PLACE {
+        return None;
+    }
+    if v > MOST_PLACE {
+        return None;
+    }
+    let (h, v) = (h as i32, v as i32);
+    Some(Point { h, v })
+}
+
+/// The values of a motion's line, if they have no minus and the line has no fault. They are the words after
+/// the first one.
+#[inline(always)]
+pub fn plain_motion(reader: &Reader, values: &str) -> Option<(u32, Point)>
+    ensures { IfSome result (λ m. Reads reader.now (Motion ∷ []) (codes "motion" ∷ words_of values.now)
+        (Ok (Meaning.Step Actor.Desk (Step.Motion m.0 m.1)))) }
+{
+    let (time, rest) = first_number(values)?;
+    let (h, rest) = first_number(rest)?;
+    let v = only_number(rest)?;
+    let at = place_of(h, v)?;
+    if time == 0 {
+        return None;
+    }
+    let Ok(()) = reader.in_steps() else {
+        return None;
+    };
+    Some((time, at))
 }
 
 fn read_attach(reader: &Reader, words: &[&str]) -> Result<Meaning, LineRefused>

@@ -1,5 +1,5 @@
 //! The reading of a line.
-ghost use Rattle.std.specs.Prelude.{◌≡◌, ◌<◌, ◌⊎◌, [], ◌∷◌, true, false, Some, None, IfOk, IfErr, IfSome, OnOk, OnErr};
+ghost use Rattle.std.specs.Prelude.{◌≡◌, ◌<◌, ◌⊎◌, [], ◌∷◌, true, false, Some, None, Ok, IfOk, IfErr, IfSome, OnOk, OnErr};
 ghost use Rattle.std.specs.List.{AllPass};
 ghost use Rattle.tr_base.specs.Lines.{is_printable};
 ghost use Rattle.tr_grammar.specs.Words.{words_of, word_at};
@@ -15,7 +15,9 @@ ghost use Rattle.tr_script.specs.Apart as spec;
 ghost use Rattle.tr_script.specs.Reading.{Reads, SaysStep, TakesWords, plain_forms};
 
 use crate::act_lines::read_at;
-use crate::desk_lines::{read_desk, read_key, read_lift, read_motion, read_mouse, read_move};
+use crate::desk_lines::{
+    plain_motion, read_desk, read_key, read_lift, read_motion, read_mouse, read_move,
+};
 use crate::leaf_lines::read_leaf;
 use crate::opening_lines::{
     read_begin, read_glyph, read_node, read_put, read_root, read_screen, read_version,
@@ -26,11 +28,12 @@ use crate::report_lines::{
 };
 use crate::widget_lines::{read_line, read_rect, read_swap, read_undo};
 use std::alloc::Global;
-use tr_base::NoMemory;
+use tr_base::{NoMemory, Point};
 use tr_grammar::{Code, LineRefused, Meaning};
+use tr_journal::{Actor, Step};
 use tr_reader::{Reader, Steps};
 use tr_widget::WidgetCmd;
-use tr_words::{is_silent, plain_text, words_into};
+use tr_words::{at_space, is_silent, plain_text, words_into};
 use w_canvas::CanvasCmd;
 use w_edit::EditorCmd;
 use w_lines::LinesCmd;
@@ -337,6 +340,61 @@ fn take_words<'a>(
     }
 }
 
+/// Adds the motion of a line.
+#[inline(always)]
+fn take_motion(
+    reader: &mut Reader,
+    number: usize,
+    line: &str,
+    motion: (u32, Point),
+) -> Result<(), LineRefused>
+    requires { Reads reader.old forms (words_of line.now)
+        (Ok (Meaning.Step Actor.Desk (Step.Motion motion.0 motion.1))) }
+    ensures { TakesWords reader.old number (words_of line.now) reader.new result }
+{
+    let (time, at) = motion;
+    let actor = Actor::Desk;
+    let step = Step::Motion { time, at };
+    take_meaning(reader, number, "", Meaning::Step { actor, step })
+}
+
+/// The values of a line's motion, if they have no minus and the line has no fault.
+#[inline(always)]
+fn motion_of(reader: &Reader, line: &str) -> Option<(u32, Point)>
+    ensures { IfSome result (λ m. Reads reader.now forms (words_of line.now)
+        (Ok (Meaning.Step Actor.Desk (Step.Motion m.0 m.1)))) }
+{
+    let (first, values) = at_space(line)?;
+    match first {
+        "motion" => {
+            let motion = plain_motion(reader, values)?;
+            Some(motion)
+        }
+        _ => None,
+    }
+}
+
+/// Takes a line that isn't silent. A motion, the most common step of all, is taken without a list of its
+/// words, which spares some 270 instructions.
+fn take_text<'a>(
+    alloc: Global,
+    reader: &mut Reader<'a>,
+    words: &mut Vec<&'a str>,
+    number: usize,
+    line: &'a str,
+) -> Result<(), LineRefused>
+    requires { AllPass is_printable line.now }
+    ensures { TakesWords reader.old number (words_of line.now) reader.new result }
+{
+    match motion_of(reader, line) {
+        Some(motion) => take_motion(reader, number, line, motion),
+        None => {
+            words_into(line, words)?;
+            take_words(alloc, reader, number, words, line)
+        }
+    }
+}
+
 /// Reads the line of this number. After an `Err` the reader is unchanged; but after the 100,000th line it
 /// may include the refused line. The list `words` is used for the line's words.
 #[tactic(auto, unfolding(tr_grammar::specs::Faults::fault_of, tr_grammar::specs::Scripts::after_line))]
@@ -365,8 +423,7 @@ pub fn take_line<'a>(
     if reader.has_ended() {
         return Err(LineRefused::Fault(Code::B8));
     }
-    words_into(line, words)?;
-    take_words(alloc, reader, number, words, line)
+    take_text(alloc, reader, words, number, line)
 }
 
 /// Reads a line separately from those before it, at a place where a step and a report may come. The reader
