@@ -1,7 +1,7 @@
 -- A name more.
 use Rattle.std.proofs.Common.{◌≡◌, ℕ, ◌+◌, ◌<◌, ◌≤◌, Bool, true, false, cond, List, [], ◌∷◌, ◌++◌, length, Option, Some, None, refl, sym, ap, ◌∙◌, inl, inr, arith}
-use Rattle.std.specs.Prelude.{option_map, bytes_eq, IfSome}
-use Prim.Native.Nat.{suc}
+use Rattle.std.specs.Prelude.{◌⊎◌, option_map, bytes_eq, slice_get, IfSome}
+use Prim.Native.Nat.{zero, suc}
 use Rattle.std.proofs.lemmas.Bool.{cases_Bool, false_from_ne_true, false≢true}
 use Rattle.std.proofs.lemmas.Option.{none-some, same_Some}
 use Rattle.std.proofs.lemmas.Slice.Eq.{bytes_eq-Decides}
@@ -74,3 +74,47 @@ none_before ns w q new none = neither (bytes_eq w q) (length ns) (number_of ns q
 pub none_after : (ns : List (List ℕ)) (w q : List ℕ) → number_of ns w ≡ None → bytes_eq w q ≡ false → number_of ns q ≡ None →
     number_of (ns ++ w ∷ []) q ≡ None
 none_after ns w q new other none = number_of-push ns w q new ∙ rw (other, none) refl
+
+-- ---- each name has the number of its place
+
+-- what is at a place among one name more is there without it, or is the last name
+place_of : (ns : List (List ℕ)) (w n : List ℕ) (k : ℕ) → slice_get (ns ++ w ∷ []) k ≡ Some n → (slice_get ns k ≡ Some n) ⊎ ((k ≡ length ns) × (w ≡ n))
+place_of [] w n zero e = inr (refl, same_Some w n e)
+place_of [] w n (suc k) e = absurd (none-some n e)
+place_of (m ∷ ns) w n zero e = inl e
+place_of (m ∷ ns) w n (suc k) e =
+    elim (place_of ns w n k e) [
+      | inl front ↦ inl front
+      | inr last ↦ inr (ap suc last.0, last.1)
+    ]
+
+-- what is at a place is there among one name more
+in_front : (ns : List (List ℕ)) (w n : List ℕ) (k : ℕ) → slice_get ns k ≡ Some n → (slice_get (ns ++ w ∷ []) k ≡ Some n) × (k < length ns)
+in_front [] w n k e = absurd (none-some n e)
+in_front (m ∷ ns) w n zero e = (e, omega arith)
+in_front (m ∷ ns) w n (suc k) e = let rest = in_front ns w n k e in (rest.0, omega (arith, rest.1))
+
+-- each name has the number of its place
+abbrev pub AreNumbered : List (List ℕ) → Type 0
+AreNumbered ns = (k : ℕ) (n : List ℕ) → slice_get ns k ≡ Some n → number_of ns n ≡ Some k
+
+pub numbered-push : (ns : List (List ℕ)) (w : List ℕ) → number_of ns w ≡ None → AreNumbered ns → AreNumbered (ns ++ w ∷ [])
+numbered-push ns w new numbered k n e =
+    let pushed = number_of-push ns w n new in
+    elim (place_of ns w n k e) [
+      | inl front ↦
+          let old = numbered k n front in
+          let other : bytes_eq w n ≡ false = false_from_ne_true (bytes_eq w n) (λ t.
+          none-some k (sym new ∙ ap (λ (v : List ℕ). number_of ns v) ((bytes_eq-Decides w n).0 t) ∙ old)) in
+          pushed ∙ rw (other, old) refl
+      | inr last ↦ pushed ∙ rw ((bytes_eq-Decides w n).1 last.1, last.0) refl
+    ]
+
+pub numbered-pop : (ns : List (List ℕ)) (w : List ℕ) → number_of ns w ≡ None → AreNumbered (ns ++ w ∷ []) → AreNumbered ns
+numbered-pop ns w new numbered k n e =
+    let front = in_front ns w n k e in
+    let pushed = sym (number_of-push ns w n new) ∙ numbered k n front.0 in
+    elim (cases_Bool (bytes_eq w n)) [
+      | inl same ↦ let last : length ns ≡ k = same_Some (length ns) k (rw same at pushed) in absurd (omega (arith, front.1, last))
+      | inr differs ↦ rw differs at pushed
+    ]

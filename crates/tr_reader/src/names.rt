@@ -1,4 +1,4 @@
-ghost use Rattle.std.specs.Prelude.{◌≡◌, ◌≤◌, ◌<◌, ℕ, List, [], ◌∷◌, ◌++◌, None, IfOk, OnOk, OnErr, IfSome, length, map};
+ghost use Rattle.std.specs.Prelude.{◌≡◌, ◌≤◌, ◌<◌, ℕ, List, [], ◌∷◌, ◌++◌, true, None, Some, IfOk, OnOk, OnErr, IfSome, length, map};
 ghost use Rattle.tr_grammar.specs.Names.{number_of};
 ghost use Rattle.tr_words.specs.Answers.{texts};
 
@@ -60,15 +60,32 @@ impl Names {
 /// The most names that a table has.
 const MOST_NAMES: usize = 256;
 
+/// The number of hints of a table.
+const HINTS: usize = 256;
+
+/// The place of a name's hint.
+#[inline(always)]
+fn hint_of(name: &str) -> usize
+    ensures { result < HINTS }
+{
+    let mut hint: u8 = 0;
+    for byte in name.as_bytes() {
+        hint = hint.wrapping_mul(31).wrapping_add(*byte);
+    }
+    usize::from(hint)
+}
+
 /// Names in the order of their declaration, which numbers them from 0.
 #[derive(Drop)]
 pub struct NameTable<'a> {
     names: Vec<&'a str>,
     numbers: BTreeMap<&'a str, u16>,
+    /// At each place the number of the last name with this hint. It is only a guess.
+    hints: [u8; HINTS],
 }
 
 impl<'a> Model for NameTable<'a> {
-    ghost use Rattle.std.specs.Prelude.{◌≡◌, ◌≤◌, ℕ, List, vec_len};
+    ghost use Rattle.std.specs.Prelude.{◌≡◌, ◌≤◌, ℕ, List, Some, slice_get, vec_len};
     ghost use Rattle.std.specs.BTreeMap.{get_by};
     ghost use Rattle.std.specs.Cmp.Lexicographic.{slice_cmp};
     ghost use Rattle.std.specs.Ordering.{nat_cmp};
@@ -81,7 +98,9 @@ impl<'a> Model for NameTable<'a> {
 
     ghost invariant = { λ t. (vec_len t.names ≤ 256)
         × ((q : List ℕ) →
-        get_by (λ k. slice_cmp nat_cmp q k.now) t.numbers ≡ number_of (texts t.names.items) q) };
+        get_by (λ k. slice_cmp nat_cmp q k.now) t.numbers ≡ number_of (texts t.names.items) q)
+        × ((k : ℕ) (name : List ℕ) →
+        slice_get (texts t.names.items) k ≡ Some name → number_of (texts t.names.items) name ≡ Some k) };
 }
 
 impl<'a> NameTable<'a> {
@@ -92,6 +111,7 @@ impl<'a> NameTable<'a> {
         NameTable {
             names: Vec::new(alloc),
             numbers: BTreeMap::new(alloc),
+            hints: [0; HINTS],
         }
     }
 
@@ -103,11 +123,27 @@ impl<'a> NameTable<'a> {
         self.names.len()
     }
 
+    /// Whether the name with this number is `name`.
+    #[inline(always)]
+    fn is_named(&self, number: usize, name: &str) -> bool
+        ensures { result ≡ true → number_of self.now name.now ≡ Some number }
+    {
+        match self.names.get(number) {
+            Some(found) => *found == name,
+            None => false,
+        }
+    }
+
     /// The number of a name.
     pub fn number_of(&self, name: &str) -> Option<u16>
         ensures result { result ≡ number_of self.now name.now }
         ensures most { IfSome result (λ number. number < MOST_NAMES) }
     {
+        // In the map alone, a name among 16 took 200 instructions.
+        let hinted = self.hints[hint_of(name)];
+        if self.is_named(usize::from(hinted), name) {
+            return Some(u16::from(hinted));
+        }
         self.numbers.get(name).copied()
     }
 
@@ -122,6 +158,7 @@ impl<'a> NameTable<'a> {
         self.names.reserve(1)?;
         self.numbers.insert(name, number)?;
         self.names.push_reserved(name);
+        self.hints[hint_of(name)] = number as u8;
         Ok(())
     }
 

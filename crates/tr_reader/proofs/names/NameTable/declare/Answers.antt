@@ -4,7 +4,7 @@ use Rattle.std.proofs.lemmas.List.{map-append, length-map}
 use Rattle.std.proofs.lemmas.Map.Text.{btree_map_updates_str}
 use Rattle.tr_grammar.specs.Names.{number_of}
 use Rattle.tr_words.specs.Answers.{texts}
-use Rattle.tr_reader.proofs.NameLemmas.{number_of-push}
+use Rattle.tr_reader.proofs.NameLemmas.{number_of-push, numbered-push}
 use Rattle.tr_reader.proofs.names.NameTable.declare.Goals as goal
 
 pub invariant_of-self-2 : goal.invariant_of-self-2
@@ -23,4 +23,5 @@ invariant_of-self-2 c =
           let pushed = number_of-push (texts old) name q new in
           rw (now q, c.self.invariant.1 q, items, pushed, c.len-number.ensures.count)
           (ap (λ (v : List (List ℕ)). cond (bytes_eq name q) (Some (length v)) (number_of (texts old) q)) (sym c.self.view_is)),
+      rw items (numbered-push (texts old) name new c.self.invariant.2),
     )

@@ -4,7 +4,7 @@ use Rattle.std.proofs.lemmas.List.{length-append, length-map, take-map}
 use Rattle.std.proofs.lemmas.Map.Text.{btree_map_updates_str}
 use Rattle.std.proofs.Math.Seq.{take-append_seam}
 use Rattle.tr_words.specs.Answers.{texts}
-use Rattle.tr_reader.proofs.NameLemmas.{number_of-pop}
+use Rattle.tr_reader.proofs.NameLemmas.{number_of-pop, numbered-pop}
 use Rattle.tr_reader.proofs.names.NameTable.withdraw.Goals as goal
 
 pub invariant_of-self : goal.invariant_of-self
@@ -23,4 +23,5 @@ invariant_of-self c =
     let now = λ (q : List ℕ). btree_map_updates_str name c.self.inside.numbers c.remove.new.self _ c.remove.ensures.updates q in (
       omega (arith, c.pop.ensures.len),
       λ q. rw (now q, c.self.invariant.1 q, all, items) (number_of-pop before name q c.requires.last.2),
+      rw items (numbered-pop before name c.requires.last.2 (rw all at c.self.invariant.2)),
     )
