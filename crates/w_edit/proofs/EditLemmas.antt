@@ -1,15 +1,16 @@
 -- Lines that take the place of others, and commands that stand before others in a batch.
 use Rattle.std.proofs.Common.{◌≡◌, ℕ, ◌+◌, ◌-◌, ◌≤◌, ◌<◌, List, [], ◌∷◌, ◌++◌, length, take, drop, set, sym, ap, subst, ◌∙◌, refl, arith, append_assoc, length-append, length-take, length-set, take_all}
 use Rattle.std.specs.List.{insert}
-use Rattle.std.specs.Prelude.{Result, Ok, Err, OnErr}
+use Rattle.std.specs.Prelude.{Result, Ok, Err, IfOk, OnErr}
 use Rattle.std.proofs.lemmas.List.{set-append_left, take-take, take-append-drop}
 use Rattle.std.proofs.lemmas.Grind.{take-set_at}
+use Rattle.std.proofs.lemmas.Result.{IfOk-weaker}
 use Rattle.std.proofs.Math.Seq.{take-append_seam}
 use Rattle.tr_paint.specs.declared.Paint.{Paint}
 use Rattle.w_edit.specs.declared.changes.Edit.{Edit}
 use Rattle.w_edit.specs.declared.changes.Edit.TheVariants.{Line, Joined, Broken}
-use Rattle.w_edit.specs.Contents.{Contents, below, with_lines}
-use Rattle.w_edit.specs.Edits.{IsEditOf, edited_contents}
+use Rattle.w_edit.specs.Contents.{Contents, IsContents, below, with_lines}
+use Rattle.w_edit.specs.Edits.{IsEditOf, MakesContents, edited_contents}
 
 -- the last line of those that stand before others is another
 pub last_set : (xs rest : List (List ℕ)) (n : ℕ) (line : List ℕ) → n < length xs →
@@ -82,3 +83,9 @@ front_stays old mid new more grown stays =
 pub on_err : {T E P : Type 0} (r : Result T E) → P → OnErr r P
 on_err (Ok x) holds = tt
 on_err (Err e) holds = holds
+
+-- an edit that makes a content is one that leaves a content
+pub contents_made : {E : Type 0} (x y : Contents) (r : Result Edit E) → IsContents y → IfOk r (λ edit. MakesContents x edit y) →
+    IfOk r (λ edit. IsContents (edited_contents x edit))
+contents_made x y r is made =
+    IfOk-weaker r (λ edit. MakesContents x edit y) (λ edit. IsContents (edited_contents x edit)) (λ edit m. subst IsContents (sym m.1) is) made
