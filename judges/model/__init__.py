@@ -5,6 +5,7 @@
     outputs   whether what is printed has the form of the script's reports
     drawing   scripts that are drawn at random, cut, joined and bent
     fuzz      plays such scripts, many a second, and compares what comes with what the reader says
+    contents  one window of each widget, whose texts grow to their limits, beside the plain model
     streams   runs the program as badly as a shell can
     limits    scripts at each limit, the last value that passes and the first that is refused
     worst     scripts and streams that are as dear as they may be, with the time and the memory that they take
