@@ -6,7 +6,7 @@ ghost use Rattle.w_canvas.specs.Areas.{IsFigureEdge};
 
 use super::ends::made;
 use std::process::Abort;
-use tr_base::{Font, Kind, Line, Point, Rect, Size, Tile};
+use tr_base::{Font, Kind, Line, Point, Size, Tile};
 use tr_testing::Numbers;
 use tr_widget::WidgetCmd;
 use w_canvas::{Area, CanvasCmd};
@@ -27,11 +27,11 @@ impl Draw {
         }
     }
 
-    pub fn byte(&mut self) -> u8 {
+    fn byte(&mut self) -> u8 {
         self.numbers.byte()
     }
 
-    pub fn tile(&mut self) -> Tile {
+    fn tile(&mut self) -> Tile {
         let mut rows = [0; 8];
         for row in &mut rows {
             *row = self.byte();
@@ -87,12 +87,6 @@ impl Draw {
             wide: self.side(),
             high: self.side(),
         }
-    }
-
-    pub fn clip(&mut self) -> Rect {
-        let (west, north) = (i32::from(self.byte() % 24), i32::from(self.byte() % 24));
-        let (wide, high) = (i32::from(self.byte() % 24), i32::from(self.byte() % 24));
-        Rect::edges(west - 4, west + wide, north - 4, north + high)
     }
 
     /// An edge in a small window or a little beside it, and now and then a far one.

@@ -1,4 +1,5 @@
-//! The laws of clients, each called once at each widget: they are proved in general, and here of the widgets.
+//! The laws of clients, each called once at each widget, and those that an editor has of its own: they are
+//! proved in general, and here of the widgets.
 use super::ends::made;
 use super::widgets::{SQUARE, TILE, commands, contents};
 use std::process::Abort;
@@ -43,6 +44,12 @@ fn plain_ones_obey(rt: &(impl Abort + AllocGlobal)) -> bool {
         && obeys_its_laws(rt, &label, &text)
 }
 
+/// Calls the laws that an editor has of its own.
+fn call_own_laws(editor: &Editor, cmd: &EditorCmd) {
+    editor.obeys_flat();
+    editor.obeys_effects(cmd);
+}
+
 /// Whether those of lines, of figures, of bars and of an edited text do.
 fn other_ones_obey(rt: &(impl Abort + AllocGlobal)) -> bool {
     let lines = made(rt, Lines::new(rt.alloc()));
@@ -59,6 +66,7 @@ fn other_ones_obey(rt: &(impl Abort + AllocGlobal)) -> bool {
         bar: BarNumber::of(1),
         height: 3,
     };
+    call_own_laws(&editor, &inserted);
     obeys_its_laws(rt, &lines, &line)
         && obeys_its_laws(rt, &canvas, &figure)
         && obeys_its_laws(rt, &meter, &bar)

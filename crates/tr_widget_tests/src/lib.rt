@@ -11,6 +11,4 @@ mod ends;
 #[cfg(test)]
 mod laws;
 #[cfg(test)]
-mod pictures;
-#[cfg(test)]
 mod widgets;

@@ -1,7 +1,5 @@
 //! Each widget, and commands of each.
-use super::draws::Draw;
 use super::ends::made;
-use super::pictures::shown_after;
 use std::process::Abort;
 use std::test::Fail;
 use tr_base::{Command, Env, Font, Kind, Line, Op, Point, Rect, Size, Tile};
@@ -178,26 +176,5 @@ fn a_prepared_command_is_fitted_anew(rt: HostRuntime) -> Result<(), Fail> {
     let cmd = WidgetCmd::Solid(SolidCmd::Tint(7));
     let want = (Rect::edges(0, 3, 0, 1), Op::Set(7));
     assert!(rt; is_fitted_anew(&rt, &solid, &cmd, want));
-    Ok(())
-}
-
-/// Whether a content has its picture after each of a hundred commands.
-fn has_its_pictures(rt: &(impl Abort + AllocGlobal), first: Widget, draw: &mut Draw) -> bool {
-    let mut content = first;
-    for cmd in &draw.commands(rt) {
-        match shown_after(rt, &content, cmd, draw) {
-            Some(next) => content = next,
-            None => return false,
-        }
-    }
-    true
-}
-
-#[test]
-fn each_widget_holds_to_its_picture(rt: HostRuntime) -> Result<(), Fail> {
-    let mut draw = Draw::new(1);
-    for (i, content) in contents(&rt).into_iter().enumerate() {
-        assert!(rt; has_its_pictures(&rt, content, &mut draw), "content {i}");
-    }
     Ok(())
 }
