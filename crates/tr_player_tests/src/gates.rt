@@ -69,62 +69,81 @@ end
 /// How often a client looks whether the other one has come so far.
 const TRIES: u32 = 100_000_000;
 
-/// Lets the first window's client wait until the second one's begins its second step.
+/// How far the client of a window has come, and how long its first step waits.
 #[derive(Drop)]
-struct SecondFirst {
-    /// So often it was asked, but for where the client waited in vain or a step hadn't the next number.
-    asked: AtomicU32,
-    /// So many of its steps the second one has begun.
+struct Progress {
+    /// So many of its steps it has begun.
     begun: AtomicU32,
+    /// So many steps the other one begins before this one's first step is made.
+    awaits: u32,
 }
 
-impl SecondFirst {
-    /// A gate that nobody has reached.
-    fn new() -> SecondFirst {
-        SecondFirst {
+impl Progress {
+    /// Whether a step is the next one, and the other client came as far as this one waits for.
+    fn begins(&self, other: &Progress, k: u32) -> bool {
+        let is_next = self.begun.swap(k, Ordering::SeqCst) == k.wrapping_sub(1);
+        is_next && (k != 1 || came(other, self.awaits))
+    }
+}
+
+/// Waits until a client has begun so many steps, and says whether it did.
+fn came(progress: &Progress, steps: u32) -> bool {
+    for _ in 0..TRIES {
+        if steps <= progress.begun.load(Ordering::SeqCst) {
+            return true;
+        }
+        hint::spin_loop();
+    }
+    false
+}
+
+/// Two clients, those of the two windows, of which one may wait for the other.
+#[derive(Drop)]
+struct Meeting {
+    first: Progress,
+    second: Progress,
+    /// So often it was asked, but for where a client waited in vain or a step hadn't the next number.
+    asked: AtomicU32,
+}
+
+impl Meeting {
+    /// A gate that nobody has reached. The first step of each client waits until the other one has begun so
+    /// many.
+    fn new(awaits: (u32, u32)) -> Meeting {
+        Meeting {
+            first: Progress {
+                begun: AtomicU32::new(0),
+                awaits: awaits.0,
+            },
+            second: Progress {
+                begun: AtomicU32::new(0),
+                awaits: awaits.1,
+            },
             asked: AtomicU32::new(0),
-            begun: AtomicU32::new(0),
         }
-    }
-
-    /// Waits until the second window's client has begun its second step, and says whether it did.
-    fn came(&self) -> bool {
-        for _ in 0..TRIES {
-            if 2 <= self.begun.load(Ordering::SeqCst) {
-                return true;
-            }
-            hint::spin_loop();
-        }
-        false
     }
 }
 
-impl Gate for SecondFirst {
+impl Gate for Meeting {
     fn turn<R: Wait>(&self, _rt: &R, actor: Actor, k: u32) {
-        match actor {
-            Actor::Leaf(LeafId(0)) => {
-                if !self.came() {
-                    return;
-                }
-            }
-            Actor::Leaf(LeafId(1)) => {
-                if self.begun.swap(k, Ordering::SeqCst) != k.wrapping_sub(1) {
-                    return;
-                }
-            }
-            _ => {}
+        let is_due = match actor {
+            Actor::Leaf(LeafId(0)) => self.first.begins(&self.second, k),
+            Actor::Leaf(LeafId(1)) => self.second.begins(&self.first, k),
+            _ => true,
+        };
+        if is_due {
+            self.asked.fetch_add(1, Ordering::SeqCst);
         }
-        self.asked.fetch_add(1, Ordering::SeqCst);
     }
 }
 
 /// The same gate, but open, as the program's is: it is asked before commands.
 #[derive(Drop)]
-struct OpenSecondFirst {
-    gate: SecondFirst,
+struct OpenMeeting {
+    gate: Meeting,
 }
 
-impl Gate for OpenSecondFirst {
+impl Gate for OpenMeeting {
     fn turn<R: Wait>(&self, rt: &R, actor: Actor, k: u32) {
         self.gate.turn(rt, actor, k);
     }
@@ -133,6 +152,9 @@ impl Gate for OpenSecondFirst {
         true
     }
 }
+
+/// In turn, the first client waits for the second step of the second one, and both meet at their first steps.
+const MEETINGS: [(u32, u32); 2] = [(2, 0), (1, 1)];
 
 /// Whether the first mark is that of the second window's client.
 fn is_second_first(stage: &Stage<Widget>) -> bool {
@@ -146,13 +168,23 @@ fn is_second_first(stage: &Stage<Widget>) -> bool {
     false
 }
 
-/// Plays a script at a gate. Returns whether the text says that threads played it, and the stage after all
-/// steps.
+/// In which order threads played a script.
+#[derive(Clone, Copy, PartialEq, Eq)]
+enum Order {
+    /// The text doesn't say that they did.
+    Untold,
+    /// They did, and the first mark, if any, is that of the first window's client.
+    FirstFirst,
+    /// They did, and it is that of the second one's.
+    SecondFirst,
+}
+
+/// The order in which a script is played at a gate.
 fn played<R: Threads + Wait + Sync + Abort + AllocGlobal, G: Gate + Sync>(
     rt: &R,
     script: &[u8],
     gate: &G,
-) -> (bool, Option<Stage<Widget>>) {
+) -> Order {
     let alloc = rt.alloc();
     let words = words_of(rt, &["play"]);
     let mut source = SteadySource::new(made(rt, Vec::from_slice(alloc, script)));
@@ -166,41 +198,46 @@ fn played<R: Threads + Wait + Sync + Abort + AllocGlobal, G: Gate + Sync>(
         gate,
     ).into_stage();
     let is_told = status == 0 && sink.written().ends_with(b"played threads\n");
-    (is_told, stage)
+    order_of(is_told, stage)
 }
 
-/// Whether threads play the marks as the gate has it, and the text says so.
-fn is_played<R: Threads + Wait + Sync + Abort + AllocGlobal>(rt: &R, gate: &SecondFirst) -> bool {
-    let (is_told, stage) = played(rt, MARKS, gate);
-    match stage {
-        Some(stage) => {
-            let is_played = is_told && is_second_first(&stage);
-            drop(stage);
-            is_played
-        }
-        None => false,
+/// The order of the marks on a stage, where the text says that threads made it.
+fn order_of(is_told: bool, stage: Option<Stage<Widget>>) -> Order {
+    let Some(stage) = stage else {
+        return Order::Untold;
+    };
+    let is_second_first = is_second_first(&stage);
+    drop(stage);
+    match (is_told, is_second_first) {
+        (false, _) => Order::Untold,
+        (true, false) => Order::FirstFirst,
+        (true, true) => Order::SecondFirst,
     }
 }
 
 #[test]
 fn the_gate_is_asked_before_each_step(rt: HostRuntime) {
-    let gate = SecondFirst::new();
-    let is_played = is_played(&rt, &gate);
-    assert!(rt; is_played && gate.asked.load(Ordering::SeqCst) == 20);
-}
-
-/// Whether threads play the commands, and the text says so.
-fn is_told<R: Threads + Wait + Sync + Abort + AllocGlobal>(rt: &R, gate: &OpenSecondFirst) -> bool {
-    let (is_told, stage) = played(rt, TINTS, gate);
-    drop(stage);
-    is_told
+    for (first, second) in MEETINGS {
+        let gate = Meeting::new((first, second));
+        let played = played(&rt, MARKS, &gate);
+        let is_due = played == Order::SecondFirst || first != 2 && played != Order::Untold;
+        assert!(rt;
+            is_due && gate.asked.load(Ordering::SeqCst) == 20,
+            "{first} {second}"
+        );
+    }
 }
 
 #[test]
 fn an_open_gate_is_asked_before_each_command(rt: HostRuntime) {
-    let open = OpenSecondFirst {
-        gate: SecondFirst::new(),
-    };
-    let is_told = is_told(&rt, &open);
-    assert!(rt; is_told && open.gate.asked.load(Ordering::SeqCst) == 3);
+    for (first, second) in MEETINGS {
+        let open = OpenMeeting {
+            gate: Meeting::new((first, second)),
+        };
+        let is_told = played(&rt, TINTS, &open) != Order::Untold;
+        assert!(rt;
+            is_told && open.gate.asked.load(Ordering::SeqCst) == 3,
+            "{first} {second}"
+        );
+    }
 }
