@@ -1,17 +1,6 @@
 use std::sync::Wait;
 use std::sync::atomic::{AtomicU64, Ordering};
 use std::thread::Parker;
-use std::time::Duration;
-
-/// The number of times in a row that the painter may find no progress of any worker, before it stops waiting:
-/// if no thread can be started, the workers run after the painter.
-const MOST_LOOKS: u32 = 50;
-
-/// The milliseconds for which the painter sleeps before it looks again, if no worker wakes it.
-const NAP: u64 = 2;
-
-/// The milliseconds for which the painter rests between two repaints: it makes at most about sixty a second.
-const REST: u64 = 16;
 
 /// A number of steps that is never reached: no thread waits.
 const NEVER: u64 = u64::MAX;
@@ -22,8 +11,6 @@ const NEVER: u64 = u64::MAX;
 #[derive(Drop)]
 pub(crate) struct Counter {
     made: AtomicU64,
-    /// The number of times that a worker has reported its progress.
-    notes: AtomicU64,
     /// The number of steps for which the painter waits.
     awaited: AtomicU64,
     sleeper: Parker,
@@ -33,15 +20,13 @@ impl Counter {
     pub(crate) fn new() -> Counter {
         Counter {
             made: AtomicU64::new(0),
-            notes: AtomicU64::new(0),
             awaited: AtomicU64::new(NEVER),
             sleeper: Parker::new(),
         }
     }
 
-    /// A worker reports progress, and adds this number of steps; with 0 it only reports progress.
+    /// A worker adds this number of steps.
     pub(crate) fn add(&self, steps: u64) {
-        self.notes.fetch_add(1, Ordering::SeqCst);
         if steps == 0 {
             return;
         }
@@ -61,44 +46,15 @@ impl Counter {
         self.count() >= steps
     }
 
-    /// Sleeps until there are this many steps, or until no worker reports progress any more. Returns whether
-    /// there are this many.
-    pub(crate) fn wait_for<R: Wait>(&self, rt: &R, steps: u64) -> bool {
+    /// Sleeps until there are this many steps.
+    pub(crate) fn wait_for<R: Wait>(&self, rt: &R, steps: u64) {
         self.awaited.store(steps, Ordering::SeqCst);
-        let made = self.sleep_until(rt, steps);
-        self.awaited.store(NEVER, Ordering::SeqCst);
-        made
-    }
-
-    /// Rests for a while, or until there are this many steps.
-    pub(crate) fn rest<R: Wait>(&self, rt: &R, steps: u64) {
-        self.awaited.store(steps, Ordering::SeqCst);
-        if !self.has(steps) {
-            self.sleeper.park_timeout(rt, Duration::from_millis(REST));
-        }
-        self.awaited.store(NEVER, Ordering::SeqCst);
-    }
-
-    fn sleep_until<R: Wait>(&self, rt: &R, steps: u64) -> bool {
-        let mut seen = self.notes.load(Ordering::SeqCst);
-        let mut looks: u32 = 0;
-        // (no run reaches the end of this range)
-        for _look in 0..u64::MAX {
+        for _ in rt.forever() {
             if self.has(steps) {
-                return true;
+                break;
             }
-            if looks >= MOST_LOOKS {
-                return false;
-            }
-            self.sleeper.park_timeout(rt, Duration::from_millis(NAP));
-            let now = self.notes.load(Ordering::SeqCst);
-            looks = if now == seen {
-                looks.saturating_add(1)
-            } else {
-                0
-            };
-            seen = now;
+            self.sleeper.park(rt);
         }
-        false
+        self.awaited.store(NEVER, Ordering::SeqCst);
     }
 }

@@ -11,13 +11,15 @@ use crate::contexts::Context;
 use crate::counters::Counter;
 use crate::gates::Gate;
 use crate::lists::PartLists;
-use crate::threads::Workers;
+use crate::threads::{STEPS_A_REPAINT, Workers};
 use std::sync::Wait;
 use std::sync::ledger::Blank;
 use std::thread;
 use std::thread::Threads;
+use tr_base::Command;
 use tr_client::Client;
 use tr_journal::Actor;
+use tr_levels::Ladder;
 use tr_server::{CloseRefused, Pass, Server, Session};
 use tr_stage::Stage;
 
@@ -98,7 +100,7 @@ fn all_work<C: Client, L: Session, R: Threads + Wait + Sync, G: Gate + Sync>(
         return;
     }
     let (front, back) = workers.split_at_mut(workers.len() / 2);
-    let is_apart = steps > 1 && has_work(lists, front) && has_work(lists, back);
+    let is_apart = has_work(lists, steps, front) && has_work(lists, steps, back);
     both_halves(context, lists, steps, is_apart, front, back);
 }
 
@@ -133,21 +135,36 @@ fn both_halves<C: Client, L: Session, R: Threads + Wait + Sync, G: Gate + Sync>(
             × CanWork (tree_of context.now.server.now.opening).nodes lists.now back.now }
         ensures { HaveTaken lists.entry.now back.entry.now back.exit.now }
     { all_work(context, lists, steps, back) };
-    thread::join_mut(context.rt, &mut first, &mut second);
+    // The back half has the painter, which waits for the others' steps: if no thread can be started, the first
+    // closure runs last.
+    thread::join_mut(context.rt, &mut second, &mut first);
 }
 
-/// Whether one of these workers has work. The painter always has.
-fn has_work<C: Client, L: Session>(lists: &PartLists<'_, C::Cmd>, workers: &[Pass<C, L>]) -> bool {
+/// Whether one of these workers has work for a thread. The painter has some if it may repaint more than once:
+/// else it waits for all steps, and works when the others have ended.
+fn has_work<C: Client, L: Session>(
+    lists: &PartLists<'_, C::Cmd>,
+    steps: usize,
+    workers: &[Pass<C, L>],
+) -> bool {
     for pass in workers {
-        if lists.has_work(pass.actor()) {
+        if is_busy(lists, steps, pass.actor()) {
             return true;
         }
     }
     false
 }
 
+/// Whether an actor has work for a thread.
+fn is_busy<M: Command>(lists: &PartLists<'_, M>, steps: usize, actor: Actor) -> bool {
+    match actor {
+        Actor::Painter => steps > STEPS_A_REPAINT,
+        actor => lists.has_work(actor),
+    }
+}
+
 /// A worker does its own work: the painter repaints the screen, and each other actor makes the steps of
-/// its list.
+/// its list. A worker gets its ladder here alone, one for all of its steps.
 fn do_own<C: Client, L: Session, R: Threads + Wait + Sync, G: Gate + Sync>(
     context: &Context<'_, C, L, R, G>,
     pass: &mut Pass<C, L>,
@@ -158,10 +175,11 @@ fn do_own<C: Client, L: Session, R: Threads + Wait + Sync, G: Gate + Sync>(
     requires ready { AreReady (tree_of context.now.server.now.opening).nodes lists.now }
     ensures { HasTaken lists.now pass.old pass.new }
 {
-    match pass.actor() {
-        Actor::Painter => context.paint(pass, steps),
-        actor => context.work(pass, &lists.of(actor)),
-    }
+    let ladder = match pass.actor() {
+        Actor::Painter => context.paint(Ladder::ground(), pass, steps),
+        actor => context.work(Ladder::ground(), pass, &lists.of(actor)),
+    };
+    ladder.end();
 }
 
 /// Whether each actor but the painter made its whole list.

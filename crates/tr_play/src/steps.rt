@@ -1,4 +1,4 @@
-ghost use Rattle.std.specs.Prelude.{◌≡◌, ◌+◌, ◌-◌, ◌^◌, ◌++◌, false, min, length, All, OnOk};
+ghost use Rattle.std.specs.Prelude.{◌≡◌, ◌+◌, ◌-◌, ◌^◌, ◌++◌, [], false, min, length, All, OnOk};
 ghost use Rattle.tr_journal.specs.declared.Actor.TheVariants.{Leaf};
 ghost use Rattle.tr_journal.specs.declared.Step.{Step};
 ghost use Rattle.tr_journal.specs.declared.Step.TheVariants.{Act};
@@ -30,75 +30,107 @@ impl<C: Client, L: Session, R: Wait, G: Gate> Context<'_, C, L, R, G> {
     /// Makes the steps of a list, one after another, until memory runs out. Commands are reported to the
     /// painter as they are made, since they wait for it, and other steps in the end: the next edit of the
     /// tree may cover the points that one makes bad. Until then only the progress is reported.
-    pub(crate) fn work(&self, pass: &mut Pass<C, L>, list: &List<'_, C::Cmd>)
-        requires { All (λ step.
+    pub(crate) fn work(
+        &self,
+        ladder: Ladder,
+        pass: &mut Pass<C, L>,
+        list: &List<'_, C::Cmd>,
+    ) -> Ladder
+        requires ladder { ladder ≡ [] }
+        requires ready { All (λ step.
             IsPartStep (tree_of self.now.server.now.opening).nodes (pass.old.actor, step)) list.now }
-        ensures { HasWorked pass.old pass.new list.now }
+        ensures ladder { result ≡ [] }
+        ensures worked { HasWorked pass.old pass.new list.now }
     {
         // If there isn't memory for all of them at once, it is taken step by step.
         let _ = pass.reserve(list.len());
+        let mut free = ladder;
         let mut left = list.len() as u64;
         for n in 0..list.len().div_ceil(STEPS_A_NOTE) {
             let slice = list.slice(n * STEPS_A_NOTE, STEPS_A_NOTE);
             let commands = slice.commands();
-            let Ok(()) = self.make_slice(pass, &slice, commands > 0) else {
+            let (after, made) = self.make_slice(free, pass, &slice, commands > 0);
+            free = after;
+            let Ok(()) = made else {
                 self.made.add(left);
-                return;
+                return free;
             };
             self.made.add(commands);
             left = left.saturating_sub(commands);
         }
         self.made.add(left);
+        free
     }
 
     /// Makes steps, one after another: under one lock, if the gate makes no worker wait and no command is
     /// among them, since a command needs its window's lock alone.
     fn make_slice(
         &self,
+        ladder: Ladder,
         pass: &mut Pass<C, L>,
         list: &List<'_, C::Cmd>,
         has_commands: bool,
-    ) -> Result<(), NoMemory>
+    ) -> (Ladder, Result<(), NoMemory>)
+        requires ladder { ladder ≡ [] }
         requires ready { All (λ step.
             IsPartStep (tree_of self.now.server.now.opening).nodes (pass.old.actor, step)) list.now }
         requires commands { has_commands ≡ false → AreNoCommands list.now }
+        ensures ladder { result.0 ≡ [] }
         ensures worked { HasWorked pass.old pass.new list.now }
-        ensures ok { OnOk result (pass.new.mine ≡ pass.old.mine ++ list.now) }
+        ensures ok { OnOk result.1 (pass.new.mine ≡ pass.old.mine ++ list.now) }
     {
         if self.gate.is_open() && !has_commands {
-            self.make_together(pass, list)
+            self.make_together(ladder, pass, list)
         } else {
-            self.make_each(pass, list)
+            self.make_each(ladder, pass, list)
         }
     }
 
     /// Makes steps, one after another. The gate is called before each, with no lock held.
-    fn make_each(&self, pass: &mut Pass<C, L>, list: &List<'_, C::Cmd>) -> Result<(), NoMemory>
-        requires { All (λ step.
+    fn make_each(
+        &self,
+        ladder: Ladder,
+        pass: &mut Pass<C, L>,
+        list: &List<'_, C::Cmd>,
+    ) -> (Ladder, Result<(), NoMemory>)
+        requires ladder { ladder ≡ [] }
+        requires ready { All (λ step.
             IsPartStep (tree_of self.now.server.now.opening).nodes (pass.old.actor, step)) list.now }
+        ensures ladder { result.0 ≡ [] }
         ensures worked { HasWorked pass.old pass.new list.now }
-        ensures ok { OnOk result (pass.new.mine ≡ pass.old.mine ++ list.now) }
+        ensures ok { OnOk result.1 (pass.new.mine ≡ pass.old.mine ++ list.now) }
     {
+        let mut free = ladder;
         for k in 0..list.len() {
             self.gate.turn(self.rt, pass.actor(), next_number(pass));
             let step = list.step(k);
-            self.make(pass, step)?;
+            let (after, made) = self.make(free, pass, step);
+            free = after;
+            let Ok(()) = made else {
+                return (free, Err(NoMemory));
+            };
         }
-        Ok(())
+        (free, Ok(()))
     }
 
     /// Makes steps, one after another, none of them a command, under the tree's lock, which is taken once.
-    fn make_together(&self, pass: &mut Pass<C, L>, list: &List<'_, C::Cmd>) -> Result<(), NoMemory>
+    fn make_together(
+        &self,
+        ladder: Ladder,
+        pass: &mut Pass<C, L>,
+        list: &List<'_, C::Cmd>,
+    ) -> (Ladder, Result<(), NoMemory>)
+        requires ladder { ladder ≡ [] }
         requires ready { All (λ step.
             IsPartStep (tree_of self.now.server.now.opening).nodes (pass.old.actor, step)) list.now }
         requires commands { AreNoCommands list.now }
+        ensures ladder { result.0 ≡ [] }
         ensures worked { HasWorked pass.old pass.new list.now }
-        ensures ok { OnOk result (pass.new.mine ≡ pass.old.mine ++ list.now) }
+        ensures ok { OnOk result.1 (pass.new.mine ≡ pass.old.mine ++ list.now) }
     {
-        let mut mu = self.server.enter(self.rt, Ladder::ground());
+        let mut mu = self.server.enter(self.rt, ladder);
         let made = self.make_all_under(&mut mu, pass, list);
-        mu.leave().end();
-        made
+        (mu.leave(), made)
     }
 
     /// The same, with the tree's lock taken.
@@ -143,44 +175,62 @@ impl<C: Client, L: Session, R: Wait, G: Gate> Context<'_, C, L, R, G> {
     }
 
     /// Makes a step, under the tree's lock.
-    fn make_under(&self, pass: &mut Pass<C, L>, step: Step<C::Cmd>) -> Result<(), NoMemory>
-        requires { IsPartStep (tree_of self.now.server.now.opening).nodes (pass.old.actor, step) }
-        ensures { AddsStep pass.old pass.new step result }
+    fn make_under(
+        &self,
+        ladder: Ladder,
+        pass: &mut Pass<C, L>,
+        step: Step<C::Cmd>,
+    ) -> (Ladder, Result<(), NoMemory>)
+        requires ladder { ladder ≡ [] }
+        requires ready { IsPartStep (tree_of self.now.server.now.opening).nodes (pass.old.actor, step) }
+        ensures ladder { result.0 ≡ [] }
+        ensures made { AddsStep pass.old pass.new step result.1 }
     {
-        let mut mu = self.server.enter(self.rt, Ladder::ground());
+        let mut mu = self.server.enter(self.rt, ladder);
         let made = self.make_with(&mut mu, pass, step);
-        mu.leave().end();
-        made
+        (mu.leave(), made)
     }
 
     /// Makes a step.
-    fn make(&self, pass: &mut Pass<C, L>, step: &Step<C::Cmd>) -> Result<(), NoMemory>
-        requires { IsPartStep (tree_of self.now.server.now.opening).nodes (pass.old.actor, step.now) }
-        ensures { AddsStep pass.old pass.new step.now result }
+    fn make(
+        &self,
+        ladder: Ladder,
+        pass: &mut Pass<C, L>,
+        step: &Step<C::Cmd>,
+    ) -> (Ladder, Result<(), NoMemory>)
+        requires ladder { ladder ≡ [] }
+        requires ready { IsPartStep (tree_of self.now.server.now.opening).nodes (pass.old.actor, step.now) }
+        ensures ladder { result.0 ≡ [] }
+        ensures made { AddsStep pass.old pass.new step.now result.1 }
     {
-        let step = step.copy(self.alloc)?;
+        let Ok(step) = step.copy(self.alloc) else {
+            return (ladder, Err(NoMemory));
+        };
         match pass.actor() {
-            Actor::Leaf(leaf) => self.make_in(self.server.window(leaf), pass, step),
-            _ => self.make_under(pass, step),
+            Actor::Leaf(leaf) => self.make_in(ladder, self.server.window(leaf), pass, step),
+            _ => self.make_under(ladder, pass, step),
         }
     }
 
     /// The client of a window makes a step.
     fn make_in(
         &self,
+        ladder: Ladder,
         window: &Window<C, L>,
         pass: &mut Pass<C, L>,
         step: Step<C::Cmd>,
-    ) -> Result<(), NoMemory>
+    ) -> (Ladder, Result<(), NoMemory>)
+        requires ladder { ladder ≡ [] }
         requires actor { pass.old.actor ≡ Leaf window.now }
         requires step { IsPartStep (tree_of self.now.server.now.opening).nodes (pass.old.actor, step) }
-        ensures { AddsStep pass.old pass.new step result }
+        ensures ladder { result.0 ≡ [] }
+        ensures made { AddsStep pass.old pass.new step result.1 }
     {
         match step {
-            Step::Act { leaf: _, cmd } => self.act(window, pass, cmd),
+            Step::Act { leaf: _, cmd } => self.act(ladder, window, pass, cmd),
             other => {
                 self.draw_for(window, pass, &other);
-                self.make_under(pass, other)
+                self.make_under(ladder, pass, other)
             }
         }
     }
@@ -197,20 +247,25 @@ impl<C: Client, L: Session, R: Wait, G: Gate> Context<'_, C, L, R, G> {
 
     /// The client of a window makes a command: it posts it, or, if it has posted as many as it may, makes
     /// it under the tree's lock.
-    fn act(&self, window: &Window<C, L>, pass: &mut Pass<C, L>, cmd: C::Cmd) -> Result<(), NoMemory>
-        requires { pass.old.actor ≡ Leaf window.now }
-        ensures { AddsStep pass.old pass.new (Act window.now cmd) result }
+    fn act(
+        &self,
+        ladder: Ladder,
+        window: &Window<C, L>,
+        pass: &mut Pass<C, L>,
+        cmd: C::Cmd,
+    ) -> (Ladder, Result<(), NoMemory>)
+        requires ladder { ladder ≡ [] }
+        requires actor { pass.old.actor ≡ Leaf window.now }
+        ensures ladder { result.0 ≡ [] }
+        ensures made { AddsStep pass.old pass.new (Act window.now cmd) result.1 }
     {
-        let ladder = Ladder::ground();
         if pass.posted() < MOST_POSTED {
             let made = window.act(self.rt, &ladder, pass, cmd);
-            ladder.end();
-            made
+            (ladder, made)
         } else {
             let mut mu = self.server.enter(self.rt, ladder);
             let made = window.act_under(self.rt, &mut mu, pass, cmd);
-            mu.leave().end();
-            made
+            (mu.leave(), made)
         }
     }
 }

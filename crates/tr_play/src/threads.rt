@@ -29,11 +29,15 @@ pub struct Workers<'a, R, G> {
     pub gate: &'a G,
 }
 
-/// The number of steps of a part for which the painter may repaint once more.
+/// The least number of steps of a part for which the painter repaints once more.
 pub(crate) const STEPS_A_REPAINT: usize = 16;
 
-/// Makes the steps of a part on a stage, by threads: no thread has steps of two actors. Meanwhile the painter
-/// brings the screen up to date, once and at most once more for each 16 steps. If there is no step, and the
+/// A long part is repainted about so many times.
+pub(crate) const PARTS_A_REPAINT: u64 = 4;
+
+/// Makes the steps of a part on a stage, by threads: no thread has steps of two actors. The painter brings the
+/// screen up to date, once and at most once more for each 16 steps, in a thread of its own if the part has
+/// more than 16. If there is no step, and the
 /// screen is up to date, it starts no thread.
 pub(crate) fn make_side_by_side<C: Client, R: Threads + Wait + Sync, G: Gate + Sync>(
     workers: &Workers<'_, R, G>,

@@ -8,7 +8,8 @@ loop-k-preserved g c =
     let list = c.args.list.now in
     let step = c.step-step.result.now in
     let low : k < length list = search rules in
-    let made : c.make.new.pass.mine ≡ c.loop-k.pass.mine ++ step ∷ [] = c.in_ok-make.ensures.mine in (
-      c.make.ensures.actor ∙ c.loop-k.invariant.0,
+    let made : c.make-after.new.pass.mine ≡ c.loop-k.pass.mine ++ step ∷ [] = search rules in (
+      c.make-after.ensures.made.actor ∙ c.loop-k.invariant.0,
       made ∙ next_made c.args.pass.now.mine c.loop-k.pass.mine list k step low c.step-step.ensures c.loop-k.invariant.1,
+      c.make-after.ensures.ladder,
     )
