@@ -1,18 +1,19 @@
-# Read by ./trestle and ./build: whether a program in .build/ was made of the files as they are
-# now. It starts two processes and no more, since each call of the program pays for them.
+# Read by ./trestle, ./trestle-session and ./build: whether the programs in .build/ were made of the
+# files as they are now. It starts two processes and no more, since each call of a program pays for them.
 #
-# .build/             the proved program
-# .build/unproved/    the unproved one
+# .build/             the proved programs
+# .build/unproved/    the unproved ones
 #
 # In each of them:
-# trestle   the program
-# made_of   three lines: the rt that built it, the folder of that rt's toolchain, and the folders
-#           of the crates that it is made of
-# looks     how its files looked when they were read
+# trestle, trestle-session   the programs
+# made_of   three lines: the rt that built them, the folder of that rt's toolchain, and the folders
+#           of the crates that they are made of
+# looks     how their files looked when they were read
 set -f
+programs='trestle trestle-session'
 place=.build
 
-# What can be seen of all that the program is made of without reading it: for each file its size,
+# What can be seen of all that the programs are made of without reading it: for each file its size,
 # its inode, when it was last written and when it was last changed in any way, which no call sets
 # back, as `touch` does with the first. What rt makes lies in out/, and no program is made of proofs
 # or of edits that rt must refuse: what was proved once of these sources and definitions stays proved,
@@ -38,12 +39,36 @@ find_rt() {
     IFS=$before
 }
 
-# Whether the program in the folder $top/$place was made of files that look as they do now, by the rt
+# Whether the programs are in the folder $top/$place.
+are_there() {
+    for name in $programs; do [ -x "$top/$place/$name" ] || return 1; done
+}
+
+# Whether the programs in the folder $top/$place were made of files that look as they do now, by the rt
 # that is found. Where none is found, as in a shell that doesn't know the toolchain, the one that built
-# it is looked at.
+# them is looked at.
 is_fresh() {
-    [ -x "$top/$place/trestle" ] && [ -f "$top/$place/made_of" ] || return 1
+    are_there && [ -f "$top/$place/made_of" ] || return 1
     { read -r rt && read -r kit && read -r crates; } <"$top/$place/made_of" || return 1
     [ -z "$found" ] || [ "$found" = "$rt" ] || return 1
     { cd -P -- "$top/" && looks 2>/dev/null; } | cmp -s - "$top/$place/looks"
+}
+
+# Runs a program with these words. Where the programs aren't built for the files as they are now, ./build
+# builds them first. (The launchers call this and nothing else)
+launch() {
+    program=$1 how=
+    shift
+    find_rt
+    if [ "$1" = --unproved ]; then
+        how=$1 place=.build/unproved
+        shift
+        echo "$program: this program is unproved: its run-time checks find only some mistakes" >&2
+    fi
+    if ! is_fresh; then
+        [ -z "$how" ] && [ -t 2 ] && (place=.build/unproved && is_fresh) &&
+            echo "$program: a proof begins; ./$program --unproved plays at once, by the unproved program" >&2
+        "$top/build" $how </dev/null >/dev/null || exit 1
+    fi
+    exec "$top/$place/$program" "$@"
 }

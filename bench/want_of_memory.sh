@@ -2,12 +2,15 @@
 # Refuses each growth of the memory in turn.
 #
 #     bench/want_of_memory.sh program [PROGRAM [WORD..]]
+#     bench/want_of_memory.sh session [SESSION [DEMO..]]
 #     bench/want_of_memory.sh tests [PROGRAM]
 #     bench/want_of_memory.sh steps [FIRST [LAST]]
 #
 # program   The calls of the program trestle that judges/model/growths.py names, or those whose first word is one of
 #           WORD.. : each run ends with status 6 and nothing written, or it writes what is due. PROGRAM is a built
 #           trestle; where it is left out, the launcher proves and builds it.
+# session   The demos, line by line: a line is answered, or refused for want of memory and answered when it is sent again, or the
+#           session ends with status 6. SESSION is a built trestle-session, and judges/model/session_growths.py says more.
 # tests     Each test of the stage (crates/tr_stage_tests). A test makes a step once more that wanted memory, and then
 #           all must come out as without; or it ends for want of memory, where it was still making its stage. Any other
 #           end is an error. The random runs are left out: they have too many growths, and their model asks for none
@@ -18,7 +21,7 @@
 #           processor. The twins are not proved, only linked by `rt try`, with its checks, in a minute of the processor. It
 #           keeps no program, so theirs is taken out of its folder while it counts the growths.
 #
-# The first two want cc.
+# The first three want cc.
 set -eu
 case ${1-} in
     -h | --help) sed -n '2,/^[^#]/s/^# \{0,1\}//p' "$0"; exit ;;
@@ -48,6 +51,17 @@ program() {
 run() {
     status=0
     LD_PRELOAD=$folder/nth.so REFUSED=$2 timeout 20 "$program" "$1" >"$folder/out" 2>&1 || status=$?
+}
+
+session() {
+    library
+    if [ $# -eq 0 ]; then
+        "$top/trestle-session" </dev/null >/dev/null
+        set -- "$top/.build/trestle-session"
+    fi
+    session=$1
+    shift
+    python3 "$top/judges/model/session_growths.py" "$session" "$folder/nth.so" "$@"
 }
 
 tests() {
@@ -171,6 +185,6 @@ steps() {
 what=$1
 shift
 case $what in
-program | tests | steps) "$what" "$@" ;;
+program | session | tests | steps) "$what" "$@" ;;
 *) usage ;;
 esac

@@ -1,6 +1,7 @@
 #!/bin/sh
-# tools/prove_apart.sh RT PROGRAM CRATE.. [--anew]   proves the program trestle of these crates (crates/NAME) and those
-#                                                  alone, as the gate proves them, and leaves it as PROGRAM
+# tools/prove_apart.sh RT PLACE CRATE.. [--anew]   proves the programs of these crates (crates/NAME) and those alone, as
+#                                                the gate proves them, and leaves the programs in the folder PLACE:
+#                                                trestle_session as trestle-session
 #
 # Where nothing is proved yet, `rt all check` and `rt run` would take longer: they read every source before the first
 # proof, and prove the crates of tests and benches too, and their workers wait for the crates below their own. `rt ci`
@@ -12,7 +13,7 @@
 # It runs at the top of the checkout. Standard error tells how far it is, and what is wrong. The repository lies in TMPDIR,
 # or else in /tmp; rt wants 3 GB there.
 rt=$1
-program=$2
+place=$2
 shift 2
 anew=
 crates=
@@ -28,7 +29,7 @@ lines() {
     left[1] in wanted' crates.txt
 }
 
-# The repository: what a proof reads of the crates, and what rt runs the program on.
+# The repository: what a proof reads of the crates, and what rt runs the programs on.
 copy() {
     lines >"$folder/repository/crates.txt" || return 1
     [ ! -f HANDLES ] || cp HANDLES "$folder/repository/" || return 1
@@ -74,4 +75,7 @@ if [ "$(cat "$folder/status")" -ne 0 ]; then
     complaints >&2
     exit 1
 fi
-cp "$folder/repository/crates/trestle/out/trestle" "$program"
+for crate in $crates; do
+    name=${crate##*/}
+    [ ! -f "$crate/src/main.rt" ] || cp "$folder/repository/$crate/out/$name" "$place/$(echo "$name" | tr _ -)" || exit 1
+done

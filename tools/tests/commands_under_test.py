@@ -21,6 +21,9 @@ if not os.environ.get("TRESTLE"):
         os._exit(2)
     os.environ["TRESTLE"] = built()
 
+# Whether there is a program for sessions; else what needs one is left out, and starts no proof.
+HAS_SESSION = bool(os.environ.get("TRESTLE_SESSION")) or built() != str(TOP / "trestle")
+
 
 class Ended(NamedTuple):
     """What a command wrote, standard error last, and its status."""

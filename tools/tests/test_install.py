@@ -9,12 +9,13 @@ import unittest
 from pathlib import Path
 from typing import Dict, List, Optional
 
-from commands_under_test import TOP, Ended
+from commands_under_test import HAS_SESSION, TOP, Ended
 from stand_ins import mark_fresh, write_program
-from trestle_tools.program import play, program
+from trestle_tools.program import play, program, session_program
 TOOLS = sorted(file.name for file in (TOP / "bin").iterdir() if file.is_file())
 SCRIPT = b"trestle 1\nscreen 1 1 map8\nleaf a 0 1 1 0 1 1 solid 7\nroot a\nbegin\ndump\nend\n"
 DUMP = "dump 1 1 map8\n07\n"
+ANSWERS = 5 * "ok 0\n" + "ok 2\n" + DUMP + "ok 0\n"
 
 
 class Installed(unittest.TestCase):
@@ -30,6 +31,7 @@ class Installed(unittest.TestCase):
         shutil.copy(TOP / "install", self.top)
         self.write("build", 'echo "$(cd -P "${0%/*}" && pwd)/.build/trestle"')
         self.write(".build/trestle", f'exec "{program()}" "$@"')
+        self.write(".build/trestle-session", f'exec "{session_program()}" "$@"' if HAS_SESSION else f"printf %s '{ANSWERS}'")
 
     def write(self, name: str, command: str) -> None:
         """Makes a program of a line of the shell, in the checkout."""
@@ -37,7 +39,7 @@ class Installed(unittest.TestCase):
 
     def call(self, words: List[str], given: bytes = b"", more: Optional[Dict[str, str]] = None) -> Ended:
         """Calls a command in a folder that has nothing to do with either, with no TRESTLE."""
-        environment = {name: value for name, value in os.environ.items() if name not in ("TRESTLE", "DESTDIR")}
+        environment = {name: value for name, value in os.environ.items() if name not in ("TRESTLE", "TRESTLE_SESSION", "DESTDIR")}
         # (the toolchain that the stand-ins were made by)
         environment["PATH"] = f"{self.top}/kit/bin:{environment['PATH']}"
         environment.update(more or {})
@@ -54,14 +56,15 @@ class Installed(unittest.TestCase):
         return sorted(str(file.relative_to(self.room)) for file in files)
 
     def test_without_the_checkout(self) -> None:
-        """The program and each tool work from another folder, also after all was moved; the checkout is gone."""
+        """The programs and each tool work from another folder, also after all was moved; the checkout is gone."""
         self.assertEqual(0, self.install(str(self.prefix)).status)
         shutil.rmtree(self.top)
         moved = self.room / "moved"
         self.prefix.rename(moved)
-        self.assertEqual(["trestle", *(f"trestle-{tool}" for tool in TOOLS)], sorted(os.listdir(moved / "bin")))
+        self.assertEqual(sorted(["trestle", "trestle-session", *(f"trestle-{tool}" for tool in TOOLS)]), sorted(os.listdir(moved / "bin")))
         tool = lambda name: str(moved / "bin" / f"trestle-{name}")
         self.assertEqual(Ended(0, DUMP), self.call([str(moved / "bin/trestle"), "serial"], SCRIPT))
+        self.assertEqual(Ended(0, ANSWERS), self.call([str(moved / "bin/trestle-session")], SCRIPT))
         self.assertEqual(0, self.call([tool("look"), "-o", "one.png"], DUMP.encode()).status)
         self.assertEqual(b"\x89PNG", (self.room / "one.png").read_bytes()[:4])
         self.assertEqual(0, self.call([tool("why"), "-"], SCRIPT).status)
@@ -109,21 +112,22 @@ class Installed(unittest.TestCase):
             self.assertNotIn(str(self.room).encode(), held, name)
 
     def test_what_is_not_built(self) -> None:
-        """Nothing is installed where the proved program isn't there."""
+        """Nothing is installed where the proved programs aren't there."""
         for command in ("exit 1", 'echo "$(cd -P "${0%/*}" && pwd)/.build/unproved/trestle"'):
             self.write("build", command)
             ended = self.install(str(self.prefix))
             self.assertEqual(1, ended.status)
-            self.assertIn("isn't built", ended.text)
+            self.assertIn("aren't built", ended.text)
             self.assertEqual([], self.found())
 
     def test_unproved(self) -> None:
-        """The unproved program is installed where it is asked for, also beside a proved one, and each call tells of it once."""
+        """The unproved programs are installed where they are asked for, also beside proved ones, and each call tells of it once."""
         shutil.copy(TOP / "fresh.sh", self.top)
         self.write(".build/unproved/trestle", f'exec "{program()}" "$@"')
+        shutil.copy(self.top / ".build/trestle-session", self.top / ".build/unproved")
         ended = self.install("--unproved", str(self.prefix))
         self.assertEqual(1, ended.status)
-        self.assertIn("./build --unproved compiles it", ended.text)
+        self.assertIn("./build --unproved compiles them", ended.text)
         mark_fresh(self.top, ".build/unproved")
         self.assertEqual(0, self.install("--unproved", str(self.prefix)).status)
         shutil.rmtree(self.top)
@@ -131,13 +135,16 @@ class Installed(unittest.TestCase):
         self.prefix.rename(moved)
         warning = "trestle: this program is unproved: its run-time checks find only some mistakes\n"
         self.assertEqual(Ended(0, DUMP + warning), self.call([str(moved / "bin/trestle"), "serial"], SCRIPT))
+        session = self.call([str(moved / "bin/trestle-session")], SCRIPT)
+        self.assertEqual(Ended(0, ANSWERS + warning.replace("trestle:", "trestle-session:")), session)
         warning = "trestle-lint: by the unproved program, which was installed\n"
         self.assertEqual(Ended(0, warning), self.call([str(moved / "bin/trestle-lint"), "-"], SCRIPT))
 
     def test_proved_over_unproved(self) -> None:
-        """Nothing of the unproved program stays."""
+        """Nothing of the unproved programs stays."""
         shutil.copy(TOP / "fresh.sh", self.top)
         self.write(".build/unproved/trestle", "exit 9")
+        self.write(".build/unproved/trestle-session", "exit 9")
         mark_fresh(self.top, ".build/unproved")
         for words in (["--unproved"], []):
             self.assertEqual(0, self.install(*words, str(self.prefix)).status)
@@ -147,7 +154,7 @@ class Installed(unittest.TestCase):
     def test_pages_as_installed(self) -> None:
         """The pages name the programs as they are called there; what they say of a checkout stays so."""
         self.assertEqual(0, self.install(str(self.prefix)).status)
-        for page in ("SCRIPT", "TESTING"):
+        for page in ("SCRIPT", "SESSION", "TESTING"):
             for line in (self.prefix / f"share/doc/trestle/{page}.md").read_text("utf-8").split("\n"):
                 if "checkout" not in line:
                     self.assertNotRegex(line, r"\./trestle|trestle --unproved|\bbin/\w")

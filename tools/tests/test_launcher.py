@@ -1,4 +1,4 @@
-"""What ./trestle says before a proof begins, by stand-ins for the programs and for ./build."""
+"""What the launchers say before a proof begins, by stand-ins for the programs and for ./build."""
 
 import os
 import pty
@@ -15,26 +15,28 @@ HINT = "trestle: a proof begins; ./trestle --unproved plays at once, by the unpr
 
 
 class Launcher(unittest.TestCase):
-    """./trestle."""
+    """./trestle and ./trestle-session."""
 
     def setUp(self) -> None:
         folder = tempfile.TemporaryDirectory()
         self.addCleanup(folder.cleanup)
         self.top = Path(folder.name).resolve() / "a checkout's"
         self.top.mkdir()
-        for name in ("trestle", "fresh.sh"):
+        for name in ("trestle", "trestle-session", "fresh.sh"):
             shutil.copy(TOP / name, self.top)
         write_program(self.top / "proved", "echo proved")
-        write_program(self.top / "build", 'mkdir -p "${0%/*}/.build" && cp "${0%/*}/proved" "${0%/*}/.build/trestle"')
+        builds = [f'cp "${{0%/*}}/proved" "${{0%/*}}/.build/{name}"' for name in ("trestle", "trestle-session")]
+        write_program(self.top / "build", " && ".join(['mkdir -p "${0%/*}/.build"', *builds]))
         write_program(self.top / ".build/unproved/trestle", "echo unproved")
+        write_program(self.top / ".build/unproved/trestle-session", "echo unproved session")
         mark_fresh(self.top, ".build/unproved")
 
-    def call(self, *words: str) -> str:
-        """What ./trestle writes to a terminal as standard error, and then to standard output."""
+    def call(self, *words: str, program: str = "trestle") -> str:
+        """What a launcher writes to a terminal as standard error, and then to standard output."""
         leader, follower = pty.openpty()
         path = f"{self.top}/kit/bin:{os.environ['PATH']}"
         streams = {"stdin": subprocess.DEVNULL, "stdout": subprocess.PIPE, "stderr": follower}
-        ran = subprocess.run([str(self.top / "trestle"), *words], env={**os.environ, "PATH": path}, check=False, **streams)
+        ran = subprocess.run([str(self.top / program), *words], env={**os.environ, "PATH": path}, check=False, **streams)
         os.write(follower, b"\0")
         said = b""
         while not said.endswith(b"\0"):
@@ -50,6 +52,12 @@ class Launcher(unittest.TestCase):
         self.assertNotIn("a proof begins", self.call("--unproved", "serial"))
         mark_fresh(self.top, ".build")
         self.assertEqual("proved\n", self.call("serial"))
+
+    def test_session(self) -> None:
+        """The session's launcher does the same for its own program."""
+        self.assertEqual(HINT.replace("trestle", "trestle-session") + "proved\n", self.call(program="trestle-session"))
+        said = "trestle-session: this program is unproved: its run-time checks find only some mistakes\r\n"
+        self.assertEqual(said + "unproved session\n", self.call("--unproved", program="trestle-session"))
 
     def test_not_in_a_pipe(self) -> None:
         ran = subprocess.run([str(self.top / "trestle"), "serial"], stdin=subprocess.DEVNULL, capture_output=True, check=False)

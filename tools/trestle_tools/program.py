@@ -59,6 +59,11 @@ def program() -> str:
     return os.environ.get("TRESTLE") or built()
 
 
+def session_program() -> str:
+    """The path of the program trestle-session: of TRESTLE_SESSION, or beside trestle."""
+    return os.environ.get("TRESTLE_SESSION") or str(Path(built()).with_name("trestle-session"))
+
+
 # So many seconds threads may take: they could wait for ever.
 PATIENCE = 120
 

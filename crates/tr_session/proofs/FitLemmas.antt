@@ -1,0 +1,57 @@
+-- Lists whose first elements were replaced, and the screens of cuts.
+use Rattle.std.proofs.Common.{◌≡◌, ℕ, zero, suc, ◌<◌, ◌≤◌, true, List, [], ◌∷◌, ◌++◌, length, take, drop, get_or, map, min, refl, ap, ◌∙◌, arith}
+use Rattle.std.specs.List.{list_all}
+use Rattle.std.proofs.Math.ListN.{get_or-map, set}
+use Rattle.std.proofs.lemmas.Bool.{and_from, lt-ltb}
+use Rattle.tr_base.specs.declared.Kind.{Kind}
+use Rattle.tr_base.specs.declared.Kind.TheVariants.{Mono, Map4, Map8}
+use Rattle.tr_screen.specs.Pictures.{Picture}
+use Rattle.tr_mirror.specs.Standings.{has_pixel}
+use Rattle.tr_mirror.specs.Streams.{HasItsPixels}
+use Rattle.tr_session.specs.Cuts.{fitted, fitted_pixel}
+
+module _ {A : Type 0} (f : A → A) where
+  -- the next element is replaced
+  pub set_next : (from to : List A) (i : ℕ) (d : A) → i < length from → length to ≡ length from →
+      set (map f (take i from) ++ drop i to) i (f (get_or from i d)) ≡ map f (take (suc i) from) ++ drop (suc i) to
+  set_next [] to i d within same = absurd (omega arith)
+  set_next (x ∷ xs) [] i d within same = absurd (omega (arith, same))
+  set_next (x ∷ xs) (y ∷ ys) zero d within same = refl
+  set_next (x ∷ xs) (y ∷ ys) (suc i) d within same =
+      ap (λ (zs : List A). f x ∷ zs) (set_next xs ys i d (omega (arith, within)) (omega (arith, same)))
+
+  -- which is still the old one
+  pub get_next : (from to : List A) (i : ℕ) (d : A) → i < length from → length to ≡ length from →
+      get_or (map f (take i from) ++ drop i to) i d ≡ get_or to i d
+  get_next [] to i d within same = absurd (omega arith)
+  get_next (x ∷ xs) [] i d within same = absurd (omega (arith, same))
+  get_next (x ∷ xs) (y ∷ ys) zero d within same = refl
+  get_next (x ∷ xs) (y ∷ ys) (suc i) d within same = get_next xs ys i d (omega (arith, within)) (omega (arith, same))
+
+  -- all were replaced
+  pub all_replaced : (from to : List A) (i : ℕ) → length from ≤ i → length to ≡ length from → map f (take i from) ++ drop i to ≡ map f from
+  all_replaced [] [] i over same = none i
+    where
+      none : (i : ℕ) → map f (take i []) ++ drop i [] ≡ []
+      none zero = refl
+      none (suc i) = refl
+  all_replaced [] (y ∷ ys) i over same = absurd (omega (arith, same))
+  all_replaced (x ∷ xs) [] i over same = absurd (omega (arith, same))
+  all_replaced (x ∷ xs) (y ∷ ys) zero over same = absurd (omega (arith, over))
+  all_replaced (x ∷ xs) (y ∷ ys) (suc i) over same =
+      ap (λ (zs : List A). f x ∷ zs) (all_replaced xs ys i (omega (arith, over)) (omega (arith, same)))
+
+-- a fitted pixel is a value of the kind
+fits : (kind : Kind) (pixel : ℕ) → has_pixel kind (fitted_pixel kind pixel) ≡ true
+fits Mono pixel = lt-ltb (min pixel 1) 2 (omega arith)
+fits Map4 pixel = lt-ltb (min pixel 15) 16 (omega arith)
+fits Map8 pixel = lt-ltb (min pixel 255) 256 (omega arith)
+
+row_fits : (kind : Kind) (row : List ℕ) → list_all (has_pixel kind) (map (fitted_pixel kind) row) ≡ true
+row_fits kind [] = refl
+row_fits kind (pixel ∷ row) = and_from _ _ (fits kind pixel) (row_fits kind row)
+
+-- a fitted screen has values of its kind alone
+pub fitted_pixels : (p : Picture) → HasItsPixels (fitted p)
+fitted_pixels p v below =
+    ap (list_all (has_pixel p.kind)) (get_or-map (map (fitted_pixel p.kind)) p.rows v []) ∙ row_fits p.kind (get_or p.rows v [])

@@ -1,0 +1,25 @@
+pub mod Examples
+mod LimitLemmas
+mod SavedLemmas
+mod OpenLemmas
+mod TellingLemmas
+mod ReportLemmas
+mod CueLemmas
+mod LineLemmas
+mod TakenLemmas
+mod PlayingLemmas
+mod SavingLemmas
+mod ArrivalLemmas
+mod KeepingLemmas
+mod FrontLemmas
+mod ServingLemmas
+mod CutLemmas
+mod OpeningLemmas
+mod SessionLemmas
+mod ScriptLemmas
+mod OpenedLemmas
+mod PlayedLemmas
+mod ServedLemmas
+mod AnsweredLemmas
+mod WritingLemmas
+mod FitLemmas

@@ -1,0 +1,379 @@
+-- A session after a line that was played.
+use Rattle.std.proofs.Common.{◌≡◌, inl, inr, ℕ, Bool, true, false, ◌&&◌, ◌||◌, cond, List, [], ◌∷◌, ◌++◌, Some, None, Ok, Err, refl, sym, ap, subst, ◌∙◌, append-nil, append_assoc}
+use Rattle.std.specs.Prelude.{Option, IfSome, IsSomeAnd, codes, is_some, IfErr, Result}
+use Rattle.std.proofs.lemmas.Bool.{and_parts}
+use Rattle.tr_base.proofs.RectLemmas.{false-true}
+use Rattle.tr_journal.specs.Openings.{tree_of}
+use Rattle.tr_journal.specs.declared.Actor.TheVariants.{Player}
+use Rattle.tr_journal.specs.declared.Item.{Item}
+use Rattle.tr_journal.specs.declared.Step.TheVariants.{Sync}
+use Rattle.tr_widget.specs.declared.Widget.{Widget}
+use Rattle.tr_widget.specs.declared.WidgetCmd.{WidgetCmd}
+use Rattle.tr_widget.specs.Widgets.{widget_words}
+use Rattle.tr_machine.specs.States.{State}
+use Rattle.tr_machine.specs.Promises.{Agrees}
+use Rattle.tr_stage.specs.Stages.{StageView, state}
+use Rattle.tr_run.specs.Runs.{makes}
+use Rattle.tr_run.specs.Views.{Does, RunView}
+use Rattle.tr_grammar.specs.declared.Meaning.{Meaning}
+use Rattle.tr_grammar.specs.declared.Meaning.TheVariants as meanings
+use Rattle.tr_grammar.specs.declared.Place.{Place}
+use Rattle.tr_grammar.specs.declared.Place.TheVariants as places
+use Rattle.tr_grammar.specs.States.{SoFar, empty_part, nothing_yet}
+use Rattle.tr_grammar.specs.Faults.{fault_of, has_ended, nodes_so_far}
+use Rattle.tr_grammar.specs.Scripts.{after_all_lines, after_line}
+use Rattle.tr_reader.specs.Adding.{IsSoundMeaning, is_at_steps}
+use Rattle.tr_script.specs.Apart.{meaning_of_line}
+use Rattle.tr_serial.specs.Outputs.{widgets}
+use Rattle.tr_session.specs.declared.playing.Followed.{Followed}
+use Rattle.tr_session.specs.declared.sessions.Session.{Session}
+use Rattle.tr_session.specs.declared.errors.Unanswered.{Unanswered}
+use Rattle.tr_session.specs.declared.errors.Unanswered.TheVariants as unanswered
+use Rattle.tr_session.specs.declared.told.Told.{Told}
+use Rattle.tr_session.specs.declared.told.Told.TheVariants as told
+use Rattle.tr_session.specs.Answering.{Takes, Tells, behind_told, ends_told, is_end, told_by, tried_by}
+use Rattle.tr_session.specs.Answers.{IsKept, answer_bytes, text, text_for}
+use Rattle.tr_session.specs.Insides.{HasPlayed, HoldsTogether, IsPlayed, opening_of, reader_place, screen_in, session_view}
+use Rattle.tr_session.specs.Lines.{added_lines, ends_steps, fault_in, has_begun, needs_sync, sync_lines, tried_against}
+use Rattle.tr_session.specs.Playing.{ActsBehindSync, Follows, IsMeant, IsWantOfMemory, IsWhole, PlayedView, as_run, cues_of_meaning}
+use Rattle.tr_session.specs.Sessions.{SessionView, so_far, state_of, with_lines}
+use Rattle.tr_session.proofs.CueLemmas.{Continues, HasPlayedLines, plays_on, sync_more}
+use Rattle.tr_session.proofs.KeepingLemmas.{AddsLine, Runs, behind_after, ended_after, follows, opening_after, stage_after}
+use Rattle.tr_session.proofs.LineLemmas.{stays_at_gap, tried_is}
+use Rattle.tr_session.proofs.OpenLemmas.{meant}
+use Rattle.tr_session.proofs.SavedLemmas.{sync_leads}
+use Rattle.tr_session.proofs.SessionLemmas.{together, view_is}
+use Rattle.tr_session.proofs.TakenLemmas.{Rests, rested_all}
+use Rattle.tr_session.proofs.TellingLemmas.{session_after, session_behind_sync, session_same, so_far_after, state_of_lines, tells_text}
+
+-- ---- small facts
+
+meaning_tried : (c : SoFar) (line : List ℕ) → meaning_of_line (tried_against c) line ≡ meaning_of_line c line
+unfolding meaning_of_line
+meaning_tried c line = refl
+
+ends_same : (said : Option Meaning) → ends_told (told_by said) ≡ ends_steps said
+ends_same None = refl
+ends_same (Some (meanings.Version n)) = refl
+ends_same (Some (meanings.Item item)) = refl
+ends_same (Some meanings.Begin) = refl
+ends_same (Some (meanings.Step actor step)) = refl
+ends_same (Some meanings.Sync) = refl
+ends_same (Some (meanings.Report query)) = refl
+ends_same (Some meanings.End) = refl
+
+-- a sync before a line doesn't change whether the line is behind a step
+behind_once : (said : Option Meaning) (synced at : Bool) → synced ≡ (at && ends_steps said) →
+    behind_told (told_by said) (cond synced false at) ≡ behind_told (told_by said) at
+behind_once said false at is = refl
+behind_once said true false is = absurd (false-true (sym is))
+behind_once None true true is = absurd (false-true (sym is))
+behind_once (Some (meanings.Version n)) true true is = absurd (false-true (sym is))
+behind_once (Some (meanings.Item item)) true true is = absurd (false-true (sym is))
+behind_once (Some meanings.Begin) true true is = absurd (false-true (sym is))
+behind_once (Some (meanings.Step actor step)) true true is = refl
+behind_once (Some meanings.Sync) true true is = refl
+behind_once (Some (meanings.Report query)) true true is = refl
+behind_once (Some meanings.End) true true is = refl
+
+steps_place : (p : Place) → is_at_steps p ≡ true → p ≡ places.Steps
+steps_place places.Start at = absurd (false-true at)
+steps_place places.Head at = absurd (false-true at)
+steps_place places.Opening at = absurd (false-true at)
+steps_place places.Gap at = absurd (false-true at)
+steps_place places.Steps at = refl
+steps_place places.Ended at = absurd (false-true at)
+
+-- ---- before a line is read
+
+-- after `begin` the reader stays where a step and a report may come
+pub reads_at_gap : (i : Session) → HoldsTogether i → has_begun (so_far (session_view i)).place ≡ true → i.script.reader.place ≡ places.Gap
+reads_at_gap i holds begun = ap (λ (d : SoFar). d.place) holds.reader ∙ stays_at_gap (so_far (session_view i)).place begun
+
+-- a line up to `begin` comes before the stage, and one after it behind it
+pub begun_if_played : (i : Session) (b : Bool) → HoldsTogether i → is_some i.played ≡ b → has_begun (so_far (session_view i)).place ≡ b
+begun_if_played i b holds is = sym holds.session.begun ∙ same i.played ∙ is
+  where
+    same : (o : Option PlayedView) → is_some (screen_in o) ≡ is_some o
+    same None = refl
+    same (Some p) = refl
+
+-- the stage is there, and can do a meaning whose values are in range
+pub may_follow : (i : Session) (w : List ℕ) (said : Option Meaning) → HoldsTogether i → has_begun (so_far (session_view i)).place ≡ true →
+    IfSome said (IsSoundMeaning i.script.reader w) → IsSomeAnd i.played (λ p. IsMeant (tree_of p.stage.opening).nodes said)
+may_follow i w said holds begun sound = by_stage i.played refl
+  where
+    P : Option PlayedView → Type 0
+    P = λ o. IsSomeAnd o (λ p. IsMeant (tree_of p.stage.opening).nodes said)
+
+    by_stage : (o : Option PlayedView) → i.played ≡ o → P i.played
+    by_stage None is =
+        let early : has_begun (so_far (session_view i)).place ≡ false = subst (λ (o : Option PlayedView). IsPlayed (session_view i) o) is holds.played in
+        absurd (false-true (sym early ∙ begun))
+    by_stage (Some p) is =
+        let has : HasPlayed (session_view i) p = subst (λ (o : Option PlayedView). IsPlayed (session_view i) o) is holds.played in
+        subst P (sym is) (meant i.script.reader w (tree_of p.stage.opening).nodes said
+        (ap (λ (d : SoFar). nodes_so_far d) holds.reader ∙ ap (λ (items : List (Item Widget)). (tree_of items).nodes) (sym has.opening)) sound)
+
+-- the stages before and after a line
+pub record Stages (o n : Option PlayedView) (R : PlayedView → PlayedView → Type 0) : Type 0 where
+  pub p : PlayedView
+  pub q : PlayedView
+  pub was : o ≡ Some p
+  pub now : n ≡ Some q
+  pub rel : R p q
+
+pub stages : (o n : Option PlayedView) (R : PlayedView → PlayedView → Type 0) → IsSomeAnd o (λ p. IsSomeAnd n (λ q. R p q)) → Stages o n R
+stages None n R has = absurd has
+stages (Some p) None R has = absurd has
+stages (Some p) (Some q) R has = record { p = p; q = q; was = refl; now = refl; rel = has }
+
+-- ---- a line that was read and followed
+
+-- the parts of a session before and after a line, whose meaning was followed from p to q
+pub record PlaysLine (i j : Session) (line : List ℕ) (said : Option Meaning) (p q : PlayedView) (f : Followed) (outcome : List ℕ) : Type 0 where
+  pub holds : HoldsTogether i
+  pub begun : has_begun (so_far (session_view i)).place ≡ true
+  pub none : fault_of (tried_by i.script.reader i.script.has_ended) 1 line ≡ None
+  pub means : said ≡ meaning_of_line (tried_by i.script.reader i.script.has_ended) line
+  pub was : i.played ≡ Some p
+  pub now : j.played ≡ Some q
+  pub follows : Follows p q said (i.script.is_behind_step && ends_told (told_by said)) f [] outcome
+  pub reader : j.script.reader ≡ i.script.reader
+  pub cuts : j.cuts ≡ i.cuts
+
+module _ (i j : Session) (line : List ℕ) (said : Option Meaning) (p q : PlayedView) (f : Followed) (outcome : List ℕ)
+    (plays : PlaysLine i j line said p q f outcome) where
+  abbrev pub s : SessionView
+  s = session_view i
+
+  abbrev pub c : SoFar
+  c = so_far s
+
+  abbrev pub b : RunView Widget WidgetCmd
+  b = plays.follows.now
+
+  abbrev acts : ActsBehindSync widgets (as_run p) b said (i.script.is_behind_step && ends_told (told_by said)) f.is_synced f.result [] outcome
+  acts = plays.follows.acts
+
+  tried : tried_by i.script.reader i.script.has_ended ≡ tried_against c
+  tried =
+      ap (λ (d : SoFar). tried_by d i.script.has_ended) plays.holds.reader
+      ∙ ap (λ (ended : Bool). tried_by (opening_of c) ended) plays.holds.ended
+      ∙ sym (tried_is c plays.begun)
+
+  none_in : fault_in c line ≡ None
+  none_in = ap (λ (d : SoFar). fault_of d 1 line) (sym tried) ∙ plays.none
+
+  said_in : said ≡ meaning_of_line c line
+  said_in = plays.means ∙ ap (λ (d : SoFar). meaning_of_line d line) tried ∙ meaning_tried c line
+
+  needs_is : (i.script.is_behind_step && ends_told (told_by said)) ≡ needs_sync c said
+  needs_is =
+      ap (λ (at : Bool). at && ends_told (told_by said)) plays.holds.behind
+      ∙ ap (λ (ends : Bool). is_at_steps c.place && ends) (ends_same said)
+
+  rested : Rests c
+  rested = rested_all nothing_yet s.lines plays.holds.session.taken (refl, refl)
+
+  played : HasPlayedLines c (as_run p)
+  played =
+      let has : HasPlayed s p = subst (λ (o : Option PlayedView). IsPlayed s o) plays.was plays.holds.played in
+      record { opening = has.opening; names = has.names; journal = has.journal }
+
+  names_are : q.names ≡ b.names
+  names_are = plays.follows.names ∙ sym (acts.acts.names ∙ acts.sync.names)
+
+  screen_right : Agrees widgets (state widgets b.stage) q.stage.screen
+  screen_right = subst (λ (g : StageView Widget WidgetCmd). Agrees widgets (state widgets g) q.stage.screen) plays.follows.stage plays.follows.shows
+
+  -- what a run has played, the stage of the session has
+  has_played : (t : SessionView) → HasPlayedLines (so_far t) b → IsPlayed t j.played
+  has_played t lines = subst (λ (o : Option PlayedView). IsPlayed t o) (sym plays.now) (record {
+    opening = ap (λ (g : StageView Widget WidgetCmd). g.opening) plays.follows.stage ∙ lines.opening;
+    names = names_are ∙ lines.names;
+    journal = ap (λ (g : StageView Widget WidgetCmd). g.journal) plays.follows.stage ∙ lines.journal;
+  })
+
+  -- ---- the line was done
+
+  module _ (done : f.result ≡ Ok tt) (lines : j.script.saved.lines ≡ (i.script.saved.lines ++ sync_lines f.is_synced) ++ line ∷ [])
+      (behind : j.script.is_behind_step ≡ behind_told (told_by said) (cond f.is_synced false i.script.is_behind_step))
+      (ended : j.script.has_ended ≡ (i.script.has_ended || is_end (told_by said))) where
+    abbrev d : SoFar
+    d = after_all_lines c (added_lines c line)
+
+    abbrev t : SessionView
+    t = with_lines s (added_lines c line) (Some q.stage.screen)
+
+    adds : AddsLine c line d
+    adds = follows c line plays.begun none_in
+
+    synced_is : f.is_synced ≡ needs_sync c said
+    synced_is = acts.made done ∙ needs_is
+
+    runs : Runs c line f.is_synced (as_run p) acts.begun b
+    runs = record {
+      synced_is = synced_is ∙ ap (needs_sync c) said_in;
+      sync = acts.sync;
+      did = subst (λ (m : Option Meaning). Does widgets widget_words acts.begun b (cues_of_meaning m)) said_in (acts.acts.did done);
+    }
+
+    after : HasPlayedLines d b
+    after = stage_after c line d f.is_synced (as_run p) acts.begun b plays.begun rested played runs adds
+
+    next : so_far t ≡ d
+    next = so_far_after s (added_lines c line) (Some q.stage.screen)
+
+    lines_are : j.script.saved.lines ≡ s.lines ++ added_lines c line
+    lines_are =
+        lines
+        ∙ append_assoc s.lines (sync_lines f.is_synced) (line ∷ [])
+        ∙ ap (λ (synced : Bool). s.lines ++ (sync_lines synced ++ line ∷ [])) runs.synced_is
+
+    view : session_view j ≡ t
+    view = view_is j (s.lines ++ added_lines c line) (Some q.stage.screen) s.cuts lines_are (ap screen_in plays.now) plays.cuts
+
+    pub played_holds : HoldsTogether j
+    played_holds =
+        together j t view (session_after s line b q.stage.screen plays.holds.session none_in plays.begun after screen_right)
+        (plays.reader ∙ plays.holds.reader ∙ sym (opening_after c line d plays.begun adds) ∙ ap opening_of (sym next))
+        (ended
+        ∙ ap (λ (e : Bool). e || is_end (told_by said)) plays.holds.ended
+        ∙ ap (λ (m : Option Meaning). has_ended c.place || is_end (told_by m)) said_in
+        ∙ sym (ended_after c line d adds)
+        ∙ ap (λ (e : SoFar). has_ended e.place) (sym next))
+        (behind
+        ∙ ap (λ (at : Bool). behind_told (told_by said) (cond f.is_synced false at)) plays.holds.behind
+        ∙ behind_once said f.is_synced (is_at_steps c.place) synced_is
+        ∙ ap (λ (m : Option Meaning). behind_told (told_by m) (is_at_steps c.place)) said_in
+        ∙ sym (behind_after c line d adds)
+        ∙ ap (λ (e : SoFar). is_at_steps e.place) (sym next))
+        (has_played t (subst (λ (e : SoFar). HasPlayedLines e b) (sym next) after))
+
+    pub played_takes : (bytes : List ℕ) → Tells (told_by said) outcome f.text bytes (Ok tt) → Takes s line bytes (Ok tt) (session_view j)
+    played_takes bytes tells = (
+      none_in,
+      tells_text s said f.is_synced (as_run p) acts.begun b outcome bytes played refl refl synced_is acts.sync (acts.acts.did done)
+          (acts.acts.outcome done)
+          (subst (λ (told : List ℕ). Tells (told_by said) outcome told bytes (Ok tt)) plays.follows.text tells)
+          ∙ ap (λ (m : Option Meaning). answer_bytes (text (text_for s m))) said_in,
+      view_is j (s.lines ++ added_lines c line) (screen_in j.played) s.cuts lines_are refl plays.cuts,
+    )
+
+  -- ---- memory ran out
+
+  module _ (lost : f.result ≡ Err unanswered.NoMemory) (lines : j.script.saved.lines ≡ i.script.saved.lines ++ sync_lines f.is_synced)
+      (behind : j.script.is_behind_step ≡ cond f.is_synced false i.script.is_behind_step) (ended : j.script.has_ended ≡ i.script.has_ended) where
+    -- what was played before the line is played
+    still : (e : SoFar) → HasPlayedLines e acts.begun → HasPlayedLines e b
+    still e before =
+        let kept : IsWhole acts.begun.stage b.stage = acts.acts.whole lost in
+        record {
+          opening = kept.opening ∙ before.opening;
+          names = acts.acts.names ∙ before.names;
+          journal = kept.journal ∙ before.journal;
+        }
+
+    -- no sync was made
+    alone : f.is_synced ≡ false → IsKept s line (session_view j) × HoldsTogether j
+    alone none =
+        let did : Does widgets widget_words (as_run p) acts.begun [] =
+        subst (λ (synced : Bool). Does widgets widget_words (as_run p) acts.begun (cond synced (makes Player Sync ∷ []) [])) none acts.sync in
+        let before : HasPlayedLines c acts.begun =
+        plays_on c c (as_run p) acts.begun [] played did (record { items = refl; names = refl; adds = sym (append-nil _) }) in
+        let now : HasPlayedLines c b = still c before in
+        let t : SessionView = record s { screen = Some q.stage.screen } in
+        let same_lines : j.script.saved.lines ≡ s.lines =
+        lines ∙ ap (λ (synced : Bool). s.lines ++ sync_lines synced) none ∙ append-nil s.lines in
+        let right : Agrees widgets (state_of s) q.stage.screen =
+        subst (λ (m : State Widget WidgetCmd). Agrees widgets m q.stage.screen) (state_of_lines s b now) screen_right in (
+          inl (view_is j s.lines (screen_in j.played) s.cuts same_lines refl plays.cuts),
+          together j t (view_is j s.lines (Some q.stage.screen) s.cuts same_lines (ap screen_in plays.now) plays.cuts)
+              (session_same s q.stage.screen plays.holds.session plays.begun right)
+              (plays.reader ∙ plays.holds.reader)
+              (ended ∙ plays.holds.ended)
+              (behind ∙ ap (λ (synced : Bool). cond synced false i.script.is_behind_step) none ∙ plays.holds.behind)
+              (has_played t now),
+        )
+
+    -- a sync was made
+    behind_sync : f.is_synced ≡ true → IsKept s line (session_view j) × HoldsTogether j
+    behind_sync made =
+        let needs : needs_sync c said ≡ true = sym needs_is ∙ acts.only made in
+        let at : c.place ≡ places.Steps = steps_place c.place (and_parts (is_at_steps c.place) (ends_steps said) needs).0 in
+        let e : SoFar = after_line c (codes "sync") in
+        let leads : e ≡ record c { place = places.Gap; ended = c.ended ++ c.part ∷ []; part = empty_part } = sync_leads c in
+        let did : Does widgets widget_words (as_run p) acts.begun (makes Player Sync ∷ []) =
+        subst (λ (synced : Bool). Does widgets widget_words (as_run p) acts.begun (cond synced (makes Player Sync ∷ []) [])) made acts.sync in
+        let on : Continues c e (makes Player Sync ∷ []) =
+        subst (λ (g : SoFar). Continues c g (makes Player Sync ∷ [])) (sym leads)
+        (record { items = refl; names = refl; adds = sync_more c.ended c.part }) in
+        let now : HasPlayedLines e b = still e (plays_on c e (as_run p) acts.begun (makes Player Sync ∷ []) played did on) in
+        let t : SessionView = with_lines s (sync_lines true) (Some q.stage.screen) in
+        let next : so_far t ≡ e = so_far_after s (sync_lines true) (Some q.stage.screen) in
+        let lines_are : j.script.saved.lines ≡ s.lines ++ sync_lines true = lines ∙ ap (λ (synced : Bool). s.lines ++ sync_lines synced) made in (
+          inr (record {
+            none = none_in;
+            needs = ap (needs_sync c) (sym said_in) ∙ needs;
+            lines = view_is j (s.lines ++ sync_lines true) (screen_in j.played) s.cuts lines_are refl plays.cuts;
+          }),
+          together j t (view_is j (s.lines ++ sync_lines true) (Some q.stage.screen) s.cuts lines_are (ap screen_in plays.now) plays.cuts)
+              (session_behind_sync s b q.stage.screen plays.holds.session at now screen_right)
+              (plays.reader
+              ∙ plays.holds.reader
+              ∙ ap (λ (r : Place). record c { place = reader_place r; ended = []; part = empty_part }) at
+              ∙ ap opening_of (sym leads)
+              ∙ ap opening_of (sym next))
+              (ended
+              ∙ plays.holds.ended
+              ∙ ap has_ended at
+              ∙ ap (λ (g : SoFar). has_ended g.place) (sym leads)
+              ∙ ap (λ (g : SoFar). has_ended g.place) (sym next))
+              (behind
+              ∙ ap (λ (synced : Bool). cond synced false i.script.is_behind_step) made
+              ∙ ap (λ (g : SoFar). is_at_steps g.place) (sym leads)
+              ∙ ap (λ (g : SoFar). is_at_steps g.place) (sym next))
+              (has_played t (subst (λ (g : SoFar). HasPlayedLines g b) (sym next) now)),
+        )
+
+    pub played_kept : IsKept s line (session_view j) × HoldsTogether j
+    played_kept = by_sync f.is_synced refl
+      where
+        by_sync : (synced : Bool) → f.is_synced ≡ synced → IsKept s line (session_view j) × HoldsTogether j
+        by_sync true made = behind_sync made
+        by_sync false none = alone none
+
+  -- ---- an error
+
+  module _ (e : Unanswered) (is : f.result ≡ Err e) (lines : j.script.saved.lines ≡ i.script.saved.lines ++ sync_lines f.is_synced)
+      (behind : j.script.is_behind_step ≡ cond f.is_synced false i.script.is_behind_step) (ended : j.script.has_ended ≡ i.script.has_ended) where
+    pub err_takes : (bytes : List ℕ) → Takes s line bytes (Err e) (session_view j)
+    err_takes bytes = by_error e is
+      where
+        by_error : (e : Unanswered) → f.result ≡ Err e → Takes s line bytes (Err e) (session_view j)
+        by_error (unanswered.Fault code) is = absurd (subst (λ (r : Result Unit Unanswered). IfErr r IsWantOfMemory) is acts.acts.fault)
+        by_error unanswered.NoMemory is = (played_kept is lines behind ended).0
+        by_error unanswered.Lost is = tt
+
+    pub err_holds : (e ≡ unanswered.Lost → ⊥) → HoldsTogether j
+    err_holds other = by_error e is other
+      where
+        by_error : (e : Unanswered) → f.result ≡ Err e → (e ≡ unanswered.Lost → ⊥) → HoldsTogether j
+        by_error (unanswered.Fault code) is other = absurd (subst (λ (r : Result Unit Unanswered). IfErr r IsWantOfMemory) is acts.acts.fault)
+        by_error unanswered.NoMemory is other = (played_kept is lines behind ended).1
+        by_error unanswered.Lost is other = absurd (other refl)
+
+-- a text that can't be told loses the session
+tells_err : (t : Told) (outcome report bytes : List ℕ) (e : Unanswered) → Tells t outcome report bytes (Err e) → e ≡ unanswered.Lost
+tells_err told.Nothing outcome report bytes e tells = tells
+tells_err told.Step outcome report bytes e tells = tells
+tells_err told.Sync outcome report bytes e tells = tells
+tells_err told.Report outcome report bytes e tells = tells
+tells_err told.End outcome report bytes e tells = tells
+
+pub takes_told : (s t : SessionView) (line : List ℕ) (told : Told) (outcome report bytes : List ℕ) (r : Result Unit Unanswered) →
+    Tells told outcome report bytes r → (Tells told outcome report bytes (Ok tt) → Takes s line bytes (Ok tt) t) → Takes s line bytes r t
+takes_told s t line told outcome report bytes (Ok done) tells takes = takes tells
+takes_told s t line told outcome report bytes (Err e) tells takes =
+    subst (λ (lost : Unanswered). Takes s line bytes (Err lost) t) (sym (tells_err told outcome report bytes e tells)) tt

@@ -1,0 +1,5 @@
+use Rattle.tr_session.proofs.SavedLemmas as lemmas
+use Rattle.tr_session.proofs.laws.saves_a_script.Goals as goal
+
+pub returns : goal.returns
+returns c = lemmas.saves_a_script

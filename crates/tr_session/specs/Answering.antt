@@ -1,0 +1,79 @@
+-- Private contracts alone cite this file.
+-- The parts of an answer.
+use Rattle.std.specs.Prelude.{◌≡◌, ⊤, ℕ, Bool, true, false, List, [], Option, Some, None, Result, Ok, Err, if◌then◌else◌}
+use Rattle.tr_grammar.specs.declared.Code.{Code}
+use Rattle.tr_grammar.specs.declared.Place.TheVariants.{Ended}
+use Rattle.tr_grammar.specs.States.{SoFar}
+use Rattle.tr_grammar.specs.declared.Meaning.{Meaning}
+use Rattle.tr_grammar.specs.declared.Meaning.TheVariants as meanings
+use Rattle.tr_session.specs.declared.errors.Lost.{Lost}
+use Rattle.tr_session.specs.declared.errors.Unanswered.{Unanswered}
+use Rattle.tr_session.specs.declared.errors.Unanswered.TheVariants as unanswered
+use Rattle.tr_session.specs.declared.told.Told.{Told}
+use Rattle.tr_session.specs.declared.told.Told.TheVariants as told
+use Rattle.tr_session.specs.Answers.{Answer, IsKept, refused, text, no_memory, answer_bytes, due_of_line, after_script_line}
+use Rattle.tr_session.specs.Lines.{fault_in}
+use Rattle.tr_session.specs.Sessions.{SessionView, so_far}
+
+-- the part of a meaning that a session keeps
+abbrev pub told_by : Option Meaning → Told
+told_by (Some (meanings.Step actor step)) = told.Step
+told_by (Some meanings.Sync) = told.Sync
+told_by (Some (meanings.Report query)) = told.Report
+told_by (Some meanings.End) = told.End
+told_by said = told.Nothing
+
+-- a script has a sync between a step and this line
+abbrev pub ends_told : Told → Bool
+ends_told told.Report = true
+ends_told told.End = true
+ends_told t = false
+
+-- whether the last line that isn't silent makes a step, with this line
+abbrev pub behind_told : Told → Bool → Bool
+behind_told told.Nothing before = before
+behind_told told.Step before = true
+behind_told t before = false
+
+-- the line is the end
+abbrev pub is_end : Told → Bool
+is_end told.End = true
+is_end t = false
+
+-- the reader's script so far, or the same after the end
+abbrev pub tried_by : SoFar → Bool → SoFar
+tried_by c ended = if ended then record c { place = Ended } else c
+
+-- the fault that a line without an answer has, if memory didn't run out
+abbrev pub ClaimsFault : Option Code → Unanswered → Type 0
+ClaimsFault fault (unanswered.Fault code) = fault ≡ Some code
+ClaimsFault fault e = ⊤
+
+-- the reply has the bytes of this answer, or the answer is a refusal; unless memory ran out
+abbrev pub Answers : Answer → List ℕ → Result Unit Unanswered → Type 0
+Answers answer bytes (Ok done) = bytes ≡ answer_bytes answer
+Answers answer bytes (Err (unanswered.Fault code)) = answer ≡ refused code
+Answers answer bytes (Err e) = ⊤
+
+-- a line of the script was answered, or it has a fault, or memory ran out
+abbrev pub Takes : SessionView → List ℕ → List ℕ → Result Unit Unanswered → SessionView → Type 0
+Takes s line bytes (Ok done) t =
+    (fault_in (so_far s) line ≡ None) × (bytes ≡ answer_bytes (due_of_line s line None)) × (t ≡ after_script_line s line None t.screen)
+Takes s line bytes (Err (unanswered.Fault code)) t = (fault_in (so_far s) line ≡ Some code) × (t ≡ s)
+Takes s line bytes (Err unanswered.NoMemory) t = IsKept s line t
+Takes s line bytes (Err unanswered.Lost) t = ⊤
+
+-- the reply has the text of a line that was played: the outcome of its step, its report, or nothing
+abbrev pub Tells : Told → List ℕ → List ℕ → List ℕ → Result Unit Unanswered → Type 0
+Tells told.Step outcome report bytes (Ok done) = bytes ≡ answer_bytes (text outcome)
+Tells told.Sync outcome report bytes (Ok done) = bytes ≡ answer_bytes (text outcome)
+Tells told.Report outcome report bytes (Ok done) = bytes ≡ answer_bytes (text report)
+Tells t outcome report bytes (Ok done) = bytes ≡ answer_bytes (text [])
+Tells t outcome report bytes (Err e) = e ≡ unanswered.Lost
+
+-- a refusal replaces an answer
+abbrev pub TellsRefusal : Result Unit Unanswered → List ℕ → List ℕ → Result Unit Lost → Type 0
+TellsRefusal (Ok done) old new result = (new ≡ old) × (result ≡ Ok tt)
+TellsRefusal (Err (unanswered.Fault code)) old new result = (new ≡ answer_bytes (refused code)) × (result ≡ Ok tt)
+TellsRefusal (Err unanswered.NoMemory) old new result = (new ≡ answer_bytes no_memory) × (result ≡ Ok tt)
+TellsRefusal (Err unanswered.Lost) old new result = result ≡ Err (record {})

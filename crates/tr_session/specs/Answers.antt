@@ -1,0 +1,141 @@
+-- The answer of a session to a line.
+use Rattle.std.specs.Prelude.{◌≡◌, ◌⊎◌, ℕ, Bool, true, false, ◌==◌, List, [], ◌∷◌, ◌++◌, length, count_by, Option, Some, None, is_some, codes, decimal}
+use Rattle.std.specs.List.{flat_map}
+use Rattle.tr_screen.specs.Pictures.{Picture}
+use Rattle.tr_widget.specs.Widgets.{widget_words}
+use Rattle.tr_grammar.specs.declared.Code.{Code}
+use Rattle.tr_grammar.specs.declared.Code.TheVariants.{B5}
+use Rattle.tr_grammar.specs.declared.Meaning.{Meaning}
+use Rattle.tr_grammar.specs.declared.Meaning.TheVariants as meanings
+use Rattle.tr_grammar.specs.Codes.{number_of_code}
+use Rattle.tr_grammar.specs.Scripts.{refusal_of}
+use Rattle.tr_script.specs.Apart.{meaning_of_line}
+use Rattle.tr_dump.specs.Values.{line_text}
+use Rattle.tr_dump.specs.Reports.{outcome_text}
+use Rattle.tr_run.specs.declared.Mode.TheVariants.{Serial}
+use Rattle.tr_run.specs.Texts.{texts_from}
+use Rattle.tr_serial.specs.Outputs.{widgets}
+use Rattle.tr_session.specs.declared.requests.Request.{Request}
+use Rattle.tr_session.specs.declared.requests.Request.TheVariants.{Save, Cut, Quit, Script}
+use Rattle.tr_session.specs.Cuts.{cut_bytes, fitted, with_cut}
+use Rattle.tr_session.specs.Lines.{added_lines, fault_in, request_of, sync_lines, needs_sync}
+use Rattle.tr_session.specs.Sessions.{SessionView, so_far, journal_of, state_of, made_by, with_lines, saved_text}
+
+-- ---- the bytes of an answer
+
+-- an answer: lines; the lines of a script, and whether it is beyond a script's limits; bytes; a refusal; or a refusal for want of memory
+pub data Answer : Type 0 where
+  text : List ℕ → Answer
+  saved : List ℕ → Bool → Answer
+  bytes : List ℕ → Answer
+  refused : Code → Answer
+  no_memory : Answer
+
+-- the number of line feeds of a text
+abbrev pub line_count : List ℕ → ℕ
+line_count t = count_by (λ b. b == 10) t
+
+-- the end of the first line before the lines of a script, which may be beyond a script's limits
+abbrev pub saved_tail : Bool → List ℕ
+saved_tail true = codes " B7\n"
+saved_tail false = codes "\n"
+
+-- the bytes of an answer; its first line has the number of the lines or bytes after it
+abbrev pub answer_bytes : Answer → List ℕ
+answer_bytes (text t) = line_text (codes "ok" ∷ decimal (line_count t) ∷ []) ++ t
+answer_bytes (saved t false) = line_text (codes "ok" ∷ decimal (line_count t) ∷ []) ++ t
+answer_bytes (saved t true) = line_text (codes "ok" ∷ decimal (line_count t) ∷ codes "B7" ∷ []) ++ t
+answer_bytes (bytes group) = line_text (codes "bytes" ∷ decimal (length group) ∷ []) ++ group
+answer_bytes (refused code) = line_text (codes "refused" ∷ (codes "B" ++ decimal (number_of_code code)) ∷ [])
+answer_bytes no_memory = codes "refused memory\n"
+
+-- ---- the answer that is due
+
+-- the text for a line without a fault: a step's outcome, a report's text, or nothing
+abbrev pub text_for : SessionView → Option Meaning → List ℕ
+text_for s (Some (meanings.Step actor step)) =
+    flat_map (outcome_text (so_far s).names) (made_by s (Some (meanings.Step actor step)))
+text_for s (Some meanings.Sync) = flat_map (outcome_text (so_far s).names) (made_by s (Some meanings.Sync))
+text_for s (Some (meanings.Report query)) =
+    texts_from widgets widget_words (so_far s).names Serial (journal_of s) (state_of s) (made_by s (Some (meanings.Report query)))
+text_for s said = []
+
+-- the answer to a line of a script with this fault, or without one
+abbrev pub due_of_line : SessionView → List ℕ → Option Code → Answer
+due_of_line s line (Some code) = refused code
+due_of_line s line None = text (text_for s (meaning_of_line (so_far s) line))
+
+-- the answer to `!save`; before `begin` there is no script to save
+abbrev pub due_of_save : SessionView → Option Picture → Answer
+due_of_save s None = refused B5
+due_of_save s (Some screen) = saved (saved_text s) (is_some (refusal_of (saved_text s)))
+
+-- the answer to `!cut`; before `begin` there is no screen
+abbrev pub due_of_cut : SessionView → Option Picture → Answer
+due_of_cut s None = refused B5
+due_of_cut s (Some screen) = bytes (cut_bytes s.cuts (fitted screen))
+
+-- the answer to a line with this request
+abbrev pub due_for : SessionView → List ℕ → Request → Answer
+due_for s line Save = due_of_save s s.screen
+due_for s line Cut = due_of_cut s s.screen
+due_for s line Quit = text []
+due_for s line Script = due_of_line s line (fault_in (so_far s) line)
+
+-- the request ends the session
+abbrev pub is_quit : Request → Bool
+is_quit Quit = true
+is_quit request = false
+
+-- the answer to a line
+unfoldable pub due : SessionView → List ℕ → Answer
+due s line = due_for s line (request_of line)
+
+-- the session ends after this line
+abbrev pub ends : List ℕ → Bool
+ends line = is_quit (request_of line)
+
+-- ---- the session after a line
+
+-- after a line of a script; the screen is that of the stage afterwards
+abbrev pub after_script_line : SessionView → List ℕ → Option Code → Option Picture → SessionView
+after_script_line s line (Some code) screen = s
+after_script_line s line None screen = with_lines s (added_lines (so_far s) line) screen
+
+-- after a cut of this screen, if there is one
+abbrev pub after_cut : SessionView → Option Picture → SessionView
+after_cut s None = s
+after_cut s (Some screen) = record s { cuts = with_cut s.cuts (fitted screen) }
+
+-- after a line with this request
+abbrev pub after_for : SessionView → List ℕ → Request → Option Picture → SessionView
+after_for s line Save screen = s
+after_for s line Cut screen = after_cut s s.screen
+after_for s line Quit screen = s
+after_for s line Script screen = after_script_line s line (fault_in (so_far s) line) screen
+
+-- after a line that was answered
+unfoldable pub after : SessionView → List ℕ → Option Picture → SessionView
+after s line screen = after_for s line (request_of line) screen
+
+-- a sync was made that the line needs
+pub record IsSynced (s : SessionView) (line : List ℕ) (t : SessionView) : Type 0 where
+  pub none : fault_in (so_far s) line ≡ None
+  pub needs : needs_sync (so_far s) (meaning_of_line (so_far s) line) ≡ true
+  pub lines : t ≡ with_lines s (sync_lines true) t.screen
+
+-- after want of memory the session is unchanged, but that a sync may have been made, and the bad points of the screen have other pixels
+abbrev pub IsKept : SessionView → List ℕ → SessionView → Type 0
+IsKept s line t = (t ≡ record s { screen = t.screen }) ⊎ IsSynced s line t
+
+-- the session t comes after s and this line, which got this answer
+abbrev pub IsAnswered : SessionView → List ℕ → Answer → SessionView → Type 0
+IsAnswered s line no_memory t = IsKept s line t
+IsAnswered s line answer t = (answer ≡ due s line) × (t ≡ after s line t.screen)
+
+-- the session t comes after s and these lines, which got these answers
+abbrev pub AreAnswered : SessionView → List (List ℕ) → List Answer → SessionView → Type 0
+AreAnswered s [] [] t = t ≡ s
+AreAnswered s (line ∷ lines) (answer ∷ answers) t =
+    (now : SessionView) × IsAnswered s line answer now × AreAnswered now lines answers t
+AreAnswered s lines answers t = ⊥

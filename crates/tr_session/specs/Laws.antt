@@ -1,0 +1,52 @@
+-- The laws of a session: a saved script is one, `serial` writes for it the session's reports, and a reader of the cuts has the screens.
+use Rattle.std.specs.Prelude.{◌≡◌, ◌≤◌, ℕ, true, List, [], ◌++◌, length, All, Option, Some, None}
+use Rattle.tr_screen.specs.Pictures.{Picture}
+use Rattle.tr_mirror.specs.Standings.{most_groups}
+use Rattle.tr_mirror.specs.Streams.{IsShowable, stream_of}
+use Rattle.tr_mirror.specs.Readings.{IsStream, screens_shown}
+use Rattle.tr_grammar.specs.declared.Meaning.{Meaning}
+use Rattle.tr_grammar.specs.declared.Meaning.TheVariants as meanings
+use Rattle.tr_grammar.specs.Faults.{reports_so_far}
+use Rattle.tr_grammar.specs.Scripts.{after_all_lines, most_script_bytes, refusal_of, script_of, whole}
+use Rattle.tr_script.specs.Apart.{meaning_of_line}
+use Rattle.tr_serial.specs.Outputs.{out_text}
+use Rattle.tr_session.specs.Answers.{text_for}
+use Rattle.tr_session.specs.Cuts.{bytes_of_cuts, no_cut}
+use Rattle.tr_session.specs.Lines.{added_lines, fault_in, has_begun, last_lines}
+use Rattle.tr_session.specs.Sessions.{SessionView, IsSession, saved_text, so_far, with_lines}
+
+-- the saved script is within the limits of scripts
+pub record IsWithin (s : SessionView) : Type 0 where
+  pub lines : length (s.lines ++ last_lines (so_far s)) ≤ 100000
+  pub syncs : length (after_all_lines (so_far s) (last_lines (so_far s))).ended ≤ 1000
+  pub reports : reports_so_far (so_far s) ≤ 64
+  pub bytes : length (saved_text s) ≤ most_script_bytes
+
+-- a saved text is a script, if it is within the limits
+abbrev pub SavesAScript : SessionView → Type 0
+SavesAScript s = IsSession s → has_begun (so_far s).place ≡ true → IsWithin s → refusal_of (saved_text s) ≡ None
+
+-- the text of a line that is a report
+abbrev pub report_for : SessionView → Option Meaning → List ℕ
+report_for s (Some (meanings.Report query)) = text_for s (Some (meanings.Report query))
+report_for s said = []
+
+-- a line that is taken adds its report, if it is one, to the text of `serial`
+abbrev pub ReportsOne : SessionView → List ℕ → Option Picture → Type 0
+ReportsOne s line screen =
+    IsSession s → fault_in (so_far s) line ≡ None →
+    out_text (whole (so_far (with_lines s (added_lines (so_far s) line) screen)))
+    ≡ out_text (whole (so_far s)) ++ report_for s (meaning_of_line (so_far s) line)
+
+-- `serial` writes for the saved script the reports of the session
+abbrev pub ReportsAll : SessionView → Type 0
+ReportsAll s = IsSession s → IsWithin s → out_text (script_of (saved_text s)) ≡ out_text (whole (so_far s))
+
+-- at most 64 cuts in a row are a stream that shows their screens; the next cut begins another
+pub record ShowsCuts (screens : List Picture) : Type 0 where
+  pub bytes : bytes_of_cuts no_cut screens ≡ stream_of screens
+  pub is_stream : IsStream (stream_of screens)
+  pub shows : screens_shown (stream_of screens) ≡ screens
+
+abbrev pub CutsAreShown : List Picture → Type 0
+CutsAreShown screens = length screens ≤ most_groups → All IsShowable screens → ShowsCuts screens

@@ -1,0 +1,13 @@
+pub mod Cuts
+pub mod Lines
+pub mod Sessions
+pub mod Answers
+pub mod Arrivals
+pub mod Calls
+pub mod Refusals
+pub mod Saving
+pub mod Playing
+pub mod Insides
+pub mod Answering
+pub mod Laws
+pub mod Turns

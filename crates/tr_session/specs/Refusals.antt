@@ -1,0 +1,19 @@
+-- Why a line isn't answered, and the exit status of a session that stops.
+use Rattle.std.specs.Prelude.{ℕ}
+use Rattle.tr_grammar.specs.declared.LineRefused.{LineRefused}
+use Rattle.tr_grammar.specs.declared.LineRefused.TheVariants as refused
+use Rattle.tr_session.specs.declared.errors.Unanswered.{Unanswered}
+use Rattle.tr_session.specs.declared.errors.Unanswered.TheVariants as unanswered
+use Rattle.tr_session.specs.declared.errors.Stopped.{Stopped}
+use Rattle.tr_session.specs.declared.errors.Stopped.TheVariants as stopped
+
+-- a refusal of the reader
+abbrev pub unanswered_of : LineRefused → Unanswered
+unanswered_of refused.NoMemory = unanswered.NoMemory
+unanswered_of (refused.Fault code) = unanswered.Fault code
+
+-- the exit status
+abbrev pub code : Stopped → ℕ
+code stopped.Unread = 4
+code stopped.Unwritten = 5
+code stopped.NoMemory = 6

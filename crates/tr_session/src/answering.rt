@@ -1,0 +1,229 @@
+//! The answer to a line.
+ghost use Rattle.std.specs.Prelude.{◌≡◌, ◌≢◌, ◌≤◌, ◌+◌, [], true, false, Err, IfOk, IfErr, IsSomeAnd, OnOk, OnErr, length};
+ghost use Rattle.tr_journal.specs.Openings.{tree_of};
+ghost use Rattle.tr_grammar.specs.Texts.{is_plain};
+ghost use Rattle.tr_session.specs.declared.errors.Unanswered.TheVariants as unanswered;
+ghost use Rattle.tr_session.specs.Answers as spec;
+ghost use Rattle.tr_session.specs.Answers.{Answer, IsAnswered, answer_bytes, text as texts};
+ghost use Rattle.tr_session.specs.Insides.{HoldsTogether, Restarts, Starts, session_view};
+ghost use Rattle.tr_session.specs.Lines.{has_begun};
+ghost use Rattle.tr_session.specs.Playing.{Follows, IsMeant, IsWantOfMemory};
+ghost use Rattle.tr_session.specs.Sessions.{so_far};
+ghost use Rattle.tr_session.specs.Answering.{Answers, Takes, Tells, TellsRefusal};
+
+use crate::errors::{Lost, Unanswered};
+use crate::playing::{Followed, Played};
+use crate::replies::Reply;
+use crate::requests::{Request, request_of};
+use crate::saving::is_refused;
+use crate::sessions::Session;
+use crate::told::{Told, told_by};
+use tr_grammar::{Code, Meaning};
+use tr_output::Output;
+
+impl<'a> Session<'a> {
+    /// Answers a line. Returns whether the session ends with it. After `Lost` the session can't go on.
+    pub(crate) fn answer(&mut self, line: &[u8], reply: &mut Reply) -> Result<bool, Lost>
+        requires { HoldsTogether self.old }
+        ensures answered { IfOk result (λ ends. (answer : Answer) × (reply.new ≡ answer_bytes answer)
+            × IsAnswered (session_view self.old) line.now answer (session_view self.new)) }
+        ensures ends { IfOk result (λ ends. ends ≡ spec.ends line.now) }
+        ensures holds { OnOk result (HoldsTogether self.new) }
+    {
+        match request_of(line) {
+            Request::Save => {
+                let answered = self.save(reply);
+                tell_refusal(answered, reply)?;
+                Ok(false)
+            }
+            Request::Cut => {
+                let answered = self.cut(reply);
+                tell_refusal(answered, reply)?;
+                Ok(false)
+            }
+            Request::Quit => {
+                reply.set_empty();
+                Ok(true)
+            }
+            Request::Script => {
+                let answered = self.take(line, reply);
+                tell_refusal(answered, reply)?;
+                Ok(false)
+            }
+        }
+    }
+
+    /// The script so far.
+    fn save(&self, reply: &mut Reply) -> Result<(), Unanswered>
+        requires { HoldsTogether self.now }
+        ensures { Answers (spec.due_of_save (session_view self.now) (session_view self.now).screen)
+            reply.new result }
+    {
+        if self.played.is_none() {
+            return Err(Unanswered::Fault(Code::B5));
+        }
+        let text = self.script.whole(self.alloc)?;
+        let is_beyond = is_refused(self.alloc, &text)?;
+        reply.set_saved(text, is_beyond);
+        Ok(())
+    }
+
+    /// The group that leads to the screen as it is.
+    fn cut(&mut self, reply: &mut Reply) -> Result<(), Unanswered>
+        requires { HoldsTogether self.old }
+        ensures answer { Answers (spec.due_of_cut (session_view self.old) (session_view self.old).screen)
+            reply.new result }
+        ensures ok { OnOk result (session_view self.new
+            ≡ spec.after_cut (session_view self.old) (session_view self.old).screen) }
+        ensures err { OnErr result (session_view self.new ≡ session_view self.old) }
+        ensures holds { HoldsTogether self.new }
+    {
+        let Some(played) = &self.played else {
+            return Err(Unanswered::Fault(Code::B5));
+        };
+        let mut group = Vec::new(self.alloc);
+        self.cuts = self.cuts.cut(played.screen(), &mut group)?;
+        reply.set_bytes(group);
+        Ok(())
+    }
+
+    /// Takes a line of the script.
+    fn take(&mut self, line: &[u8], reply: &mut Reply) -> Result<(), Unanswered>
+        requires { HoldsTogether self.old }
+        ensures takes { Takes (session_view self.old) line.now reply.new result (session_view self.new) }
+        ensures holds { result ≢ Err unanswered.Lost → HoldsTogether self.new }
+    {
+        if self.played.is_some() {
+            self.play(line, reply)
+        } else {
+            self.open(line, reply)
+        }
+    }
+
+    /// Takes a line up to `begin`. There is room for it before anything changes. With `begin` the stage
+    /// starts; if there is no memory for it, the lines before `begin` are read again.
+    fn open(&mut self, line: &[u8], reply: &mut Reply) -> Result<(), Unanswered>
+        requires holds { HoldsTogether self.old }
+        requires early { has_begun (so_far (session_view self.old)).place ≡ false }
+        ensures takes { Takes (session_view self.old) line.now reply.new result (session_view self.new) }
+        ensures holds { result ≢ Err unanswered.Lost → HoldsTogether self.new }
+    {
+        self.script.saved.reserve(line)?;
+        self.script.take(self.alloc, self.arena, line)?;
+        if self.script.has_begun() {
+            return self.start(line, reply);
+        }
+        self.script.saved.push(line);
+        reply.set_empty();
+        Ok(())
+    }
+
+    /// Starts the stage of the lines so far and of this one, which is `begin`. If there is no memory for it,
+    /// the lines before it are read again.
+    fn start(&mut self, line: &[u8], reply: &mut Reply) -> Result<(), Unanswered>
+        requires room { length line.now + 1 ≤ self.old.script.saved.room }
+        requires plain { is_plain line.now ≡ true }
+        ensures ok { OnOk result (Starts self.old line.now self.new
+            × (reply.new ≡ answer_bytes (texts []))) }
+        ensures memory { result ≡ Err unanswered.NoMemory → Restarts self.old self.new }
+        ensures fault { IfErr result IsWantOfMemory }
+    {
+        match Played::begin(self.alloc, &self.script.saved, line) {
+            Ok(played) => {
+                drop(self.played.replace(played));
+                self.script.saved.push(line);
+                reply.set_empty();
+                Ok(())
+            }
+            Err(_) => match self.script.reread(self.alloc, self.arena) {
+                Ok(()) => Err(Unanswered::NoMemory),
+                Err(_) => Err(Unanswered::Lost),
+            },
+        }
+    }
+
+    /// Takes a line after `begin`. There is room for it, and for a sync, before anything changes.
+    fn play(&mut self, line: &[u8], reply: &mut Reply) -> Result<(), Unanswered>
+        requires holds { HoldsTogether self.old }
+        requires begun { has_begun (so_far (session_view self.old)).place ≡ true }
+        ensures takes { Takes (session_view self.old) line.now reply.new result (session_view self.new) }
+        ensures holds { result ≢ Err unanswered.Lost → HoldsTogether self.new }
+    {
+        self.script.saved.reserve(line)?;
+        let said = self.script.read(self.alloc, line)?;
+        let told = told_by(&said);
+        let needs_sync = self.script.needs_sync(told);
+        let Followed {
+            is_synced,
+            result,
+            text,
+        } = self.follow(said, needs_sync);
+        self.script.keep_sync(is_synced);
+        match result {
+            Ok(()) => {
+                self.script.keep(line, told);
+                tell(told, &self.outcome, text, reply)
+            }
+            Err(e) => {
+                drop(text);
+                Err(e)
+            }
+        }
+    }
+
+    /// Does a line with this meaning on the stage, and a sync before it if it needs one.
+    fn follow(&mut self, said: Option<Meaning>, needs_sync: bool) -> Followed
+        requires { IsSomeAnd self.old.played (λ p. IsMeant (tree_of p.stage.opening).nodes said) }
+        ensures followed { IsSomeAnd self.old.played (λ p. IsSomeAnd self.new.played (λ q.
+            Follows p q said needs_sync result [] self.new.outcome.items)) }
+        ensures script { self.new.script ≡ self.old.script }
+        ensures cuts { self.new.cuts ≡ self.old.cuts }
+    {
+        match self.played.take() {
+            Some(played) => {
+                self.outcome.clear();
+                let (played, followed) = played.follow(
+                    self.alloc,
+                    said,
+                    needs_sync,
+                    &mut self.outcome,
+                );
+                drop(self.played.replace(played));
+                followed
+            }
+            None => unreachable!(),
+        }
+    }
+}
+
+/// The answer to a line that was played.
+fn tell(told: Told, outcome: &[u8], report: Output, reply: &mut Reply) -> Result<(), Unanswered>
+    ensures { Tells told outcome.now report reply.new result }
+{
+    let told = match told {
+        Told::Step | Told::Sync => reply.set_text(outcome),
+        Told::Report => reply.set_report(&report),
+        Told::Nothing | Told::End => {
+            reply.set_empty();
+            Ok(())
+        }
+    };
+    drop(report);
+    match told {
+        Ok(()) => Ok(()),
+        Err(_) => Err(Unanswered::Lost),
+    }
+}
+
+/// A line without an answer of its own is refused, unless the session is lost.
+fn tell_refusal(answered: Result<(), Unanswered>, reply: &mut Reply) -> Result<(), Lost>
+    ensures { TellsRefusal answered reply.old reply.new result }
+{
+    match answered {
+        Ok(()) => {}
+        Err(Unanswered::Fault(code)) => reply.set_refused(code),
+        Err(Unanswered::NoMemory) => reply.set_no_memory(),
+        Err(Unanswered::Lost) => return Err(Lost),
+    }
+    Ok(())
+}

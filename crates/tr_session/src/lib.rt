@@ -1,0 +1,22 @@
+//! A session: a script that comes line by line. Each line is answered before the next one is read. The stage
+//! is always that of the lines so far, and a refused line changes nothing.
+#![tactic(auto)]
+
+mod answering;
+mod arrivals;
+mod cuts;
+mod errors;
+mod laws;
+mod openings;
+mod playing;
+mod replies;
+mod requests;
+mod saving;
+mod scripts;
+mod serving;
+mod sessions;
+mod told;
+
+pub use errors::Stopped;
+pub use laws::{cuts_are_shown, reports_as_serial, saves_a_script};
+pub use serving::serve;
