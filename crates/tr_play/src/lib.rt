@@ -1,5 +1,6 @@
 //! Parts of a script that threads play: one thread for each leaf's client and one for the desk, if they have
-//! steps in the part, and one for the painter, if the part is long: it brings the screen up to date meanwhile.
+//! steps in the part, and one for the painter, if the part is long: it brings the screen up to date
+//! meanwhile.
 #![tactic(auto)]
 
 mod contexts;

@@ -103,8 +103,8 @@ impl<C: Client, L: Session, R: Threads + Wait + Sync, G: Gate> Context<'_, C, L,
         (free, Ok(()))
     }
 
-    /// Hands over the commands that wait in a window, and repaints it, if at least so many paint commands wait
-    /// for it.
+    /// Hands over the commands that wait in a window, and repaints it, if at least so many paint commands
+    /// wait for it.
     fn paint_window(
         &self,
         mu: &mut Mu<'_, C, L>,
@@ -145,10 +145,10 @@ impl<C: Client, L: Session, R: Threads + Wait + Sync, G: Gate> Context<'_, C, L,
         mu.repaint_shared(self.rt, pass)
     }
 
-    /// Hands over the commands that wait in each window, and repaints those for which paint commands wait, so
-    /// that `repaint_shared` doesn't flush them: a flush executes each scroll that waits, and a repaint paints
-    /// the window once. If few commands wait and many points are bad, a window is left to `repaint_shared`,
-    /// which paints it beside others.
+    /// Hands over the commands that wait in each window, and repaints those for which paint commands wait,
+    /// so that `repaint_shared` doesn't flush them: a flush executes each scroll that waits, and a repaint
+    /// paints the window once. If few commands wait and many points are bad, a window is left to
+    /// `repaint_shared`, which paints it beside others.
     fn paint_all(&self, mu: &mut Mu<'_, C, L>, pass: &mut Pass<C, L>) -> Result<(), NoMemory>
         requires opening { let own = (tree_of self.now.server.now.opening).nodes in
             AreAsMany own (tree_of mu.old.opening).nodes }

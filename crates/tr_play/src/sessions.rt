@@ -135,8 +135,8 @@ fn both_halves<C: Client, L: Session, R: Threads + Wait + Sync, G: Gate + Sync>(
             × CanWork (tree_of context.now.server.now.opening).nodes lists.now back.now }
         ensures { HaveTaken lists.entry.now back.entry.now back.exit.now }
     { all_work(context, lists, steps, back) };
-    // The back half has the painter, which waits for the others' steps: if no thread can be started, the first
-    // closure runs last.
+    // The back half has the painter, which waits for the others' steps: if no thread can be started, the
+    // first closure runs last.
     thread::join_mut(context.rt, &mut second, &mut first);
 }
 

@@ -113,8 +113,8 @@ impl<'a, C: Client, N: NameOf> Run<'a, C, N> {
         }
     }
 
-    /// A run of a stage on which steps may have been made. Each of its nodes and leaves has a name, and so have
-    /// those in its journal.
+    /// A run of a stage on which steps may have been made. Each of its nodes and leaves has a name, and so
+    /// have those in its journal.
     pub fn over(alloc: Global, stage: Stage<C>, names: &'a N, mode: Mode) -> Run<'a, C, N>
         requires { IsNamed C.Client (names_of N.NameOf names.now) stage }
         ensures stage { result.stage ≡ stage }

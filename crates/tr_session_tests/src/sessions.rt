@@ -75,11 +75,13 @@ fn lines_are_answered(rt: HostRuntime) {
         ),
         (
             "end\ndump\n!save\n",
-            "ok 0\nrefused B8\nok 6\ntrestle 1\nscreen 4 1 map8\nleaf a 0 4 4 0 1 1 solid 7\nroot a\nbegin\nend\n",
+            "ok 0\nrefused B8\nok 6\ntrestle 1\nscreen 4 1 map8\nleaf a 0 4 4 0 1 1 solid 7\nroot a\n\
+             begin\nend\n",
         ),
         (
             "@a tint 5\n!save\n",
-            "ok 1\nok\nok 8\ntrestle 1\nscreen 4 1 map8\nleaf a 0 4 4 0 1 1 solid 7\nroot a\nbegin\n@a tint 5\nsync\nend\n",
+            "ok 1\nok\nok 8\ntrestle 1\nscreen 4 1 map8\nleaf a 0 4 4 0 1 1 solid 7\nroot a\nbegin\n\
+             @a tint 5\nsync\nend\n",
         ),
         (
             "!sav\n!save \nroot a\n@b tint 5\n@a line x\n",
@@ -107,7 +109,8 @@ fn before_begin(rt: HostRuntime) {
         ),
         // A line that is refused declares nothing.
         (
-            "trestle 1\nscreen 4 1 map8\nleaf a 0 4 4 0 1 1 solid 777\nroot a\nleaf a 0 4 4 0 1 1 solid 7\nleaf a 0 4 4 0 1 1 solid 7\n",
+            "trestle 1\nscreen 4 1 map8\nleaf a 0 4 4 0 1 1 solid 777\nroot a\n\
+             leaf a 0 4 4 0 1 1 solid 7\nleaf a 0 4 4 0 1 1 solid 7\n",
             "ok 0\nok 0\nrefused B2\nrefused B3\nok 0\nrefused B4\n",
         ),
     ]

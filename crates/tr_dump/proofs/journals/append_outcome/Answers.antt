@@ -21,7 +21,8 @@ returns-clause-ok g c =
     let new = c.append_sent_lines.new.out.items in
     let answer = answer_text c.get.result.now.reply.answer in
     let sent = flat_map (sent_line names) c.sent.result.now in
-    let first = appended_twice c.push.new.self.items c.append_answer.new.out.items old answer (codes "\n") c.in_ok-append_answer.ensures.ok c.in_ok-push.ensures.items in
+    let both = c.append_answer.new.out.items in
+    let first = appended_twice c.push.new.self.items both old answer (codes "\n") c.in_ok-append_answer.ensures.ok c.in_ok-push.ensures.items in
     let P : JournalLine _ → Type 0 = λ line. new ≡ old ++ outcome_text names line in
     on_ok_weaker c.append_sent_lines.result
     (λ last. holds_at P c.args.journal.now.lines c.args.k c.get.result.now c.sent.result.now c.get.ensures c.sent.ensures
