@@ -11,7 +11,7 @@ HERE = Path(__file__).resolve().parent
 TOP = HERE.parents[1]
 sys.path.insert(0, str(TOP / "tools"))
 
-from trestle_tools.program import built  # noqa: E402
+from trestle_tools.program import built, has_session  # noqa: E402
 
 if not os.environ.get("TRESTLE"):
     if built() == str(TOP / "trestle"):
@@ -22,7 +22,7 @@ if not os.environ.get("TRESTLE"):
     os.environ["TRESTLE"] = built()
 
 # Whether there is a program for sessions; else what needs one is left out, and starts no proof.
-HAS_SESSION = bool(os.environ.get("TRESTLE_SESSION")) or built() != str(TOP / "trestle")
+HAS_SESSION = has_session()
 
 
 class Ended(NamedTuple):

@@ -20,7 +20,7 @@ from session_model import REPORTS, Model
 sys.path[:0] = [str(TOP / "tools"), str(TOP / "judges")]
 
 from model.drawing import bend_word, draw  # noqa: E402
-from trestle_tools.program import play, session_program  # noqa: E402
+from trestle_tools.program import Trouble, play, session_program  # noqa: E402
 from trestle_tools.session import Refused, Session  # noqa: E402
 from trestle_tools.stream_reader import Reader  # noqa: E402
 
@@ -202,6 +202,10 @@ class FromPython(unittest.TestCase):
                 session.send("bad")
             self.assertEqual("B1", caught.exception.code)
             self.assertEqual(0, session.close())
+        with Session() as session:
+            session.send("!quit")
+            self.assertRaises(Trouble, session.send, "# more")
+        self.assertRaises(Trouble, Session, "/no/such/program")
 
     def test_game(self) -> None:
         """A click in the square hits, one beside it doesn't, and the game is saved as a script that plays."""

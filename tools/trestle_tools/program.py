@@ -61,7 +61,14 @@ def program() -> str:
 
 def session_program() -> str:
     """The path of the program trestle-session: of TRESTLE_SESSION, or beside trestle."""
-    return os.environ.get("TRESTLE_SESSION") or str(Path(built()).with_name("trestle-session"))
+    return os.environ.get("TRESTLE_SESSION") or str(Path(program()).with_name("trestle-session"))
+
+
+def has_session() -> bool:
+    """Whether that program is there, so that a session starts no proof."""
+    path = Path(session_program())
+    is_launcher = path.parent == TOP and (TOP / "build").exists()
+    return os.access(path, os.X_OK) and not is_launcher
 
 
 # So many seconds threads may take: they could wait for ever.

@@ -2,6 +2,7 @@
 docs/SESSION.md explains the lines and their answers."""
 
 import subprocess
+from contextlib import suppress
 from typing import List, Optional
 
 from .program import Trouble, session_program
@@ -20,7 +21,11 @@ class Session:
     """A program that answers line by line."""
 
     def __init__(self, path: Optional[str] = None):
-        self.process = subprocess.Popen([path or session_program()], stdin=subprocess.PIPE, stdout=subprocess.PIPE)
+        path = path or session_program()
+        try:
+            self.process = subprocess.Popen([path], stdin=subprocess.PIPE, stdout=subprocess.PIPE)
+        except OSError as error:
+            raise Trouble(f"{path} does not start: {error.strerror}")
         self.stream = Reader()
 
     def __enter__(self) -> "Session":
@@ -63,6 +68,7 @@ class Session:
 
     def close(self) -> int:
         """Ends the session, and gives its status."""
-        self.process.stdin.close()
+        with suppress(BrokenPipeError):
+            self.process.stdin.close()
         self.process.stdout.close()
         return self.process.wait()
