@@ -10,21 +10,32 @@ import tempfile
 import threading
 import time
 import unittest
+import zlib
 from pathlib import Path
-from typing import Any, Callable, Dict, Tuple
+from typing import Any, Callable, Dict, Optional, Tuple
 from unittest import mock
 
 from browser import Browser, browser
-from commands_under_test import TOP, call
+from commands_under_test import HAS_SESSION, TOP, call
 
 sys.path.insert(0, str(TOP / "tools"))
 
-from trestle_tools import serving  # noqa: E402
+from trestle_tools import recordings, serving  # noqa: E402
 from trestle_tools.program import PLAYED, play  # noqa: E402
 from trestle_tools.recordings import STARTER, Recording, Refusal  # noqa: E402
 from trestle_tools.serving import Server  # noqa: E402
+from trestle_tools.stream_reader import Frame  # noqa: E402
+from trestle_tools.streams import frames_of  # noqa: E402
+from trestle_tools.traces import Trace  # noqa: E402
 
 CLICK = ["motion 1 20 15", "mouse 2 down 1", "mouse 3 up 1"]
+
+
+def pictures(trace: Trace) -> Dict[int, Frame]:
+    """The screen after each number of steps that has a picture."""
+    return {
+        count: frame for chunk in trace.chunks for count, frame in zip(chunk.counts, frames_of(zlib.decompress(chunk.packed)))
+    }
 
 
 class InFolder(unittest.TestCase):
@@ -35,6 +46,12 @@ class InFolder(unittest.TestCase):
         self.addCleanup(folder.cleanup)
         self.folder = Path(folder.name)
         self.path = self.folder / "button.txt"
+
+    def opened(self, path: Optional[Path] = None) -> Recording:
+        """A recording, whose sessions end with the test."""
+        recording = Recording(path or self.path)
+        self.addCleanup(recording.close)
+        return recording
 
     def click(self, recording: Recording) -> None:
         """Clicks at the button."""
@@ -47,7 +64,7 @@ class Recordings(InFolder):
 
     def test_replays(self) -> None:
         """A session is written as a script that gives the same bytes each time, and the pictures that were seen."""
-        recording = Recording(self.path)
+        recording = self.opened()
         self.click(recording)
         recording.add_line("@button take")
         recording.key(65)
@@ -61,14 +78,14 @@ class Recordings(InFolder):
         self.assertEqual(PLAYED, first.status)
         self.assertEqual(first, second)
         self.assertIn("took mouse 2 firstdown 1 8 4", first.text())
-        again = Recording(self.path)
+        again = self.opened()
         self.assertEqual((recording.trace.moments, recording.trace.numbers), (again.trace.moments, again.trace.numbers))
         self.assertEqual(0, call("snap", ["--update", str(self.path)]).status)
         self.assertEqual(first.output, self.path.with_suffix(".serial").read_bytes())
 
     def test_by_threads(self) -> None:
         """A sync between two actors makes a recording the same by threads."""
-        recording = Recording(self.path)
+        recording = self.opened()
         self.click(recording)
         recording.add_line("@button take")
         recording.add_line("move button 2 2")
@@ -79,19 +96,19 @@ class Recordings(InFolder):
     def test_the_hint_is_legal(self) -> None:
         """The page's hint was a command of another widget, so that whoever typed it was refused."""
         [hint] = re.findall('placeholder="a line of the script, as ([^"]*)"', (TOP / "tools/trestle_tools/page.html").read_text("utf-8"))
-        recording = Recording(self.path)
+        recording = self.opened()
         recording.add_line(hint)
         self.assertEqual([hint], recording.lines[len(STARTER.splitlines()) :])
 
     def test_files_come_out_as_they_are(self) -> None:
         for script in [*sorted((TOP / "demos").glob("*.txt")), *sorted((TOP / "docs/examples").glob("testing_*.txt"))]:
             with self.subTest(script.stem):
-                recording = Recording(script)
+                recording = self.opened(script)
                 self.assertEqual(script.read_bytes(), recording.script())
                 self.assertTrue(recording.is_stored())
 
     def test_undo(self) -> None:
-        recording = Recording(self.path)
+        recording = self.opened()
         begin = recording.script()
         self.click(recording)
         recording.add_line("dump")
@@ -106,14 +123,14 @@ class Recordings(InFolder):
         self.assertEqual(begin, recording.script())
         self.assertRaises(Refusal, recording.undo)
         self.path.write_text((TOP / "demos/first.txt").read_text())
-        recording = Recording(self.path)
+        recording = self.opened()
         for last in ("journal", "dump", "peek", "sync", "move edge 2 1", "@left tint 6", "mouse 2 down 1", "motion 1 7 3", "dump"):
             self.assertEqual(last, [line for line in recording.lines if not line.startswith("#")][-1])
             recording.undo()
 
     def test_refused(self) -> None:
         """A line that is refused changes nothing, and is explained."""
-        recording = Recording(self.path)
+        recording = self.opened()
         before = recording.script(), recording.version
         for text, says in (
             ("@button tnit 3", "`tnit` is no step of a leaf; perhaps `tint` is meant"),
@@ -131,7 +148,7 @@ class Recordings(InFolder):
 
     def test_opening(self) -> None:
         """A line of the opening comes before `begin`."""
-        recording = Recording(self.path)
+        recording = self.opened()
         self.click(recording)
         recording.add_line("leaf lamp 8 8 8 8 8 8 solid 11")
         recording.add_line("put lamp desk 2 2")
@@ -146,11 +163,11 @@ class Recordings(InFolder):
         self.assertIn("glyph 41 183c66667e666600", recording.trace.lines)
         recording.save(False)
         self.assertIn("# include glyphs.txt\nbegin\n", self.path.read_text())
-        self.assertEqual(recording.trace.lines, Recording(self.path).trace.lines)
+        self.assertEqual(recording.trace.lines, self.opened().trace.lines)
 
     def test_buttons(self) -> None:
         """A button that is down doesn't go down again."""
-        recording = Recording(self.path)
+        recording = self.opened()
         recording.mouse("up", 1, 3, 3)
         recording.mouse("down", 1, 3, 3)
         recording.mouse("down", 1, 4, 4)
@@ -159,7 +176,7 @@ class Recordings(InFolder):
         self.assertEqual((3, (3, 3), ("1", "2")), recording.hand())
 
     def test_somebody_else_writes(self) -> None:
-        recording = Recording(self.path)
+        recording = self.opened()
         recording.save(False)
         self.path.write_text("mine\n")
         self.assertRaises(Refusal, recording.save, False)
@@ -168,7 +185,7 @@ class Recordings(InFolder):
         self.assertEqual(recording.script(), self.path.read_bytes())
 
     def test_completion(self) -> None:
-        recording = Recording(self.path)
+        recording = self.opened()
         lines, forms = recording.completions("@b")
         self.assertEqual(["@button"], lines)
         self.assertIn("@LEAF take", forms)
@@ -180,12 +197,80 @@ class Recordings(InFolder):
         self.assertEqual(["motion", "mouse", "move"], recording.completions("mo")[0])
 
 
+@unittest.skipUnless(HAS_SESSION, "no trestle-session is built: ./build --unproved makes one, or TRESTLE_SESSION names one")
+class Followed(InFolder):
+    """Recordings that go on by sessions."""
+
+    def follow(self, script: Path) -> Recording:
+        """A recording of the script's opening that goes on with the other lines, and plays none of them again."""
+        texts = script.read_text("latin-1").splitlines()
+        begin = texts.index("begin") + 1
+        self.path.write_text("".join(text + "\n" for text in [*texts[:begin], "end"]))
+        recording = self.opened()
+        with mock.patch.object(recordings, "play", side_effect=AssertionError("it was played again")):
+            for text in texts[begin : texts.index("end")]:
+                recording.take([[*recording.lines, text]])
+        self.assertTrue(recording.follower)
+        return recording
+
+    def test_same_as_a_replay(self) -> None:
+        """Line by line the moments, the pictures, the numbers and the places are those of a script that is played at once."""
+        for name in ("demos/first", "demos/lag", "demos/focus", "docs/examples/testing_covered", "docs/examples/faults_of_edits"):
+            with self.subTest(name):
+                script = TOP / f"{name}.txt"
+                trace, fresh = self.follow(script).trace, Recording(script).trace
+                self.assertEqual((fresh.lines, fresh.moments, fresh.numbers), (trace.lines, trace.moments, trace.numbers))
+                self.assertEqual((pictures(fresh), fresh.places), (pictures(trace), trace.places))
+
+    def test_goes_on_from_a_file(self) -> None:
+        """A file is played once, and the sessions go on with it."""
+        first = (TOP / "demos/first.txt").read_text().splitlines()
+        self.path.write_text("\n".join([*first[:-5], "end", ""]))
+        recording = self.opened()
+        for text in first[-5:-1]:
+            recording.take([[*recording.lines, text]])
+        self.assertTrue(recording.follower)
+        trace, fresh = recording.trace, Recording(TOP / "demos/first.txt").trace
+        self.assertEqual((fresh.moments, fresh.numbers, fresh.places), (trace.moments, trace.numbers, trace.places))
+
+    def test_what_only_a_replay_tells(self) -> None:
+        """The script is played again after an undo, a line of the opening and a fault, and where a session has ended."""
+        recording = self.opened()
+        self.click(recording)
+        sessions = recording.follower
+        recording.add_line("dump")
+        self.assertTrue(sessions)
+        self.assertIs(sessions, recording.follower)
+        for change in (recording.undo, lambda: recording.add_line("leaf lamp 8 8 8 8 8 8 solid 11")):
+            change()
+            self.assertIsNone(recording.follower)
+            recording.add_line("@button take")
+            self.assertTrue(recording.follower)
+        for text, code in (("@button tnit 3", "B1"), ("!quit", "B1"), ("@nobody take", "B3")):
+            with self.assertRaisesRegex(Refusal, code):
+                recording.add_line(text)
+        recording.add_line("@button take")
+        recording.follower.painting.process.kill()
+        recording.add_line("move button 3 3")
+        self.assertIsNone(recording.follower)
+        self.assertEqual(["took mouse 3 lastup 1 8 4", "empty", "ok"], [moment.answer for moment in recording.trace.moments[-3:]])
+
+    def test_limits(self) -> None:
+        """A session doesn't count reports, but a script has 64 at most."""
+        recording = self.opened()
+        for _ in range(64):
+            recording.add_line("peek")
+        self.assertTrue(recording.follower)
+        with self.assertRaisesRegex(Refusal, "B7"):
+            recording.add_line("peek")
+
+
 class Served(InFolder):
     """A server in this process."""
 
     def setUp(self) -> None:
         super().setUp()
-        self.recording = Recording(self.path)
+        self.recording = self.opened()
         self.server = Server(self.recording, 0)
         thread = threading.Thread(target=self.server.serve_forever, kwargs={"poll_interval": 0.02}, daemon=True)
         thread.start()

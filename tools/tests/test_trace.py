@@ -238,7 +238,7 @@ class Limits(unittest.TestCase):
         with tempfile.TemporaryDirectory() as folder:
             said = call("trace", [str(TOP / "demos/desktop.txt"), "--every", "4", "-o", f"{folder}/page.html"])
         self.assertEqual(0, said.status)
-        self.assertIn("pictures of 10 steps: one after every 4 steps, and at each report", said.text)
+        self.assertIn("pictures after every 4 steps, and at each report", said.text)
 
     def test_more_than_one_copy(self) -> None:
         steps = [f"@a tint {n % 200}" for n in range(150)]

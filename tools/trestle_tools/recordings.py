@@ -1,15 +1,18 @@
-"""A script that grows while it is played: each new line plays it again."""
+"""A script that grows while it is played: by sessions where trestle-session is there, else each new line plays it again."""
 
 from pathlib import Path
 from typing import Iterator, List, NamedTuple, Optional, Tuple
 
 from .commands.why import explained
+from .following import Follower
 from .grammar import COMMANDS, FORMS, OPENING, REPORTS, WIDGET_COMMANDS, Form, Slot
 from .include import INCLUDE, Packed, Packer
 from .outputs import REFUSAL
-from .program import PLAYED, REFUSED, Trouble, play, read_bytes
-from .scripts import SYNCS, texts_of
-from .traces import Asked, Moment, Trace, trace_of_script
+from .program import PLAYED, REFUSED, Trouble, has_session, play, read_bytes
+from .scripts import LINES, SYNCS, TEXT_BYTES, texts_of
+from .scripts import REPORTS as MOST_REPORTS
+from .session import Refused
+from .traces import Asked, Moment, Trace, going_on, trace_of_script
 from .windows import Windows
 
 # The beginning of a new script: a desk with a canvas, which answers a press.
@@ -53,7 +56,9 @@ class Recording:
         texts = texts_of(self.stored) if not self.is_new else STARTER.splitlines()
         self.lines, self.tail = cut_at_end(texts)
         self.before: List[List[str]] = []
-        self.trace: Trace = self.played(self.lines)
+        # The sessions that have played the lines, if there are any.
+        self.follower: Optional[Follower] = None
+        self.trace: Trace = self.replayed(self.packed(self.script()), None)
         self.version = 1
         # The trace of the version before this one.
         self.last: Optional[Trace] = None
@@ -77,13 +82,53 @@ class Recording:
     def played(self, lines: List[str]) -> Trace:
         """The trace of a script. It takes over parts of the present one."""
         packed = self.packed(self.script(lines))
+        return self.followed(packed) or self.replayed(packed, self.trace)
+
+    def followed(self, packed: Packed) -> Optional[Trace]:
+        """The trace of a script by sessions; None where only a replay tells it: the script doesn't go on behind the lines
+        that were played, or no session can play it."""
+        follower, self.follower = self.follower, None
+        known, now = [cut_at_end(texts)[0] for texts in (self.trace.lines, [line.text for line in packed.lines])]
+        try:
+            if now[: len(known)] == known and self.trace.is_whole() and is_for_session(packed) and has_session():
+                follower = follower or Follower(self.trace, packed.lines[: len(known)])
+                trace = self.follow(follower, packed, range(len(known), len(now)))
+                self.follower, follower = follower, None
+                return trace
+        except (Refused, Trouble):
+            pass
+        finally:
+            if follower:
+                follower.close()
+        return None
+
+    def follow(self, follower: Follower, packed: Packed, places: range) -> Trace:
+        """The trace that goes on with some lines."""
+        trace = going_on(self.trace, packed)
+        for line in (packed.lines[place] for place in places):
+            try:
+                follower.add(trace, line)
+            except Refused as refused:
+                if refused.code == "memory":
+                    raise
+                raise Refusal(explained(packed.name, packed, line.number, refused.code))
+        return trace
+
+    def close(self) -> None:
+        """Ends the sessions."""
+        if self.follower:
+            self.follower.close()
+            self.follower = None
+
+    def replayed(self, packed: Packed, known: Optional[Trace]) -> Trace:
+        """The trace of a script that is played from its first line. It takes over parts of one that is known."""
         result = play(packed.script)
         refusal = REFUSAL.match(result.text())
         if result.status == REFUSED and refusal:
             raise Refusal(explained(packed.name, packed, int(refusal[1]), refusal[2]))
         if result.status != PLAYED:
             raise Trouble(f"the program ended with status {result.status}")
-        return trace_of_script(packed, Asked(), getattr(self, "trace", None))
+        return trace_of_script(packed, Asked(), known)
 
     def take(self, states: List[List[str]]) -> None:
         """Plays the last of some states of the lines, and keeps the present one and the others for `undo`."""
@@ -188,6 +233,14 @@ class Recording:
         for line in self.packed(self.script()).lines:
             windows.add(line)
         return completions(text, windows, self.hand().time + 1)
+
+
+def is_for_session(packed: Packed) -> bool:
+    """Whether a session takes the lines as a script. It doesn't count, and takes a line that begins with ! for a request."""
+    words = [line.texts()[0] for line in packed.lines]
+    reports = sum(word in REPORTS for word in words)
+    is_short = len(words) <= LINES and len(packed.script) <= TEXT_BYTES and words.count("sync") <= SYNCS and reports <= MOST_REPORTS
+    return is_short and not any(word.startswith("!") for word in words)
 
 
 def cut_at_end(texts: List[str]) -> Tuple[List[str], List[str]]:

@@ -92,6 +92,10 @@ class Trace:
         pictured = self.pictured()
         return any(moment.count and moment.count not in pictured for moment in self.moments)
 
+    def is_whole(self) -> bool:
+        """Whether its last step has a picture, and the page has room for more."""
+        return self.moments[-1].count in self.pictured() and sum(len(chunk.packed) for chunk in self.chunks) <= MOST_PACKED
+
 
 # ---- Which pictures are wanted
 
@@ -193,28 +197,47 @@ def add_sums(trace: Trace, counts: Sequence[int], frames: Iterator[Frame]) -> No
 # ---- The moments
 
 
+class Teller:
+    """Makes the moments of a script, line after line."""
+
+    def __init__(self, opening: Sequence[Line]):
+        self.windows = Windows()
+        for line in opening:
+            self.windows.add(line)
+        self.count = 0
+        # How many events wait for each leaf.
+        self.waiting = {name: 0 for name, it in self.windows.names.items() if it.is_leaf}
+
+    def begin(self) -> Moment:
+        """The moment of `begin`."""
+        return Moment(self.windows.begin_line, 0)
+
+    def report(self, line: Line, printed: Tuple[str, ...]) -> Moment:
+        """The moment of a report."""
+        return Moment(line.number, self.count, printed=printed)
+
+    def step(self, line: Line, entry: Entry) -> Moment:
+        """The moment of a step."""
+        words = line.texts()
+        self.count += 1
+        says = meaning(entry, words, self.windows) or ""
+        if entry.answer == "empty" and any(self.waiting.values()):
+            says = f"empty: no event waits for {words[0][1:]}, but {', '.join(others(self.waiting))}"
+        if is_edit(entry, words):
+            self.windows.edit(words)
+        count_events(self.waiting, entry, words)
+        return Moment(line.number, self.count, entry.answer, says, entry.events)
+
+
 def moments_of(body: Body, entries: Sequence[Entry], output: str) -> Iterator[Moment]:
     """`begin`, and each step and report."""
-    count = 0
-    printed = reports_of(output)
-    windows = Windows()
-    for line in body.opening:
-        windows.add(line)
-    waiting = {name: 0 for name, it in windows.names.items() if it.is_leaf}
-    yield Moment(windows.begin_line, 0)
+    teller, printed = Teller(body.opening), reports_of(output)
+    yield teller.begin()
     for line in body.lines:
-        words = line.texts()
-        if words[0] in REPORT_WORDS:
-            yield Moment(line.number, count, printed=next(printed, ()))
+        if line.texts()[0] in REPORT_WORDS:
+            yield teller.report(line, next(printed, ()))
         elif is_step(line):
-            entry = entries[count]
-            count += 1
-            says = meaning(entry, words, windows) or ""
-            if entry.answer == "empty" and any(waiting.values()):
-                says = f"empty: no event waits for {words[0][1:]}, but {', '.join(others(waiting))}"
-            yield Moment(line.number, count, entry.answer, says, entry.events)
-            take_over(windows, entry, words)
-            count_events(waiting, entry, words)
+            yield teller.step(line, entries[teller.count])
 
 
 def count_events(waiting: Dict[str, int], entry: Entry, words: List[str]) -> None:
@@ -237,12 +260,6 @@ def others(waiting: Dict[str, int]) -> Iterator[str]:
 def is_edit(entry: Entry, words: List[str]) -> bool:
     """Whether a step is an edit of the tree that was made."""
     return entry.actor == "desk" and entry.answer == "ok" and words[0] not in ("mouse", "motion", "key")
-
-
-def take_over(windows: Windows, entry: Entry, words: List[str]) -> None:
-    """Takes over an edit that was made."""
-    if is_edit(entry, words):
-        windows.edit(words)
 
 
 def reports_of(output: str) -> Iterator[Tuple[str, ...]]:
@@ -270,6 +287,25 @@ def lines_below(line: str) -> int:
 # ---- Where windows are
 
 
+class Places:
+    """Where the windows are, and the line that put each of them there."""
+
+    def __init__(self, windows: Windows, there: Sequence[Placed] = ()):
+        self.windows = windows
+        self.rects = {it.name: it.rect for it in there}
+        self.lines = {it.name: it.line for it in there}
+
+    def find(self, line: int) -> None:
+        """Finds the places anew behind the edit of a line."""
+        layout = Layout(self.windows)
+        self.lines.update({name: line for name in layout.rects if layout.at(name) != self.rects.get(name)})
+        self.rects = layout.rects
+
+    def placed(self) -> List[Placed]:
+        """The windows below the root."""
+        return [*placed(self.windows, self.rects, self.lines)]
+
+
 def add_places(trace: Trace, body: Body, entries: Sequence[Entry]) -> None:
     """Adds the places of the windows at each picture, if they changed."""
     windows = Windows()
@@ -279,19 +315,19 @@ def add_places(trace: Trace, body: Body, entries: Sequence[Entry]) -> None:
     steps, pictured = body.steps(), trace.pictured()
     edits = [is_edit(entry, step.texts()) for entry, step in zip(entries, steps)]
     each = sum(edits) * len(windows.names) <= MOST_PLACES
-    lines = first_lines(body)
-    rects: Dict[str, Rect] = {}
-    is_stale, by = True, 0
+    places = Places(windows)
+    places.find(0)
+    places.lines = first_lines(body)
+    is_stale, by = False, 0
     for count in range(len(steps) + 1):
         if count and edits[count - 1]:
             windows.edit(steps[count - 1].texts())
             is_stale, by = True, steps[count - 1].number
         if is_stale and (each or count in pictured):
-            layout = Layout(windows)
-            lines.update({name: by for name in layout.rects if by and layout.at(name) != rects.get(name)})
-            rects, is_stale = layout.rects, False
+            places.find(by)
+            is_stale = False
         if count in pictured:
-            add_place(trace, count, [*placed(windows, rects, lines)])
+            add_place(trace, count, places.placed())
     if not each:
         trace.notes.append("the script has very many edits: a window may have its place by any line since the last picture")
 
@@ -372,6 +408,20 @@ class Asked(NamedTuple):
     beside: Optional[Trace] = None
 
 
+def named(script: Packed) -> Trace:
+    """A trace that has the lines of a script, and no moment yet."""
+    labels = [line.at()[len("line ") :] for line in script.lines] if script.includes() else []
+    return Trace(script.name, [line.text for line in script.lines], labels)
+
+
+def going_on(known: Trace, script: Packed) -> Trace:
+    """A trace that has the lines of a script, and the moments of another trace so far, which is of the script's front."""
+    trace = named(script)
+    trace.moments, trace.chunks, trace.notes = list(known.moments), list(known.chunks), known.notes
+    trace.numbers, trace.places, trace.windows = dict(known.numbers), dict(known.places), known.windows
+    return trace
+
+
 def trace_of_script(script: Packed, asked: Asked, known: Optional[Trace] = None) -> Trace:
     """Traces a script that plays. What another trace knows of the same beginning is taken over."""
     asked.progress("the script")
@@ -381,8 +431,7 @@ def trace_of_script(script: Packed, asked: Asked, known: Optional[Trace] = None)
     if result.status != PLAYED:
         raise Trouble(f"the program ended with status {result.status}: {result.text().strip() or 'nothing written'}")
     body = body_of(script.lines)
-    labels = [line.at()[len("line ") :] for line in script.lines] if script.includes() else []
-    trace = Trace(script.name, [line.text for line in script.lines], labels)
+    trace = named(script)
     asked.progress("answers")
     entries = all_answers(body)
     if entries and not entries[-1].answer:
@@ -399,20 +448,19 @@ def trace_of_script(script: Packed, asked: Asked, known: Optional[Trace] = None)
 
 def add_all_pictures(trace: Trace, body: Body, every: int, asked: Asked) -> None:
     """Adds the pictures of every so many steps; of fewer, where the page would get too large."""
-    known = list(trace.chunks)
     while True:
         wanted = wanted_counts(body, every)
         if asked.beside and asked.beside.is_thinned():
             wanted = sorted({*counts_beside(asked.beside, trace), wanted[-1]})
         add_pictures(trace, body, [count for count in wanted if count not in trace.pictured()], asked)
-        if sum(len(chunk.packed) for chunk in trace.chunks) <= MOST_PACKED or asked.every or asked.beside:
+        if sum(len(chunk.packed) for chunk in trace.chunks) <= MOST_PACKED or asked.every or asked.beside or every > len(body.steps()):
             break
-        trace.chunks, every = list(known), 2 * every
+        trace.chunks, every = [], 2 * every
     steps = len(body.steps())
     if trace.is_thinned() and asked.beside:
         trace.notes.append(f"{len(trace.pictured())} pictures of {steps} steps: those beside the other script's")
     elif every > 1:
-        trace.notes.append(f"{len(trace.pictured())} pictures of {steps} steps: one after every {every} steps, and at each report")
+        trace.notes.append(f"pictures after every {every} steps, and at each report")
     if steps not in trace.pictured():
         trace.notes.append(f"no picture after line {last_pictured(trace)}: the copy would have over {LINES} lines or 4 MiB")
 

@@ -11,8 +11,9 @@ from ..serving import Server
 
 WHAT = """\
 Shows a script in a browser on this machine, step by step as bin/trace does, and records your clicks, moves and keys on
-the picture as lines of the script. You can type other lines. After each line the program plays the script again. Save
-writes FILE, the only file that is ever written; bin/snap --update FILE stores its output.
+the picture as lines of the script. You can type other lines. Sessions with trestle-session play each line; where that
+program isn't there, and after Undo or a line of the opening, the whole script is played again. Save writes FILE, the
+only file that is ever written; bin/snap --update FILE stores its output.
 
 If FILE doesn't exist, the script begins with a desk and a canvas. The server listens on 127.0.0.1 alone, and its
 address has a random token. Ctrl-C ends it."""
@@ -52,6 +53,7 @@ def main(arguments: List[str]) -> int:
     except KeyboardInterrupt:
         pass
     server.server_close()
+    recording.close()
     if not recording.is_stored() and recording.before:
         print(f"live: the lines after the last Save are not in {asked.file}", file=sys.stderr)
     return FINE
