@@ -4,6 +4,7 @@ import os
 import re
 import shutil
 import subprocess
+import sys
 import tempfile
 import unittest
 from pathlib import Path
@@ -64,6 +65,21 @@ class WhichProgram(unittest.TestCase):
     def test_installed(self) -> None:
         """An installed program has no `build` beside it."""
         self.assertEqual((3, ""), self.played_by())
+
+    def test_session(self) -> None:
+        """A session is there beside a program that is built or installed, and not where ./trestle-session would build it."""
+        asks = "import sys; sys.path.insert(0, sys.argv[1]); from trestle_tools.program import has_session; print(has_session())"
+        environment = {name: value for name, value in os.environ.items() if not name.startswith("TRESTLE")}
+        for name in (".build/trestle-session", "trestle-session"):
+            self.write(name, "exit 0")
+        for fresh, is_there in ((".build/trestle", "True"), (".build/unproved/trestle", "False"), ("", "False"), (None, "True")):
+            if fresh is None:
+                (self.top / "build").unlink()
+            else:
+                self.names(fresh)
+            words = [sys.executable, "-c", asks, str(self.top / "tools")]
+            ran = subprocess.run(words, env=environment, stdout=subprocess.PIPE, stderr=subprocess.DEVNULL, check=True)
+            self.assertEqual(is_there, ran.stdout.decode().strip(), fresh)
 
 
 if __name__ == "__main__":

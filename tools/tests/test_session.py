@@ -192,7 +192,7 @@ class FromPython(unittest.TestCase):
         environment = {**os.environ, "PYTHONPATH": str(TOP / "tools"), "TRESTLE_SESSION": session_program()}
         ran = subprocess.run([sys.executable, "-c", example], capture_output=True, env=environment, check=True)
         wanted = re.findall(r"print\(.*\) +# (.*)", example)
-        self.assertEqual(wanted, ran.stdout.decode().replace("\\x0", "\\").splitlines())
+        self.assertEqual(wanted, ran.stdout.decode().splitlines())
 
     def test_ends(self) -> None:
         """A refusal has its code; a session that has ended says so; closing gives the status."""
