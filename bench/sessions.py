@@ -4,8 +4,8 @@
     bench/sessions.py [ROUNDS]
 
 The first table has the script `events 90000` of bench/workloads.sh: by `serial`; by a session that gets its lines at once; and
-by one that gets each line after the answer to the one before it. Each time is the least of ROUNDS (5 if left out), of the
-program's own processor time and of the clock. The second has the answer to the line that repaints a window of 100 by 100
+by one that gets each line after the answer to the one before it. Each time is the least of ROUNDS (5 if left out) in turn, of
+the program's own processor time and of the clock. The second has the answer to the line that repaints a window of 100 by 100
 points, at the beginning and after 100,000 lines: the median and the 99th of 100 times, by the clock, with what Python adds.
 TRESTLE and TRESTLE_SESSION name the programs."""
 
@@ -15,7 +15,7 @@ import sys
 import threading
 import time
 from pathlib import Path
-from typing import Callable, List, Tuple
+from typing import Callable, Dict, List, Tuple
 
 TOP = Path(__file__).resolve().parents[1]
 sys.path.insert(0, str(TOP / "tools"))
@@ -103,13 +103,18 @@ def main() -> None:
         "session, lines at once": ([session_program()], at_once(script)),
         "session, line by line": ([session_program()], one_by_one(script)),
     }
-    print("| events, 90,000 | processor, ms | clock, ms |\n|---|---|---|")
-    for name, (words, given) in rows.items():
-        times = [measured(words, given) for _ in range(rounds)]
-        print(f"| {name} | {min(own for own, _ in times):.0f} | {min(clock for _, clock in times):.0f} |", flush=True)
+    times: Dict[str, List[Tuple[float, float]]] = {name: [] for name in rows}
+    for _ in range(rounds):
+        for name, (words, given) in rows.items():
+            times[name].append(measured(words, given))
+    least = min(own for own, _ in times["serial"])
+    print("| events, 90,000 | processor, ms | of `serial` | clock, ms |\n|---|---|---|---|")
+    for name, taken in times.items():
+        own, clock = (min(column) for column in zip(*taken))
+        print(f"| {name} | {own:.0f} | {own / least:.1f} | {clock:.0f} |", flush=True)
     print("\n| repaint of 100 by 100 points | median, us | 99th of 100, us |\n|---|---|---|")
-    for name, times in zip(("at the beginning", "after 100,000 lines"), clicks()):
-        print(f"| {name} | {times[50]:.0f} | {times[98]:.0f} |")
+    for name, ordered in zip(("at the beginning", "after 100,000 lines"), clicks()):
+        print(f"| {name} | {ordered[50]:.0f} | {ordered[98]:.0f} |")
 
 
 if __name__ == "__main__":
