@@ -255,6 +255,21 @@ class Followed(InFolder):
         self.assertIsNone(recording.follower)
         self.assertEqual(["took mouse 3 lastup 1 8 4", "empty", "ok"], [moment.answer for moment in recording.trace.moments[-3:]])
 
+    def test_without_sessions(self) -> None:
+        """Where no session is there each line is played with all before it, and the trace is the same."""
+        traces = []
+        for is_there in (True, False):
+            with mock.patch.object(recordings, "has_session", return_value=is_there):
+                recording = self.opened()
+                self.click(recording)
+                recording.add_line("move button 3 3")
+                recording.add_line("peek")
+                self.assertEqual(is_there, recording.follower is not None)
+                traces.append(recording.trace)
+        self.assertEqual(traces[0].moments, traces[1].moments)
+        self.assertEqual((traces[0].numbers, traces[0].places), (traces[1].numbers, traces[1].places))
+        self.assertEqual(pictures(traces[0]), pictures(traces[1]))
+
     def test_limits(self) -> None:
         """A session doesn't count reports, but a script has 64 at most."""
         recording = self.opened()
