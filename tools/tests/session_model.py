@@ -8,6 +8,7 @@ from typing import List, Optional, Tuple
 
 sys.path.insert(0, str(Path(__file__).resolve().parents[1]))
 
+from trestle_tools.outputs import entries_of  # noqa: E402
 from trestle_tools.program import REFUSED, play  # noqa: E402
 
 REPORTS = ("dump", "peek", "journal", "where", "inbox")
@@ -71,8 +72,8 @@ class Model:
         if word in REPORTS:
             earlier = play("".join(text + "\n" for text in before + ["sync", "end"]).encode("latin-1"))
             return output[len(earlier.text()) :]
-        entry = output.splitlines()[-1 if word == "sync" else -2].partition(" = ")[2]
-        return "".join(part + "\n" for part in entry.split("; "))
+        [entry] = entries_of([output.splitlines()[-1 if word == "sync" else -2]])
+        return "".join(part + "\n" for part in (entry.answer, *entry.events))
 
 
 def told(text: str) -> str:
