@@ -240,6 +240,15 @@ class Limits(unittest.TestCase):
         self.assertEqual(0, said.status)
         self.assertIn("pictures after every 4 steps, and at each report", said.text)
 
+    def test_no_room_for_pictures(self) -> None:
+        """Then only those at the beginning, at reports and at the end are left."""
+        most = traces.MOST_PACKED
+        self.addCleanup(setattr, traces, "MOST_PACKED", most)
+        traces.MOST_PACKED = 1
+        trace = trace_of_script(pack(str(TOP / "demos/desktop.txt")), Asked())
+        reports = {moment.count for moment in trace.moments if moment.printed}
+        self.assertEqual({0, *reports, trace.moments[-1].count}, trace.pictured())
+
     def test_more_than_one_copy(self) -> None:
         steps = [f"@a tint {n % 200}" for n in range(150)]
         script = "\n".join(["trestle 1", "screen 4 4 map8", "leaf a 4 4 4 4 4 4 solid 7", "root a", "begin", *steps, "sync", "end", ""])

@@ -90,7 +90,7 @@ class Recording:
         follower, self.follower = self.follower, None
         known, now = [cut_at_end(texts)[0] for texts in (self.trace.lines, [line.text for line in packed.lines])]
         try:
-            if now[: len(known)] == known and self.trace.is_whole() and is_for_session(packed) and has_session():
+            if now[: len(known)] == known and self.trace.can_go_on() and is_for_session(packed) and has_session():
                 follower = follower or Follower(self.trace, packed.lines[: len(known)])
                 trace = self.follow(follower, packed, range(len(known), len(now)))
                 self.follower, follower = follower, None
@@ -238,9 +238,9 @@ class Recording:
 def is_for_session(packed: Packed) -> bool:
     """Whether a session takes the lines as a script. It doesn't count, and takes a line that begins with ! for a request."""
     words = [line.texts()[0] for line in packed.lines]
-    reports = sum(word in REPORTS for word in words)
-    is_short = len(words) <= LINES and len(packed.script) <= TEXT_BYTES and words.count("sync") <= SYNCS and reports <= MOST_REPORTS
-    return is_short and not any(word.startswith("!") for word in words)
+    is_short = len(words) <= LINES and len(packed.script) <= TEXT_BYTES
+    are_few = words.count("sync") <= SYNCS and sum(word in REPORTS for word in words) <= MOST_REPORTS
+    return is_short and are_few and not any(word.startswith("!") for word in words)
 
 
 def cut_at_end(texts: List[str]) -> Tuple[List[str], List[str]]:

@@ -92,9 +92,13 @@ class Trace:
         pictured = self.pictured()
         return any(moment.count and moment.count not in pictured for moment in self.moments)
 
-    def is_whole(self) -> bool:
-        """Whether its last step has a picture, and the page has room for more."""
-        return self.moments[-1].count in self.pictured() and sum(len(chunk.packed) for chunk in self.chunks) <= MOST_PACKED
+    def has_room(self) -> bool:
+        """Whether the pictures aren't too many for a page."""
+        return sum(len(chunk.packed) for chunk in self.chunks) <= MOST_PACKED
+
+    def can_go_on(self) -> bool:
+        """Whether the last step has a picture, and there is room for more of them."""
+        return self.moments[-1].count in self.pictured() and self.has_room()
 
 
 # ---- Which pictures are wanted
@@ -453,7 +457,7 @@ def add_all_pictures(trace: Trace, body: Body, every: int, asked: Asked) -> None
         if asked.beside and asked.beside.is_thinned():
             wanted = sorted({*counts_beside(asked.beside, trace), wanted[-1]})
         add_pictures(trace, body, [count for count in wanted if count not in trace.pictured()], asked)
-        if sum(len(chunk.packed) for chunk in trace.chunks) <= MOST_PACKED or asked.every or asked.beside or every > len(body.steps()):
+        if trace.has_room() or asked.every or asked.beside or every > len(body.steps()):
             break
         trace.chunks, every = [], 2 * every
     steps = len(body.steps())
