@@ -1,18 +1,19 @@
 -- Lines that make steps, one behind another, and chunk behind chunk.
-use Rattle.std.proofs.Common.{◌≡◌, ℕ, ◌+◌, ◌*◌, ◌/◌, ◌%◌, ◌<◌, ◌≤◌, zero, suc, min, true, Option, Some, None, List, map, All, [], ◌∷◌, ◌++◌, length, get_or, take, drop, refl, sym, ap, subst, ◌∙◌, arith, inl, inr, ⊎_elim, div-add-mod', mod-lt, eq-zero-or-pos, add-mul, one-mul, mul-le-mul_right, zero-mul, add-zero, suc-mul, drop-drop, length-drop, append_assoc, append-nil, length-append, ap₂, length-take-le, take-suc, take-add, take_all, take-append-drop, take-take, length-take}
+use Rattle.std.proofs.Common.{◌≡◌, ℕ, ◌+◌, ◌-◌, ◌*◌, ◌/◌, ◌%◌, ◌<◌, ◌≤◌, ◌⊎◌, zero, suc, min, true, Option, Some, List, map, All, [], ◌∷◌, ◌++◌, length, get_or, take, drop, refl, sym, ap, subst, ◌∙◌, arith, ⊎_elim, div-add-mod', mod-lt, eq-zero-or-pos, add-mul, one-mul, mul_assoc, mul-le-mul_right, zero-mul, add-zero, suc-mul, drop-drop, drop-cons, length-drop, append_assoc, append-nil, length-append, ap₂, length-take-le, take-suc, take-add, take_all, take-append-drop, take-take, length-take}
+use Rattle.std.proofs.Math.Seq.{get_or-append_seam}
 use Rattle.std.proofs.lemmas.List.Elements.{All-nil, All-append, All-from_get_or, All-head, All-rest, All-same}
-use Rattle.std.proofs.lemmas.List.{length-map, flat_map_more, nil_from_length}
+use Rattle.std.proofs.lemmas.List.{length-map, flat_map_more, get_or_append_left, drop-take}
 use Rattle.std.specs.Borrow.{Bor}
 use Rattle.std.specs.Fork.{slice_chunk}
 use Rattle.tr_grammar.specs.States.{SoFar}
-use Rattle.tr_grammar.specs.Faults.{fault_of, nodes_so_far}
+use Rattle.tr_grammar.specs.Faults.{nodes_so_far}
+use Rattle.tr_grammar.specs.Texts.{lines_of}
 use Rattle.tr_grammar.specs.Scripts.{Refusal, after_line, first_bad_line, after_all_lines, IsPlayable}
 use Rattle.tr_words.specs.Answers.{texts}
 use Rattle.tr_reader.specs.Adding.{is_at_steps, with_steps}
 use Rattle.tr_script.specs.Apart.{TakesStep}
-use Rattle.tr_script.proofs.LineLemmas.{IsRead, one_read}
-use Rattle.tr_script.proofs.Pieces.{drop_texts}
-use Rattle.tr_chunks.specs.Chunks.{Made, AreChunks, IsChunk, MakeSteps, TakesLines, joined}
+use Rattle.tr_script.proofs.LineLemmas.{IsReadTo}
+use Rattle.tr_chunks.specs.Chunks.{Made, AreChunks, AreMarks, IsBehind, IsChunk, MakeSteps, TakesLines, joined, lines_from}
 
 -- so many chunks have all lines, and begin within them
 spans : (count long size : ℕ) → 0 < size → count ≡ long / size + min 1 (long % size) → (long ≤ count * size) × (count * size < long + size)
@@ -34,20 +35,6 @@ spans count long size some is =
 below : (k count size : ℕ) → k < count → k * size + size ≤ count * size
 below k count size lt = let m = mul-le-mul_right size lt in let s = suc-mul k size in omega arith
 
--- the texts of some references, and of one more
-pub one_text : (ps : List (Bor (List ℕ))) (i : ℕ) (d : Bor (List ℕ)) → i < length ps →
-    take (i + 1) (texts ps) ≡ take i (texts ps) ++ (get_or ps i d).now ∷ []
-one_text [] i d lt = absurd (omega arith)
-one_text (p ∷ ps) zero d lt = refl
-one_text (p ∷ ps) (suc i) d lt = let e : suc i + 1 ≡ suc (i + 1) = omega arith in rw e (ap (λ (ts : List (List ℕ)). p.now ∷ ts) (one_text ps i d (omega arith)))
-
--- as many as the references
-pub many_texts : (ps : List (Bor (List ℕ))) (i : ℕ) → i ≤ length ps → length (take i (texts ps)) ≡ i
-many_texts ps i le = length-take-le i (texts ps) (omega (arith, length-map ps (λ (p : Bor (List ℕ)). p.now)))
-
-pub many_texts_all : (ps : List (Bor (List ℕ))) → length (texts ps) ≡ length ps
-many_texts_all ps = length-map ps (λ (p : Bor (List ℕ)). p.now)
-
 -- the texts of a chunk of references
 texts_take : (n : ℕ) (ps : List (Bor (List ℕ))) → texts (take n ps) ≡ take n (texts ps)
 texts_take zero ps = refl
@@ -61,6 +48,15 @@ texts_drop (suc n) (p ∷ ps) = texts_drop n ps
 
 pub texts_chunk : (from n : ℕ) (ps : List (Bor (List ℕ))) → texts (take n (drop from ps)) ≡ take n (drop from (texts ps))
 texts_chunk from n ps = texts_take n (drop from ps) ∙ ap (λ (ts : List (List ℕ)). take n ts) (texts_drop from ps)
+
+-- they are as many as the references
+pub many_texts : (ps : List (Bor (List ℕ))) → length (texts ps) ≡ length ps
+many_texts ps = length-map ps (λ (p : Bor (List ℕ)). p.now)
+
+-- the texts of some references and of one more
+pub texts_more : (ps : List (Bor (List ℕ))) (p : Bor (List ℕ)) → texts (ps ++ p ∷ []) ≡ texts ps ++ p.now ∷ []
+texts_more [] p = refl
+texts_more (q ∷ ps) p = ap (λ (ts : List (List ℕ)). q.now ∷ ts) (texts_more ps p)
 
 -- no step more
 with_nothing : (c : SoFar) → with_steps c [] ≡ c
@@ -137,12 +133,11 @@ module _ (c : SoFar) (n size : ℕ) (lines : List (List ℕ)) (chunks : List Mad
       (each k (omega arith)))
 
   -- make all their steps
-  pub chunks_made : 0 < size → length chunks ≡ length lines / size + min 1 (length lines % size) → MakeSteps c n lines (joined chunks)
-  chunks_made some count =
-      let ends = spans (length chunks) (length lines) size some count in
-      let all = so_far some ends.1 (length chunks) (omega arith) in
+  pub chunks_made : 0 < size → length lines ≤ length chunks * size → length chunks * size < length lines + size → MakeSteps c n lines (joined chunks)
+  chunks_made some ends last =
+      let all = so_far some last (length chunks) (omega arith) in
       subst (λ (ls : List Made). MakeSteps c n lines (joined ls)) (take_all (length chunks) chunks (omega arith))
-      (subst (λ (ts : List (List ℕ)). MakeSteps c n ts (joined (take (length chunks) chunks))) (take_all (length chunks * size) lines ends.0) all)
+      (subst (λ (ts : List (List ℕ)). MakeSteps c n ts (joined (take (length chunks) chunks))) (take_all (length chunks * size) lines ends) all)
 
 -- what was read, where each chunk was
 some_at : {A : Type 0} (xs : List A) (k : ℕ) (d : A) → get_or (map (λ (x : A). Some x) xs) k (Some d) ≡ Some (get_or xs k d)
@@ -163,7 +158,7 @@ module _ (c : SoFar) (n size : ℕ) (lines : List (List ℕ)) (read : List (Opti
       (are.each k (Some []) (omega (arith, as_many)))
 
   pub all_made : 0 < size → MakeSteps c n lines (joined chunks)
-  all_made some = chunks_made c n size lines chunks each_chunk some (as_many ∙ are.count)
+  all_made some = chunks_made c n size lines chunks each_chunk some (rw as_many are.all) (rw as_many are.last)
 
   pub all_playable : All (λ (steps : Made). All (IsPlayable (nodes_so_far c)) steps) chunks
   all_playable =
@@ -214,57 +209,238 @@ none_added first now all rest same place playable is = record {
   whole = is;
 }
 
--- a stretch of lines behind those that are read
-pub stretch_read : (all : List (List ℕ)) (i count : ℕ) (c : SoFar) (made : Made) → IsRead all i c →
-    i + count ≤ length all → MakeSteps c (i + 1) (take count (drop i all)) made → IsRead all (i + count) (with_steps c made)
-stretch_read all i count c made read fits stretch =
-    let rest = drop i all in
-    let long : length (take count rest) ≡ count = length-take-le count rest (omega (arith, length-drop i all)) in
-    let later : drop count rest ≡ drop (i + count) all = drop-drop count i all in
-    let cut : rest ≡ take count rest ++ drop (i + count) all = sym (take-append-drop count rest) ∙ ap (λ (ts : List (List ℕ)). take count rest ++ ts) later in
-    let end : i + 1 + length (take count rest) ≡ i + count + 1 = omega (arith, long) in
-    let none : c ≡ with_steps c [] = sym (with_nothing c) in
+-- ---- the lines of one chunk
+
+-- the first i lines are read, and make these steps; the rest has the others
+pub record IsReading (c : SoFar) (n : ℕ) (bytes rest : List ℕ) (i : ℕ) (made : Made) : Type 0 where
+  pub make : MakeSteps c n (take i (lines_of bytes)) made
+  pub left : lines_of rest ≡ drop i (lines_of bytes)
+
+pub none_read : (c : SoFar) (n : ℕ) (bytes : List ℕ) → IsReading c n bytes bytes 0 []
+none_read c n bytes = record { make = none_made c n; left = refl }
+
+-- lines whose first one is known are some
+inside : (all : List (List ℕ)) (i : ℕ) (line : List ℕ) (later : List (List ℕ)) → drop i all ≡ line ∷ later → i < length all
+inside all i line later at =
+    let long : length (drop i all) ≡ length (line ∷ later) = ap (λ (ts : List (List ℕ)). length ts) at in
+    omega (arith, length-drop i all, long)
+
+-- a line more is read
+pub next_read : (c : SoFar) (n : ℕ) (bytes rest behind line : List ℕ) (i : ℕ) (old new : Made) → IsReading c n bytes rest i old →
+    lines_of rest ≡ line ∷ lines_of behind → TakesStep c (n + i) line old new → IsReading c n bytes behind (i + 1) new
+next_read c n bytes rest behind line i old new reading is step =
+    let all = lines_of bytes in
+    let at : drop i all ≡ line ∷ lines_of behind = sym reading.left ∙ is in
+    let within = inside all i line (lines_of behind) at in
+    let one : take (i + 1) all ≡ take i all ++ line ∷ [] = take-add i 1 all ∙ ap (λ (ts : List (List ℕ)). take i all ++ take 1 ts) at in
+    let long : n + i ≡ n + length (take i all) = ap (λ (m : ℕ). n + m) (sym (length-take-le i all (omega (arith, within)))) in
     record {
-      fault = read.fault ∙ ap₂ (λ (s : SoFar) (ts : List (List ℕ)). first_bad_line s (i + 1) ts) none cut ∙ stretch.fault [] (drop (i + count) all)
-          ∙ ap (λ (n : ℕ). first_bad_line (with_steps c made) n (drop (i + count) all)) end;
-      script = read.script ∙ ap₂ (λ (s : SoFar) (ts : List (List ℕ)). after_all_lines s ts) none cut
-          ∙ after_lines (with_steps c []) (take count rest) (drop (i + count) all)
-          ∙ ap (λ (s : SoFar). after_all_lines s (drop (i + count) all)) (stretch.script []);
+      make = rw one (line_made c n (n + i) (take i all) line old new reading.make long step);
+      left = sym (sym (drop-drop 1 i all) ∙ ap (λ (ts : List (List ℕ)). drop 1 ts) at);
     }
 
--- the next line is read
-pub line_read : (lines : List (Bor (List ℕ))) (i : ℕ) (d : Bor (List ℕ)) (c new : SoFar) → i < length lines → IsRead (texts lines) i c →
-    fault_of c (i + 1) (get_or lines i d).now ≡ None → new ≡ after_line c (get_or lines i d).now → IsRead (texts lines) (i + 1) new
-line_read lines i d c new lt read none is = rw is (one_read (texts lines) i c (get_or lines i d).now read (drop_texts lines i d lt) none)
+-- no bytes have no lines
+no_lines : (rest : List ℕ) → length rest ≡ 0 → lines_of rest ≡ []
+unfolding lines_of
+no_lines [] none = refl
+no_lines (b ∷ rest) none = absurd (omega (arith, none))
 
--- no line is taken
-pub none_taken : (c new : SoFar) (n : ℕ) (lines : List (List ℕ)) → new ≡ c → TakesLines c n lines new 0
-none_taken c new n lines same = record { all = inl refl; made = []; make = none_made c n; script = same ∙ sym (with_nothing c) }
+-- all of the first `count` lines are read
+pub count_read : (c : SoFar) (n : ℕ) (bytes rest : List ℕ) (i count : ℕ) (made : Made) → IsReading c n bytes rest i made → i ≡ count →
+    MakeSteps c n (take count (lines_of bytes)) made
+count_read c n bytes rest i count made reading is = rw (sym is) reading.make
 
--- all are
-pub all_taken : (c new : SoFar) (n count : ℕ) (lines : List (List ℕ)) (made : Made) → count ≡ length lines → MakeSteps c n lines made →
-    new ≡ with_steps c made → TakesLines c n lines new count
-all_taken c new n count lines made all make same = record {
-  all = inr all;
-  made = made;
-  make = rw (take_all count lines (omega (arith, all))) make;
-  script = same;
+-- and where no byte is left
+pub rest_read : (c : SoFar) (n : ℕ) (bytes rest : List ℕ) (i count : ℕ) (made : Made) → IsReading c n bytes rest i made → i ≤ count → length rest ≡ 0 →
+    MakeSteps c n (take count (lines_of bytes)) made
+rest_read c n bytes rest i count made reading le none =
+    let all = lines_of bytes in
+    let left : drop i all ≡ [] = sym reading.left ∙ no_lines rest none in
+    let long : length (drop i all) ≡ length {A = List ℕ} [] = ap (λ (ts : List (List ℕ)). length ts) left in
+    let short : length all ≤ i = omega (arith, length-drop i all, long) in
+    let same : take i all ≡ take count all = take_all i all short ∙ sym (take_all count all (omega (arith, short, le))) in
+    rw (sym same) reading.make
+
+-- ---- the lines at marks
+
+-- the lines from the first of some references on
+pub first_lines : (ps : List (Bor (List ℕ))) (d : Bor (List ℕ)) → 1 ≤ length ps → lines_from (texts ps) ≡ lines_of (get_or ps 0 d).now
+first_lines [] d some = absurd (omega (arith, some))
+first_lines (p ∷ ps) d some = refl
+
+-- and from the mark of this number on
+lines_at : (ts : List (List ℕ)) (k n : ℕ) → k < length ts → 0 < n → lines_from (take n (drop k ts)) ≡ lines_of (get_or ts k [])
+lines_at ts k zero lt some = absurd (omega (arith, some))
+lines_at ts k (suc n) lt some = rw (drop-cons ts k [] lt) refl
+
+-- some of some lines
+take_less : {A : Type 0} (m n p : ℕ) (xs : List A) → p ≡ min m n → take m (take n xs) ≡ take p xs
+take_less m n p xs is =
+    ⊎_elim
+    (λ le. let e : p ≡ m = omega (arith, is, le) in take-take m n xs le ∙ ap (λ (k : ℕ). take k xs) (sym e))
+    (λ ge.
+    let e : p ≡ n = omega (arith, is, ge) in
+    let short : length (take n xs) ≤ m = omega (arith, length-take n xs, ge) in
+    take_all m (take n xs) short ∙ ap (λ (k : ℕ). take k xs) (sym e))
+    (le-or-ge m n)
+  where
+    le-or-ge : (m n : ℕ) → (m ≤ n) ⊎ (n ≤ m)
+    le-or-ge m n = grind arith
+
+-- chunks of so many marks
+module _ (count size : ℕ) (marks : List (Bor (List ℕ))) (are : AreMarks count (texts marks)) where
+  all : List (List ℕ)
+  all = lines_from (texts marks)
+
+  as_many_marks : length (texts marks) ≡ length marks
+  as_many_marks = many_texts marks
+
+  -- where the marks of a chunk begin there are its lines
+  pub chunk_lines : (k : ℕ) → 0 < size → k * size < length marks →
+      take (min (length (take size (drop (k * size) marks)) * 250) (count - k * size * 250))
+      (lines_from (texts (take size (drop (k * size) marks))))
+      ≡ slice_chunk (take count (lines_from (texts marks))) (size * 250) k
+  unfolding all
+  chunk_lines k some lt =
+      let at = k * size in
+      let from = at * 250 in
+      let long = length (take size (drop at marks)) in
+      let among : at < length (texts marks) = omega (arith, lt, as_many_marks) in
+      let same : lines_from (texts (take size (drop at marks))) ≡ drop from all =
+      ap lines_from (texts_chunk at size marks) ∙ lines_at (texts marks) at size among some ∙ are.each at among in
+      let before : from + (count - from) ≡ count = omega (arith, among, are.last) in
+      let behind : drop from (take count all) ≡ take (count - from) (drop from all) =
+      ap (λ (m : ℕ). drop from (take m all)) (sym before) ∙ drop-take from (count - from) all in
+      let fewer : min (long * 250) (count - from) ≡ min (size * 250) (count - from) =
+      omega (arith, length-take size (drop at marks), length-drop at marks, are.all, as_many_marks) in
+      let cut : take (size * 250) (take (count - from) (drop from all)) ≡ take (min (long * 250) (count - from)) (drop from all) =
+      take_less (size * 250) (count - from) (min (long * 250) (count - from)) (drop from all) fewer in
+      let place : from ≡ k * (size * 250) = mul_assoc k size 250 in
+      ap (λ (ts : List (List ℕ)). take (min (long * 250) (count - from)) ts) same ∙ sym cut
+      ∙ ap (λ (ts : List (List ℕ)). take (size * 250) ts) (sym behind) ∙ ap (λ (m : ℕ). take (size * 250) (drop m (take count all))) place
+
+  pub chunks_all : (chunks : ℕ) → 0 < size → chunks ≡ length marks / size + min 1 (length marks % size) →
+      length (take count (lines_from (texts marks))) ≤ chunks * (size * 250)
+  chunks_all chunks some is =
+      let ends = spans chunks (length marks) size some is in
+      let long : length (take count (lines_from (texts marks))) ≡ count = length-take-le count (lines_from (texts marks)) are.within in
+      let place : chunks * size * 250 ≡ chunks * (size * 250) = mul_assoc chunks size 250 in
+      omega (arith, ends.0, are.all, as_many_marks, long, place)
+
+  pub chunks_last : (chunks : ℕ) → 0 < size → chunks ≡ length marks / size + min 1 (length marks % size) →
+      chunks * (size * 250) < length (take count (lines_from (texts marks))) + size * 250
+  chunks_last chunks some is =
+      let ends = spans chunks (length marks) size some is in
+      let long : length (take count (lines_from (texts marks))) ≡ count = length-take-le count (lines_from (texts marks)) are.within in
+      let place : chunks * size * 250 ≡ chunks * (size * 250) = mul_assoc chunks size 250 in
+      omega (arith, ends.1, are.last, as_many_marks, long, place)
+
+-- ---- marks
+
+pub none_behind : (bytes : List ℕ) → IsBehind bytes 0 bytes
+none_behind bytes = record { lines = refl; shorter = omega arith }
+
+-- lines behind lines
+pub more_behind : (bytes : List ℕ) (count : ℕ) (behind : List ℕ) (more : ℕ) (next : List ℕ) → IsBehind bytes count behind → IsBehind behind more next →
+    IsBehind bytes (count + more) next
+more_behind bytes count behind more next one other = record {
+  lines = other.lines ∙ ap (λ (ts : List (List ℕ)). drop more ts) one.lines ∙ drop-drop more count (lines_of bytes);
+  shorter = omega (arith, one.shorter, other.shorter);
 }
 
--- no more are taken than there are
-pub most_taken : (c new : SoFar) (n count : ℕ) (lines : List (List ℕ)) → TakesLines c n lines new count → count ≤ length lines
-most_taken c new n count lines taken = ⊎_elim (λ none. omega (arith, none)) (λ all. omega (arith, all)) taken.all
+-- a line more
+pub one_behind : (bytes : List ℕ) (count : ℕ) (behind line next : List ℕ) → IsBehind bytes count behind → lines_of behind ≡ line ∷ lines_of next →
+    length next < length behind → IsBehind bytes (count + 1) next × (count + 1 ≤ length (lines_of bytes))
+one_behind bytes count behind line next so_far is shorter =
+    let one : IsBehind behind 1 next = record {
+      lines = sym (ap (λ (ts : List (List ℕ)). drop 1 ts) is);
+      shorter = omega (arith, shorter);
+    } in
+    let within = inside (lines_of bytes) count line (lines_of next) (sym so_far.lines ∙ is) in
+    (more_behind bytes count behind 1 next so_far one, omega (arith, within))
 
--- so many of a stretch of the next lines are read
-pub lines_read : (lines rest stretch : List (Bor (List ℕ))) (i long count : ℕ) (c new : SoFar) → IsRead (texts lines) i c → i + long ≤ length lines →
-    rest ≡ drop i lines → stretch ≡ take long rest → TakesLines c (i + 1) (texts stretch) new count → IsRead (texts lines) (i + count) new
-lines_read lines rest stretch i long count c new read fits is_rest is_stretch taken =
-    let all : length (texts lines) ≡ length lines = length-map lines (λ (p : Bor (List ℕ)). p.now) in
-    let same : texts stretch ≡ take long (drop i (texts lines)) =
-    ap texts is_stretch ∙ ap (λ (ps : List (Bor (List ℕ))). texts (take long ps)) is_rest ∙ texts_chunk i long lines in
-    let fewer : count ≤ length (texts stretch) = most_taken c new (i + 1) count (texts stretch) taken in
-    let most : count ≤ long = omega (arith, fewer, ap (λ (ts : List (List ℕ)). length ts) same, length-take long (drop i (texts lines))) in
-    let front : take count (texts stretch) ≡ take count (drop i (texts lines)) =
-    ap (λ (ts : List (List ℕ)). take count ts) same ∙ take-take count long (drop i (texts lines)) most in
-    let made = subst (λ (ts : List (List ℕ)). MakeSteps c (i + 1) ts taken.made) front taken.make in
-    rw taken.script (stretch_read (texts lines) i count c taken.made read (omega (arith, fits, most, all)) made)
+-- the marks of the first `count` lines of these bytes
+pub record AreMarksOf (bytes : List ℕ) (count : ℕ) (marks : List (List ℕ)) : Type 0 where
+  pub within : count ≤ length (lines_of bytes)
+  pub all : count ≤ length marks * 250
+  pub last : length marks * 250 < count + 250
+  pub each : (k : ℕ) → k < length marks → lines_of (get_or marks k []) ≡ drop (k * 250) (lines_of bytes)
+
+pub no_marks : (bytes : List ℕ) → AreMarksOf bytes 0 []
+no_marks bytes = record {
+  within = omega arith;
+  all = omega arith;
+  last = omega arith;
+  each = λ k lt. absurd (omega (arith, lt));
+}
+
+-- lines behind one mark more
+pub mark_more : (bytes : List ℕ) (count more : ℕ) (behind : List ℕ) (marks : List (List ℕ)) → AreMarksOf bytes count marks →
+    IsBehind bytes count behind → count ≡ length marks * 250 → 0 < more → more ≤ 250 → more ≤ length (lines_of behind) →
+    AreMarksOf bytes (count + more) (marks ++ behind ∷ [])
+mark_more bytes count more behind marks are reached full some most within =
+    let long : length (marks ++ behind ∷ []) ≡ length marks + 1 = length-append marks (behind ∷ []) in
+    let left : length (lines_of behind) ≡ length (drop count (lines_of bytes)) = ap (λ (ts : List (List ℕ)). length ts) reached.lines in
+    record {
+      within = omega (arith, within, left, length-drop count (lines_of bytes), are.within);
+      all = omega (arith, full, long, most);
+      last = omega (arith, full, long, some);
+      each = λ k lt.
+          ⊎_elim
+          (λ before. rw (get_or_append_left marks (behind ∷ []) [] k before) (are.each k before))
+          (λ last.
+          let here : count ≡ k * 250 = full ∙ ap (λ (n : ℕ). n * 250) (sym last) in
+          ap (λ (n : ℕ). lines_of (get_or (marks ++ behind ∷ []) n [])) last ∙ ap lines_of (get_or-append_seam marks behind [] [])
+          ∙ reached.lines ∙ ap (λ (n : ℕ). drop n (lines_of bytes)) here)
+          (below_or_last k (length marks) (omega (arith, long, lt)));
+    }
+  where
+    below_or_last : (k n : ℕ) → k < n + 1 → (k < n) ⊎ (k ≡ n)
+    below_or_last k n lt = grind arith
+
+-- their first mark has all of the lines
+pub marks_are : (bytes : List ℕ) (count : ℕ) (marks : List (List ℕ)) → AreMarksOf bytes count marks → AreMarks count marks
+marks_are bytes count [] are =
+    let none : count ≡ 0 = omega (arith, are.all) in
+    record {
+      within = omega (arith, none);
+      all = are.all;
+      last = are.last;
+      each = λ k lt. absurd (omega (arith, lt));
+    }
+marks_are bytes count (mark ∷ marks) are =
+    let same : lines_of mark ≡ lines_of bytes = are.each 0 (omega arith) in
+    record {
+      within = rw same are.within;
+      all = are.all;
+      last = are.last;
+      each = λ k lt. rw same (are.each k lt);
+    }
+
+pub lines_are : (bytes : List ℕ) (count : ℕ) (marks : List (List ℕ)) → AreMarksOf bytes count marks →
+    take count (lines_from marks) ≡ take count (lines_of bytes)
+lines_are bytes count [] are =
+    let none : count ≡ 0 = omega (arith, are.all) in
+    rw none refl
+lines_are bytes count (mark ∷ marks) are = ap (λ (ts : List (List ℕ)). take count ts) (are.each 0 (omega arith))
+
+-- ---- the lines that are read so far
+
+-- so many lines more are read
+pub lines_read : (bytes rest behind : List ℕ) (number count : ℕ) (lines : List (List ℕ)) (c new : SoFar) → IsReadTo bytes rest number c →
+    IsBehind rest count behind → count ≤ length (lines_of rest) → lines ≡ take count (lines_of rest) → TakesLines c number lines new →
+    IsReadTo bytes behind (number + count) new
+lines_read bytes rest behind number count lines c new read is within same taken =
+    let cut : lines_of rest ≡ lines ++ lines_of behind =
+    sym (take-append-drop count (lines_of rest)) ∙ ap₂ (λ (xs ys : List (List ℕ)). xs ++ ys) (sym same) (sym is.lines) in
+    let long : length lines ≡ count =
+    ap (λ (ts : List (List ℕ)). length ts) same ∙ length-take-le count (lines_of rest) within in
+    let none : c ≡ with_steps c [] = sym (with_nothing c) in
+    rw taken.script record {
+      fault = read.fault ∙ ap₂ (λ (s : SoFar) (ts : List (List ℕ)). first_bad_line s number ts) none cut ∙ taken.make.fault [] (lines_of behind)
+          ∙ ap (λ (n : ℕ). first_bad_line (with_steps c taken.made) (number + n) (lines_of behind)) long;
+      script = read.script ∙ ap₂ (λ (s : SoFar) (ts : List (List ℕ)). after_all_lines s ts) none cut
+          ∙ after_lines (with_steps c []) lines (lines_of behind)
+          ∙ ap (λ (s : SoFar). after_all_lines s (lines_of behind)) (taken.make.script []);
+      few = omega (arith, read.few, is.shorter);
+    }

@@ -1,29 +1,32 @@
-use Rattle.std.proofs.Common.{◌≡◌, ◌+◌, ℕ, List, [], get_or, take, length, ap, subst, sym, arith, take_all, rules}
-use Rattle.std.proofs.lemmas.List.{length-map}
-use Rattle.std.specs.Borrow.{Bor}
-use Rattle.tr_words.specs.Answers.{texts}
-use Rattle.tr_chunks.specs.Chunks.{MakeSteps}
-use Rattle.tr_chunks.proofs.ChunkLemmas.{none_made, line_made, one_text, many_texts}
+use Rattle.std.proofs.Common.{◌≡◌, length, arith, rules}
+use Rattle.std.proofs.lemmas.Grind.{common_steps}
+use Rattle.tr_chunks.proofs.ChunkLemmas.{none_read, next_read, count_read, rest_read}
 use Rattle.tr_chunks.proofs.chunks.read_chunk.Goals as goal
-
-no_text : Bor (List ℕ)
-no_text = record { ref_ptr = (0, 0); now = [] }
+use Rattle.tr_chunks.proofs.chunks.read_chunk.Goals.{else-loop-index-test, then-loop-index-test+else-not-is_empty}
 
 pub loop-index-init : goal.loop-index-init
-loop-index-init c = rw (c.reserve.ensures, c.new-steps.ensures) (none_made c.args.reader.now c.args.first)
+loop-index-init c = record {
+  reading = rw (c.reserve.ensures, c.new-steps.ensures) (none_read c.args.reader.now c.args.first c.args.bytes.now);
+  most = omega arith;
+}
 
 pub loop-index-preserved : goal.loop-index-preserved
-unfolding no_text
-loop-index-preserved c =
-    let chunk = c.args.chunk.now in
-    let i = c.loop-index.index in
-    let at : c.args.first + i ≡ c.args.first + length (take i (texts chunk)) = ap (λ n. c.args.first + n) (sym (many_texts chunk i (omega arith))) in
-    rw (one_text chunk i no_text c.loop-index-test.true)
-    (line_made c.args.reader.now c.args.first (c.args.first + i) (take i (texts chunk)) (get_or chunk i no_text).now c.loop-index.steps c.take_step.new.steps
-    c.loop-index.invariant at (c.in-Ok-true.ensures.taken (search rules)))
+loop-index-preserved c = record {
+  reading = next_read c.args.reader.now c.args.first c.args.bytes.now c.loop-index.rest.now c.first_line.result.1.now c.first_line.result.0.now
+      c.loop-index.index c.loop-index.steps c.take_step.new.steps c.loop-index.invariant.reading c.first_line.ensures.lines
+      (c.in-Ok-true.ensures.taken (search rules));
+  most = omega (arith, c.loop-index-test.true);
+}
 
 pub returns : goal.returns
 returns c =
-    let chunk = c.args.chunk.now in
-    let all = take_all c.loop-index.index (texts chunk) (omega (arith, length-map chunk (λ (p : Bor (List ℕ)). p.now))) in
-    subst (λ (ts : List (List ℕ)). MakeSteps c.args.reader.now c.args.first ts c.loop-index.steps) all c.loop-index.invariant
+    let reading = c.loop-index.invariant.reading in
+    elim c.loop-index-test.branch [
+      | else-loop-index-test w ↦
+          count_read c.args.reader.now c.args.first c.args.bytes.now c.loop-index.rest.now c.loop-index.index c.args.count c.loop-index.steps
+          reading (omega (arith, c.loop-index.invariant.most, w.loop-index-test.false))
+      | then-loop-index-test+else-not-is_empty w ↦
+          let none : length c.loop-index.rest.now ≡ 0 = first_of (search rules, grind (arith, common_steps)) in
+          rest_read c.args.reader.now c.args.first c.args.bytes.now c.loop-index.rest.now c.loop-index.index c.args.count c.loop-index.steps
+          reading c.loop-index.invariant.most none
+    ]

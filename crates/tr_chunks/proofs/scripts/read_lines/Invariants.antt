@@ -1,10 +1,9 @@
-use Rattle.std.proofs.Common.{length, ◌-◌, ◌≤◌}
-use Rattle.tr_words.specs.Answers.{texts}
-use Rattle.tr_script.proofs.LineLemmas.{IsRead}
+use Rattle.std.proofs.Common.{length}
+use Rattle.tr_script.proofs.LineLemmas.{IsReadTo}
 use Rattle.tr_chunks.proofs.scripts.read_lines.Given as goal
 
-abbrev pub invariant-loop-index : goal.invariant-loop-index
-invariant-loop-index g l = IsRead (texts l.lines) l.index l.reader × (l.index ≤ length l.lines)
+abbrev pub invariant-loop-rest : goal.invariant-loop-rest
+invariant-loop-rest g l = IsReadTo l.bytes l.rest l.number l.reader
 
-abbrev pub decreases-loop-index : goal.decreases-loop-index
-decreases-loop-index g l = length l.lines - l.index
+abbrev pub decreases-loop-rest : goal.decreases-loop-rest
+decreases-loop-rest g l = length l.rest
