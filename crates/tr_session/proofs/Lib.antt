@@ -12,6 +12,7 @@ mod SavingLemmas
 mod ArrivalLemmas
 mod KeepingLemmas
 mod FrontLemmas
+mod GatheringLemmas
 mod ServingLemmas
 mod CutLemmas
 mod OpeningLemmas
@@ -19,7 +20,7 @@ mod SessionLemmas
 mod ScriptLemmas
 mod OpenedLemmas
 mod PlayedLemmas
+mod WritingLemmas
 mod ServedLemmas
 mod AnsweredLemmas
-mod WritingLemmas
 mod FitLemmas

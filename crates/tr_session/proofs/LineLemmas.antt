@@ -29,18 +29,6 @@ module _ (c : SoFar) (w : List ℕ) (begun : has_begun c.place ≡ true) where
   pub opening_at_gap : record (opening_of c) { place = places.Gap } ≡ opening_of c
   opening_at_gap = ap (λ (p : Place). record (opening_of c) { place = p }) (sym (stays_at_gap c.place begun))
 
-  pub opening_behind_step : (actor : Actor) (step : Step WidgetCmd) → opening_of (after_meaning c w (meanings.Step actor step)) ≡ opening_of c
-  opening_behind_step actor step = opening_at_gap
-
-  pub opening_behind_sync : opening_of (after_meaning c w meanings.Sync) ≡ opening_of c
-  opening_behind_sync = opening_at_gap
-
-  pub opening_behind_report : (query : Query) → opening_of (after_meaning c w (meanings.Report query)) ≡ opening_of c
-  opening_behind_report query = opening_at_gap
-
-  pub opening_behind_end : opening_of (after_meaning c w meanings.End) ≡ opening_of c
-  opening_behind_end = opening_at_gap
-
 -- the place of a test against the opening, or after the end
 abbrev tried_place : Place → Bool → Place
 tried_place p true = places.Ended

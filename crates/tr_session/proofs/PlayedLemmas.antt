@@ -86,10 +86,6 @@ steps_place places.Ended at = absurd (false-true at)
 
 -- ---- before a line is read
 
--- after `begin` the reader stays where a step and a report may come
-pub reads_at_gap : (i : Session) → HoldsTogether i → has_begun (so_far (session_view i)).place ≡ true → i.script.reader.place ≡ places.Gap
-reads_at_gap i holds begun = ap (λ (d : SoFar). d.place) holds.reader ∙ stays_at_gap (so_far (session_view i)).place begun
-
 -- a line up to `begin` comes before the stage, and one after it behind it
 pub begun_if_played : (i : Session) (b : Bool) → HoldsTogether i → is_some i.played ≡ b → has_begun (so_far (session_view i)).place ≡ b
 begun_if_played i b holds is = sym holds.session.begun ∙ same i.played ∙ is
@@ -97,23 +93,6 @@ begun_if_played i b holds is = sym holds.session.begun ∙ same i.played ∙ is
     same : (o : Option PlayedView) → is_some (screen_in o) ≡ is_some o
     same None = refl
     same (Some p) = refl
-
--- the stage is there, and can do a meaning whose values are in range
-pub may_follow : (i : Session) (w : List ℕ) (said : Option Meaning) → HoldsTogether i → has_begun (so_far (session_view i)).place ≡ true →
-    IfSome said (IsSoundMeaning i.script.reader w) → IsSomeAnd i.played (λ p. IsMeant (tree_of p.stage.opening).nodes said)
-may_follow i w said holds begun sound = by_stage i.played refl
-  where
-    P : Option PlayedView → Type 0
-    P = λ o. IsSomeAnd o (λ p. IsMeant (tree_of p.stage.opening).nodes said)
-
-    by_stage : (o : Option PlayedView) → i.played ≡ o → P i.played
-    by_stage None is =
-        let early : has_begun (so_far (session_view i)).place ≡ false = subst (λ (o : Option PlayedView). IsPlayed (session_view i) o) is holds.played in
-        absurd (false-true (sym early ∙ begun))
-    by_stage (Some p) is =
-        let has : HasPlayed (session_view i) p = subst (λ (o : Option PlayedView). IsPlayed (session_view i) o) is holds.played in
-        subst P (sym is) (meant i.script.reader w (tree_of p.stage.opening).nodes said
-        (ap (λ (d : SoFar). nodes_so_far d) holds.reader ∙ ap (λ (items : List (Item Widget)). (tree_of items).nodes) (sym has.opening)) sound)
 
 -- the stages before and after a line
 pub record Stages (o n : Option PlayedView) (R : PlayedView → PlayedView → Type 0) : Type 0 where

@@ -112,10 +112,3 @@ outcome_of_last b earlier line old new is has =
     ap (λ (ls : List (JournalLine WidgetCmd)). slice_get ls (length ls - 1)) is ∙ last_is earlier line in
     let P : Option (JournalLine WidgetCmd) → Type 0 = λ found. IsSomeAnd found (λ l. new ≡ old ++ outcome_text b.names l) in
     subst P at_end has
-
--- a cue that makes a step has one line, and its outcome is the text for the line
-pub one_outcome : (names : Names) (m : State Widget WidgetCmd) (actor : Actor) (step : Step WidgetCmd) (line : JournalLine WidgetCmd) →
-    run_lines widgets m (makes actor step ∷ []) ≡ line ∷ [] →
-    flat_map (outcome_text names) (run_lines widgets m (makes actor step ∷ [])) ≡ outcome_text names line
-one_outcome names m actor step line is =
-    ap (λ (ls : List (JournalLine WidgetCmd)). flat_map (outcome_text names) ls) is ∙ append-nil (outcome_text names line)

@@ -15,11 +15,6 @@ use Rattle.tr_session.specs.declared.errors.Unanswered.{Unanswered}
 use Rattle.tr_session.specs.Answering.{ClaimsFault, tried_by}
 use Rattle.tr_session.specs.Refusals.{unanswered_of}
 
--- the fault that a reader tells
-pub claims_fault : (fault : Option Code) (e : LineRefused) → IsFault fault e → ClaimsFault fault (unanswered_of e)
-claims_fault fault refused.NoMemory is = tt
-claims_fault fault (refused.Fault code) is = is
-
 by_tests : (plain silent : Bool) → cond {A = Option Code} (not plain) (Some B9) (cond silent None (Some B8)) ≡ cond plain (cond silent None (Some B8)) (Some B9)
 by_tests true silent = refl
 by_tests false silent = refl

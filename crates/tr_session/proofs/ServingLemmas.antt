@@ -1,23 +1,21 @@
 -- The turns of a session, one after another.
 use Rattle.std.proofs.Common.{◌≡◌, ℕ, ◌-◌, ◌≤◌, true, false, List, [], ◌∷◌, ◌++◌, None, Some, append-nil, append_assoc, get_or, length, length-append, ne_eqb, take, refl, sym, ap, subst, ◌∙◌, arith}
 use Rattle.std.specs.Prelude.{◌==◌, All, Bool, Contains, IsSomeAnd, Option}
-use Rattle.std.specs.List.{flat_map}
 use Rattle.std.specs.Io.KnownBytes.{prepend_known}
-use Rattle.std.proofs.lemmas.Grind.{flat_map-append}
 use Rattle.std.proofs.lemmas.List.Elements.{All-append, All-head, All-push, All-tail, Contains-get_or}
 use Rattle.std.proofs.lemmas.List.{take-take}
 use Rattle.std.proofs.lemmas.List.Splits.{length-slice_split, slice_split_at, slice_split_none}
 use Rattle.std.proofs.Math.Seq.{take-append_seam}
 use Rattle.tr_io.specs.Streams.{Fell, Grew}
-use Rattle.tr_output.proofs.SendingLemmas.{grew_on}
 use Rattle.tr_gen.specs.Scripts.{text_of_lines}
-use Rattle.tr_session.specs.Answers.{Answer, AreAnswered, IsAnswered, answer_bytes, ends}
+use Rattle.tr_session.specs.Answers.{Answer, AreAnswered, IsAnswered, ends}
 use Rattle.tr_session.specs.Arrivals.{ArrivalsView, HasLine, IsWithoutLine, front_of, pieces_of, whole_lines}
 use Rattle.tr_session.specs.Calls.{HasQuit, SinkChange, SourceChange}
 use Rattle.tr_session.specs.Sessions.{SessionView, no_session}
 use Rattle.tr_session.specs.Turns.{AnswersOne, ReadsOnce, Serving}
 use Rattle.tr_session.proofs.ArrivalLemmas.{front_of_front}
 use Rattle.tr_session.proofs.FrontLemmas.{answered_by_front, ends_by_front}
+use Rattle.tr_session.proofs.GatheringLemmas.{Waits, all_written, none_waits, one_added}
 use Rattle.tr_session.proofs.PlayingLemmas.{last_is}
 use Rattle.tr_session.proofs.SavingLemmas.{text_more}
 
@@ -30,6 +28,23 @@ one_answered s t u [] [] line answer same is = (u, subst (λ (v : SessionView). 
 one_answered s t u (x ∷ xs) (y ∷ ys) line answer are is = (are.0, are.1, one_answered are.0 t u xs ys line answer are.2 is)
 one_answered s t u [] (y ∷ ys) line answer are is = absurd are
 one_answered s t u (x ∷ xs) [] line answer are is = absurd are
+
+-- there are as many answers as lines
+pub as_many : (s t : SessionView) (lines : List (List ℕ)) (answers : List Answer) → AreAnswered s lines answers t → length lines ≡ length answers
+as_many s t [] [] are = refl
+as_many s t (x ∷ xs) (y ∷ ys) are = omega (arith, as_many are.0 t xs ys are.2)
+as_many s t [] (y ∷ ys) are = absurd are
+as_many s t (x ∷ xs) [] are = absurd are
+
+-- the first of the answers are those to the first of the lines
+pub first_answered : (s t : SessionView) (lines : List (List ℕ)) (one two : List Answer) → AreAnswered s lines (one ++ two) t →
+    (last : SessionView) × AreAnswered s (take (length one) lines) one last
+first_answered s t [] [] two are = (s, refl)
+first_answered s t (x ∷ xs) [] two are = (s, refl)
+first_answered s t (x ∷ xs) (y ∷ ys) two are =
+    let later = first_answered are.0 t xs ys two are.2 in
+    (later.0, are.0, are.1, later.1)
+first_answered s t [] (y ∷ ys) two are = absurd are
 
 -- ---- bytes
 
@@ -154,8 +169,8 @@ all_whole bytes lines part a came none =
 
 -- ---- turns
 
--- the session after some turns: the bytes that came, the lines that were answered, and the answers that were written
-pub record IsServed (from : SourceChange) (to : SinkChange) (s : SessionView) (a : ArrivalsView) : Type 0 where
+-- the session after some turns: the bytes that came, the lines that were answered, and the answers, some of which wait
+pub record IsServed (from : SourceChange) (to : SinkChange) (s : SessionView) (a : ArrivalsView) (waiting : List ℕ) : Type 0 where
   pub bytes : List ℕ
   pub came : Fell from.left from.left_new bytes
   pub lines : List (List ℕ)
@@ -163,12 +178,12 @@ pub record IsServed (from : SourceChange) (to : SinkChange) (s : SessionView) (a
   pub has : HasCome bytes lines part a
   pub answers : List Answer
   pub answered : AreAnswered no_session lines answers s
-  pub wrote : Grew to.written to.written_new (flat_map answer_bytes answers)
+  pub waits : Waits to answers waiting
 
 -- before the first turn
-pub none_served : (left written : Option (List ℕ)) (a : ArrivalsView) → a.begun ≡ [] → a.rest ≡ [] →
-    IsServed (record { left = left; left_new = left }) (record { written = written; written_new = written }) no_session a
-none_served left written a begun rest = record {
+pub none_served : (left written : Option (List ℕ)) (a : ArrivalsView) (waiting : List ℕ) → a.begun ≡ [] → a.rest ≡ [] → waiting ≡ [] →
+    IsServed (record { left = left; left_new = left }) (record { written = written; written_new = written }) no_session a waiting
+none_served left written a waiting begun rest none = record {
   bytes = [];
   came = sym (fell_none left);
   lines = [];
@@ -176,29 +191,37 @@ none_served left written a begun rest = record {
   has = record { are = sym rest; whole = λ k d within. absurd (omega (arith, within)); unbroken = λ k d within. absurd (omega (arith, within)); begun = begun };
   answers = [];
   answered = refl;
-  wrote = grew_none written;
+  waits = none_waits written waiting none;
 }
   where
     fell_none : (left : Option (List ℕ)) → prepend_known [] left ≡ left
     fell_none None = refl
     fell_none (Some rest) = refl
 
-    grew_none : (written : Option (List ℕ)) → Grew written written []
-    grew_none None = refl
-    grew_none (Some bytes) = ap Some (sym (append-nil bytes))
+-- after what waited was written
+unfoldable pub written_served : (from : SourceChange) (to : SinkChange) (s : SessionView) (a : ArrivalsView) (waiting : List ℕ) (after : Option (List ℕ)) →
+    IsServed from to s a waiting → Grew to.written_new after waiting → IsServed from (record { written = to.written; written_new = after }) s a []
+written_served from to s a waiting after served grew = record {
+  bytes = served.bytes;
+  came = served.came;
+  lines = served.lines;
+  part = served.part;
+  has = served.has;
+  answers = served.answers;
+  answered = served.answered;
+  waits = all_written to served.answers waiting served.waits after grew;
+}
 
 -- after a turn that answers a line
-unfoldable pub one_served : (from : SourceChange) (to next : SinkChange) (a b : Serving) (goes : Bool) → IsServed from to a.session a.arrivals →
+unfoldable pub one_served : (from : SourceChange) (to next : SinkChange) (a b : Serving) (goes : Bool) → IsServed from to a.session a.arrivals a.waiting →
     next.written ≡ to.written_new → AnswersOne a goes next b →
-    IsServed from (record { written = to.written; written_new = next.written_new }) b.session b.arrivals
+    IsServed from (record { written = to.written; written_new = next.written_new }) b.session b.arrivals b.waiting
 one_served from to next a b goes served joins one =
     let line = served.part ++ one.line.more in
     let begun = line_begun served.bytes served.lines served.part a.arrivals one.whole served.has one.line in
     let answered : IsAnswered a.session line one.answer b.session =
     answered_by_front a.session line one.answer b.session
     (subst (λ (front : List ℕ). IsAnswered a.session front one.answer b.session) begun one.answered) in
-    let wrote : Grew to.written_new next.written_new (answer_bytes one.answer) =
-    subst (λ (before : Option (List ℕ)). Grew before next.written_new (answer_bytes one.answer)) joins one.wrote in
     record {
       bytes = served.bytes;
       came = served.came;
@@ -208,35 +231,31 @@ one_served from to next a b goes served joins one =
           (line_came served.bytes served.lines served.part a.arrivals one.whole served.has one.line);
       answers = served.answers ++ one.answer ∷ [];
       answered = one_answered no_session a.session b.session served.lines served.answers line one.answer served.answered answered;
-      wrote = subst (λ (text : List ℕ). Grew to.written next.written_new text)
-          (ap (λ (last : List ℕ). flat_map answer_bytes served.answers ++ last) (sym (append-nil (answer_bytes one.answer)))
-          ∙ sym (flat_map-append answer_bytes served.answers (one.answer ∷ [])))
-          (grew_on to.written to.written_new next.written_new (flat_map answer_bytes served.answers) (answer_bytes one.answer) served.wrote wrote);
+      waits = one_added to served.answers a.waiting served.waits next one.answer b.waiting joins one.adds;
     }
 
 -- after a turn that reads
-unfoldable pub read_served : (from next : SourceChange) (to : SinkChange) (a b : Serving) (goes : Bool) → IsServed from to a.session a.arrivals →
-    next.left ≡ from.left_new → ReadsOnce a next goes b →
-    IsServed (record { left = from.left; left_new = next.left_new }) to b.session b.arrivals
-read_served from next to a b goes served joins reads =
+unfoldable pub read_served : (from next_from : SourceChange) (to next : SinkChange) (a b : Serving) (goes : Bool) →
+    IsServed from to a.session a.arrivals a.waiting → next_from.left ≡ from.left_new → next.written ≡ to.written_new → ReadsOnce a next_from goes next b →
+    IsServed (record { left = from.left; left_new = next_from.left_new }) (record { written = to.written; written_new = next.written_new })
+    b.session b.arrivals b.waiting
+read_served from next_from to next a b goes served joins_from joins reads =
     let looked = none_came served.bytes served.lines served.part a.arrivals reads.looked served.has reads.unbroken in
-    let came : Fell from.left_new next.left_new b.arrivals.rest =
-    subst (λ (before : Option (List ℕ)). Fell before next.left_new b.arrivals.rest) joins reads.came in
+    let came : Fell from.left_new next_from.left_new b.arrivals.rest =
+    subst (λ (before : Option (List ℕ)). Fell before next_from.left_new b.arrivals.rest) joins_from reads.came in
+    let grew : Grew to.written_new next.written_new a.waiting =
+    subst (λ (before : Option (List ℕ)). Grew before next.written_new a.waiting) joins reads.wrote in
     record {
       bytes = served.bytes ++ b.arrivals.rest;
-      came = fell_twice from.left from.left_new next.left_new served.bytes b.arrivals.rest served.came came;
+      came = fell_twice from.left from.left_new next_from.left_new served.bytes b.arrivals.rest served.came came;
       lines = served.lines;
       part = served.part ++ a.arrivals.rest;
       has = more_came served.bytes served.lines (served.part ++ a.arrivals.rest) reads.looked b.arrivals looked reads.unbroken.rest reads.begun;
       answers = served.answers;
       answered = subst (λ (s : SessionView). AreAnswered no_session served.lines served.answers s) (sym reads.session) served.answered;
-      wrote = served.wrote;
+      waits = subst (λ (now : List ℕ). Waits (record { written = to.written; written_new = next.written_new }) served.answers now) (sym reads.none)
+          (all_written to served.answers a.waiting served.waits next.written_new grew);
     }
-
--- a session whose input is over has answered all whole lines
-pub all_served : (from : SourceChange) (to : SinkChange) (s : SessionView) (a : ArrivalsView) → (served : IsServed from to s a) → a.rest ≡ [] →
-    whole_lines served.bytes ≡ served.lines
-all_served from to s a served none = all_whole served.bytes served.lines served.part a served.has none
 
 -- a session that ends with a line has answered it last
 pub quit_served : (lines : List (List ℕ)) (line : List ℕ) → ends (front_of line) ≡ true → HasQuit (lines ++ line ∷ [])

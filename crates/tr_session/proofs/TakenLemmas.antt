@@ -299,23 +299,6 @@ tried_after_sync c at = by_test (c.version == 2) refl
         ap tried_against (sync_follows c second is)
         ∙ ap (λ (p : Place). record c { place = at_any_time p; ended = []; part = empty_part }) (sym at)
 
--- its meaning is the same, too
-pub meaning_after_sync : (c : SoFar) (line : List ℕ) → meaning_of_line (after_line c (codes "sync")) line ≡ meaning_of_line c line
-unfolding meaning_of_line
-meaning_after_sync c line = by_test (c.version == 2) refl
-  where
-    same : (form : Option Form) (ws : List (List ℕ)) →
-        meaning_as (record c { place = places.Gap; ended = c.ended ++ c.part ∷ []; part = empty_part }) form ws ≡ meaning_as c form ws
-    same None ws = refl
-    same (Some f) ws = refl
-
-    by_test : (second : Bool) → (c.version == 2) ≡ second →
-        cond (is_silent line) None (meaning_as (after_line c (codes "sync")) (form_of (after_line c (codes "sync")).version (words_of line)) (words_of line))
-        ≡ cond (is_silent line) None (meaning_as c (form_of c.version (words_of line)) (words_of line))
-    by_test second is =
-        ap (λ (d : SoFar). cond (is_silent line) None (meaning_as d (form_of d.version (words_of line)) (words_of line))) (sync_follows c second is)
-        ∙ ap (λ (said : Option Meaning). cond (is_silent line) None said) (same (form_of c.version (words_of line)) (words_of line))
-
 -- the lines that a line without a fault adds are taken
 pub added_taken : (c : SoFar) (line : List ℕ) → fault_in c line ≡ None → AreTaken c (added_lines c line)
 added_taken c line none = by_test (needs_sync c (meaning_of_line c line)) refl

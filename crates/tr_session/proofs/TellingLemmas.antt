@@ -114,19 +114,6 @@ pub session_same : (s : SessionView) (screen : Picture) → IsSession s → has_
     IsSession (record s { screen = Some screen })
 session_same s screen session begun right = record { taken = session.taken; begun = sym begun; shown = right; cuts = session.cuts }
 
--- after a line of the opening
-pub session_open : (s : SessionView) (line : List ℕ) → IsSession s → fault_in (so_far s) line ≡ None →
-    needs_sync (so_far s) (meaning_of_line (so_far s) line) ≡ false → has_begun (after_line (so_far s) line).place ≡ false →
-    IsSession (with_lines s (line ∷ []) None)
-session_open s line session none no_sync fresh =
-    let joined : so_far (with_lines s (line ∷ []) None) ≡ after_line (so_far s) line = so_far_after s (line ∷ []) None in
-    record {
-      taken = taken-append nothing_yet s.lines (line ∷ []) session.taken (none, no_sync, tt);
-      begun = sym (ap (λ (d : SoFar). has_begun d.place) joined ∙ fresh);
-      shown = tt;
-      cuts = session.cuts;
-    }
-
 -- ---- the text of an answer
 
 -- the outcome of a step

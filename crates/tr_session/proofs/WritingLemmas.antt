@@ -1,16 +1,16 @@
--- An answer that is written in two pieces.
-use Rattle.std.proofs.Common.{◌≡◌, inl, ℕ, ◌+◌, Bool, List, [], ◌++◌, Ok, Err, length, take, refl, sym, subst}
-use Rattle.std.specs.Prelude.{◌≢◌, OnOk, Option, Result, not}
+-- Answers that are written, at once or with those that wait.
+use Rattle.std.proofs.Common.{◌≡◌, inl, inr, ℕ, ◌+◌, Bool, List, [], ◌++◌, Ok, Err, length, take, refl, sym, subst}
+use Rattle.std.specs.Prelude.{◌≢◌, ◌⊎◌, OnOk, Option, Result, not}
 use Rattle.std.proofs.Math.Seq.{take-append-add}
 use Rattle.tr_io.specs.Streams.{Grew, GrewByPrefix}
-use Rattle.tr_output.proofs.SendingLemmas.{grew_on, prefix_more}
+use Rattle.tr_output.proofs.SendingLemmas.{grew_on, prefix_later, prefix_more}
 use Rattle.tr_session.specs.declared.errors.Stopped.{Stopped}
 use Rattle.tr_session.specs.declared.errors.Stopped.TheVariants as stopped
 use Rattle.tr_session.specs.Answers.{Answer, IsAnswered, answer_bytes, ends}
 use Rattle.tr_session.specs.Arrivals.{ArrivalsView, HasLine}
 use Rattle.tr_session.specs.Calls.{SinkChange, SourceChange}
 use Rattle.tr_session.specs.Sessions.{SessionView}
-use Rattle.tr_session.specs.Turns.{AnswersLine, Serving, Turns, Writes}
+use Rattle.tr_session.specs.Turns.{AddsAnswer, AnswersInPart, AnswersLine, IsAnsweredInPart, Serving, Turns, Writes}
 
 -- a change of a sink's bytes
 abbrev pub change : Option (List ℕ) → Option (List ℕ) → SinkChange
@@ -38,33 +38,68 @@ writes_both x y w z head body (Err stopped.Unwritten) same first memory writes =
     )
 writes_both x y w z head body (Err stopped.NoMemory) same first memory writes = absurd (memory refl)
 
+-- ---- an answer that is added
+
+-- for want of room those that wait were written, and then this one
+pub adds_after : (x y z : Option (List ℕ)) (was answer is : List ℕ) (result : Result Unit Stopped) → Grew x y was → is ≡ [] →
+    Writes answer result (change y z) → AddsAnswer was answer result (change x z) is
+adds_after x y z was answer is (Ok done) first none writes = inr (none, grew_on x y z was answer first writes)
+adds_after x y z was answer is (Err stopped.Unread) first none writes = writes
+adds_after x y z was answer is (Err stopped.Unwritten) first none writes = prefix_later x y z was answer first writes
+adds_after x y z was answer is (Err stopped.NoMemory) first none writes = inr (subst (λ (after : Option (List ℕ)). Grew x after was) (sym writes) first)
+
+-- those that wait weren't written
+pub adds_none : (was answer is : List ℕ) (e : Stopped) (to : SinkChange) → Writes was (Err e) to → AddsAnswer was answer (Err e) to is
+adds_none was answer is stopped.Unread to writes = writes
+adds_none was answer is stopped.Unwritten to writes = prefix_more to.written to.written_new was answer writes
+adds_none was answer is stopped.NoMemory to writes = inl writes
+
 -- ---- a line that was answered
 
-module _ (s t : SessionView) (line reply : List ℕ) (to : SinkChange) (answer : Answer) (is : reply ≡ answer_bytes answer)
-    (answered : IsAnswered s line answer t) where
-  pub answers_ok : (goes : Bool) → Writes reply (Ok tt) to → goes ≡ not (ends line) → AnswersLine s line (Ok goes) to t
-  answers_ok goes writes on =
-      (answer, answered, subst (λ (bytes : List ℕ). Grew to.written to.written_new bytes) is writes, on)
+module _ (s t : SessionView) (line was reply is : List ℕ) (to : SinkChange) where
+  module _ (answer : Answer) (told : reply ≡ answer_bytes answer) (answered : IsAnswered s line answer t) where
+    pub answers_ok : (goes : Bool) → AddsAnswer was reply (Ok tt) to is → goes ≡ not (ends line) → AnswersLine s line was (Ok goes) to t is
+    answers_ok goes adds on =
+        (answer, answered, subst (λ (bytes : List ℕ). AddsAnswer was bytes (Ok tt) to is) told adds, on)
 
-  pub answers_err : (e : Stopped) → Writes reply (Err e) to → AnswersLine s line (Err e) to t
-  answers_err stopped.Unread writes = writes
-  answers_err stopped.Unwritten writes =
-      (answer, t, answered, subst (λ (bytes : List ℕ). GrewByPrefix to.written to.written_new bytes) is writes)
-  answers_err stopped.NoMemory writes = writes
+    pub answers_err : (e : Stopped) → AddsAnswer was reply (Err e) to is → AnswersLine s line was (Err e) to t is
+    answers_err stopped.Unread adds = adds
+    answers_err stopped.Unwritten adds = inl (record {
+      answer = answer;
+      last = t;
+      answered = answered;
+      wrote = subst (λ (bytes : List ℕ). GrewByPrefix to.written to.written_new (was ++ bytes)) told adds;
+    })
+    answers_err stopped.NoMemory adds = adds
+
+  -- the session is lost, and those that wait weren't written either
+  pub answers_none : (e : Stopped) → Writes was (Err e) to → AnswersLine s line was (Err e) to t is
+  answers_none stopped.Unread writes = writes
+  answers_none stopped.Unwritten writes = inr writes
+  answers_none stopped.NoMemory writes = inl writes
 
 -- ---- a turn
 
 -- a whole line was answered, and nothing was read
-pub turns_line : (a : Serving) (w : ArrivalsView) (r : Result Bool Stopped) (from : SourceChange) (to : SinkChange) (t : SessionView) (b : ArrivalsView) →
-    HasLine a.arrivals w → from.left_new ≡ from.left → AnswersLine a.session w.begun r to t → OnOk r (b ≡ record w { begun = [] }) →
-    Turns a from r to (record { session = t; arrivals = b })
-turns_line a w (Ok goes) from to t b line same answers rest = inl (
-  record { whole = w; line = line; answer = answers.0; answered = answers.1; wrote = answers.2; goes_on = answers.3; rest = rest },
+pub turns_line : (a : Serving) (w : ArrivalsView) (r : Result Bool Stopped) (from : SourceChange) (to : SinkChange) (t : SessionView) (b : ArrivalsView)
+    (is : List ℕ) → HasLine a.arrivals w → from.left_new ≡ from.left → AnswersLine a.session w.begun a.waiting r to t is →
+    OnOk r (b ≡ record w { begun = [] }) → Turns a from r to (record { session = t; arrivals = b; waiting = is })
+turns_line a w (Ok goes) from to t b is line same answers rest = inl (
+  record { whole = w; line = line; answer = answers.0; answered = answers.1; adds = answers.2; goes_on = answers.3; rest = rest },
   same,
 )
-turns_line a w (Err stopped.Unread) from to t b line same answers rest = absurd answers
-turns_line a w (Err stopped.Unwritten) from to t b line same answers rest = (
-  record { whole = w; line = line; answer = answers.0; last = answers.1; answered = answers.2; wrote = answers.3 },
-  same,
-)
-turns_line a w (Err stopped.NoMemory) from to t b line same answers rest = (same, answers)
+turns_line a w (Err stopped.Unread) from to t b is line same answers rest = absurd answers
+turns_line a w (Err stopped.Unwritten) from to t b is line same answers rest = (by_part answers, same)
+  where
+    by_part : IsAnsweredInPart a.session w.begun a.waiting to ⊎ GrewByPrefix to.written to.written_new a.waiting →
+        AnswersInPart a to ⊎ GrewByPrefix to.written to.written_new a.waiting
+    by_part (inl part) = inl (record { whole = w; line = line; part = part })
+    by_part (inr grew) = inr grew
+turns_line a w (Err stopped.NoMemory) from to t b is line same answers rest = (answers, same)
+
+-- what waited wasn't written, and nothing was read
+pub turns_unwritten : (a b : Serving) (e : Stopped) (from : SourceChange) (to : SinkChange) → from.left_new ≡ from.left → Writes a.waiting (Err e) to →
+    Turns a from (Err e) to b
+turns_unwritten a b stopped.Unread from to same writes = absurd writes
+turns_unwritten a b stopped.Unwritten from to same writes = (inr writes, same)
+turns_unwritten a b stopped.NoMemory from to same writes = (inl writes, same)

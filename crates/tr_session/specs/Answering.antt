@@ -47,21 +47,23 @@ tried_by c ended = if ended then record c { place = Ended } else c
 -- the fault that a line without an answer has, if memory didn't run out
 abbrev pub ClaimsFault : Option Code → Unanswered → Type 0
 ClaimsFault fault (unanswered.Fault code) = fault ≡ Some code
-ClaimsFault fault e = ⊤
+ClaimsFault fault unanswered.NoMemory = ⊤
+ClaimsFault fault unanswered.Lost = ⊥
 
 -- the reply has the bytes of this answer, or the answer is a refusal; unless memory ran out
 abbrev pub Answers : Answer → List ℕ → Result Unit Unanswered → Type 0
 Answers answer bytes (Ok done) = bytes ≡ answer_bytes answer
 Answers answer bytes (Err (unanswered.Fault code)) = answer ≡ refused code
-Answers answer bytes (Err e) = ⊤
+Answers answer bytes (Err unanswered.NoMemory) = ⊤
+Answers answer bytes (Err unanswered.Lost) = ⊥
 
--- a line of the script was answered, or it has a fault, or memory ran out
+-- a line of the script was answered, or it has a fault, or memory ran out; the session is lost only at a line without a fault
 abbrev pub Takes : SessionView → List ℕ → List ℕ → Result Unit Unanswered → SessionView → Type 0
 Takes s line bytes (Ok done) t =
     (fault_in (so_far s) line ≡ None) × (bytes ≡ answer_bytes (due_of_line s line None)) × (t ≡ after_script_line s line None t.screen)
 Takes s line bytes (Err (unanswered.Fault code)) t = (fault_in (so_far s) line ≡ Some code) × (t ≡ s)
 Takes s line bytes (Err unanswered.NoMemory) t = IsKept s line t
-Takes s line bytes (Err unanswered.Lost) t = ⊤
+Takes s line bytes (Err unanswered.Lost) t = fault_in (so_far s) line ≡ None
 
 -- the reply has the text of a line that was played: the outcome of its step, its report, or nothing
 abbrev pub Tells : Told → List ℕ → List ℕ → List ℕ → Result Unit Unanswered → Type 0

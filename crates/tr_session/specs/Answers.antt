@@ -19,7 +19,7 @@ use Rattle.tr_session.specs.declared.requests.Request.{Request}
 use Rattle.tr_session.specs.declared.requests.Request.TheVariants.{Save, Cut, Quit, Script}
 use Rattle.tr_session.specs.Cuts.{cut_bytes, fitted, with_cut}
 use Rattle.tr_session.specs.Lines.{added_lines, fault_in, request_of, sync_lines, needs_sync}
-use Rattle.tr_session.specs.Sessions.{SessionView, so_far, journal_of, state_of, made_by, with_lines, saved_text}
+use Rattle.tr_session.specs.Sessions.{IsSession, SessionView, so_far, journal_of, state_of, made_by, with_lines, saved_text}
 
 -- ---- the bytes of an answer
 
@@ -124,18 +124,22 @@ pub record IsSynced (s : SessionView) (line : List ℕ) (t : SessionView) : Type
   pub needs : needs_sync (so_far s) (meaning_of_line (so_far s) line) ≡ true
   pub lines : t ≡ with_lines s (sync_lines true) t.screen
 
--- after want of memory the session is unchanged, but that a sync may have been made, and the bad points of the screen have other pixels
+-- after want of memory the session is unchanged, but that a sync may have been made, and the bad points of the screen may have other pixels
 abbrev pub IsKept : SessionView → List ℕ → SessionView → Type 0
 IsKept s line t = (t ≡ record s { screen = t.screen }) ⊎ IsSynced s line t
 
--- the session t comes after s and this line, which got this answer
+-- the session t comes after s and this line, which got this answer; `!quit` needs no memory
 abbrev pub IsAnswered : SessionView → List ℕ → Answer → SessionView → Type 0
-IsAnswered s line no_memory t = IsKept s line t
+IsAnswered s line no_memory t = IsKept s line t × (ends line ≡ false)
 IsAnswered s line answer t = (answer ≡ due s line) × (t ≡ after s line t.screen)
+
+-- so t does, and its screen is right
+abbrev pub IsNext : SessionView → List ℕ → Answer → SessionView → Type 0
+IsNext s line answer t = IsAnswered s line answer t × IsSession t
 
 -- the session t comes after s and these lines, which got these answers
 abbrev pub AreAnswered : SessionView → List (List ℕ) → List Answer → SessionView → Type 0
 AreAnswered s [] [] t = t ≡ s
 AreAnswered s (line ∷ lines) (answer ∷ answers) t =
-    (now : SessionView) × IsAnswered s line answer now × AreAnswered now lines answers t
+    (now : SessionView) × IsNext s line answer now × AreAnswered now lines answers t
 AreAnswered s lines answers t = ⊥

@@ -1,5 +1,5 @@
 -- The effect of a session on its source and its sink.
-use Rattle.std.specs.Prelude.{◌≡◌, ◌≢◌, ◌⊎◌, ⊤, ℕ, ◌+◌, ◌-◌, ◌^◌, ◌≤◌, true, List, [], length, take, slice_get, Option, Result, Ok, Err, IfSome, IsSomeAnd}
+use Rattle.std.specs.Prelude.{◌≡◌, ◌≢◌, ◌⊎◌, ⊤, ℕ, ◌+◌, ◌-◌, ◌^◌, ◌≤◌, true, false, List, [], length, take, All, slice_get, Option, Result, Ok, Err, IfSome, IsSomeAnd}
 use Rattle.std.specs.List.{flat_map}
 use Rattle.tr_io.specs.declared.streams.Source.{Ghosts as SourceGhosts}
 use Rattle.tr_io.specs.declared.streams.Sink.{Ghosts as SinkGhosts}
@@ -43,8 +43,8 @@ AreAll (Ok done) from bytes count =
 AreAll (Err Unread) from bytes count = count ≡ length (whole_lines bytes)
 AreAll (Err stopped) from bytes count = ⊤
 
--- these bytes came, the first of their whole lines were answered, and the answers were written; if the sink had a fault, the last answer
--- perhaps only in part
+-- these bytes came, the first of their whole lines were answered, none of them after one that ends the session, and the answers were
+-- written; if the sink had a fault, some of the first of their bytes
 pub record HasServed (from : SourceChange) (result : Result Unit Stopped) (to : SinkChange) : Type 0 where
   pub bytes : List ℕ
   pub came : Fell from.left from.left_new bytes
@@ -52,6 +52,7 @@ pub record HasServed (from : SourceChange) (result : Result Unit Stopped) (to : 
   pub answers : List Answer
   pub last : SessionView
   pub answered : AreAnswered no_session (take count (whole_lines bytes)) answers last
+  pub before : All (λ line. ends line ≡ false) (take (count - 1) (whole_lines bytes))
   pub all : AreAll result from bytes count
   pub begun : GrewByPrefix to.written to.written_new (flat_map answer_bytes answers)
   pub written : result ≢ Err Unwritten → Grew to.written to.written_new (flat_map answer_bytes answers)

@@ -1,52 +1,31 @@
 -- Private contracts alone cite this file.
--- One turn of a session: a line is answered, or something is read.
-use Rattle.std.specs.Prelude.{◌≡◌, ◌⊎◌, ◌≤◌, List, ℕ, Bool, true, false, length, not, [], Result, Ok, Err, IfSome}
+-- One turn of a session: a line is answered, or the answers that wait are written and something is read.
+use Rattle.std.specs.Prelude.{◌≡◌, ◌⊎◌, ◌≤◌, List, ℕ, Bool, true, false, length, not, [], ◌++◌, Result, Ok, Err, IfSome, Vec, vec_len, vec_capacity}
 use Rattle.tr_io.specs.Streams.{Fell, Grew, GrewByPrefix}
 use Rattle.tr_session.specs.declared.errors.Stopped.{Stopped}
 use Rattle.tr_session.specs.declared.errors.Stopped.TheVariants as stopped
-use Rattle.tr_session.specs.Answers.{Answer, IsAnswered, answer_bytes, ends}
+use Rattle.tr_session.specs.Answers.{Answer, IsNext, answer_bytes, ends}
 use Rattle.tr_session.specs.Arrivals.{ArrivalsView, HasLine, IsWithoutLine}
 use Rattle.tr_session.specs.Calls.{SinkChange, SourceChange}
 use Rattle.tr_session.specs.Sessions.{SessionView}
 
--- a session, and the bytes that have arrived for it
+-- a session, the bytes that have arrived for it, and the answers that wait to be written
 pub record Serving : Type 0 where
   pub session : SessionView
   pub arrivals : ArrivalsView
+  pub waiting : List ℕ
 
--- a line became whole and was answered; the session goes on, unless the line ends it
-pub record AnswersOne (a : Serving) (goes : Bool) (to : SinkChange) (b : Serving) : Type 0 where
-  pub whole : ArrivalsView
-  pub line : HasLine a.arrivals whole
-  pub answer : Answer
-  pub answered : IsAnswered a.session whole.begun answer b.session
-  pub wrote : Grew to.written to.written_new (answer_bytes answer)
-  pub goes_on : goes ≡ not (ends whole.begun)
-  pub rest : b.arrivals ≡ record whole { begun = [] }
+-- ---- bytes
 
--- no line was whole, and these bytes came; if none came, the source has no more
-pub record ReadsOnce (a : Serving) (from : SourceChange) (goes : Bool) (b : Serving) : Type 0 where
-  pub looked : ArrivalsView
-  pub unbroken : IsWithoutLine a.arrivals looked
-  pub came : Fell from.left from.left_new b.arrivals.rest
-  pub begun : b.arrivals.begun ≡ looked.begun
-  pub session : b.session ≡ a.session
-  pub more : goes ≡ true → 1 ≤ length b.arrivals.rest
-  pub over : goes ≡ false → (b.arrivals.rest ≡ []) × IfSome from.left_new (λ rest. rest ≡ [])
+-- the room for answers that wait
+abbrev pub waiting_room : ℕ
+waiting_room = 65536
 
--- a line became whole and was answered, and its answer was written in part
-pub record AnswersInPart (a : Serving) (to : SinkChange) : Type 0 where
-  pub whole : ArrivalsView
-  pub line : HasLine a.arrivals whole
-  pub answer : Answer
-  pub last : SessionView
-  pub answered : IsAnswered a.session whole.begun answer last
-  pub wrote : GrewByPrefix to.written to.written_new (answer_bytes answer)
-
--- no line was whole, and nothing could be read
-pub record ReadsNothing (a : Serving) : Type 0 where
-  pub looked : ArrivalsView
-  pub unbroken : IsWithoutLine a.arrivals looked
+-- there is room for answers that wait, and the sink has room for as many bytes
+pub record HasRoom (waiting : Vec ℕ) (room : ℕ) : Type 0 where
+  pub few : vec_len waiting ≤ waiting_room
+  pub here : waiting_room ≤ vec_capacity waiting
+  pub there : waiting_room ≤ room
 
 -- these bytes were written; or some of the first of them, if the sink had a fault; or none
 abbrev pub Writes : List ℕ → Result Unit Stopped → SinkChange → Type 0
@@ -55,19 +34,80 @@ Writes bytes (Err stopped.Unwritten) to = GrewByPrefix to.written to.written_new
 Writes bytes (Err stopped.NoMemory) to = to.written_new ≡ to.written
 Writes bytes (Err stopped.Unread) to = ⊥
 
--- a whole line was answered, and its answer was written, perhaps in part; or memory ran out before
-abbrev pub AnswersLine : SessionView → List ℕ → Result Bool Stopped → SinkChange → SessionView → Type 0
-AnswersLine s line (Ok goes) to t =
-    (answer : Answer) × IsAnswered s line answer t × Grew to.written to.written_new (answer_bytes answer) × (goes ≡ not (ends line))
-AnswersLine s line (Err stopped.Unwritten) to t =
-    (answer : Answer) × (last : SessionView) × IsAnswered s line answer last × GrewByPrefix to.written to.written_new (answer_bytes answer)
-AnswersLine s line (Err stopped.NoMemory) to t = to.written_new ≡ to.written
-AnswersLine s line (Err stopped.Unread) to t = ⊥
+-- these bytes were written, also if memory ran out; or some of the first of them, if the sink had a fault
+abbrev pub Flushes : List ℕ → Result Unit Stopped → SinkChange → Type 0
+Flushes bytes (Err stopped.Unwritten) to = GrewByPrefix to.written to.written_new bytes
+Flushes bytes (Err stopped.Unread) to = ⊥
+Flushes bytes result to = Grew to.written to.written_new bytes
 
--- one turn: an answer is written and nothing is read, or the other way round
+-- bytes waited, and an answer came: it waits with them, or all were written
+abbrev pub Adds : List ℕ → List ℕ → SinkChange → List ℕ → Type 0
+Adds was answer to is =
+    ((is ≡ was ++ answer) × (to.written_new ≡ to.written)) ⊎ ((is ≡ []) × Grew to.written to.written_new (was ++ answer))
+
+-- the same; if the sink had a fault, some of the first of the bytes were written, and for want of memory those that waited
+abbrev pub AddsAnswer : List ℕ → List ℕ → Result Unit Stopped → SinkChange → List ℕ → Type 0
+AddsAnswer was answer (Ok done) to is = Adds was answer to is
+AddsAnswer was answer (Err stopped.Unwritten) to is = GrewByPrefix to.written to.written_new (was ++ answer)
+AddsAnswer was answer (Err stopped.NoMemory) to is = Grew to.written to.written_new was
+AddsAnswer was answer (Err stopped.Unread) to is = ⊥
+
+-- ---- a line
+
+-- a line was answered, and of the answers that waited and this one some of the first bytes were written
+pub record IsAnsweredInPart (s : SessionView) (line was : List ℕ) (to : SinkChange) : Type 0 where
+  pub answer : Answer
+  pub last : SessionView
+  pub answered : IsNext s line answer last
+  pub wrote : GrewByPrefix to.written to.written_new (was ++ answer_bytes answer)
+
+-- a whole line was answered, and its answer waits or was written; or the sink had a fault; or memory ran out, and what waited was written
+abbrev pub AnswersLine : SessionView → List ℕ → List ℕ → Result Bool Stopped → SinkChange → SessionView → List ℕ → Type 0
+AnswersLine s line was (Ok goes) to t is =
+    (answer : Answer) × IsNext s line answer t × Adds was (answer_bytes answer) to is × (goes ≡ not (ends line))
+AnswersLine s line was (Err stopped.Unwritten) to t is = IsAnsweredInPart s line was to ⊎ GrewByPrefix to.written to.written_new was
+AnswersLine s line was (Err stopped.NoMemory) to t is = Grew to.written to.written_new was
+AnswersLine s line was (Err stopped.Unread) to t is = ⊥
+
+-- ---- a turn
+
+-- a line became whole and was answered; the session goes on, unless the line ends it
+pub record AnswersOne (a : Serving) (goes : Bool) (to : SinkChange) (b : Serving) : Type 0 where
+  pub whole : ArrivalsView
+  pub line : HasLine a.arrivals whole
+  pub answer : Answer
+  pub answered : IsNext a.session whole.begun answer b.session
+  pub adds : Adds a.waiting (answer_bytes answer) to b.waiting
+  pub goes_on : goes ≡ not (ends whole.begun)
+  pub rest : b.arrivals ≡ record whole { begun = [] }
+
+-- no line was whole, the answers that waited were written, and these bytes came; if none came, the source has no more
+pub record ReadsOnce (a : Serving) (from : SourceChange) (goes : Bool) (to : SinkChange) (b : Serving) : Type 0 where
+  pub looked : ArrivalsView
+  pub unbroken : IsWithoutLine a.arrivals looked
+  pub wrote : Grew to.written to.written_new a.waiting
+  pub none : b.waiting ≡ []
+  pub came : Fell from.left from.left_new b.arrivals.rest
+  pub begun : b.arrivals.begun ≡ looked.begun
+  pub session : b.session ≡ a.session
+  pub more : goes ≡ true → 1 ≤ length b.arrivals.rest
+  pub over : goes ≡ false → (b.arrivals.rest ≡ []) × IfSome from.left_new (λ rest. rest ≡ [])
+
+-- a line became whole and was answered in part
+pub record AnswersInPart (a : Serving) (to : SinkChange) : Type 0 where
+  pub whole : ArrivalsView
+  pub line : HasLine a.arrivals whole
+  pub part : IsAnsweredInPart a.session whole.begun a.waiting to
+
+-- no line was whole, and nothing could be read
+pub record ReadsNothing (a : ArrivalsView) : Type 0 where
+  pub looked : ArrivalsView
+  pub unbroken : IsWithoutLine a looked
+
+-- one turn: a line is answered and nothing is read, or what waits is written and then something is read
 abbrev pub Turns : Serving → SourceChange → Result Bool Stopped → SinkChange → Serving → Type 0
-Turns a from (Ok goes) to b =
-    (AnswersOne a goes to b × (from.left_new ≡ from.left)) ⊎ (ReadsOnce a from goes b × (to.written_new ≡ to.written))
-Turns a from (Err stopped.Unread) to b = ReadsNothing a × (from.left_new ≡ from.left) × (to.written_new ≡ to.written)
-Turns a from (Err stopped.Unwritten) to b = AnswersInPart a to × (from.left_new ≡ from.left)
-Turns a from (Err stopped.NoMemory) to b = (from.left_new ≡ from.left) × (to.written_new ≡ to.written)
+Turns a from (Ok goes) to b = (AnswersOne a goes to b × (from.left_new ≡ from.left)) ⊎ ReadsOnce a from goes to b
+Turns a from (Err stopped.Unread) to b = ReadsNothing a.arrivals × Grew to.written to.written_new a.waiting × (from.left_new ≡ from.left)
+Turns a from (Err stopped.Unwritten) to b =
+    (AnswersInPart a to ⊎ GrewByPrefix to.written to.written_new a.waiting) × (from.left_new ≡ from.left)
+Turns a from (Err stopped.NoMemory) to b = Grew to.written to.written_new a.waiting × (from.left_new ≡ from.left)

@@ -1,11 +1,12 @@
-//! A session: a script that comes line by line. Each line is answered before the next one is read. The stage
-//! is always that of the lines so far, and a refused line changes nothing.
+//! A session: a script that comes line by line. Each line is answered before more is read. The stage is
+//! always that of the lines so far, and a refused line changes nothing.
 #![tactic(auto)]
 
 mod answering;
 mod arrivals;
 mod cuts;
 mod errors;
+mod gathering;
 mod laws;
 mod openings;
 mod playing;

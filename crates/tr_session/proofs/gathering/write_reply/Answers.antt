@@ -3,7 +3,7 @@ use Rattle.tr_session.specs.declared.errors.Stopped.{Stopped}
 use Rattle.tr_session.specs.Calls.{change_of_sink}
 use Rattle.tr_session.specs.Turns.{Writes}
 use Rattle.tr_session.proofs.WritingLemmas.{writes_both, writes_first}
-use Rattle.tr_session.proofs.serving.write_reply.Goals as goal
+use Rattle.tr_session.proofs.gathering.write_reply.Goals as goal
 
 pub returns-in-Ok-clause-written : goal.returns-in-Ok-clause-written
 returns-in-Ok-clause-written g c =
