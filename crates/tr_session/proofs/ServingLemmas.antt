@@ -8,13 +8,13 @@ use Rattle.std.proofs.lemmas.List.Splits.{length-slice_split, slice_split_at, sl
 use Rattle.std.proofs.Math.Seq.{take-append_seam}
 use Rattle.tr_io.specs.Streams.{Fell, Grew}
 use Rattle.tr_gen.specs.Scripts.{text_of_lines}
-use Rattle.tr_session.specs.Answers.{Answer, AreAnswered, IsAnswered, ends}
+use Rattle.tr_session.specs.Answers.{Answer, AreAnswered, IsAnswered, IsNext, ends}
 use Rattle.tr_session.specs.Arrivals.{ArrivalsView, HasLine, IsWithoutLine, front_of, pieces_of, whole_lines}
 use Rattle.tr_session.specs.Calls.{HasQuit, SinkChange, SourceChange}
 use Rattle.tr_session.specs.Sessions.{SessionView, no_session}
 use Rattle.tr_session.specs.Turns.{AnswersOne, ReadsOnce, Serving}
 use Rattle.tr_session.proofs.ArrivalLemmas.{front_of_front}
-use Rattle.tr_session.proofs.FrontLemmas.{answered_by_front, ends_by_front}
+use Rattle.tr_session.proofs.FrontLemmas.{answered_by_front}
 use Rattle.tr_session.proofs.GatheringLemmas.{Waits, all_written, none_waits, one_added}
 use Rattle.tr_session.proofs.PlayingLemmas.{last_is}
 use Rattle.tr_session.proofs.SavingLemmas.{text_more}
@@ -23,28 +23,11 @@ use Rattle.tr_session.proofs.SavingLemmas.{text_more}
 
 -- one more line was answered
 pub one_answered : (s t u : SessionView) (lines : List (List ℕ)) (answers : List Answer) (line : List ℕ) (answer : Answer) →
-    AreAnswered s lines answers t → IsAnswered t line answer u → AreAnswered s (lines ++ line ∷ []) (answers ++ answer ∷ []) u
-one_answered s t u [] [] line answer same is = (u, subst (λ (v : SessionView). IsAnswered v line answer u) same is, refl)
+    AreAnswered s lines answers t → IsNext t line answer u → AreAnswered s (lines ++ line ∷ []) (answers ++ answer ∷ []) u
+one_answered s t u [] [] line answer same is = (u, subst (λ (v : SessionView). IsNext v line answer u) same is, refl)
 one_answered s t u (x ∷ xs) (y ∷ ys) line answer are is = (are.0, are.1, one_answered are.0 t u xs ys line answer are.2 is)
 one_answered s t u [] (y ∷ ys) line answer are is = absurd are
 one_answered s t u (x ∷ xs) [] line answer are is = absurd are
-
--- there are as many answers as lines
-pub as_many : (s t : SessionView) (lines : List (List ℕ)) (answers : List Answer) → AreAnswered s lines answers t → length lines ≡ length answers
-as_many s t [] [] are = refl
-as_many s t (x ∷ xs) (y ∷ ys) are = omega (arith, as_many are.0 t xs ys are.2)
-as_many s t [] (y ∷ ys) are = absurd are
-as_many s t (x ∷ xs) [] are = absurd are
-
--- the first of the answers are those to the first of the lines
-pub first_answered : (s t : SessionView) (lines : List (List ℕ)) (one two : List Answer) → AreAnswered s lines (one ++ two) t →
-    (last : SessionView) × AreAnswered s (take (length one) lines) one last
-first_answered s t [] [] two are = (s, refl)
-first_answered s t (x ∷ xs) [] two are = (s, refl)
-first_answered s t (x ∷ xs) (y ∷ ys) two are =
-    let later = first_answered are.0 t xs ys two are.2 in
-    (later.0, are.0, are.1, later.1)
-first_answered s t [] (y ∷ ys) two are = absurd are
 
 -- ---- bytes
 
@@ -152,7 +135,7 @@ front_before_last : (xs : List (List ℕ)) (x : List ℕ) → take (length xs) (
 front_before_last [] x = refl
 front_before_last (y ∷ ys) x = ap (λ (rest : List (List ℕ)). y ∷ rest) (front_before_last ys x)
 
-take_before_last : (xs : List (List ℕ)) (x : List ℕ) → take (length (xs ++ x ∷ []) - 1) (xs ++ x ∷ []) ≡ xs
+pub take_before_last : (xs : List (List ℕ)) (x : List ℕ) → take (length (xs ++ x ∷ []) - 1) (xs ++ x ∷ []) ≡ xs
 take_before_last xs x =
     let last : length (xs ++ x ∷ []) - 1 ≡ length xs = omega (arith, length-append xs (x ∷ [])) in
     ap (λ n. take n (xs ++ x ∷ [])) last ∙ front_before_last xs x
@@ -179,6 +162,13 @@ pub record IsServed (from : SourceChange) (to : SinkChange) (s : SessionView) (a
   pub answers : List Answer
   pub answered : AreAnswered no_session lines answers s
   pub waits : Waits to answers waiting
+
+-- what comes after the front of a line comes after the line
+pub next_by_front : (s t : SessionView) (line begun : List ℕ) (answer : Answer) → begun ≡ front_of line → IsNext s begun answer t → IsNext s line answer t
+next_by_front s t line begun answer is next = (
+  answered_by_front s line answer t (subst (λ (front : List ℕ). IsAnswered s front answer t) is next.0),
+  next.1,
+)
 
 -- before the first turn
 pub none_served : (left written : Option (List ℕ)) (a : ArrivalsView) (waiting : List ℕ) → a.begun ≡ [] → a.rest ≡ [] → waiting ≡ [] →
@@ -219,9 +209,7 @@ unfoldable pub one_served : (from : SourceChange) (to next : SinkChange) (a b : 
 one_served from to next a b goes served joins one =
     let line = served.part ++ one.line.more in
     let begun = line_begun served.bytes served.lines served.part a.arrivals one.whole served.has one.line in
-    let answered : IsAnswered a.session line one.answer b.session =
-    answered_by_front a.session line one.answer b.session
-    (subst (λ (front : List ℕ). IsAnswered a.session front one.answer b.session) begun one.answered) in
+    let answered : IsNext a.session line one.answer b.session = next_by_front a.session b.session line one.whole.begun one.answer begun one.answered in
     record {
       bytes = served.bytes;
       came = served.came;
@@ -258,7 +246,7 @@ read_served from next_from to next a b goes served joins_from joins reads =
     }
 
 -- a session that ends with a line has answered it last
-pub quit_served : (lines : List (List ℕ)) (line : List ℕ) → ends (front_of line) ≡ true → HasQuit (lines ++ line ∷ [])
+pub quit_served : (lines : List (List ℕ)) (line : List ℕ) → ends line ≡ true → HasQuit (lines ++ line ∷ [])
 quit_served lines line quits =
     let P : Option (List ℕ) → Type 0 = λ found. IsSomeAnd found (λ l. ends l ≡ true) in
-    subst P (sym (last_is lines line)) (sym (ends_by_front line) ∙ quits)
+    subst P (sym (last_is lines line)) quits

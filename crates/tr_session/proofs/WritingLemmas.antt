@@ -6,11 +6,11 @@ use Rattle.tr_io.specs.Streams.{Grew, GrewByPrefix}
 use Rattle.tr_output.proofs.SendingLemmas.{grew_on, prefix_later, prefix_more}
 use Rattle.tr_session.specs.declared.errors.Stopped.{Stopped}
 use Rattle.tr_session.specs.declared.errors.Stopped.TheVariants as stopped
-use Rattle.tr_session.specs.Answers.{Answer, IsAnswered, answer_bytes, ends}
+use Rattle.tr_session.specs.Answers.{Answer, IsNext, answer_bytes, ends}
 use Rattle.tr_session.specs.Arrivals.{ArrivalsView, HasLine}
 use Rattle.tr_session.specs.Calls.{SinkChange, SourceChange}
 use Rattle.tr_session.specs.Sessions.{SessionView}
-use Rattle.tr_session.specs.Turns.{AddsAnswer, AnswersInPart, AnswersLine, IsAnsweredInPart, Serving, Turns, Writes}
+use Rattle.tr_session.specs.Turns.{AddsAnswer, AnswersInPart, AnswersLine, Flushes, IsAnsweredInPart, Serving, Turns, Writes}
 
 -- a change of a sink's bytes
 abbrev pub change : Option (List ℕ) → Option (List ℕ) → SinkChange
@@ -46,18 +46,25 @@ pub adds_after : (x y z : Option (List ℕ)) (was answer is : List ℕ) (result 
 adds_after x y z was answer is (Ok done) first none writes = inr (none, grew_on x y z was answer first writes)
 adds_after x y z was answer is (Err stopped.Unread) first none writes = writes
 adds_after x y z was answer is (Err stopped.Unwritten) first none writes = prefix_later x y z was answer first writes
-adds_after x y z was answer is (Err stopped.NoMemory) first none writes = inr (subst (λ (after : Option (List ℕ)). Grew x after was) (sym writes) first)
+adds_after x y z was answer is (Err stopped.NoMemory) first none writes = subst (λ (after : Option (List ℕ)). Grew x after was) (sym writes) first
 
--- those that wait weren't written
-pub adds_none : (was answer is : List ℕ) (e : Stopped) (to : SinkChange) → Writes was (Err e) to → AddsAnswer was answer (Err e) to is
-adds_none was answer is stopped.Unread to writes = writes
-adds_none was answer is stopped.Unwritten to writes = prefix_more to.written to.written_new was answer writes
-adds_none was answer is stopped.NoMemory to writes = inl writes
+-- those that wait weren't all written
+pub adds_none : (was answer is : List ℕ) (e : Stopped) (to : SinkChange) → (e ≡ stopped.NoMemory → ⊥) → Writes was (Err e) to →
+    AddsAnswer was answer (Err e) to is
+adds_none was answer is stopped.Unread to other writes = writes
+adds_none was answer is stopped.Unwritten to other writes = prefix_more to.written to.written_new was answer writes
+adds_none was answer is stopped.NoMemory to other writes = absurd (other refl)
+
+-- the same, with no answer to come
+pub flushes_none : (was : List ℕ) (e : Stopped) (to : SinkChange) → (e ≡ stopped.NoMemory → ⊥) → Writes was (Err e) to → Flushes was (Err e) to
+flushes_none was stopped.Unread to other writes = writes
+flushes_none was stopped.Unwritten to other writes = writes
+flushes_none was stopped.NoMemory to other writes = absurd (other refl)
 
 -- ---- a line that was answered
 
 module _ (s t : SessionView) (line was reply is : List ℕ) (to : SinkChange) where
-  module _ (answer : Answer) (told : reply ≡ answer_bytes answer) (answered : IsAnswered s line answer t) where
+  module _ (answer : Answer) (told : reply ≡ answer_bytes answer) (answered : IsNext s line answer t) where
     pub answers_ok : (goes : Bool) → AddsAnswer was reply (Ok tt) to is → goes ≡ not (ends line) → AnswersLine s line was (Ok goes) to t is
     answers_ok goes adds on =
         (answer, answered, subst (λ (bytes : List ℕ). AddsAnswer was bytes (Ok tt) to is) told adds, on)
@@ -72,11 +79,11 @@ module _ (s t : SessionView) (line was reply is : List ℕ) (to : SinkChange) wh
     })
     answers_err stopped.NoMemory adds = adds
 
-  -- the session is lost, and those that wait weren't written either
-  pub answers_none : (e : Stopped) → Writes was (Err e) to → AnswersLine s line was (Err e) to t is
-  answers_none stopped.Unread writes = writes
-  answers_none stopped.Unwritten writes = inr writes
-  answers_none stopped.NoMemory writes = inl writes
+  -- the session is lost, and those that wait weren't all written either
+  pub answers_none : (e : Stopped) → (e ≡ stopped.NoMemory → ⊥) → Writes was (Err e) to → AnswersLine s line was (Err e) to t is
+  answers_none stopped.Unread other writes = writes
+  answers_none stopped.Unwritten other writes = inr writes
+  answers_none stopped.NoMemory other writes = absurd (other refl)
 
 -- ---- a turn
 
@@ -97,9 +104,9 @@ turns_line a w (Err stopped.Unwritten) from to t b is line same answers rest = (
     by_part (inr grew) = inr grew
 turns_line a w (Err stopped.NoMemory) from to t b is line same answers rest = (answers, same)
 
--- what waited wasn't written, and nothing was read
-pub turns_unwritten : (a b : Serving) (e : Stopped) (from : SourceChange) (to : SinkChange) → from.left_new ≡ from.left → Writes a.waiting (Err e) to →
+-- what waited was flushed, and nothing was read
+pub turns_unwritten : (a b : Serving) (e : Stopped) (from : SourceChange) (to : SinkChange) → from.left_new ≡ from.left → Flushes a.waiting (Err e) to →
     Turns a from (Err e) to b
-turns_unwritten a b stopped.Unread from to same writes = absurd writes
-turns_unwritten a b stopped.Unwritten from to same writes = (inr writes, same)
-turns_unwritten a b stopped.NoMemory from to same writes = (inl writes, same)
+turns_unwritten a b stopped.Unread from to same flushes = absurd flushes
+turns_unwritten a b stopped.Unwritten from to same flushes = (inr flushes, same)
+turns_unwritten a b stopped.NoMemory from to same flushes = (flushes, same)

@@ -1,15 +1,15 @@
 //! A session over a source and a sink.
-ghost use Rattle.std.specs.Prelude.{◌≡◌, ◌≤◌, [], Err, IfOk, OnOk, Contains};
+ghost use Rattle.std.specs.Prelude.{◌≡◌, ◌≤◌, [], Err, IfOk, OnOk, Contains, vec_capacity};
 ghost use Rattle.tr_io.specs.Faults.{HasFault};
 ghost use Rattle.tr_session.specs.declared.errors.Stopped.TheVariants as stopped;
 ghost use Rattle.tr_session.specs.Calls.{HasServed, change_of_sink, change_of_source};
 ghost use Rattle.tr_session.specs.Insides.{HoldsTogether, session_view};
 ghost use Rattle.tr_session.specs.Sessions.{no_session};
-ghost use Rattle.tr_session.specs.Turns.{AnswersLine, Turns};
+ghost use Rattle.tr_session.specs.Turns.{AnswersLine, HasRoom, Turns, waiting_room};
 
 use crate::arrivals::Arrivals;
 use crate::errors::Stopped;
-use crate::gathering::{add_answer, write_waiting};
+use crate::gathering::{WAITING_ROOM, add_answer, flush, write_waiting};
 use crate::replies::Reply;
 use crate::sessions::Session;
 use bumpalo::Bump;
@@ -17,12 +17,10 @@ use std::alloc::Global;
 use tr_base::NoMemory;
 use tr_io::{Sink, Source};
 
-/// The room for answers that wait.
-const WAITING_ROOM: usize = 64 * 1024;
-
 /// Answers the lines of a source, one after another, until `!quit` or the end of the input. The answers to
 /// lines that came together are written together, before more is read. Bytes after the last line feed are no
-/// line. It stops early if a read or a write fails, or for want of memory at the start or after a step.
+/// line. It stops early if a read or a write fails, or for want of memory at the start, in the sink, at
+/// `begin`, or once a line was done; elsewhere want of memory is an answer.
 pub fn serve<S: Source, K: Sink>(alloc: Global, source: &mut S, sink: &mut K) -> Result<(), Stopped>
     ensures served { HasServed (change_of_source S.Source source.old source.new) result
         (change_of_sink K.Sink sink.old sink.new) }
@@ -52,8 +50,8 @@ pub fn serve<S: Source, K: Sink>(alloc: Global, source: &mut S, sink: &mut K) ->
 
 /// The bytes that have arrived, none yet, and the room for an answer and for those that wait.
 fn start(alloc: Global) -> Result<(Arrivals, Reply, Vec<u8>), NoMemory>
-    ensures { IfOk result (λ parts.
-        (parts.0.begun ≡ []) × (parts.0.rest ≡ []) × (parts.2.items ≡ [])) }
+    ensures { IfOk result (λ parts. (parts.0.begun ≡ []) × (parts.0.rest ≡ [])
+        × (parts.2.items ≡ []) × (waiting_room ≤ vec_capacity parts.2)) }
 {
     let arrivals = Arrivals::new(alloc)?;
     let reply = Reply::new(alloc)?;
@@ -73,6 +71,7 @@ fn take_turns<S: Source, K: Sink>(
     requires begun { arrivals.old.begun ≡ [] }
     requires rest { arrivals.old.rest ≡ [] }
     requires empty { waiting.old.items ≡ [] }
+    requires room { waiting_room ≤ vec_capacity waiting.old }
     requires view { session_view session.old ≡ no_session }
     requires holds { HoldsTogether session.old }
     ensures served { HasServed (change_of_source S.Source source.old source.new) result
@@ -81,6 +80,7 @@ fn take_turns<S: Source, K: Sink>(
     ensures write_fault { result ≡ Err stopped.Unwritten → HasFault (K.faults sink.old) (K.faults sink.new) }
     ensures rising { (S.faults source.old ≤ S.faults source.new) × (K.faults sink.old ≤ K.faults sink.new) }
 {
+    sink.reserve(WAITING_ROOM)?;
     // Each loop has to end. This one takes longer than any process.
     for turns in 0..u64::MAX {
         match turn(arrivals, session, reply, waiting, source, sink) {
@@ -105,8 +105,10 @@ fn turn<S: Source, K: Sink>(
     source: &mut S,
     sink: &mut K,
 ) -> Result<bool, Stopped>
-    requires { HoldsTogether session.old }
+    requires holds { HoldsTogether session.old }
+    requires room { HasRoom waiting.old (K.room sink.old) }
     ensures holds { OnOk result (HoldsTogether session.new) }
+    ensures room { OnOk result (HasRoom waiting.new (K.room sink.new)) }
 
     // If a line is whole, it is answered, and nothing is read.
     ensures prompt { Contains arrivals.old.rest 10 →
@@ -123,7 +125,10 @@ fn turn<S: Source, K: Sink>(
     if arrivals.advance() {
         return answer_one(arrivals, session, reply, waiting, sink);
     }
-    write_waiting(waiting, sink)?;
+    match flush(waiting, sink) {
+        Ok(()) => {}
+        Err(e) => return Err(e),
+    }
     match arrivals.read(source) {
         Ok(came) => Ok(came),
         Err(_) => Err(Stopped::Unread),
@@ -139,8 +144,10 @@ fn answer_one<K: Sink>(
     waiting: &mut Vec<u8>,
     sink: &mut K,
 ) -> Result<bool, Stopped>
-    requires { HoldsTogether session.old }
+    requires holds { HoldsTogether session.old }
+    requires room { HasRoom waiting.old (K.room sink.old) }
     ensures holds { OnOk result (HoldsTogether session.new) }
+    ensures room { OnOk result (HasRoom waiting.new (K.room sink.new)) }
     ensures answered { AnswersLine (session_view session.old) arrivals.old.begun waiting.old.items result
         (change_of_sink K.Sink sink.old sink.new) (session_view session.new) waiting.new.items }
     ensures arrivals { OnOk result (arrivals.new ≡ record arrivals.old { begun = [] }) }

@@ -1,22 +1,22 @@
-use Rattle.std.proofs.Common.{◌≡◌, Bool, true, false, Ok, refl, sym, subst, arith, rules}
+use Rattle.std.proofs.Common.{◌≡◌, ℕ, Bool, true, false, List, Ok, refl, sym, subst, ap, arith, rules}
+use Rattle.std.specs.Prelude.{Option}
 use Rattle.std.proofs.lemmas.Grind.{common_steps}
+use Rattle.tr_session.specs.declared.errors.Stopped.TheVariants as stopped
 use Rattle.tr_session.specs.Calls.{change_of_sink, change_of_source}
 use Rattle.tr_session.specs.Insides.{session_view}
 use Rattle.tr_session.specs.Sessions.{SessionView}
 use Rattle.tr_session.specs.Turns.{Serving, Turns}
-use Rattle.tr_session.proofs.ServedLemmas.{ends_late, ends_with, goes_on, stops_with}
-use Rattle.tr_session.proofs.ServingLemmas.{IsServed, none_served}
+use Rattle.tr_session.proofs.ServedLemmas.{ends_after, ends_late, ends_with, goes_on, none_ends, starts, stops_with}
 use Rattle.tr_session.proofs.serving.take_turns.Goals as goal
 
 pub loop-turns-init : goal.loop-turns-init
 loop-turns-init g c =
     let left = g.S.Source.left c.args.source.now in
     let written = g.K.Sink.written c.args.sink.now in
-    let arrivals = c.args.arrivals.now in
-    let served = none_served left written arrivals c.requires.begun c.requires.rest in
-    let now = subst (λ (s : SessionView). IsServed (change_of_source g.S.Source c.args.source.now c.args.source.now)
-    (change_of_sink g.K.Sink c.args.sink.now c.args.sink.now) s arrivals) (sym c.requires.view) served in
-    (record { served = now; few = omega arith }, c.requires.holds, omega arith, omega arith)
+    (starts left written (g.K.Sink.written c.reserve.new.self) (session_view c.args.session.now) c.args.arrivals.now c.args.waiting.now.items
+    c.requires.view c.requires.begun c.requires.rest c.requires.empty c.reserve.ensures.unchanged,
+    c.requires.holds, record { few = omega (arith, c.requires.empty); here = c.requires.room; there = c.in_ok-reserve.ensures.room }, omega arith,
+    omega (arith, c.reserve.ensures.rising))
 
 pub loop-turns-preserved : goal.loop-turns-preserved
 loop-turns-preserved g c =
@@ -24,12 +24,12 @@ loop-turns-preserved g c =
     let next_from = change_of_source g.S.Source c.loop-turns.source c.turn.new.source in
     let to = change_of_sink g.K.Sink c.args.sink.now c.loop-turns.sink in
     let next = change_of_sink g.K.Sink c.loop-turns.sink c.turn.new.sink in
-    let a : Serving = record { session = session_view c.loop-turns.session; arrivals = c.loop-turns.arrivals } in
-    let b : Serving = record { session = session_view c.turn.new.session; arrivals = c.turn.new.arrivals } in
+    let a : Serving = record { session = session_view c.loop-turns.session; arrivals = c.loop-turns.arrivals; waiting = c.loop-turns.waiting.items } in
+    let b : Serving = record { session = session_view c.turn.new.session; arrivals = c.turn.new.arrivals; waiting = c.turn.new.waiting.items } in
     let counted = c.loop-turns.invariant.0 in
     let on : c.in-Ok.goes_on ≡ true = first_of (search rules, grind (arith, common_steps)) in
     let turned = subst (λ (goes : Bool). Turns a next_from (Ok goes) next b) on c.in-Ok.ensures.turned in
-    (goes_on from next_from to next a b c.loop-turns.turns counted refl refl turned, c.in-Ok.ensures.holds, omega arith, omega arith)
+    (goes_on from next_from to next a b c.loop-turns.turns counted refl refl turned, c.in-Ok.ensures.holds, c.in-Ok.ensures.room, omega arith, omega arith)
 
 pub returns-then-not-goes_on-clause-served : goal.returns-then-not-goes_on-clause-served
 returns-then-not-goes_on-clause-served g c =
@@ -37,19 +37,24 @@ returns-then-not-goes_on-clause-served g c =
     let next_from = change_of_source g.S.Source c.loop-turns.source c.turn.new.source in
     let to = change_of_sink g.K.Sink c.args.sink.now c.loop-turns.sink in
     let next = change_of_sink g.K.Sink c.loop-turns.sink c.turn.new.sink in
-    let a : Serving = record { session = session_view c.loop-turns.session; arrivals = c.loop-turns.arrivals } in
-    let b : Serving = record { session = session_view c.turn.new.session; arrivals = c.turn.new.arrivals } in
+    let a : Serving = record { session = session_view c.loop-turns.session; arrivals = c.loop-turns.arrivals; waiting = c.loop-turns.waiting.items } in
+    let b : Serving = record { session = session_view c.turn.new.session; arrivals = c.turn.new.arrivals; waiting = c.turn.new.waiting.items } in
     let counted = c.loop-turns.invariant.0 in
     let off : c.in-Ok.goes_on ≡ false = first_of (search rules, grind (arith, common_steps)) in
     let turned = subst (λ (goes : Bool). Turns a next_from (Ok goes) next b) off c.in-Ok.ensures.turned in
-    ends_with from next_from to next a b counted.served refl refl turned
+    let ending = ends_with from next_from to next a b c.loop-turns.turns counted refl refl turned in
+    ends_after (change_of_source g.S.Source c.args.source.now c.turn.new.source) (change_of_sink g.K.Sink c.args.sink.now c.turn.new.sink)
+    (change_of_sink g.K.Sink c.turn.new.sink c.write_waiting.new.sink) b c.write_waiting.result ending refl c.write_waiting.ensures.memory
+    c.write_waiting.ensures.written
 
 pub returns-clause-served : goal.returns-clause-served
 returns-clause-served g c =
     let from = change_of_source g.S.Source c.args.source.now c.loop-turns.source in
     let to = change_of_sink g.K.Sink c.args.sink.now c.loop-turns.sink in
+    let a : Serving = record { session = session_view c.loop-turns.session; arrivals = c.loop-turns.arrivals; waiting = c.loop-turns.waiting.items } in
     let counted = c.loop-turns.invariant.0 in
-    ends_late from to (session_view c.loop-turns.session) c.loop-turns.arrivals counted.served (omega (arith, counted.few))
+    ends_late from to (change_of_sink g.K.Sink c.loop-turns.sink c.write_waiting.new.sink) a c.loop-turns.turns c.write_waiting.result counted
+    (omega arith) refl c.write_waiting.ensures.memory c.write_waiting.ensures.written
 
 pub returns-in-Err-clause-served : goal.returns-in-Err-clause-served
 returns-in-Err-clause-served g c =
@@ -57,7 +62,7 @@ returns-in-Err-clause-served g c =
     let next_from = change_of_source g.S.Source c.loop-turns.source c.turn.new.source in
     let to = change_of_sink g.K.Sink c.args.sink.now c.loop-turns.sink in
     let next = change_of_sink g.K.Sink c.loop-turns.sink c.turn.new.sink in
-    let a : Serving = record { session = session_view c.loop-turns.session; arrivals = c.loop-turns.arrivals } in
-    let b : Serving = record { session = session_view c.turn.new.session; arrivals = c.turn.new.arrivals } in
+    let a : Serving = record { session = session_view c.loop-turns.session; arrivals = c.loop-turns.arrivals; waiting = c.loop-turns.waiting.items } in
+    let b : Serving = record { session = session_view c.turn.new.session; arrivals = c.turn.new.arrivals; waiting = c.turn.new.waiting.items } in
     let counted = c.loop-turns.invariant.0 in
-    stops_with from next_from to next a b c.in-Err.e counted.served refl refl c.in-Err.ensures.turned
+    stops_with from next_from to next a b c.loop-turns.turns c.in-Err.e counted refl refl c.in-Err.ensures.turned
