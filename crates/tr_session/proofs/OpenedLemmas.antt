@@ -191,7 +191,7 @@ module _ (i j : Session) (line : List ℕ) (take : TakesOpening i j line) where
           let screen : screen_in j.played ≡ Some p.stage.screen = ap screen_in is in
           opened (ap (λ (shown : Option Picture). is_some shown) screen ∙ sym now)
           (subst (λ (shown : Option Picture). IsShown (with_lines s (line ∷ []) (screen_in j.played)) shown) (sym screen)
-          (begun_shown (with_lines s (line ∷ []) (screen_in j.played)) p has start.shows))
+          (start.picture, begun_shown (with_lines s (line ∷ []) (screen_in j.played)) p has start.shows))
           (subst (λ (q : Option PlayedView). IsPlayed (with_lines s (line ∷ []) (screen_in j.played)) q) (sym is) has)
 
 -- the lines before `begin` were read again

@@ -3,6 +3,7 @@ use Rattle.std.proofs.Common.{◌≡◌, inl, inr, ℕ, Bool, true, false, ◌&&
 use Rattle.std.specs.Prelude.{Option, IfSome, IsSomeAnd, codes, is_some, IfErr, Result}
 use Rattle.std.proofs.lemmas.Bool.{and_parts}
 use Rattle.tr_base.proofs.RectLemmas.{false-true}
+use Rattle.tr_screen.specs.Pictures.{IsPicture}
 use Rattle.tr_journal.specs.Openings.{tree_of}
 use Rattle.tr_journal.specs.declared.Actor.TheVariants.{Player}
 use Rattle.tr_journal.specs.declared.Item.{Item}
@@ -163,8 +164,11 @@ module _ (i j : Session) (line : List ℕ) (said : Option Meaning) (p q : Played
   names_are : q.names ≡ b.names
   names_are = plays.follows.names ∙ sym (acts.acts.names ∙ acts.sync.names)
 
-  screen_right : Agrees widgets (state widgets b.stage) q.stage.screen
-  screen_right = subst (λ (g : StageView Widget WidgetCmd). Agrees widgets (state widgets g) q.stage.screen) plays.follows.stage plays.follows.shows
+  screen_right : IsPicture q.stage.screen × Agrees widgets (state widgets b.stage) q.stage.screen
+  screen_right = (
+    plays.follows.picture,
+    subst (λ (g : StageView Widget WidgetCmd). Agrees widgets (state widgets g) q.stage.screen) plays.follows.stage plays.follows.shows,
+  )
 
   -- what a run has played, the stage of the session has
   has_played : (t : SessionView) → HasPlayedLines (so_far t) b → IsPlayed t j.played
@@ -265,8 +269,8 @@ module _ (i j : Session) (line : List ℕ) (said : Option Meaning) (p q : Played
         let t : SessionView = record s { screen = Some q.stage.screen } in
         let same_lines : j.script.saved.lines ≡ s.lines =
         lines ∙ ap (λ (synced : Bool). s.lines ++ sync_lines synced) none ∙ append-nil s.lines in
-        let right : Agrees widgets (state_of s) q.stage.screen =
-        subst (λ (m : State Widget WidgetCmd). Agrees widgets m q.stage.screen) (state_of_lines s b now) screen_right in (
+        let right : IsPicture q.stage.screen × Agrees widgets (state_of s) q.stage.screen =
+        subst (λ (m : State Widget WidgetCmd). IsPicture q.stage.screen × Agrees widgets m q.stage.screen) (state_of_lines s b now) screen_right in (
           inl (view_is j s.lines (screen_in j.played) s.cuts same_lines refl plays.cuts),
           together j t (view_is j s.lines (Some q.stage.screen) s.cuts same_lines (ap screen_in plays.now) plays.cuts)
               (session_same s q.stage.screen plays.holds.session plays.begun right)

@@ -4,7 +4,7 @@ use Rattle.std.specs.Prelude.{Option, codes}
 use Rattle.std.specs.List.{flat_map}
 use Rattle.std.proofs.lemmas.List.{append-nil}
 use Rattle.tr_base.proofs.RectLemmas.{false-true}
-use Rattle.tr_screen.specs.Pictures.{Picture}
+use Rattle.tr_screen.specs.Pictures.{IsPicture, Picture}
 use Rattle.tr_journal.specs.declared.Actor.{Actor}
 use Rattle.tr_journal.specs.declared.Actor.TheVariants.{Player}
 use Rattle.tr_journal.specs.declared.Item.TheVariants as items
@@ -79,14 +79,14 @@ state_of_lines s b played = state_is (so_far s) b played
 -- a session with more lines that are taken is one, if its stage has played them and its screen is right
 pub session_with : (s : SessionView) (more : List (List ℕ)) (b : RunView Widget WidgetCmd) (screen : Picture) → IsSession s →
     AreTaken (so_far s) more → has_begun (after_all_lines (so_far s) more).place ≡ true → HasPlayedLines (after_all_lines (so_far s) more) b →
-    Agrees widgets (state widgets b.stage) screen → IsSession (with_lines s more (Some screen))
+    IsPicture screen × Agrees widgets (state widgets b.stage) screen → IsSession (with_lines s more (Some screen))
 session_with s more b screen session taken begun played right =
     let t = with_lines s more (Some screen) in
     let joined : so_far t ≡ after_all_lines (so_far s) more = so_far_after s more (Some screen) in
     record {
       taken = taken-append nothing_yet s.lines more session.taken taken;
       begun = sym (ap (λ (d : SoFar). has_begun d.place) joined ∙ begun);
-      shown = subst (λ (m : State Widget WidgetCmd). Agrees widgets m screen)
+      shown = subst (λ (m : State Widget WidgetCmd). IsPicture screen × Agrees widgets m screen)
           (state_of_lines t b (subst (λ (d : SoFar). HasPlayedLines d b) (sym joined) played)) right;
       cuts = session.cuts;
     }
@@ -94,7 +94,7 @@ session_with s more b screen session taken begun played right =
 -- after a line behind `begin`
 pub session_after : (s : SessionView) (line : List ℕ) (b : RunView Widget WidgetCmd) (screen : Picture) → IsSession s →
     fault_in (so_far s) line ≡ None → has_begun (so_far s).place ≡ true →
-    HasPlayedLines (after_all_lines (so_far s) (added_lines (so_far s) line)) b → Agrees widgets (state widgets b.stage) screen →
+    HasPlayedLines (after_all_lines (so_far s) (added_lines (so_far s) line)) b → IsPicture screen × Agrees widgets (state widgets b.stage) screen →
     IsSession (with_lines s (added_lines (so_far s) line) (Some screen))
 session_after s line b screen session none begun played right =
     let c : SoFar = so_far s in
@@ -103,15 +103,15 @@ session_after s line b screen session none begun played right =
 
 -- after the sync alone that a line needed, for want of memory
 pub session_behind_sync : (s : SessionView) (b : RunView Widget WidgetCmd) (screen : Picture) → IsSession s → (so_far s).place ≡ places.Steps →
-    HasPlayedLines (after_line (so_far s) (codes "sync")) b → Agrees widgets (state widgets b.stage) screen →
+    HasPlayedLines (after_line (so_far s) (codes "sync")) b → IsPicture screen × Agrees widgets (state widgets b.stage) screen →
     IsSession (with_lines s (sync_lines true) (Some screen))
 session_behind_sync s b screen session at played right =
     session_with s (sync_lines true) b screen session (sync_taken (so_far s) at)
     (ap (λ (d : SoFar). has_begun d.place) (sync_leads (so_far s))) played right
 
 -- the same lines with a screen that is right, too
-pub session_same : (s : SessionView) (screen : Picture) → IsSession s → has_begun (so_far s).place ≡ true → Agrees widgets (state_of s) screen →
-    IsSession (record s { screen = Some screen })
+pub session_same : (s : SessionView) (screen : Picture) → IsSession s → has_begun (so_far s).place ≡ true →
+    IsPicture screen × Agrees widgets (state_of s) screen → IsSession (record s { screen = Some screen })
 session_same s screen session begun right = record { taken = session.taken; begun = sym begun; shown = right; cuts = session.cuts }
 
 -- ---- the text of an answer

@@ -1,6 +1,7 @@
 -- Private contracts alone cite this file.
 -- The effect of a line on the stage of a session.
 use Rattle.std.specs.Prelude.{◌≡◌, ⊤, ℕ, ◌-◌, Bool, true, false, List, [], ◌∷◌, ◌++◌, length, slice_get, Option, Some, Result, Ok, Err, IfErr, IsSomeAnd, codes, if◌then◌else◌}
+use Rattle.tr_screen.specs.Pictures.{IsPicture}
 use Rattle.tr_client.specs.declared.Client.{Ghosts}
 use Rattle.tr_forest.specs.Nodes.{Nodes}
 use Rattle.tr_grammar.specs.declared.Meaning.{Meaning}
@@ -40,6 +41,7 @@ pub record HasStarted (p : PlayedView) (c : SoFar) : Type 0 where
   pub opening : p.stage.opening ≡ c.items
   pub names : p.names ≡ c.names
   pub journal : p.stage.journal ≡ []
+  pub picture : IsPicture p.stage.screen
   pub shows : Agrees widgets (state widgets p.stage) p.stage.screen
 
 -- a run of the stage, before a line
@@ -105,4 +107,5 @@ pub record Follows (p q : PlayedView) (said : Option Meaning) (needs : Bool) (f 
   pub acts : ActsBehindSync widgets (as_run p) now said needs f.is_synced f.result old new
   pub stage : q.stage ≡ now.stage
   pub text : f.text ≡ now.text
+  pub picture : IsPicture q.stage.screen
   pub shows : Agrees widgets (state widgets q.stage) q.stage.screen

@@ -1,6 +1,6 @@
 -- The model of a session.
 use Rattle.std.specs.Prelude.{◌≡◌, ℕ, ⊤, false, List, [], ◌∷◌, ◌++◌, Option, Some, None, is_some, if◌then◌else◌}
-use Rattle.tr_screen.specs.Pictures.{Picture}
+use Rattle.tr_screen.specs.Pictures.{IsPicture, Picture}
 use Rattle.tr_journal.specs.declared.Actor.TheVariants.{Player}
 use Rattle.tr_journal.specs.declared.Step.TheVariants.{Sync}
 use Rattle.tr_journal.specs.Journals.{JournalLine}
@@ -74,10 +74,10 @@ AreTaken c [] = ⊤
 AreTaken c (line ∷ lines) =
     (fault_in c line ≡ None) × (needs_sync c (meaning_of_line c line) ≡ false) × AreTaken (after_line c line) lines
 
--- the points of the screen that aren't bad are right; there is a screen once `begin` was read
+-- the screen, if there is one, is a picture, and those of its points that aren't bad are right
 abbrev pub IsShown : SessionView → Option Picture → Type 0
 IsShown s None = ⊤
-IsShown s (Some screen) = Agrees widgets (state_of s) screen
+IsShown s (Some screen) = IsPicture screen × Agrees widgets (state_of s) screen
 
 pub record IsSession (s : SessionView) : Type 0 where
   pub taken : AreTaken nothing_yet s.lines
