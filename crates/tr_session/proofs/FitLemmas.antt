@@ -1,13 +1,14 @@
 -- Lists whose first elements were replaced, and the screens of cuts.
 use Rattle.std.proofs.Common.{◌≡◌, ℕ, zero, suc, ◌<◌, ◌≤◌, true, List, [], ◌∷◌, ◌++◌, length, take, drop, get_or, map, min, refl, ap, ◌∙◌, arith}
 use Rattle.std.specs.List.{list_all}
-use Rattle.std.proofs.Math.ListN.{get_or-map, set}
-use Rattle.std.proofs.lemmas.Bool.{and_from, lt-ltb}
+use Rattle.std.proofs.Math.ListN.{get_or-map, length-map, set}
+use Rattle.std.proofs.lemmas.Bool.{and_from, and_parts, lt-ltb, ltb-true}
+use Rattle.std.proofs.lemmas.List.Elements.{All-map}
 use Rattle.tr_base.specs.declared.Kind.{Kind}
 use Rattle.tr_base.specs.declared.Kind.TheVariants.{Mono, Map4, Map8}
-use Rattle.tr_screen.specs.Pictures.{Picture}
+use Rattle.tr_screen.specs.Pictures.{IsPicture, Picture}
 use Rattle.tr_mirror.specs.Standings.{has_pixel}
-use Rattle.tr_mirror.specs.Streams.{HasItsPixels}
+use Rattle.tr_mirror.specs.Streams.{HasItsPixels, IsShowable}
 use Rattle.tr_session.specs.Cuts.{fitted, fitted_pixel}
 
 module _ {A : Type 0} (f : A → A) where
@@ -55,3 +56,40 @@ row_fits kind (pixel ∷ row) = and_from _ _ (fits kind pixel) (row_fits kind ro
 pub fitted_pixels : (p : Picture) → HasItsPixels (fitted p)
 fitted_pixels p v below =
     ap (list_all (has_pixel p.kind)) (get_or-map (map (fitted_pixel p.kind)) p.rows v []) ∙ row_fits p.kind (get_or p.rows v [])
+
+-- and it is a picture, if the screen is one
+pub fitted_shows : (p : Picture) → IsPicture p → IsShowable (fitted p)
+fitted_shows p is = record {
+  picture = record {
+    size = is.size;
+    high = length-map p.rows (λ (row : List ℕ). map (fitted_pixel p.kind) row) ∙ is.high;
+    wide = All-map (λ (row : List ℕ). length row ≡ p.size.wide) (λ (row : List ℕ). map (fitted_pixel p.kind) row) p.rows
+        (λ v d below. length-map (get_or p.rows v d) (fitted_pixel p.kind) ∙ is.wide v d below);
+  };
+  pixels = fitted_pixels p;
+}
+
+-- ---- a screen that a stream can show is fitted as it is
+
+same_pixel : (kind : Kind) (pixel : ℕ) → has_pixel kind pixel ≡ true → fitted_pixel kind pixel ≡ pixel
+same_pixel Mono pixel has = let below = ltb-true pixel 2 has in omega (arith, below)
+same_pixel Map4 pixel has = let below = ltb-true pixel 16 has in omega (arith, below)
+same_pixel Map8 pixel has = let below = ltb-true pixel 256 has in omega (arith, below)
+
+same_row : (kind : Kind) (row : List ℕ) → list_all (has_pixel kind) row ≡ true → map (fitted_pixel kind) row ≡ row
+same_row kind [] all = refl
+same_row kind (pixel ∷ row) all =
+    let both = and_parts (has_pixel kind pixel) (list_all (has_pixel kind) row) all in
+    ap (λ (fit : ℕ). fit ∷ map (fitted_pixel kind) row) (same_pixel kind pixel both.0) ∙ ap (λ (fit : List ℕ). pixel ∷ fit) (same_row kind row both.1)
+
+same_rows : (kind : Kind) (rows : List (List ℕ)) → ((v : ℕ) → v < length rows → list_all (has_pixel kind) (get_or rows v []) ≡ true) →
+    map (λ (row : List ℕ). map (fitted_pixel kind) row) rows ≡ rows
+same_rows kind [] all = refl
+same_rows kind (row ∷ rows) all =
+    ap (λ (fit : List ℕ). fit ∷ map (λ (other : List ℕ). map (fitted_pixel kind) other) rows) (same_row kind row (all 0 (omega arith)))
+    ∙ ap (λ (fit : List (List ℕ)). row ∷ fit) (same_rows kind rows (λ v below. all (suc v) (omega (arith, below))))
+
+pub fitted_same : (p : Picture) → IsShowable p → fitted p ≡ p
+fitted_same p shows =
+    ap (λ (rows : List (List ℕ)). record p { rows = rows })
+    (same_rows p.kind p.rows (λ v below. shows.pixels v (omega (arith, below, shows.picture.high))))

@@ -4,6 +4,7 @@ mod SavedLemmas
 mod OpenLemmas
 mod TellingLemmas
 mod ReportLemmas
+mod WrittenLemmas
 mod CueLemmas
 mod LineLemmas
 mod TakenLemmas

@@ -110,7 +110,7 @@ cues_tell s (Some meanings.End) quiet = by_sync (needs_sync (so_far s) (Some mea
 -- ---- a line more
 
 -- before `begin` nothing is written
-none_told : (d : SoFar) → d.ended ≡ [] → d.part ≡ empty_part → out_text (whole d) ≡ []
+pub none_told : (d : SoFar) → d.ended ≡ [] → d.part ≡ empty_part → out_text (whole d) ≡ []
 none_told d ended part =
     ap (λ (lines : List (JournalLine WidgetCmd)). texts_from widgets widget_words d.names Serial [] (start d.items) lines) (no_journal d ended part)
 
@@ -157,6 +157,14 @@ reports_one s line screen session none =
 
 -- ---- the saved script
 
+-- a sync has no text
+pub sync_tells : (c : SoFar) → out_text (whole (after_line c (codes "sync"))) ≡ out_text (whole c)
+sync_tells c =
+    ap (λ (e : SoFar). out_text (whole e)) (sync_leads c)
+    ∙ text_adds c (record c { place = places.Gap; ended = c.ended ++ c.part ∷ []; part = empty_part }) (makes Player steps.Sync ∷ [])
+    (record { items = refl; names = refl; adds = sync_more c.ended c.part })
+    ∙ append-nil (out_text (whole c))
+
 last_plain : (c : SoFar) → list_all is_plain (last_lines c) ≡ true
 unfolding is_plain
 last_plain c = by_tests (has_ended c.place) (is_at_steps c.place)
@@ -173,12 +181,7 @@ last_tell c = by_tests (has_ended c.place) (is_at_steps c.place)
     by_tests : (ended at_steps : Bool) →
         out_text (whole (after_all_lines c (cond ended [] (sync_lines at_steps ++ codes "end" ∷ [])))) ≡ out_text (whole c)
     by_tests true at_steps = refl
-    by_tests false true =
-        let d : SoFar = record c { place = places.Gap; ended = c.ended ++ c.part ∷ []; part = empty_part } in
-        ap (λ (e : SoFar). out_text (whole (after_line e (codes "end")))) (sync_leads c)
-        ∙ ap (λ (e : SoFar). out_text (whole e)) (end_follows d)
-        ∙ text_adds c d (makes Player steps.Sync ∷ []) (record { items = refl; names = refl; adds = sync_more c.ended c.part })
-        ∙ append-nil (out_text (whole c))
+    by_tests false true = ap (λ (e : SoFar). out_text (whole e)) (end_follows (after_line c (codes "sync"))) ∙ sync_tells c
     by_tests false false = ap (λ (e : SoFar). out_text (whole e)) (end_follows c)
 
 -- `serial` writes for the saved script the reports of the session

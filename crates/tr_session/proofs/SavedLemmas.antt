@@ -1,6 +1,6 @@
--- The saved script: it is one, if it is within the limits of scripts.
+-- The saved text: it is a script, if it is within the limits of scripts, and is refused for them alone.
 use Rattle.std.proofs.Common.{◌≡◌, ℕ, ◌+◌, ◌≤◌, Bool, true, false, ◌&&◌, nat_lt, cond, List, [], ◌∷◌, ◌++◌, Some, None, append-nil, length, length-append, refl, sym, ap, subst, ◌∙◌, arith}
-use Rattle.std.specs.Prelude.{◌==◌, codes}
+use Rattle.std.specs.Prelude.{◌==◌, IfSome, Option, codes}
 use Rattle.std.proofs.lemmas.Bool.{le-ltb}
 use Rattle.std.proofs.lemmas.List.Sums.{sum_by-append}
 use Rattle.tr_base.proofs.RectLemmas.{false-true}
@@ -8,18 +8,19 @@ use Rattle.tr_grammar.specs.declared.Meaning.TheVariants as meanings
 use Rattle.tr_grammar.specs.declared.Code.TheVariants.{B7}
 use Rattle.tr_grammar.specs.declared.Place.{Place}
 use Rattle.tr_grammar.specs.declared.Place.TheVariants as places
+use Rattle.tr_grammar.specs.Codes.{number_of_code}
 use Rattle.tr_grammar.specs.States.{Part, SoFar, empty_part, nothing_yet}
 use Rattle.tr_grammar.specs.Texts.{is_plain}
 use Rattle.tr_grammar.specs.Faults.{fault_of, has_ended, reports_so_far}
-use Rattle.tr_grammar.specs.Scripts.{after_all_lines, after_line, first_bad_line, most_script_bytes, refusal_of, refused_at}
+use Rattle.tr_grammar.specs.Scripts.{Refusal, after_all_lines, after_line, first_bad_line, most_script_bytes, refusal_of, refused_at}
 use Rattle.tr_gen.specs.Scripts.{text_of_lines}
 use Rattle.tr_gen_valid.proofs.Cutting.{lines_of-text_of}
 use Rattle.tr_reader.specs.Adding.{is_at_steps}
 use Rattle.tr_script.specs.Apart.{meaning_of_line}
 use Rattle.tr_session.specs.Lines.{at_any_time, fault_in, has_begun, last_lines, needs_sync, sync_lines}
-use Rattle.tr_session.specs.Laws.{SavesAScript}
+use Rattle.tr_session.specs.Laws.{IsRefusedBeyond, SavesAScript}
 use Rattle.tr_session.specs.Sessions.{AreTaken, SessionView, so_far}
-use Rattle.tr_session.proofs.LimitLemmas.{IsWithinLimits, lines_pass, plain_all}
+use Rattle.tr_session.proofs.LimitLemmas.{IsWithinLimits, lines_limited, lines_pass, plain_all}
 use Rattle.tr_session.proofs.TakenLemmas.{added_taken, after_all_lines-append, sync_follows, taken-append}
 
 -- ---- the end
@@ -161,3 +162,21 @@ saves_a_script s session begun within =
     omega (arith, within.reports, ap reports_so_far joined, last_reports c) in
     within_is_script (s.lines ++ last_lines c) (saved_taken s.lines session.taken begun) ended within.lines
     (record { syncs = syncs; reports = reports }) within.bytes
+
+-- a saved text that is no script is beyond the limits
+pub refuses_beyond : (s : SessionView) → IsRefusedBeyond s
+refuses_beyond s session begun =
+    let c : SoFar = so_far s in
+    let lines : List (List ℕ) = s.lines ++ last_lines c in
+    let taken : AreTaken nothing_yet lines = saved_taken s.lines session.taken begun in
+    let ended : has_ended (after_all_lines nothing_yet lines).place ≡ true =
+    ap (λ (d : SoFar). has_ended d.place) (after_all_lines-append nothing_yet s.lines (last_lines c)) ∙ last_ends c in
+    subst IsLimited (sym (refusal_is lines taken))
+    (by_size (nat_lt most_script_bytes (length (text_of_lines lines))) (first_bad_line nothing_yet 1 lines) (lines_limited nothing_yet 1 lines taken ended))
+  where
+    IsLimited : Option Refusal → Type 0
+    IsLimited = λ refusal. IfSome refusal (λ r. r.code ≡ number_of_code B7)
+
+    by_size : (b : Bool) (later : Option Refusal) → IsLimited later → IsLimited (cond b (Some (refused_at 0 B7)) later)
+    by_size true later limited = refl
+    by_size false later limited = limited

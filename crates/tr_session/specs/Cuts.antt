@@ -24,7 +24,7 @@ open_stream c = if nat_le most_groups c.groups then no_cut else c
 abbrev pub fitted_pixel : Kind → ℕ → ℕ
 fitted_pixel kind pixel = min pixel (values_of kind - 1)
 
--- the screen as a stream can have it; a bad point may have any pixel, and the pixel of another point is a value of the kind
+-- the screen as a stream can have it: a bad point may have a pixel that is no value of the kind
 abbrev pub fitted : Picture → Picture
 fitted p = record p { rows = map (λ row. map (fitted_pixel p.kind) row) p.rows }
 

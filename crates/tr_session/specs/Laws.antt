@@ -1,19 +1,21 @@
 -- The laws of a session: a saved script is one, `serial` writes for it the session's reports, and a reader of the cuts has the screens.
-use Rattle.std.specs.Prelude.{◌≡◌, ◌≤◌, ℕ, true, List, [], ◌++◌, length, All, Option, Some, None}
-use Rattle.tr_screen.specs.Pictures.{Picture}
+use Rattle.std.specs.Prelude.{◌≡◌, ◌≤◌, ℕ, true, List, [], ◌∷◌, ◌++◌, length, All, IfSome, Option, Some, None}
+use Rattle.tr_screen.specs.Pictures.{IsPicture, Picture}
 use Rattle.tr_mirror.specs.Standings.{most_groups}
 use Rattle.tr_mirror.specs.Streams.{IsShowable, stream_of}
 use Rattle.tr_mirror.specs.Readings.{IsStream, screens_shown}
+use Rattle.tr_grammar.specs.declared.Code.TheVariants.{B7}
 use Rattle.tr_grammar.specs.declared.Meaning.{Meaning}
 use Rattle.tr_grammar.specs.declared.Meaning.TheVariants as meanings
+use Rattle.tr_grammar.specs.Codes.{number_of_code}
 use Rattle.tr_grammar.specs.Faults.{reports_so_far}
 use Rattle.tr_grammar.specs.Scripts.{after_all_lines, most_script_bytes, refusal_of, script_of, whole}
 use Rattle.tr_script.specs.Apart.{meaning_of_line}
 use Rattle.tr_serial.specs.Outputs.{out_text}
-use Rattle.tr_session.specs.Answers.{text_for}
-use Rattle.tr_session.specs.Cuts.{bytes_of_cuts, no_cut}
+use Rattle.tr_session.specs.Answers.{Answer, AreAnswered, text, text_for}
+use Rattle.tr_session.specs.Cuts.{bytes_of_cuts, fitted, no_cut}
 use Rattle.tr_session.specs.Lines.{added_lines, fault_in, has_begun, last_lines}
-use Rattle.tr_session.specs.Sessions.{SessionView, IsSession, saved_text, so_far, with_lines}
+use Rattle.tr_session.specs.Sessions.{SessionView, IsSession, no_session, saved_text, so_far, with_lines}
 
 -- the saved script is within the limits of scripts
 pub record IsWithin (s : SessionView) : Type 0 where
@@ -25,6 +27,11 @@ pub record IsWithin (s : SessionView) : Type 0 where
 -- a saved text is a script, if it is within the limits
 abbrev pub SavesAScript : SessionView → Type 0
 SavesAScript s = IsSession s → has_begun (so_far s).place ≡ true → IsWithin s → refusal_of (saved_text s) ≡ None
+
+-- a saved text that is no script is beyond the limits: B7 is the fault that is named
+abbrev pub IsRefusedBeyond : SessionView → Type 0
+IsRefusedBeyond s =
+    IsSession s → has_begun (so_far s).place ≡ true → IfSome (refusal_of (saved_text s)) (λ refusal. refusal.code ≡ number_of_code B7)
 
 -- the text of a line that is a report
 abbrev pub report_for : SessionView → Option Meaning → List ℕ
@@ -42,11 +49,42 @@ ReportsOne s line screen =
 abbrev pub ReportsAll : SessionView → Type 0
 ReportsAll s = IsSession s → IsWithin s → out_text (script_of (saved_text s)) ≡ out_text (whole (so_far s))
 
--- at most 64 cuts in a row are a stream that shows their screens; the next cut begins another
+-- the text of a report in an answer to a line with this meaning, if it is one
+abbrev pub report_in : Answer → Option Meaning → List ℕ
+report_in (text told) (Some (meanings.Report query)) = told
+report_in answer said = []
+
+-- the reports in the answers to these lines, one after another
+abbrev pub reports_in : (s : SessionView) (lines : List (List ℕ)) (answers : List Answer) (t : SessionView) → AreAnswered s lines answers t → List ℕ
+reports_in s (line ∷ lines) (answer ∷ answers) t all =
+    report_in answer (meaning_of_line (so_far s) line) ++ reports_in all.0 lines answers t all.2
+reports_in s lines answers t all = []
+
+-- `serial` writes for the last saved script the reports in the answers to all lines
+abbrev pub WritesAsSerial : List (List ℕ) → List Answer → SessionView → Type 0
+WritesAsSerial lines answers last =
+    (all : AreAnswered no_session lines answers last) → IsWithin last →
+    out_text (script_of (saved_text last)) ≡ reports_in no_session lines answers last all
+
+-- the cuts of these screens are a stream, and a reader of it has the screens
 pub record ShowsCuts (screens : List Picture) : Type 0 where
   pub bytes : bytes_of_cuts no_cut screens ≡ stream_of screens
   pub is_stream : IsStream (stream_of screens)
   pub shows : screens_shown (stream_of screens) ≡ screens
 
+-- so it is for up to 64 screens that a stream can show
 abbrev pub CutsAreShown : List Picture → Type 0
 CutsAreShown screens = length screens ≤ most_groups → All IsShowable screens → ShowsCuts screens
+
+-- behind 64 cuts another stream begins
+abbrev pub BeginsAnew : List Picture → List Picture → Type 0
+BeginsAnew screens more =
+    length screens ≡ most_groups → bytes_of_cuts no_cut (screens ++ more) ≡ stream_of screens ++ bytes_of_cuts no_cut more
+
+-- a stream can show the screen of each cut
+abbrev pub IsFittedToShow : Picture → Type 0
+IsFittedToShow p = IsPicture p → IsShowable (fitted p)
+
+-- a cut of a screen that a stream can show has that screen
+abbrev pub IsFittedAsItIs : Picture → Type 0
+IsFittedAsItIs p = IsShowable p → fitted p ≡ p

@@ -1,21 +1,35 @@
 //! Laws of sessions. Each of these functions does nothing; its clause is the law.
 ghost use Rattle.std.specs.Prelude.{List, ℕ, Option};
 ghost use Rattle.tr_screen.specs.Pictures.{Picture};
+ghost use Rattle.tr_session.specs.Answers.{Answer};
 ghost use Rattle.tr_session.specs.Sessions.{SessionView};
-ghost use Rattle.tr_session.specs.Laws.{CutsAreShown, ReportsAll, ReportsOne, SavesAScript};
+ghost use Rattle.tr_session.specs.Laws.{BeginsAnew, CutsAreShown, IsFittedAsItIs, IsFittedToShow, IsRefusedBeyond, ReportsAll, ReportsOne, SavesAScript, WritesAsSerial};
 
-/// A script that a session saves is one, if it is within the limits of scripts.
+/// A text that a session saves is a script, if it is within the limits of scripts. Beyond them it is refused
+/// with B7.
 pub fn saves_a_script()
-    ensures { (s : SessionView) → SavesAScript s }
+    ensures script { (s : SessionView) → SavesAScript s }
+    ensures beyond { (s : SessionView) → IsRefusedBeyond s }
 {}
 
-/// `serial` writes for the saved script the reports that the session has told.
+/// `serial` writes for the saved script the reports that the session wrote.
 pub fn reports_as_serial()
     ensures one { (s : SessionView) (line : List ℕ) (screen : Option Picture) → ReportsOne s line screen }
     ensures all { (s : SessionView) → ReportsAll s }
+    ensures written { (lines : List (List ℕ)) (answers : List Answer) (last : SessionView) →
+        WritesAsSerial lines answers last }
 {}
 
-/// The cuts of a session are a stream, until it has 64 groups: a reader of them has their screens.
+/// At most 64 cuts in a row are a stream, and a reader of it has their screens. Behind 64 cuts another stream
+/// begins.
 pub fn cuts_are_shown()
-    ensures { (screens : List Picture) → CutsAreShown screens }
+    ensures shown { (screens : List Picture) → CutsAreShown screens }
+    ensures anew { (screens more : List Picture) → BeginsAnew screens more }
+{}
+
+/// A stream can show the screen of each cut. It is the screen of the session, if each pixel of that is a value
+/// of its kind.
+pub fn screens_are_fitted()
+    ensures shown { (p : Picture) → IsFittedToShow p }
+    ensures same { (p : Picture) → IsFittedAsItIs p }
 {}

@@ -19,5 +19,5 @@ mod sessions;
 mod told;
 
 pub use errors::Stopped;
-pub use laws::{cuts_are_shown, reports_as_serial, saves_a_script};
+pub use laws::{cuts_are_shown, reports_as_serial, saves_a_script, screens_are_fitted};
 pub use serving::serve;
