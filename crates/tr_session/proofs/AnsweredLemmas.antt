@@ -1,5 +1,5 @@
 -- The answer to a line, by its request.
-use Rattle.std.proofs.Common.{◌≡◌, inl, ℕ, List, [], Some, None, Ok, Err, refl, sym, ap, ◌∙◌}
+use Rattle.std.proofs.Common.{◌≡◌, false, ℕ, List, [], Some, None, Ok, Err, refl, sym, ap, ◌∙◌}
 use Rattle.std.specs.Prelude.{OnErr, OnOk, Option, Result}
 use Rattle.tr_screen.specs.Pictures.{Picture}
 use Rattle.tr_grammar.specs.declared.Code.{Code}
@@ -9,7 +9,7 @@ use Rattle.tr_session.specs.declared.errors.Unanswered.TheVariants as unanswered
 use Rattle.tr_session.specs.declared.requests.Request.{Request}
 use Rattle.tr_session.specs.declared.requests.Request.TheVariants.{Save, Cut, Quit, Script}
 use Rattle.tr_session.specs.Answering.{Answers, Takes, TellsRefusal}
-use Rattle.tr_session.specs.Answers.{Answer, IsAnswered, after, after_cut, after_for, after_script_line, answer_bytes, bytes, due, due_for, due_of_cut, due_of_line, due_of_save, no_memory, refused, saved, text, text_for}
+use Rattle.tr_session.specs.Answers.{Answer, IsAnswered, after, after_cut, after_for, after_script_line, answer_bytes, bytes, due, due_for, due_of_cut, due_of_line, due_of_save, ends, is_quit, no_memory, refused, saved, text, text_for}
 use Rattle.tr_session.specs.Lines.{request_of}
 use Rattle.tr_session.specs.Sessions.{SessionView, so_far}
 
@@ -57,32 +57,32 @@ script_told s line t (Err (unanswered.Fault code)) old new asked takes tells = r
     takes.1 ∙ sym (after_is s line Script asked t.screen ∙ ap (λ (fault : Option Code). after_script_line s line fault t.screen) takes.0),
   );
 }
-script_told s line t (Err unanswered.NoMemory) old new asked takes tells = record { answer = no_memory; is = tells.0; answered = takes }
+script_told s line t (Err unanswered.NoMemory) old new asked takes tells = record { answer = no_memory; is = tells.0; answered = (takes, ap is_quit asked) }
 script_told s line t (Err unanswered.Lost) old new asked takes tells = absurd cc
 
 -- ---- the session's own words
 
 -- an answer, or a refusal, that is due
 told_by_due : (s : SessionView) (line : List ℕ) (t : SessionView) (answer : Answer) (result : Result Unit Unanswered) (old new : List ℕ) →
-    (answer ≡ no_memory → ⊥) → answer ≡ due s line → (result ≡ Err unanswered.NoMemory → t ≡ s) →
+    ends line ≡ false → (answer ≡ no_memory → ⊥) → answer ≡ due s line → (result ≡ Err unanswered.NoMemory → t ≡ s) →
     ((result ≡ Err unanswered.NoMemory → ⊥) → t ≡ after s line t.screen) → Answers answer old result → TellsRefusal result old new (Ok tt) →
     IsTold s line t new
-told_by_due s line t answer (Ok done) old new other is kept next answers tells = record {
+told_by_due s line t answer (Ok done) old new goes other is kept next answers tells = record {
   answer = answer;
   is = tells.0 ∙ answers;
   answered = answered_by s line answer t other is (next (λ lost. cc));
 }
-told_by_due s line t answer (Err (unanswered.Fault code)) old new other is kept next answers tells = record {
+told_by_due s line t answer (Err (unanswered.Fault code)) old new goes other is kept next answers tells = record {
   answer = refused code;
   is = tells.0;
   answered = (sym answers ∙ is, next (λ lost. cc));
 }
-told_by_due s line t answer (Err unanswered.NoMemory) old new other is kept next answers tells = record {
+told_by_due s line t answer (Err unanswered.NoMemory) old new goes other is kept next answers tells = record {
   answer = no_memory;
   is = tells.0;
-  answered = let same : t ≡ s = kept refl in inl (same ∙ ap (λ (v : SessionView). record s { screen = v.screen }) (sym same));
+  answered = let same : t ≡ s = kept refl in (same ∙ ap (λ (v : SessionView). record s { screen = v.screen }) (sym same), goes);
 }
-told_by_due s line t answer (Err unanswered.Lost) old new other is kept next answers tells = absurd cc
+told_by_due s line t answer (Err unanswered.Lost) old new goes other is kept next answers tells = absurd cc
 
 save_due : (s : SessionView) (screen : Option Picture) → due_of_save s screen ≡ no_memory → ⊥
 save_due s None is = cc
@@ -91,7 +91,7 @@ save_due s (Some screen) is = cc
 pub save_told : (s : SessionView) (line : List ℕ) (result : Result Unit Unanswered) (old new : List ℕ) → request_of line ≡ Save →
     Answers (due_of_save s s.screen) old result → TellsRefusal result old new (Ok tt) → IsTold s line s new
 save_told s line result old new asked answers tells =
-    told_by_due s line s (due_of_save s s.screen) result old new (save_due s s.screen) (sym (due_is s line Save asked)) (λ lost. refl)
+    told_by_due s line s (due_of_save s s.screen) result old new (ap is_quit asked) (save_due s s.screen) (sym (due_is s line Save asked)) (λ lost. refl)
     (λ whole. sym (after_is s line Save asked s.screen)) answers tells
 
 cut_due : (s : SessionView) (screen : Option Picture) → due_of_cut s screen ≡ no_memory → ⊥
@@ -118,7 +118,7 @@ pub cut_told : (s : SessionView) (line : List ℕ) (t : SessionView) (result : R
 cut_told s line t result old new asked answers on_ok on_err tells =
     let ok : result ≡ Ok tt → t ≡ after_cut s s.screen = λ done. ok_of result on_ok done in
     let err : (result ≡ Ok tt → ⊥) → t ≡ s = λ fails. err_of result on_err fails in
-    told_by_due s line t (due_of_cut s s.screen) result old new (cut_due s s.screen) (sym (due_is s line Cut asked))
+    told_by_due s line t (due_of_cut s s.screen) result old new (ap is_quit asked) (cut_due s s.screen) (sym (due_is s line Cut asked))
     (λ lost. err (λ done. absurd (lost_or_done result lost done)))
     (λ whole. next result answers ok err whole tells ∙ sym (after_is s line Cut asked t.screen)) answers tells
   where

@@ -1,9 +1,8 @@
 -- The answer to a line is that to its front.
-use Rattle.std.proofs.Common.{◌≡◌, ℕ, ◌<◌, inl, inr, Bool, true, false, List, Some, bytes_eq, codes, leb-true, length, nat_le, refl, sym, ap, subst, ◌∙◌, arith}
+use Rattle.std.proofs.Common.{◌≡◌, ℕ, ◌<◌, Bool, true, false, List, Some, bytes_eq, codes, leb-true, length, nat_le, refl, sym, ap, subst, ◌∙◌, arith}
 use Rattle.std.specs.Prelude.{Option}
 use Rattle.std.proofs.lemmas.Bool.{false_from_ne_true, leb-false, lt-leb}
 use Rattle.std.proofs.lemmas.List.{length-take, take_all}
-use Rattle.std.proofs.lemmas.Option.{none-some}
 use Rattle.std.proofs.lemmas.Slice.Eq.{bytes_eq-Decides}
 use Rattle.tr_screen.specs.Pictures.{Picture}
 use Rattle.tr_grammar.specs.declared.Code.TheVariants.{B9}
@@ -11,7 +10,7 @@ use Rattle.tr_grammar.specs.States.{SoFar}
 use Rattle.tr_grammar.specs.Texts.{is_plain}
 use Rattle.tr_grammar.specs.Faults.{fault_of}
 use Rattle.tr_session.specs.declared.requests.Request.TheVariants.{Script}
-use Rattle.tr_session.specs.Answers.{Answer, IsAnswered, IsKept, after, due, ends, refused, is_quit, text, saved, bytes, no_memory}
+use Rattle.tr_session.specs.Answers.{Answer, IsAnswered, after, due, ends, refused, is_quit, text, saved, bytes, no_memory}
 use Rattle.tr_session.specs.Arrivals.{front_of}
 use Rattle.tr_session.specs.Lines.{fault_in, request_of}
 use Rattle.tr_session.specs.Sessions.{SessionView, so_far}
@@ -57,14 +56,9 @@ after_long : (s : SessionView) (line : List ℕ) (screen : Option Picture) → 1
 unfolding after
 after_long s line screen long = rw (long_request line long, long_fault (so_far s) line long) refl
 
-kept_long : (s : SessionView) (front line : List ℕ) (t : SessionView) → 1024 < length front → IsKept s front t → IsKept s line t
-kept_long s front line t long (inl same) = inl same
-kept_long s front line t long (inr synced) =
-    let bad = sym (long_fault (so_far s) front long) ∙ synced.none in absurd (none-some B9 (sym bad))
-
 answered_long : (s : SessionView) (front line : List ℕ) (answer : Answer) (t : SessionView) → 1024 < length front → 1024 < length line →
     IsAnswered s front answer t → IsAnswered s line answer t
-answered_long s front line no_memory t short long kept = kept_long s front line t short kept
+answered_long s front line no_memory t short long kept = (kept.0, ap is_quit (long_request line long))
 answered_long s front line (text told) t short long is =
     (is.0 ∙ due_long s front short ∙ sym (due_long s line long), is.1 ∙ after_long s front t.screen short ∙ sym (after_long s line t.screen long))
 answered_long s front line (saved told beyond) t short long is =

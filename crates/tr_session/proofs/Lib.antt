@@ -20,6 +20,7 @@ mod OpeningLemmas
 mod SessionLemmas
 mod ScriptLemmas
 mod OpenedLemmas
+mod TakenAgainLemmas
 mod PlayedLemmas
 mod WritingLemmas
 mod ServedLemmas

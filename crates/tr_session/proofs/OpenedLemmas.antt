@@ -27,7 +27,7 @@ use Rattle.tr_session.specs.declared.errors.Unanswered.TheVariants as unanswered
 use Rattle.tr_session.specs.declared.sessions.Session.{Session}
 use Rattle.tr_session.specs.Answering.{Takes}
 use Rattle.tr_session.specs.Answers.{answer_bytes, text, text_for}
-use Rattle.tr_session.specs.Insides.{HasPlayed, HoldsTogether, IsPlayed, Restarts, Starts, opening_of, screen_in, session_view}
+use Rattle.tr_session.specs.Insides.{HasPlayed, HasItsLines, HoldsTogether, IsPlayed, Starts, opening_of, screen_in, session_view}
 use Rattle.tr_session.specs.Lines.{at_any_time, fault_in, has_begun}
 use Rattle.tr_session.specs.Playing.{HasStarted, IsWantOfMemory, PlayedView, begun_by}
 use Rattle.tr_session.specs.Sessions.{IsShown, SessionView, so_far, state_of, with_lines}
@@ -194,17 +194,6 @@ module _ (i j : Session) (line : List ℕ) (take : TakesOpening i j line) where
           (start.picture, begun_shown (with_lines s (line ∷ []) (screen_in j.played)) p has start.shows))
           (subst (λ (q : Option PlayedView). IsPlayed (with_lines s (line ∷ []) (screen_in j.played)) q) (sym is) has)
 
--- the lines before `begin` were read again
-pub restarted : (i k j : Session) → HoldsTogether i → has_begun (so_far (session_view i)).place ≡ false → k.script.saved.lines ≡ i.script.saved.lines →
-    k.played ≡ i.played → k.cuts ≡ i.cuts → k.script.has_ended ≡ i.script.has_ended → k.script.is_behind_step ≡ i.script.is_behind_step →
-    Restarts k j → HoldsTogether j
-restarted i k j holds fresh lines played cuts ended behind again =
-    let c : SoFar = so_far (session_view i) in
-    let rested : Rests c = rested_all nothing_yet i.script.saved.lines holds.session.taken (refl, refl) in
-    together_same i j holds (again.lines ∙ lines) (again.played ∙ played) (again.cuts ∙ cuts)
-    (again.reader ∙ ap (after_all_lines nothing_yet) lines ∙ sym (opening_is c rested fresh) ∙ sym holds.reader)
-    (again.ended ∙ ended) (again.behind ∙ behind)
-
 -- a session whose reader took `begin`, before the stage is started
 pub record TakesBegin (i k : Session) (line : List ℕ) : Type 0 where
   pub holds : HoldsTogether i
@@ -231,21 +220,27 @@ module _ (i k j : Session) (line : List ℕ) (take : TakesBegin i k line) where
     cuts = starts.cuts ∙ take.cuts;
   }
 
+  -- `begin` has no fault
+  begin_in : fault_in (so_far (session_view i)) line ≡ None
+  begin_in =
+      ap (λ (d : SoFar). fault_of d 1 line) (tried_fresh (so_far (session_view i)) take.fresh ∙ sym take.holds.reader) ∙ take.none
+
   pub start_takes : (bytes : List ℕ) (r : Result Unit Unanswered) → OnOk r (Starts k line j × (bytes ≡ answer_bytes (text []))) →
-      (r ≡ Err unanswered.NoMemory → Restarts k j) → IfErr r IsWantOfMemory → Takes (session_view i) line bytes r (session_view j)
-  start_takes bytes (Ok done) ok memory fault = opened_takes i j line (opening_taken ok.0) bytes ok.1
-  start_takes bytes (Err (unanswered.Fault code)) ok memory fault = absurd fault
-  start_takes bytes (Err unanswered.NoMemory) ok memory fault =
-      let again = memory refl in
-      inl (view_is j i.script.saved.lines (screen_in j.played) i.cuts (again.lines ∙ take.lines) refl (again.cuts ∙ take.cuts))
-  start_takes bytes (Err unanswered.Lost) ok memory fault = tt
+      OnErr r ((r ≡ Err unanswered.Lost) × (j ≡ k)) → Takes (session_view i) line bytes r (session_view j)
+  start_takes bytes (Ok done) ok err = opened_takes i j line (opening_taken ok.0) bytes ok.1
+  start_takes bytes (Err e) ok err = subst (λ (r : Result Unit Unanswered). Takes (session_view i) line bytes r (session_view j)) (sym err.0) begin_in
 
   pub start_holds : (bytes : List ℕ) (r : Result Unit Unanswered) → OnOk r (Starts k line j × (bytes ≡ answer_bytes (text []))) →
-      (r ≡ Err unanswered.NoMemory → Restarts k j) → IfErr r IsWantOfMemory → (r ≡ Err unanswered.Lost → ⊥) → HoldsTogether j
-  start_holds bytes (Ok done) ok memory fault other =
+      OnErr r ((r ≡ Err unanswered.Lost) × (j ≡ k)) → (r ≡ Err unanswered.Lost → ⊥) → HoldsTogether j
+  start_holds bytes (Ok done) ok err other =
       opened_begun i j line (opening_taken ok.0) (ap (λ (d : SoFar). allows d.place step_line) ok.0.reader ∙ take.begun)
       (subst (λ (ls : List (List ℕ)). IsSomeAnd j.played (λ p. HasStarted p (begun_by ls line))) take.lines ok.0.stage)
-  start_holds bytes (Err (unanswered.Fault code)) ok memory fault other = absurd fault
-  start_holds bytes (Err unanswered.NoMemory) ok memory fault other =
-      restarted i k j take.holds take.fresh take.lines take.played take.cuts take.ended take.behind (memory refl)
-  start_holds bytes (Err unanswered.Lost) ok memory fault other = absurd (other refl)
+  start_holds bytes (Err e) ok err other = absurd (other err.0)
+
+  pub start_lost : (bytes : List ℕ) (r : Result Unit Unanswered) → OnErr r ((r ≡ Err unanswered.Lost) × (j ≡ k)) → r ≡ Err unanswered.Lost →
+      HasItsLines i j
+  start_lost bytes (Ok done) err lost = absurd cc
+  start_lost bytes (Err e) err lost = record {
+    lines = ap (λ (v : Session). v.script.saved.lines) err.1 ∙ take.lines;
+    cuts = ap (λ (v : Session). v.cuts) err.1 ∙ take.cuts;
+  }

@@ -77,14 +77,6 @@ behind_once (Some meanings.Sync) true true is = refl
 behind_once (Some (meanings.Report query)) true true is = refl
 behind_once (Some meanings.End) true true is = refl
 
-steps_place : (p : Place) → is_at_steps p ≡ true → p ≡ places.Steps
-steps_place places.Start at = absurd (false-true at)
-steps_place places.Head at = absurd (false-true at)
-steps_place places.Opening at = absurd (false-true at)
-steps_place places.Gap at = absurd (false-true at)
-steps_place places.Steps at = refl
-steps_place places.Ended at = absurd (false-true at)
-
 -- ---- before a line is read
 
 -- a line up to `begin` comes before the stage, and one after it behind it
@@ -107,6 +99,14 @@ pub stages : (o n : Option PlayedView) (R : PlayedView → PlayedView → Type 0
 stages None n R has = absurd has
 stages (Some p) None R has = absurd has
 stages (Some p) (Some q) R has = record { p = p; q = q; was = refl; now = refl; rel = has }
+
+-- a text that can't be told loses the session
+tells_err : (t : Told) (outcome report bytes : List ℕ) (e : Unanswered) → Tells t outcome report bytes (Err e) → e ≡ unanswered.Lost
+tells_err told.Nothing outcome report bytes e tells = tells
+tells_err told.Step outcome report bytes e tells = tells
+tells_err told.Sync outcome report bytes e tells = tells
+tells_err told.Report outcome report bytes e tells = tells
+tells_err told.End outcome report bytes e tells = tells
 
 -- ---- a line that was read and followed
 
@@ -133,7 +133,11 @@ module _ (i j : Session) (line : List ℕ) (said : Option Meaning) (p q : Played
   abbrev pub b : RunView Widget WidgetCmd
   b = plays.follows.now
 
-  abbrev acts : ActsBehindSync widgets (as_run p) b said (i.script.is_behind_step && ends_told (told_by said)) f.is_synced f.result [] outcome
+  -- a sync is needed before the line
+  abbrev pub needs : Bool
+  needs = i.script.is_behind_step && ends_told (told_by said)
+
+  abbrev acts : ActsBehindSync widgets (as_run p) b said needs f.result [] outcome
   acts = plays.follows.acts
 
   tried : tried_by i.script.reader i.script.has_ended ≡ tried_against c
@@ -148,7 +152,7 @@ module _ (i j : Session) (line : List ℕ) (said : Option Meaning) (p q : Played
   said_in : said ≡ meaning_of_line c line
   said_in = plays.means ∙ ap (λ (d : SoFar). meaning_of_line d line) tried ∙ meaning_tried c line
 
-  needs_is : (i.script.is_behind_step && ends_told (told_by said)) ≡ needs_sync c said
+  needs_is : needs ≡ needs_sync c said
   needs_is =
       ap (λ (at : Bool). at && ends_told (told_by said)) plays.holds.behind
       ∙ ap (λ (ends : Bool). is_at_steps c.place && ends) (ends_same said)
@@ -162,7 +166,7 @@ module _ (i j : Session) (line : List ℕ) (said : Option Meaning) (p q : Played
       record { opening = has.opening; names = has.names; journal = has.journal }
 
   names_are : q.names ≡ b.names
-  names_are = plays.follows.names ∙ sym (acts.acts.names ∙ acts.sync.names)
+  names_are = plays.follows.names ∙ sym acts.names
 
   screen_right : IsPicture q.stage.screen × Agrees widgets (state widgets b.stage) q.stage.screen
   screen_right = (
@@ -180,8 +184,8 @@ module _ (i j : Session) (line : List ℕ) (said : Option Meaning) (p q : Played
 
   -- ---- the line was done
 
-  module _ (done : f.result ≡ Ok tt) (lines : j.script.saved.lines ≡ (i.script.saved.lines ++ sync_lines f.is_synced) ++ line ∷ [])
-      (behind : j.script.is_behind_step ≡ behind_told (told_by said) (cond f.is_synced false i.script.is_behind_step))
+  module _ (done : f.result ≡ Ok tt) (lines : j.script.saved.lines ≡ (i.script.saved.lines ++ sync_lines needs) ++ line ∷ [])
+      (behind : j.script.is_behind_step ≡ behind_told (told_by said) (cond needs false i.script.is_behind_step))
       (ended : j.script.has_ended ≡ (i.script.has_ended || is_end (told_by said))) where
     abbrev d : SoFar
     d = after_all_lines c (added_lines c line)
@@ -192,18 +196,15 @@ module _ (i j : Session) (line : List ℕ) (said : Option Meaning) (p q : Played
     adds : AddsLine c line d
     adds = follows c line plays.begun none_in
 
-    synced_is : f.is_synced ≡ needs_sync c said
-    synced_is = acts.made done ∙ needs_is
-
-    runs : Runs c line f.is_synced (as_run p) acts.begun b
+    runs : Runs c line needs (as_run p) acts.begun b
     runs = record {
-      synced_is = synced_is ∙ ap (needs_sync c) said_in;
-      sync = acts.sync;
-      did = subst (λ (m : Option Meaning). Does widgets widget_words acts.begun b (cues_of_meaning m)) said_in (acts.acts.did done);
+      synced_is = needs_is ∙ ap (needs_sync c) said_in;
+      sync = acts.sync done;
+      did = subst (λ (m : Option Meaning). Does widgets widget_words acts.begun b (cues_of_meaning m)) said_in (acts.did done);
     }
 
     after : HasPlayedLines d b
-    after = stage_after c line d f.is_synced (as_run p) acts.begun b plays.begun rested played runs adds
+    after = stage_after c line d needs (as_run p) acts.begun b plays.begun rested played runs adds
 
     next : so_far t ≡ d
     next = so_far_after s (added_lines c line) (Some q.stage.screen)
@@ -211,7 +212,7 @@ module _ (i j : Session) (line : List ℕ) (said : Option Meaning) (p q : Played
     lines_are : j.script.saved.lines ≡ s.lines ++ added_lines c line
     lines_are =
         lines
-        ∙ append_assoc s.lines (sync_lines f.is_synced) (line ∷ [])
+        ∙ append_assoc s.lines (sync_lines needs) (line ∷ [])
         ∙ ap (λ (synced : Bool). s.lines ++ (sync_lines synced ++ line ∷ [])) runs.synced_is
 
     view : session_view j ≡ t
@@ -227,8 +228,8 @@ module _ (i j : Session) (line : List ℕ) (said : Option Meaning) (p q : Played
         ∙ sym (ended_after c line d adds)
         ∙ ap (λ (e : SoFar). has_ended e.place) (sym next))
         (behind
-        ∙ ap (λ (at : Bool). behind_told (told_by said) (cond f.is_synced false at)) plays.holds.behind
-        ∙ behind_once said f.is_synced (is_at_steps c.place) synced_is
+        ∙ ap (λ (at : Bool). behind_told (told_by said) (cond needs false at)) plays.holds.behind
+        ∙ behind_once said needs (is_at_steps c.place) needs_is
         ∙ ap (λ (m : Option Meaning). behind_told (told_by m) (is_at_steps c.place)) said_in
         ∙ sym (behind_after c line d adds)
         ∙ ap (λ (e : SoFar). is_at_steps e.place) (sym next))
@@ -237,126 +238,53 @@ module _ (i j : Session) (line : List ℕ) (said : Option Meaning) (p q : Played
     pub played_takes : (bytes : List ℕ) → Tells (told_by said) outcome f.text bytes (Ok tt) → Takes s line bytes (Ok tt) (session_view j)
     played_takes bytes tells = (
       none_in,
-      tells_text s said f.is_synced (as_run p) acts.begun b outcome bytes played refl refl synced_is acts.sync (acts.acts.did done)
-          (acts.acts.outcome done)
+      tells_text s said needs (as_run p) acts.begun b outcome bytes played refl refl needs_is (acts.sync done) (acts.did done)
+          (acts.outcome done)
           (subst (λ (told : List ℕ). Tells (told_by said) outcome told bytes (Ok tt)) plays.follows.text tells)
           ∙ ap (λ (m : Option Meaning). answer_bytes (text (text_for s m))) said_in,
       view_is j (s.lines ++ added_lines c line) (screen_in j.played) s.cuts lines_are refl plays.cuts,
     )
 
-  -- ---- memory ran out
+  -- ---- an error: the lines are the same
 
-  module _ (lost : f.result ≡ Err unanswered.NoMemory) (lines : j.script.saved.lines ≡ i.script.saved.lines ++ sync_lines f.is_synced)
-      (behind : j.script.is_behind_step ≡ cond f.is_synced false i.script.is_behind_step) (ended : j.script.has_ended ≡ i.script.has_ended) where
-    -- what was played before the line is played
-    still : (e : SoFar) → HasPlayedLines e acts.begun → HasPlayedLines e b
-    still e before =
-        let kept : IsWhole acts.begun.stage b.stage = acts.acts.whole lost in
-        record {
-          opening = kept.opening ∙ before.opening;
-          names = acts.acts.names ∙ before.names;
-          journal = kept.journal ∙ before.journal;
-        }
-
-    -- no sync was made
-    alone : f.is_synced ≡ false → IsKept s line (session_view j) × HoldsTogether j
-    alone none =
-        let did : Does widgets widget_words (as_run p) acts.begun [] =
-        subst (λ (synced : Bool). Does widgets widget_words (as_run p) acts.begun (cond synced (makes Player Sync ∷ []) [])) none acts.sync in
-        let before : HasPlayedLines c acts.begun =
-        plays_on c c (as_run p) acts.begun [] played did (record { items = refl; names = refl; adds = sym (append-nil _) }) in
-        let now : HasPlayedLines c b = still c before in
+  module _ (e : Unanswered) (is : f.result ≡ Err e) (lines : j.script.saved.lines ≡ i.script.saved.lines)
+      (behind : j.script.is_behind_step ≡ i.script.is_behind_step) (ended : j.script.has_ended ≡ i.script.has_ended) where
+    -- for want of memory the stage is the same
+    kept : f.result ≡ Err unanswered.NoMemory → HoldsTogether j
+    kept lost =
+        let whole : IsWhole p.stage b.stage = acts.whole lost in
+        let now : HasPlayedLines c b = record {
+          opening = whole.opening ∙ played.opening;
+          names = acts.names ∙ played.names;
+          journal = whole.journal ∙ played.journal;
+        } in
         let t : SessionView = record s { screen = Some q.stage.screen } in
-        let same_lines : j.script.saved.lines ≡ s.lines =
-        lines ∙ ap (λ (synced : Bool). s.lines ++ sync_lines synced) none ∙ append-nil s.lines in
-        let right : IsPicture q.stage.screen × Agrees widgets (state_of s) q.stage.screen =
-        subst (λ (m : State Widget WidgetCmd). IsPicture q.stage.screen × Agrees widgets m q.stage.screen) (state_of_lines s b now) screen_right in (
-          inl (view_is j s.lines (screen_in j.played) s.cuts same_lines refl plays.cuts),
-          together j t (view_is j s.lines (Some q.stage.screen) s.cuts same_lines (ap screen_in plays.now) plays.cuts)
-              (session_same s q.stage.screen plays.holds.session plays.begun right)
-              (plays.reader ∙ plays.holds.reader)
-              (ended ∙ plays.holds.ended)
-              (behind ∙ ap (λ (synced : Bool). cond synced false i.script.is_behind_step) none ∙ plays.holds.behind)
-              (has_played t now),
-        )
+        let right : Agrees widgets (state_of s) q.stage.screen =
+        subst (λ (m : State Widget WidgetCmd). Agrees widgets m q.stage.screen) (state_of_lines s b now) screen_right.1 in
+        together j t (view_is j s.lines (Some q.stage.screen) s.cuts lines (ap screen_in plays.now) plays.cuts)
+        (session_same s q.stage.screen plays.holds.session plays.begun (screen_right.0, right))
+        (plays.reader ∙ plays.holds.reader)
+        (ended ∙ plays.holds.ended)
+        (behind ∙ plays.holds.behind)
+        (has_played t now)
 
-    -- a sync was made
-    behind_sync : f.is_synced ≡ true → IsKept s line (session_view j) × HoldsTogether j
-    behind_sync made =
-        let needs : needs_sync c said ≡ true = sym needs_is ∙ acts.only made in
-        let at : c.place ≡ places.Steps = steps_place c.place (and_parts (is_at_steps c.place) (ends_steps said) needs).0 in
-        let e : SoFar = after_line c (codes "sync") in
-        let leads : e ≡ record c { place = places.Gap; ended = c.ended ++ c.part ∷ []; part = empty_part } = sync_leads c in
-        let did : Does widgets widget_words (as_run p) acts.begun (makes Player Sync ∷ []) =
-        subst (λ (synced : Bool). Does widgets widget_words (as_run p) acts.begun (cond synced (makes Player Sync ∷ []) [])) made acts.sync in
-        let on : Continues c e (makes Player Sync ∷ []) =
-        subst (λ (g : SoFar). Continues c g (makes Player Sync ∷ [])) (sym leads)
-        (record { items = refl; names = refl; adds = sync_more c.ended c.part }) in
-        let now : HasPlayedLines e b = still e (plays_on c e (as_run p) acts.begun (makes Player Sync ∷ []) played did on) in
-        let t : SessionView = with_lines s (sync_lines true) (Some q.stage.screen) in
-        let next : so_far t ≡ e = so_far_after s (sync_lines true) (Some q.stage.screen) in
-        let lines_are : j.script.saved.lines ≡ s.lines ++ sync_lines true = lines ∙ ap (λ (synced : Bool). s.lines ++ sync_lines synced) made in (
-          inr (record {
-            none = none_in;
-            needs = ap (needs_sync c) (sym said_in) ∙ needs;
-            lines = view_is j (s.lines ++ sync_lines true) (screen_in j.played) s.cuts lines_are refl plays.cuts;
-          }),
-          together j t (view_is j (s.lines ++ sync_lines true) (Some q.stage.screen) s.cuts lines_are (ap screen_in plays.now) plays.cuts)
-              (session_behind_sync s b q.stage.screen plays.holds.session at now screen_right)
-              (plays.reader
-              ∙ plays.holds.reader
-              ∙ ap (λ (r : Place). record c { place = reader_place r; ended = []; part = empty_part }) at
-              ∙ ap opening_of (sym leads)
-              ∙ ap opening_of (sym next))
-              (ended
-              ∙ plays.holds.ended
-              ∙ ap has_ended at
-              ∙ ap (λ (g : SoFar). has_ended g.place) (sym leads)
-              ∙ ap (λ (g : SoFar). has_ended g.place) (sym next))
-              (behind
-              ∙ ap (λ (synced : Bool). cond synced false i.script.is_behind_step) made
-              ∙ ap (λ (g : SoFar). is_at_steps g.place) (sym leads)
-              ∙ ap (λ (g : SoFar). is_at_steps g.place) (sym next))
-              (has_played t (subst (λ (g : SoFar). HasPlayedLines g b) (sym next) now)),
-        )
-
-    pub played_kept : IsKept s line (session_view j) × HoldsTogether j
-    played_kept = by_sync f.is_synced refl
-      where
-        by_sync : (synced : Bool) → f.is_synced ≡ synced → IsKept s line (session_view j) × HoldsTogether j
-        by_sync true made = behind_sync made
-        by_sync false none = alone none
-
-  -- ---- an error
-
-  module _ (e : Unanswered) (is : f.result ≡ Err e) (lines : j.script.saved.lines ≡ i.script.saved.lines ++ sync_lines f.is_synced)
-      (behind : j.script.is_behind_step ≡ cond f.is_synced false i.script.is_behind_step) (ended : j.script.has_ended ≡ i.script.has_ended) where
     pub err_takes : (bytes : List ℕ) → Takes s line bytes (Err e) (session_view j)
     err_takes bytes = by_error e is
       where
         by_error : (e : Unanswered) → f.result ≡ Err e → Takes s line bytes (Err e) (session_view j)
-        by_error (unanswered.Fault code) is = absurd (subst (λ (r : Result Unit Unanswered). IfErr r IsWantOfMemory) is acts.acts.fault)
-        by_error unanswered.NoMemory is = (played_kept is lines behind ended).0
-        by_error unanswered.Lost is = tt
+        by_error (unanswered.Fault code) is = absurd (subst (λ (r : Result Unit Unanswered). IfErr r IsWantOfMemory) is acts.fault)
+        by_error unanswered.NoMemory is = view_is j s.lines (screen_in j.played) s.cuts lines refl plays.cuts
+        by_error unanswered.Lost is = none_in
 
     pub err_holds : (e ≡ unanswered.Lost → ⊥) → HoldsTogether j
     err_holds other = by_error e is other
       where
         by_error : (e : Unanswered) → f.result ≡ Err e → (e ≡ unanswered.Lost → ⊥) → HoldsTogether j
-        by_error (unanswered.Fault code) is other = absurd (subst (λ (r : Result Unit Unanswered). IfErr r IsWantOfMemory) is acts.acts.fault)
-        by_error unanswered.NoMemory is other = (played_kept is lines behind ended).1
+        by_error (unanswered.Fault code) is other = absurd (subst (λ (r : Result Unit Unanswered). IfErr r IsWantOfMemory) is acts.fault)
+        by_error unanswered.NoMemory is other = kept is
         by_error unanswered.Lost is other = absurd (other refl)
 
--- a text that can't be told loses the session
-tells_err : (t : Told) (outcome report bytes : List ℕ) (e : Unanswered) → Tells t outcome report bytes (Err e) → e ≡ unanswered.Lost
-tells_err told.Nothing outcome report bytes e tells = tells
-tells_err told.Step outcome report bytes e tells = tells
-tells_err told.Sync outcome report bytes e tells = tells
-tells_err told.Report outcome report bytes e tells = tells
-tells_err told.End outcome report bytes e tells = tells
-
-pub takes_told : (s t : SessionView) (line : List ℕ) (told : Told) (outcome report bytes : List ℕ) (r : Result Unit Unanswered) →
-    Tells told outcome report bytes r → (Tells told outcome report bytes (Ok tt) → Takes s line bytes (Ok tt) t) → Takes s line bytes r t
-takes_told s t line told outcome report bytes (Ok done) tells takes = takes tells
-takes_told s t line told outcome report bytes (Err e) tells takes =
-    subst (λ (lost : Unanswered). Takes s line bytes (Err lost) t) (sym (tells_err told outcome report bytes e tells)) tt
+  -- a text that can't be told loses the session
+  pub untold_takes : (e : Unanswered) (bytes : List ℕ) (v : SessionView) → Tells (told_by said) outcome f.text bytes (Err e) → Takes s line bytes (Err e) v
+  untold_takes e bytes v tells =
+      subst (λ (lost : Unanswered). Takes s line bytes (Err lost) v) (sym (tells_err (told_by said) outcome f.text bytes e tells)) none_in

@@ -1,6 +1,7 @@
 -- The end of a session, by its turns.
 use Rattle.std.proofs.Common.{◌≡◌, inl, inr, ℕ, ◌+◌, ◌-◌, ◌≤◌, Bool, true, false, List, [], ◌∷◌, ◌++◌, Ok, Err, length, length-append, take, refl, sym, ap, subst, ◌∙◌, arith}
 use Rattle.std.specs.Prelude.{◌^◌, ◌⊎◌, All, Option, Result, not}
+use Rattle.std.specs.Result.{IsErrAnd}
 use Rattle.std.proofs.lemmas.List.{take-take}
 use Rattle.std.proofs.lemmas.List.Elements.{All-push, All-take}
 use Rattle.std.proofs.Math.Seq.{take-length}
@@ -25,6 +26,9 @@ grew_whole x y t grew = (length t, subst (λ (front : List ℕ). Grew x y front)
 -- none of these lines ends the session
 abbrev pub AreGoing : List (List ℕ) → Type 0
 AreGoing lines = All (λ line. ends line ≡ false) lines
+
+no_line_going : AreGoing []
+no_line_going = λ k d within. absurd (omega (arith, within))
 
 -- the first of the lines that were answered are the first whole ones
 front_whole : (bytes : List ℕ) (lines : List (List ℕ)) (part : List ℕ) (a : ArrivalsView) → HasCome bytes lines part a → (m : ℕ) → m ≤ length lines →
@@ -146,12 +150,13 @@ pub record IsCounted (from : SourceChange) (to : SinkChange) (a : Serving) (turn
 pub starts : (left written after : Option (List ℕ)) (s : SessionView) (a : ArrivalsView) (waiting : List ℕ) → s ≡ no_session → a.begun ≡ [] →
     a.rest ≡ [] → waiting ≡ [] → after ≡ written →
     IsCounted (record { left = left; left_new = left }) (change written after) (record { session = s; arrivals = a; waiting = waiting }) 0
+unfolding none_served
 starts left written after s a waiting view begun rest empty same =
     subst (λ (w : Option (List ℕ)). IsCounted (record { left = left; left_new = left }) (change written w)
     (record { session = s; arrivals = a; waiting = waiting }) 0) (sym same)
     (subst (λ (v : SessionView). IsCounted (record { left = left; left_new = left }) (change written written)
     (record { session = v; arrivals = a; waiting = waiting }) 0) (sym view)
-    (record { served = none_served left written a waiting begun rest empty; going = λ k d within. absurd (omega (arith, within)); few = omega arith }))
+    (record { served = none_served left written a waiting begun rest empty; going = no_line_going; few = omega arith }))
 
 -- a line goes on or ends the session if its front does
 ends_is : (line begun : List ℕ) (goes : Bool) → begun ≡ front_of line → goes ≡ not (ends begun) → ends line ≡ not goes
@@ -268,9 +273,16 @@ stops_with from next_from to next a b turns stopped.NoMemory counted joins_from 
 -- a session for which there was no memory at the start
 pub none_ends : (left written after : Option (List ℕ)) (e : Stopped) → after ≡ written → e ≡ stopped.NoMemory →
     HasServed (record { left = left; left_new = left }) (Err e) (record { written = written; written_new = after })
+unfolding none_served
 none_ends left written after e same is =
     let none : ArrivalsView = record { begun = []; rest = [] } in
     subst (λ (w : Option (List ℕ)). HasServed (record { left = left; left_new = left }) (Err e) (record { written = written; written_new = w })) (sym same)
     (subst (λ (stops : Stopped). HasServed (record { left = left; left_new = left }) (Err stops) (record { written = written; written_new = written })) (sym is)
     (ends_whole (record { left = left; left_new = left }) (record { written = written; written_new = written }) no_session none
-    (none_served left written none [] refl refl refl) (λ k d within. absurd (omega (arith, within))) (Err stopped.NoMemory) tt))
+    (none_served left written none [] refl refl refl) no_line_going (Err stopped.NoMemory) tt))
+
+-- or for which the sink had no room
+pub none_fails : (left written after : Option (List ℕ)) (r : Result Unit Stopped) → after ≡ written → IsErrAnd r (λ e. e ≡ stopped.NoMemory) →
+    HasServed (record { left = left; left_new = left }) r (record { written = written; written_new = after })
+none_fails left written after (Ok done) same fails = absurd fails
+none_fails left written after (Err e) same fails = none_ends left written after e same fails

@@ -171,7 +171,7 @@ next_by_front s t line begun answer is next = (
 )
 
 -- before the first turn
-pub none_served : (left written : Option (List ℕ)) (a : ArrivalsView) (waiting : List ℕ) → a.begun ≡ [] → a.rest ≡ [] → waiting ≡ [] →
+unfoldable pub none_served : (left written : Option (List ℕ)) (a : ArrivalsView) (waiting : List ℕ) → a.begun ≡ [] → a.rest ≡ [] → waiting ≡ [] →
     IsServed (record { left = left; left_new = left }) (record { written = written; written_new = written }) no_session a waiting
 none_served left written a waiting begun rest none = record {
   bytes = [];

@@ -101,14 +101,6 @@ session_after s line b screen session none begun played right =
     session_with s (added_lines c line) b screen session (added_taken c line none)
     (begun_after c line (after_all_lines c (added_lines c line)) begun (follows c line begun none)) played right
 
--- after the sync alone that a line needed, for want of memory
-pub session_behind_sync : (s : SessionView) (b : RunView Widget WidgetCmd) (screen : Picture) → IsSession s → (so_far s).place ≡ places.Steps →
-    HasPlayedLines (after_line (so_far s) (codes "sync")) b → IsPicture screen × Agrees widgets (state widgets b.stage) screen →
-    IsSession (with_lines s (sync_lines true) (Some screen))
-session_behind_sync s b screen session at played right =
-    session_with s (sync_lines true) b screen session (sync_taken (so_far s) at)
-    (ap (λ (d : SoFar). has_begun d.place) (sync_leads (so_far s))) played right
-
 -- the same lines with a screen that is right, too
 pub session_same : (s : SessionView) (screen : Picture) → IsSession s → has_begun (so_far s).place ≡ true →
     IsPicture screen × Agrees widgets (state_of s) screen → IsSession (record s { screen = Some screen })

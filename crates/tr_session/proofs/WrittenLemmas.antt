@@ -94,16 +94,9 @@ module _ (s : SessionView) (line : List ℕ) (t : SessionView) (session : IsSess
   unfolding due after
   due_told answer is next = by_request (request_of line) answer is next
 
-  -- after want of memory there is no other text
-  kept_told : IsKept s line t → Adds []
-  kept_told (inl same) = adds_none [] refl (ap text_of same)
-  kept_told (inr synced) =
-      adds_none [] refl (ap text_of synced.lines
-      ∙ ap (λ (d : SoFar). out_text (whole d)) (so_far_after s (sync_lines true) t.screen)
-      ∙ sync_tells (so_far s))
-
   one_told : (answer : Answer) → IsAnswered s line answer t → Adds (report_in answer said)
-  one_told no_memory kept = kept_told kept.0
+  -- after want of memory there is no other text
+  one_told no_memory kept = adds_none [] refl (ap text_of kept.0)
   one_told (text told) is = due_told (text told) is.0 is.1
   one_told (saved told beyond) is = due_told (saved told beyond) is.0 is.1
   one_told (bytes group) is = due_told (bytes group) is.0 is.1

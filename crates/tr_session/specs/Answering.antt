@@ -15,7 +15,7 @@ use Rattle.tr_session.specs.Answers.{Answer, IsKept, refused, text, no_memory, a
 use Rattle.tr_session.specs.Lines.{fault_in}
 use Rattle.tr_session.specs.Sessions.{SessionView, so_far}
 
--- the part of a meaning that a session keeps
+-- the sort of a meaning
 abbrev pub told_by : Option Meaning → Told
 told_by (Some (meanings.Step actor step)) = told.Step
 told_by (Some meanings.Sync) = told.Sync
@@ -57,12 +57,12 @@ Answers answer bytes (Err (unanswered.Fault code)) = answer ≡ refused code
 Answers answer bytes (Err unanswered.NoMemory) = ⊤
 Answers answer bytes (Err unanswered.Lost) = ⊥
 
--- a line of the script was answered, or it has a fault, or memory ran out; the session is lost only at a line without a fault
+-- a line of the script was answered, or it has a fault, or memory ran out; only a line without a fault can lose the session
 abbrev pub Takes : SessionView → List ℕ → List ℕ → Result Unit Unanswered → SessionView → Type 0
 Takes s line bytes (Ok done) t =
     (fault_in (so_far s) line ≡ None) × (bytes ≡ answer_bytes (due_of_line s line None)) × (t ≡ after_script_line s line None t.screen)
 Takes s line bytes (Err (unanswered.Fault code)) t = (fault_in (so_far s) line ≡ Some code) × (t ≡ s)
-Takes s line bytes (Err unanswered.NoMemory) t = IsKept s line t
+Takes s line bytes (Err unanswered.NoMemory) t = IsKept s t
 Takes s line bytes (Err unanswered.Lost) t = fault_in (so_far s) line ≡ None
 
 -- the reply has the text of a line that was played: the outcome of its step, its report, or nothing
@@ -73,7 +73,7 @@ Tells told.Report outcome report bytes (Ok done) = bytes ≡ answer_bytes (text 
 Tells t outcome report bytes (Ok done) = bytes ≡ answer_bytes (text [])
 Tells t outcome report bytes (Err e) = e ≡ unanswered.Lost
 
--- a refusal replaces an answer
+-- the reply to a refusal; an answer stays
 abbrev pub TellsRefusal : Result Unit Unanswered → List ℕ → List ℕ → Result Unit Lost → Type 0
 TellsRefusal (Ok done) old new result = (new ≡ old) × (result ≡ Ok tt)
 TellsRefusal (Err (unanswered.Fault code)) old new result = (new ≡ answer_bytes (refused code)) × (result ≡ Ok tt)

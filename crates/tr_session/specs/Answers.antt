@@ -118,19 +118,13 @@ after_for s line Script screen = after_script_line s line (fault_in (so_far s) l
 unfoldable pub after : SessionView → List ℕ → Option Picture → SessionView
 after s line screen = after_for s line (request_of line) screen
 
--- a sync was made that the line needs
-pub record IsSynced (s : SessionView) (line : List ℕ) (t : SessionView) : Type 0 where
-  pub none : fault_in (so_far s) line ≡ None
-  pub needs : needs_sync (so_far s) (meaning_of_line (so_far s) line) ≡ true
-  pub lines : t ≡ with_lines s (sync_lines true) t.screen
-
--- after want of memory the session is unchanged, but that a sync may have been made, and the bad points of the screen may have other pixels
-abbrev pub IsKept : SessionView → List ℕ → SessionView → Type 0
-IsKept s line t = (t ≡ record s { screen = t.screen }) ⊎ IsSynced s line t
+-- after want of memory the session is unchanged, but that the bad points of the screen may have other pixels
+abbrev pub IsKept : SessionView → SessionView → Type 0
+IsKept s t = t ≡ record s { screen = t.screen }
 
 -- the session t comes after s and this line, which got this answer; `!quit` needs no memory
 abbrev pub IsAnswered : SessionView → List ℕ → Answer → SessionView → Type 0
-IsAnswered s line no_memory t = IsKept s line t × (ends line ≡ false)
+IsAnswered s line no_memory t = IsKept s t × (ends line ≡ false)
 IsAnswered s line answer t = (answer ≡ due s line) × (t ≡ after s line t.screen)
 
 -- so t does, and its screen is right

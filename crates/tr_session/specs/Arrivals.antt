@@ -7,7 +7,7 @@ pub record ArrivalsView : Type 0 where
   pub begun : List ℕ
   pub rest : List ℕ
 
--- the front of a line: with it a line has the same request and the same fault
+-- the first 1,025 bytes of a line, which have its request and its fault
 abbrev pub front_of : List ℕ → List ℕ
 front_of line = take 1025 line
 
@@ -26,7 +26,7 @@ pub record HasLine (old new : ArrivalsView) : Type 0 where
   pub unbroken : Contains more 10 → ⊥
   pub begun : new.begun ≡ front_of (old.begun ++ more)
 
--- its line feed didn't come yet
+-- the line that has begun isn't whole yet
 pub record IsWithoutLine (old new : ArrivalsView) : Type 0 where
   pub rest : new.rest ≡ []
   pub unbroken : Contains old.rest 10 → ⊥

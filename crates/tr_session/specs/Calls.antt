@@ -15,7 +15,7 @@ pub record SourceChange : Type 0 where
   pub left : Option (List ℕ)
   pub left_new : Option (List ℕ)
 
--- that of any source
+-- the change by a call, for any source
 abbrev pub change_of_source : {S : Type 0} → SourceGhosts S → S → S → SourceChange
 change_of_source source before after = record { left = source.left before; left_new = source.left after }
 
@@ -24,7 +24,7 @@ pub record SinkChange : Type 0 where
   pub written : Option (List ℕ)
   pub written_new : Option (List ℕ)
 
--- that of any sink
+-- the change by a call, for any sink
 abbrev pub change_of_sink : {K : Type 0} → SinkGhosts K → K → K → SinkChange
 change_of_sink sink before after = record { written = sink.written before; written_new = sink.written after }
 

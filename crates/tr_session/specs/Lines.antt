@@ -14,7 +14,7 @@ use Rattle.tr_session.specs.declared.requests.Request.TheVariants.{Save, Cut, Qu
 
 -- ---- the session's own words
 
--- the request of a line; each line but these three is one of a script
+-- the request of a line; any other line is taken as one of a script
 abbrev pub request_of : List ℕ → Request
 request_of line =
     if bytes_eq line (codes "!save") then Save
@@ -40,7 +40,7 @@ at_any_time p = p
 abbrev pub tried_against : SoFar → SoFar
 tried_against c = record c { place = at_any_time c.place; ended = []; part = empty_part }
 
--- the first fault of a line, if it has one: that of a script's line; a session counts no lines
+-- the first fault of a line, if it has one: that of a script's line 1, since a session counts no lines
 abbrev pub fault_in : SoFar → List ℕ → Option Code
 fault_in c line = fault_of (tried_against c) 1 line
 

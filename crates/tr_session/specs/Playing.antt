@@ -93,18 +93,20 @@ pub record Acts {C : Type 0} (client : Ghosts C WidgetCmd) (a b : RunView C Widg
 
 -- the same, after a sync if one is needed
 pub record ActsBehindSync {C : Type 0} (client : Ghosts C WidgetCmd) (a b : RunView C WidgetCmd) (said : Option Meaning) (needs : Bool)
-    (synced : Bool) (result : Result Unit Unanswered) (old new : List ℕ) : Type 0 where
+    (result : Result Unit Unanswered) (old new : List ℕ) : Type 0 where
+  pub names : b.names ≡ a.names
   pub begun : RunView C WidgetCmd
-  pub sync : Does client widget_words a begun (if synced then makes Player Sync ∷ [] else [])
-  pub acts : Acts client begun b said result old new
-  pub made : result ≡ Ok tt → synced ≡ needs
-  pub only : synced ≡ true → needs ≡ true
+  pub sync : result ≡ Ok tt → Does client widget_words a begun (if needs then makes Player Sync ∷ [] else [])
+  pub did : result ≡ Ok tt → Does client widget_words begun b (cues_of_meaning said)
+  pub outcome : result ≡ Ok tt → has_outcome said ≡ true → HasOutcome b old new
+  pub whole : result ≡ Err unanswered.NoMemory → IsWhole a.stage b.stage
+  pub fault : IfErr result IsWantOfMemory
 
 -- a line was followed: its cues were done, and the texts are theirs, unless the session is lost
 pub record Follows (p q : PlayedView) (said : Option Meaning) (needs : Bool) (f : Followed) (old new : List ℕ) : Type 0 where
   pub names : q.names ≡ p.names
   pub now : RunView Widget WidgetCmd
-  pub acts : ActsBehindSync widgets (as_run p) now said needs f.is_synced f.result old new
+  pub acts : ActsBehindSync widgets (as_run p) now said needs f.result old new
   pub stage : q.stage ≡ now.stage
   pub text : f.text ≡ now.text
   pub picture : IsPicture q.stage.screen

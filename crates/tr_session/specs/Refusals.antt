@@ -1,4 +1,4 @@
--- Why a line isn't answered, and the exit status of a session that stops.
+-- Why a line has no answer of its own, and the exit status of a session that stops.
 use Rattle.std.specs.Prelude.{ℕ}
 use Rattle.tr_grammar.specs.declared.LineRefused.{LineRefused}
 use Rattle.tr_grammar.specs.declared.LineRefused.TheVariants as refused

@@ -22,7 +22,7 @@ abbrev pub waiting_room : ℕ
 waiting_room = 65536
 
 -- there is room for answers that wait, and the sink has room for as many bytes
-pub record HasRoom (waiting : Vec ℕ) (room : ℕ) : Type 0 where
+pub record HasRoom {A : Type 0} (waiting : Vec ℕ A) (room : ℕ) : Type 0 where
   pub few : vec_len waiting ≤ waiting_room
   pub here : waiting_room ≤ vec_capacity waiting
   pub there : waiting_room ≤ room

@@ -1,14 +1,16 @@
 //! The answer to a line.
-ghost use Rattle.std.specs.Prelude.{◌≡◌, ◌≢◌, ◌≤◌, ◌+◌, [], true, false, Err, IfOk, IfErr, IsSomeAnd, OnOk, OnErr, length};
+ghost use Rattle.std.specs.Prelude.{◌≡◌, ◌≢◌, ◌≤◌, ◌+◌, ◌++◌, [], true, false, Err, IfOk, IsSomeAnd, OnOk, OnErr, length};
 ghost use Rattle.tr_journal.specs.Openings.{tree_of};
-ghost use Rattle.tr_grammar.specs.Texts.{is_plain};
+ghost use Rattle.tr_grammar.specs.States.{nothing_yet};
+ghost use Rattle.tr_grammar.specs.Texts.{is_plain, lines_of};
 ghost use Rattle.tr_session.specs.declared.errors.Unanswered.TheVariants as unanswered;
 ghost use Rattle.tr_session.specs.Answers as spec;
 ghost use Rattle.tr_session.specs.Answers.{Answer, IsAnswered, answer_bytes, text as texts};
-ghost use Rattle.tr_session.specs.Insides.{HoldsTogether, Restarts, Starts, session_view};
+ghost use Rattle.tr_session.specs.Insides.{HasItsLines, HoldsTogether, IsTakenAgain, Starts, session_view};
 ghost use Rattle.tr_session.specs.Lines.{has_begun};
-ghost use Rattle.tr_session.specs.Playing.{Follows, IsMeant, IsWantOfMemory};
-ghost use Rattle.tr_session.specs.Sessions.{so_far};
+ghost use Rattle.tr_session.specs.Cuts.{AreCuts};
+ghost use Rattle.tr_session.specs.Playing.{Follows, IsMeant};
+ghost use Rattle.tr_session.specs.Sessions.{AreTaken, so_far};
 ghost use Rattle.tr_session.specs.Answering.{Answers, Takes, Tells, TellsRefusal};
 
 use crate::errors::{Lost, Unanswered};
@@ -16,10 +18,13 @@ use crate::playing::{Followed, Played};
 use crate::replies::Reply;
 use crate::requests::{Request, request_of};
 use crate::saving::is_refused;
+use crate::scripts::Script;
 use crate::sessions::Session;
 use crate::told::{Told, told_by};
+use tr_base::NoMemory;
 use tr_grammar::{Code, Meaning};
 use tr_output::Output;
+use tr_words::first_line;
 
 impl<'a> Session<'a> {
     /// Answers a line. Returns whether the session ends with it. After `Lost` the session can't go on.
@@ -87,11 +92,63 @@ impl<'a> Session<'a> {
         Ok(())
     }
 
-    /// Takes a line of the script.
+    /// Takes a line of the script. If memory runs out once the line has changed the stage or the reader, the
+    /// lines before it are taken again.
     fn take(&mut self, line: &[u8], reply: &mut Reply) -> Result<(), Unanswered>
         requires { HoldsTogether self.old }
         ensures takes { Takes (session_view self.old) line.now reply.new result (session_view self.new) }
         ensures holds { result ≢ Err unanswered.Lost → HoldsTogether self.new }
+    {
+        match self.take_once(line, reply) {
+            Err(Unanswered::Lost) => self.take_again(reply),
+            taken => taken,
+        }
+    }
+
+    /// Takes the lines so far again, from the first one on.
+    fn take_again(&mut self, reply: &mut Reply) -> Result<(), Unanswered>
+        requires taken { AreTaken nothing_yet self.old.script.saved.lines }
+        requires cuts { AreCuts self.old.cuts }
+        ensures { IsTakenAgain self.old result self.new }
+    {
+        drop(self.played.take());
+        let before = std::mem::replace(&mut self.script, Script::new(self.alloc));
+        let taken = self.take_lines(before.saved.text(), reply);
+        drop(before);
+        match taken {
+            Ok(()) => Err(Unanswered::NoMemory),
+            Err(_) => Err(Unanswered::Lost),
+        }
+    }
+
+    /// Takes lines, each of which was taken once before.
+    fn take_lines(&mut self, text: &[u8], reply: &mut Reply) -> Result<(), Lost>
+        requires holds { HoldsTogether self.old }
+        requires taken { AreTaken (so_far (session_view self.old)) (lines_of text.now) }
+        ensures lines { OnOk result
+            (self.new.script.saved.lines ≡ self.old.script.saved.lines ++ lines_of text.now) }
+        ensures cuts { OnOk result (self.new.cuts ≡ self.old.cuts) }
+        ensures holds { OnOk result (HoldsTogether self.new) }
+    {
+        let mut rest = text;
+        while !rest.is_empty() {
+            let (line, after) = first_line(rest);
+            match self.take_once(line, reply) {
+                Ok(()) => {}
+                Err(_) => return Err(Lost),
+            }
+            rest = after;
+        }
+        Ok(())
+    }
+
+    /// Takes a line of the script. If memory runs out once the line has changed the stage or the reader, the
+    /// session is lost, but for its lines and its cuts.
+    fn take_once(&mut self, line: &[u8], reply: &mut Reply) -> Result<(), Unanswered>
+        requires { HoldsTogether self.old }
+        ensures takes { Takes (session_view self.old) line.now reply.new result (session_view self.new) }
+        ensures holds { result ≢ Err unanswered.Lost → HoldsTogether self.new }
+        ensures lost { result ≡ Err unanswered.Lost → HasItsLines self.old self.new }
     {
         if self.played.is_some() {
             self.play(line, reply)
@@ -101,12 +158,13 @@ impl<'a> Session<'a> {
     }
 
     /// Takes a line up to `begin`. There is room for it before anything changes. With `begin` the stage
-    /// starts; if there is no memory for it, the lines before `begin` are read again.
+    /// starts.
     fn open(&mut self, line: &[u8], reply: &mut Reply) -> Result<(), Unanswered>
         requires holds { HoldsTogether self.old }
         requires early { has_begun (so_far (session_view self.old)).place ≡ false }
         ensures takes { Takes (session_view self.old) line.now reply.new result (session_view self.new) }
         ensures holds { result ≢ Err unanswered.Lost → HoldsTogether self.new }
+        ensures lost { result ≡ Err unanswered.Lost → HasItsLines self.old self.new }
     {
         self.script.saved.reserve(line)?;
         self.script.take(self.alloc, self.arena, line)?;
@@ -118,15 +176,13 @@ impl<'a> Session<'a> {
         Ok(())
     }
 
-    /// Starts the stage of the lines so far and of this one, which is `begin`. If there is no memory for it,
-    /// the lines before it are read again.
+    /// Starts the stage of the lines so far and of this one, which is `begin`.
     fn start(&mut self, line: &[u8], reply: &mut Reply) -> Result<(), Unanswered>
         requires room { length line.now + 1 ≤ self.old.script.saved.room }
         requires plain { is_plain line.now ≡ true }
         ensures ok { OnOk result (Starts self.old line.now self.new
             × (reply.new ≡ answer_bytes (texts []))) }
-        ensures memory { result ≡ Err unanswered.NoMemory → Restarts self.old self.new }
-        ensures fault { IfErr result IsWantOfMemory }
+        ensures err { OnErr result ((result ≡ Err unanswered.Lost) × (self.new ≡ self.old)) }
     {
         match Played::begin(self.alloc, &self.script.saved, line) {
             Ok(played) => {
@@ -135,10 +191,8 @@ impl<'a> Session<'a> {
                 reply.set_empty();
                 Ok(())
             }
-            Err(_) => match self.script.reread(self.alloc, self.arena) {
-                Ok(()) => Err(Unanswered::NoMemory),
-                Err(_) => Err(Unanswered::Lost),
-            },
+            // `begin` was read.
+            Err(NoMemory) => Err(Unanswered::Lost),
         }
     }
 
@@ -148,22 +202,22 @@ impl<'a> Session<'a> {
         requires begun { has_begun (so_far (session_view self.old)).place ≡ true }
         ensures takes { Takes (session_view self.old) line.now reply.new result (session_view self.new) }
         ensures holds { result ≢ Err unanswered.Lost → HoldsTogether self.new }
+        ensures lost { result ≡ Err unanswered.Lost → HasItsLines self.old self.new }
     {
         self.script.saved.reserve(line)?;
         let said = self.script.read(self.alloc, line)?;
         let told = told_by(&said);
         let needs_sync = self.script.needs_sync(told);
-        let Followed {
-            is_synced,
-            result,
-            text,
-        } = self.follow(said, needs_sync);
-        self.script.keep_sync(is_synced);
+        let Followed { result, text } = self.follow(said, needs_sync);
         match result {
-            Ok(()) => {
-                self.script.keep(line, told);
-                tell(told, &self.outcome, text, reply)
-            }
+            Ok(()) => match tell(told, &self.outcome, text, reply) {
+                Ok(()) => {
+                    self.script.keep_sync(needs_sync);
+                    self.script.keep(line, told);
+                    Ok(())
+                }
+                Err(e) => Err(e),
+            },
             Err(e) => {
                 drop(text);
                 Err(e)

@@ -8,10 +8,10 @@ use thiserror::Error;
 use tr_base::NoMemory;
 use tr_grammar::{Code, LineRefused};
 
-/// There was no memory for the rest of a line's step, or for its answer. The session is over: its stage is no
-/// longer that of its lines.
+/// Memory ran out once a line had changed something, and again when the lines before it were taken anew. The
+/// session can't go on.
 #[derive(Clone, Copy, Debug, PartialEq, Eq, Error)]
-#[error("out of memory after a step")]
+#[error("out of memory")]
 pub(crate) struct Lost;
 
 /// The reason why a line has no answer of its own.
@@ -20,11 +20,11 @@ pub(crate) enum Unanswered {
     /// It has this fault, and changed nothing.
     #[error("the line has a fault")]
     Fault(Code),
-    /// Memory ran out, and nothing changed but that a sync may have been made.
+    /// Memory ran out, and nothing changed.
     #[error("out of memory")]
     NoMemory,
-    /// Memory ran out after a step.
-    #[error("out of memory after a step")]
+    /// Memory ran out once the line had changed something.
+    #[error("out of memory after a change")]
     Lost,
 }
 
@@ -72,7 +72,7 @@ pub enum Stopped {
 }
 
 impl Stopped {
-    /// The exit status of the process.
+    /// The exit status of the process: 4, 5 or 6. A session that ends by itself has 0.
     pub fn code(self) -> u8
         ensures { result ≡ code self }
     {
@@ -96,14 +96,6 @@ impl From<AllocError> for Stopped {
     ghost from_gives = { λ _ e. e ≡ stopped.NoMemory };
 
     fn from(_e: AllocError) -> Stopped {
-        Stopped::NoMemory
-    }
-}
-
-impl From<Lost> for Stopped {
-    ghost from_gives = { λ _ e. e ≡ stopped.NoMemory };
-
-    fn from(_e: Lost) -> Stopped {
         Stopped::NoMemory
     }
 }

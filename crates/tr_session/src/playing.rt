@@ -52,8 +52,6 @@ impl Model for Played {
 /// The effect of a line on the stage.
 #[derive(Drop)]
 pub(crate) struct Followed {
-    /// Whether the sync was made that the line needs.
-    pub(crate) is_synced: bool,
     pub(crate) result: Result<(), Unanswered>,
     /// The text of a report.
     pub(crate) text: Output,
@@ -99,39 +97,38 @@ impl Played {
     {
         let Played { names, stage } = self;
         let mut run = Run::over(alloc, stage, &names, Mode::Serial);
-        let (is_synced, result) = follow(&mut run, said, needs_sync, out);
+        let result = follow(&mut run, said, needs_sync, out);
         let Finished { stage, text, .. } = run.finish();
         stage.stands();
-        let followed = Followed {
-            is_synced,
-            result,
-            text,
-        };
+        let followed = Followed { result, text };
         (Played { names, stage }, followed)
     }
 }
 
-/// Makes the sync, if one is needed, and then does a line with this meaning. Returns whether the sync was
-/// made.
+/// Makes the sync, if one is needed, and then does a line with this meaning.
 fn follow<C: Client<Cmd = WidgetCmd>, N: NameOf>(
     run: &mut Run<C, N>,
     said: Option<Meaning>,
     needs_sync: bool,
     out: &mut Vec<u8>,
-) -> (bool, Result<(), Unanswered>)
+) -> Result<(), Unanswered>
     requires meant { IsMeant (tree_of run.old.stage.opening).nodes said }
     requires mode { run.old.mode ≡ Serial }
-    ensures { ActsBehindSync C.Client run.old run.new said needs_sync result.0 result.1
+    ensures { ActsBehindSync C.Client run.old run.new said needs_sync result
         out.old.items out.new.items }
 {
     if !needs_sync {
-        return (false, act(run, said, out));
+        return act(run, said, out);
     }
     match run.make(Actor::Player, Step::Sync) {
-        Ok(()) => (true, act(run, said, out)),
+        Ok(()) => match act(run, said, out) {
+            Ok(()) => Ok(()),
+            // The sync was made.
+            Err(_) => Err(Unanswered::Lost),
+        },
         Err(NoMemory) => {
             drop(said);
-            (false, Err(Unanswered::NoMemory))
+            Err(Unanswered::NoMemory)
         }
     }
 }
@@ -190,8 +187,8 @@ fn make<C: Client<Cmd = WidgetCmd>, N: NameOf>(
     }
 }
 
-/// The player makes a report. If memory runs out after the painter has made some of the steps that settle,
-/// the stage is no longer that of the lines.
+/// The player makes a report. If memory runs out once the painter has made some of the steps that settle, the
+/// stage is no longer that of the lines.
 fn report<C: Client, N: NameOf>(run: &mut Run<C, N>, query: Query) -> Result<(), Unanswered>
     requires { IsQuery (tree_of run.old.stage.opening).nodes query }
     ensures names { run.new.names ≡ run.old.names }

@@ -146,7 +146,7 @@ fn tail_of(is_beyond: bool) -> &'static [u8]
     if is_beyond { b" B7\n" } else { b"\n" }
 }
 
-/// The bytes of a text that is kept.
+/// The bytes of a report's text.
 fn bytes_of(text: &Output) -> Result<Vec<u8>, NoMemory>
     ensures { IfOk result (λ bytes. bytes.items ≡ text.now) }
 {

@@ -4,7 +4,7 @@ ghost use Rattle.tr_gen.specs.Scripts.{text_of_lines};
 ghost use Rattle.tr_grammar.specs.declared.Place.TheVariants.{Gap};
 ghost use Rattle.tr_grammar.specs.declared.Code.TheVariants.{B8, B9};
 ghost use Rattle.tr_grammar.specs.Faults.{allows, fault_of, step_line};
-ghost use Rattle.tr_grammar.specs.Scripts.{after_all_lines, after_line};
+ghost use Rattle.tr_grammar.specs.Scripts.{after_line};
 ghost use Rattle.tr_grammar.specs.States.{nothing_yet};
 ghost use Rattle.tr_grammar.specs.Texts.{is_plain, is_silent};
 ghost use Rattle.tr_grammar.specs.Words.{word_at, words_of};
@@ -15,7 +15,6 @@ ghost use Rattle.tr_session.specs.Lines.{sync_lines};
 ghost use Rattle.tr_session.specs.Saving.{ending};
 
 use crate::errors::Unanswered;
-use crate::openings::reader_of;
 use crate::saving::Saved;
 use crate::told::Told;
 use bumpalo::Bump;
@@ -80,20 +79,6 @@ impl<'a> Script<'a> {
         ensures { result ≡ allows self.now.reader.place step_line }
     {
         self.reader.in_steps().is_ok()
-    }
-
-    /// Reads the lines that are saved again, and forgets any other.
-    pub(crate) fn reread(&mut self, alloc: Global, arena: &'a Bump) -> Result<(), NoMemory>
-        ensures reader { OnOk result
-            (self.new.reader ≡ after_all_lines nothing_yet self.old.saved.lines) }
-        ensures saved { self.new.saved ≡ self.old.saved }
-        ensures behind { self.new.is_behind_step ≡ self.old.is_behind_step }
-        ensures ended { self.new.has_ended ≡ self.old.has_ended }
-    {
-        let text: &'a [u8] = arena.try_alloc_slice_copy(self.saved.text())?;
-        let reader = reader_of(alloc, text)?;
-        drop(std::mem::replace(&mut self.reader, reader));
-        Ok(())
     }
 
     /// The meaning of a line after `begin`, if it isn't silent.

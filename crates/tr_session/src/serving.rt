@@ -162,8 +162,8 @@ fn answer_one<K: Sink>(
                 Err(e) => Err(e),
             }
         }
-        Err(lost) => match write_waiting(waiting, sink) {
-            Ok(()) => Err(Stopped::from(lost)),
+        Err(_) => match write_waiting(waiting, sink) {
+            Ok(()) => Err(Stopped::NoMemory),
             Err(e) => Err(e),
         },
     }

@@ -2,15 +2,14 @@
 //! looks at none.
 #![tactic(auto)]
 
+mod runs;
+
+use crate::runs::run;
 use std::process::ExitCode;
 use tr_io::{StdSink, StdSource};
-use tr_session::serve;
 
 fn main(rt: HostRuntime) -> ExitCode {
     let mut source = StdSource::new(rt.stdin());
     let mut sink = StdSink::new(rt.stdout());
-    match serve(rt.alloc(), &mut source, &mut sink) {
-        Ok(()) => ExitCode::SUCCESS,
-        Err(stopped) => ExitCode::from(stopped.code()),
-    }
+    run(rt.alloc(), &mut source, &mut sink)
 }

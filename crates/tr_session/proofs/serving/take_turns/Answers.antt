@@ -1,13 +1,15 @@
-use Rattle.std.proofs.Common.{◌≡◌, ℕ, Bool, true, false, List, Ok, refl, sym, subst, ap, arith, rules}
-use Rattle.std.specs.Prelude.{Option}
+use Rattle.std.proofs.Common.{◌≡◌, Bool, true, false, Ok, length, refl, subst, ap, arith, rules}
 use Rattle.std.proofs.lemmas.Grind.{common_steps}
-use Rattle.tr_session.specs.declared.errors.Stopped.TheVariants as stopped
 use Rattle.tr_session.specs.Calls.{change_of_sink, change_of_source}
 use Rattle.tr_session.specs.Insides.{session_view}
-use Rattle.tr_session.specs.Sessions.{SessionView}
 use Rattle.tr_session.specs.Turns.{Serving, Turns}
-use Rattle.tr_session.proofs.ServedLemmas.{ends_after, ends_late, ends_with, goes_on, none_ends, starts, stops_with}
+use Rattle.tr_session.proofs.ServedLemmas.{ends_after, ends_late, ends_with, goes_on, none_fails, starts, stops_with}
 use Rattle.tr_session.proofs.serving.take_turns.Goals as goal
+
+pub returns-in_err-reserve-clause-served : goal.returns-in_err-reserve-clause-served
+returns-in_err-reserve-clause-served g c =
+    none_fails (g.S.Source.left c.args.source.now) (g.K.Sink.written c.args.sink.now) (g.K.Sink.written c.reserve.new.self) c.from_residual.result
+    c.reserve.ensures.unchanged c.from_residual.ensures.1
 
 pub loop-turns-init : goal.loop-turns-init
 loop-turns-init g c =
@@ -15,7 +17,7 @@ loop-turns-init g c =
     let written = g.K.Sink.written c.args.sink.now in
     (starts left written (g.K.Sink.written c.reserve.new.self) (session_view c.args.session.now) c.args.arrivals.now c.args.waiting.now.items
     c.requires.view c.requires.begun c.requires.rest c.requires.empty c.reserve.ensures.unchanged,
-    c.requires.holds, record { few = omega (arith, c.requires.empty); here = c.requires.room; there = c.in_ok-reserve.ensures.room }, omega arith,
+    c.requires.holds, record { few = omega (arith, ap length c.requires.empty); here = c.requires.room; there = c.in_ok-reserve.ensures.room }, omega arith,
     omega (arith, c.reserve.ensures.rising))
 
 pub loop-turns-preserved : goal.loop-turns-preserved
@@ -53,8 +55,8 @@ returns-clause-served g c =
     let to = change_of_sink g.K.Sink c.args.sink.now c.loop-turns.sink in
     let a : Serving = record { session = session_view c.loop-turns.session; arrivals = c.loop-turns.arrivals; waiting = c.loop-turns.waiting.items } in
     let counted = c.loop-turns.invariant.0 in
-    ends_late from to (change_of_sink g.K.Sink c.loop-turns.sink c.write_waiting.new.sink) a c.loop-turns.turns c.write_waiting.result counted
-    (omega arith) refl c.write_waiting.ensures.memory c.write_waiting.ensures.written
+    ends_late from to (change_of_sink g.K.Sink c.loop-turns.sink c.write_waiting-2.new.sink) a c.loop-turns.turns c.write_waiting-2.result counted
+    (omega arith) refl c.write_waiting-2.ensures.memory c.write_waiting-2.ensures.written
 
 pub returns-in-Err-clause-served : goal.returns-in-Err-clause-served
 returns-in-Err-clause-served g c =

@@ -2,7 +2,7 @@ use Rattle.std.proofs.Common.{ℕ, List, [], ◌∷◌, ◌++◌, refl, sym, ap,
 use Rattle.tr_session.specs.declared.scripts.Script.{Script}
 use Rattle.tr_session.specs.declared.sessions.Session.{Session}
 use Rattle.tr_session.specs.Saving.{Saved}
-use Rattle.tr_session.proofs.OpenedLemmas.{TakesBegin, TakesOpening, opened_early, opened_takes, start_holds, start_takes}
+use Rattle.tr_session.proofs.OpenedLemmas.{TakesBegin, TakesOpening, opened_early, opened_takes, start_holds, start_lost, start_takes}
 use Rattle.tr_session.proofs.TakenLemmas.{plain_if_taken}
 use Rattle.tr_session.proofs.sessions.Session.open.Goals as goal
 
@@ -30,7 +30,7 @@ returns-then-has_begun-clause-takes c =
       cuts = refl;
       begun = sym c.has_begun.ensures ∙ c.if-has_begun.true;
     } in
-    start_takes i k c.start.new.self line take c.start.new.reply c.start.result c.start.ensures.ok c.start.ensures.memory c.start.ensures.fault
+    start_takes i k c.start.new.self line take c.start.new.reply c.start.result c.start.ensures.ok c.start.ensures.err
 
 pub returns-then-has_begun-clause-holds : goal.returns-then-has_begun-clause-holds
 returns-then-has_begun-clause-holds c = λ other.
@@ -50,7 +50,27 @@ returns-then-has_begun-clause-holds c = λ other.
       cuts = refl;
       begun = sym c.has_begun.ensures ∙ c.if-has_begun.true;
     } in
-    start_holds i k c.start.new.self line take c.start.new.reply c.start.result c.start.ensures.ok c.start.ensures.memory c.start.ensures.fault other
+    start_holds i k c.start.new.self line take c.start.new.reply c.start.result c.start.ensures.ok c.start.ensures.err other
+
+pub returns-then-has_begun-clause-lost : goal.returns-then-has_begun-clause-lost
+returns-then-has_begun-clause-lost c = λ lost.
+    let i : Session = c.args.self.now in
+    let line = c.args.line.now in
+    let lines = ap (λ (s : Saved). s.lines) c.take.ensures.saved ∙ c.reserve.ensures.lines in
+    let k : Session = record { alloc = i.alloc; arena = i.arena; script = c.take.new.self; played = i.played; cuts = i.cuts; outcome = i.outcome } in
+    let take : TakesBegin i k line = record {
+      holds = c.requires.holds;
+      fresh = c.requires.early;
+      none = c.in_ok-take.ensures.none;
+      lines = lines;
+      reader = c.in_ok-take.ensures.next;
+      ended = c.take.ensures.ended;
+      behind = c.take.ensures.behind;
+      played = refl;
+      cuts = refl;
+      begun = sym c.has_begun.ensures ∙ c.if-has_begun.true;
+    } in
+    start_lost i k c.start.new.self line take c.start.new.reply c.start.result c.start.ensures.err lost
 
 pub returns-clause-takes : goal.returns-clause-takes
 returns-clause-takes c =

@@ -1,4 +1,4 @@
-use Rattle.std.proofs.Common.{ℕ, Bool, false, ◌&&◌, ◌||◌, cond, List, [], ◌∷◌, ◌++◌, Err, ap, subst, ◌∙◌}
+use Rattle.std.proofs.Common.{ℕ, Bool, false, ◌&&◌, ◌||◌, cond, List, [], ◌∷◌, ◌++◌, Ok, Err, ap, subst, ◌∙◌}
 use Rattle.tr_session.specs.declared.scripts.Script.{Script}
 use Rattle.tr_session.specs.declared.sessions.Session.{Session}
 use Rattle.tr_session.specs.declared.errors.Unanswered.{Unanswered}
@@ -7,7 +7,7 @@ use Rattle.tr_session.specs.Answering.{Tells, behind_told, ends_told, is_end, to
 use Rattle.tr_session.specs.Insides.{session_view}
 use Rattle.tr_session.specs.Lines.{sync_lines}
 use Rattle.tr_session.specs.Playing.{Follows, PlayedView}
-use Rattle.tr_session.proofs.PlayedLemmas.{PlaysLine, err_holds, err_takes, played_holds, played_takes, stages, takes_told}
+use Rattle.tr_session.proofs.PlayedLemmas.{PlaysLine, err_holds, err_takes, played_holds, played_takes, stages, tells_err, untold_takes}
 use Rattle.tr_session.proofs.TakenLemmas.{plain_if_taken}
 use Rattle.tr_session.proofs.sessions.Session.play.Goals as goal
 
@@ -15,18 +15,17 @@ pub keep-requires-clause-plain : goal.keep-requires-clause-plain
 keep-requires-clause-plain c =
     plain_if_taken (tried_by c.args.self.now.script.reader c.args.self.now.script.has_ended) 1 c.args.line.now c.in_ok-said.ensures.none
 
-pub returns-in-Ok-clause-takes : goal.returns-in-Ok-clause-takes
-returns-in-Ok-clause-takes c =
+pub returns-in-Ok-in-Ok-clause-takes : goal.returns-in-Ok-in-Ok-clause-takes
+returns-in-Ok-in-Ok-clause-takes c =
     let i : Session = c.args.self.now in
     let line = c.args.line.now in
     let said = c.in_ok-said.said in
-    let f = c.follow-is_synced.result in
-    let n : Session = c.follow-is_synced.new.self in
+    let f = c.follow-result.result in
+    let n : Session = c.follow-result.new.self in
     let outcome = n.outcome.items in
-    let kept : Script = c.keep.new.self in
-    let j : Session = record { alloc = n.alloc; arena = n.arena; script = kept; played = n.played; cuts = n.cuts; outcome = n.outcome } in
+    let j : Session = record { alloc = n.alloc; arena = n.arena; script = c.keep.new.self; played = n.played; cuts = n.cuts; outcome = n.outcome } in
     let R : PlayedView → PlayedView → Type 0 = λ p q. Follows p q said c.needs_sync-needs_sync.result f [] outcome in
-    let st = stages i.played n.played R c.follow-is_synced.ensures.followed in
+    let st = stages i.played n.played R c.follow-result.ensures.followed in
     let needs = c.needs_sync-needs_sync.ensures ∙ ap (λ (t : Told). i.script.is_behind_step && ends_told t) c.told_by-told.ensures in
     let plays : PlaysLine i j line said st.p st.q f outcome = record {
       holds = c.requires.holds;
@@ -36,37 +35,36 @@ returns-in-Ok-clause-takes c =
       was = st.was;
       now = st.now;
       follows = subst (λ (b : Bool). Follows st.p st.q said b f [] outcome) needs st.rel;
-      reader = c.keep.ensures.reader ∙ c.keep_sync.ensures.reader ∙ ap (λ (s : Script). s.reader) c.follow-is_synced.ensures.script;
-      cuts = c.follow-is_synced.ensures.cuts;
+      reader = c.keep.ensures.reader ∙ c.keep_sync.ensures.reader ∙ ap (λ (s : Script). s.reader) c.follow-result.ensures.script;
+      cuts = c.follow-result.ensures.cuts;
     } in
-    let before = ap (λ (s : Script). s.saved.lines) c.follow-is_synced.ensures.script ∙ c.reserve.ensures.lines in
-    let synced_lines = c.keep_sync.ensures.lines ∙ ap (λ (ls : List (List ℕ)). ls ++ sync_lines f.is_synced) before in
-    let synced_behind = c.keep_sync.ensures.behind ∙ ap (λ (s : Script). cond f.is_synced false s.is_behind_step) c.follow-is_synced.ensures.script in
-    let synced_ended = c.keep_sync.ensures.ended ∙ ap (λ (s : Script). s.has_ended) c.follow-is_synced.ensures.script in
+    let before = ap (λ (s : Script). s.saved.lines) c.follow-result.ensures.script ∙ c.reserve.ensures.lines in
+    let synced_lines = c.keep_sync.ensures.lines ∙ ap (λ (ls : List (List ℕ)). ls ++ sync_lines c.needs_sync-needs_sync.result) before
+    ∙ ap (λ (b : Bool). i.script.saved.lines ++ sync_lines b) needs in
+    let synced_behind = c.keep_sync.ensures.behind
+    ∙ ap (λ (s : Script). cond c.needs_sync-needs_sync.result false s.is_behind_step) c.follow-result.ensures.script
+    ∙ ap (λ (b : Bool). cond b false i.script.is_behind_step) needs in
+    let synced_ended = c.keep_sync.ensures.ended ∙ ap (λ (s : Script). s.has_ended) c.follow-result.ensures.script in
     let lines = c.keep.ensures.lines ∙ ap (λ (ls : List (List ℕ)). ls ++ line ∷ []) synced_lines in
     let behind = c.keep.ensures.behind ∙ ap (λ (t : Told). behind_told t c.keep_sync.new.self.is_behind_step) c.told_by-told.ensures
     ∙ ap (λ (b : Bool). behind_told (told_by said) b) synced_behind in
     let ended = c.keep.ensures.ended ∙ ap (λ (t : Told). c.keep_sync.new.self.has_ended || is_end t) c.told_by-told.ensures
     ∙ ap (λ (b : Bool). b || is_end (told_by said)) synced_ended in
-    let bytes = c.tell.new.reply in
-    let result = c.tell.result in
-    let tells = subst (λ (t : Told). Tells t outcome f.text bytes result) c.told_by-told.ensures
-    (subst (λ (o : List ℕ). Tells c.told_by-told.result o f.text bytes result) c.deref.ensures.value c.tell.ensures) in
-    takes_told (session_view i) (session_view j) line (told_by said) outcome f.text bytes result tells
-    (played_takes i j line said st.p st.q f outcome plays c.in-Ok.is lines behind ended bytes)
+    let tells = subst (λ (t : Told). Tells t outcome f.text c.tell.new.reply (Ok tt)) c.told_by-told.ensures
+    (subst (λ (o : List ℕ). Tells c.told_by-told.result o f.text c.tell.new.reply (Ok tt)) c.deref.ensures.value c.in-Ok-in-Ok.ensures) in
+    played_takes i j line said st.p st.q f outcome plays c.in-Ok.is lines behind ended c.tell.new.reply tells
 
-pub returns-in-Ok-clause-holds : goal.returns-in-Ok-clause-holds
-returns-in-Ok-clause-holds c = λ other.
+pub returns-in-Ok-in-Ok-clause-holds : goal.returns-in-Ok-in-Ok-clause-holds
+returns-in-Ok-in-Ok-clause-holds c = λ other.
     let i : Session = c.args.self.now in
     let line = c.args.line.now in
     let said = c.in_ok-said.said in
-    let f = c.follow-is_synced.result in
-    let n : Session = c.follow-is_synced.new.self in
+    let f = c.follow-result.result in
+    let n : Session = c.follow-result.new.self in
     let outcome = n.outcome.items in
-    let kept : Script = c.keep.new.self in
-    let j : Session = record { alloc = n.alloc; arena = n.arena; script = kept; played = n.played; cuts = n.cuts; outcome = n.outcome } in
+    let j : Session = record { alloc = n.alloc; arena = n.arena; script = c.keep.new.self; played = n.played; cuts = n.cuts; outcome = n.outcome } in
     let R : PlayedView → PlayedView → Type 0 = λ p q. Follows p q said c.needs_sync-needs_sync.result f [] outcome in
-    let st = stages i.played n.played R c.follow-is_synced.ensures.followed in
+    let st = stages i.played n.played R c.follow-result.ensures.followed in
     let needs = c.needs_sync-needs_sync.ensures ∙ ap (λ (t : Told). i.script.is_behind_step && ends_told t) c.told_by-told.ensures in
     let plays : PlaysLine i j line said st.p st.q f outcome = record {
       holds = c.requires.holds;
@@ -76,13 +74,16 @@ returns-in-Ok-clause-holds c = λ other.
       was = st.was;
       now = st.now;
       follows = subst (λ (b : Bool). Follows st.p st.q said b f [] outcome) needs st.rel;
-      reader = c.keep.ensures.reader ∙ c.keep_sync.ensures.reader ∙ ap (λ (s : Script). s.reader) c.follow-is_synced.ensures.script;
-      cuts = c.follow-is_synced.ensures.cuts;
+      reader = c.keep.ensures.reader ∙ c.keep_sync.ensures.reader ∙ ap (λ (s : Script). s.reader) c.follow-result.ensures.script;
+      cuts = c.follow-result.ensures.cuts;
     } in
-    let before = ap (λ (s : Script). s.saved.lines) c.follow-is_synced.ensures.script ∙ c.reserve.ensures.lines in
-    let synced_lines = c.keep_sync.ensures.lines ∙ ap (λ (ls : List (List ℕ)). ls ++ sync_lines f.is_synced) before in
-    let synced_behind = c.keep_sync.ensures.behind ∙ ap (λ (s : Script). cond f.is_synced false s.is_behind_step) c.follow-is_synced.ensures.script in
-    let synced_ended = c.keep_sync.ensures.ended ∙ ap (λ (s : Script). s.has_ended) c.follow-is_synced.ensures.script in
+    let before = ap (λ (s : Script). s.saved.lines) c.follow-result.ensures.script ∙ c.reserve.ensures.lines in
+    let synced_lines = c.keep_sync.ensures.lines ∙ ap (λ (ls : List (List ℕ)). ls ++ sync_lines c.needs_sync-needs_sync.result) before
+    ∙ ap (λ (b : Bool). i.script.saved.lines ++ sync_lines b) needs in
+    let synced_behind = c.keep_sync.ensures.behind
+    ∙ ap (λ (s : Script). cond c.needs_sync-needs_sync.result false s.is_behind_step) c.follow-result.ensures.script
+    ∙ ap (λ (b : Bool). cond b false i.script.is_behind_step) needs in
+    let synced_ended = c.keep_sync.ensures.ended ∙ ap (λ (s : Script). s.has_ended) c.follow-result.ensures.script in
     let lines = c.keep.ensures.lines ∙ ap (λ (ls : List (List ℕ)). ls ++ line ∷ []) synced_lines in
     let behind = c.keep.ensures.behind ∙ ap (λ (t : Told). behind_told t c.keep_sync.new.self.is_behind_step) c.told_by-told.ensures
     ∙ ap (λ (b : Bool). behind_told (told_by said) b) synced_behind in
@@ -90,18 +91,17 @@ returns-in-Ok-clause-holds c = λ other.
     ∙ ap (λ (b : Bool). b || is_end (told_by said)) synced_ended in
     played_holds i j line said st.p st.q f outcome plays c.in-Ok.is lines behind ended
 
-pub returns-in-Err-clause-takes : goal.returns-in-Err-clause-takes
-returns-in-Err-clause-takes c =
+pub returns-in-Ok-in-Err-clause-takes : goal.returns-in-Ok-in-Err-clause-takes
+returns-in-Ok-in-Err-clause-takes c =
     let i : Session = c.args.self.now in
     let line = c.args.line.now in
     let said = c.in_ok-said.said in
-    let f = c.follow-is_synced.result in
-    let n : Session = c.follow-is_synced.new.self in
+    let f = c.follow-result.result in
+    let n : Session = c.follow-result.new.self in
     let outcome = n.outcome.items in
-    let kept : Script = c.keep_sync.new.self in
-    let j : Session = record { alloc = n.alloc; arena = n.arena; script = kept; played = n.played; cuts = n.cuts; outcome = n.outcome } in
+    let j : Session = record { alloc = n.alloc; arena = n.arena; script = n.script; played = n.played; cuts = n.cuts; outcome = n.outcome } in
     let R : PlayedView → PlayedView → Type 0 = λ p q. Follows p q said c.needs_sync-needs_sync.result f [] outcome in
-    let st = stages i.played n.played R c.follow-is_synced.ensures.followed in
+    let st = stages i.played n.played R c.follow-result.ensures.followed in
     let needs = c.needs_sync-needs_sync.ensures ∙ ap (λ (t : Told). i.script.is_behind_step && ends_told t) c.told_by-told.ensures in
     let plays : PlaysLine i j line said st.p st.q f outcome = record {
       holds = c.requires.holds;
@@ -111,27 +111,58 @@ returns-in-Err-clause-takes c =
       was = st.was;
       now = st.now;
       follows = subst (λ (b : Bool). Follows st.p st.q said b f [] outcome) needs st.rel;
-      reader = c.keep_sync.ensures.reader ∙ ap (λ (s : Script). s.reader) c.follow-is_synced.ensures.script;
-      cuts = c.follow-is_synced.ensures.cuts;
+      reader = ap (λ (s : Script). s.reader) c.follow-result.ensures.script;
+      cuts = c.follow-result.ensures.cuts;
     } in
-    let before = ap (λ (s : Script). s.saved.lines) c.follow-is_synced.ensures.script ∙ c.reserve.ensures.lines in
-    let synced_lines = c.keep_sync.ensures.lines ∙ ap (λ (ls : List (List ℕ)). ls ++ sync_lines f.is_synced) before in
-    let synced_behind = c.keep_sync.ensures.behind ∙ ap (λ (s : Script). cond f.is_synced false s.is_behind_step) c.follow-is_synced.ensures.script in
-    let synced_ended = c.keep_sync.ensures.ended ∙ ap (λ (s : Script). s.has_ended) c.follow-is_synced.ensures.script in
-    err_takes i j line said st.p st.q f outcome plays c.in-Err.e c.in-Err.is synced_lines synced_behind synced_ended c.args.reply.now
+    let tells = subst (λ (t : Told). Tells t outcome f.text c.tell.new.reply (Err c.in-Ok-in-Err.e)) c.told_by-told.ensures
+    (subst (λ (o : List ℕ). Tells c.told_by-told.result o f.text c.tell.new.reply (Err c.in-Ok-in-Err.e)) c.deref.ensures.value c.in-Ok-in-Err.ensures) in
+    untold_takes i j line said st.p st.q f outcome plays c.in-Ok-in-Err.e c.tell.new.reply (session_view j) tells
+
+pub returns-in-Ok-in-Err-clause-holds : goal.returns-in-Ok-in-Err-clause-holds
+returns-in-Ok-in-Err-clause-holds c = λ other.
+    let f = c.follow-result.result in
+    let lost = tells_err c.told_by-told.result c.deref.result.now f.text c.tell.new.reply c.in-Ok-in-Err.e c.in-Ok-in-Err.ensures in
+    absurd (other (ap (λ (e : Unanswered). Err e) lost))
+
+pub returns-in-Err-clause-takes : goal.returns-in-Err-clause-takes
+returns-in-Err-clause-takes c =
+    let i : Session = c.args.self.now in
+    let line = c.args.line.now in
+    let said = c.in_ok-said.said in
+    let f = c.follow-result.result in
+    let n : Session = c.follow-result.new.self in
+    let outcome = n.outcome.items in
+    let j : Session = record { alloc = n.alloc; arena = n.arena; script = n.script; played = n.played; cuts = n.cuts; outcome = n.outcome } in
+    let R : PlayedView → PlayedView → Type 0 = λ p q. Follows p q said c.needs_sync-needs_sync.result f [] outcome in
+    let st = stages i.played n.played R c.follow-result.ensures.followed in
+    let needs = c.needs_sync-needs_sync.ensures ∙ ap (λ (t : Told). i.script.is_behind_step && ends_told t) c.told_by-told.ensures in
+    let plays : PlaysLine i j line said st.p st.q f outcome = record {
+      holds = c.requires.holds;
+      begun = c.requires.begun;
+      none = c.in_ok-said.ensures.none;
+      means = c.in_ok-said.ensures.meaning;
+      was = st.was;
+      now = st.now;
+      follows = subst (λ (b : Bool). Follows st.p st.q said b f [] outcome) needs st.rel;
+      reader = ap (λ (s : Script). s.reader) c.follow-result.ensures.script;
+      cuts = c.follow-result.ensures.cuts;
+    } in
+    let lines = ap (λ (s : Script). s.saved.lines) c.follow-result.ensures.script ∙ c.reserve.ensures.lines in
+    let behind = ap (λ (s : Script). s.is_behind_step) c.follow-result.ensures.script in
+    let ended = ap (λ (s : Script). s.has_ended) c.follow-result.ensures.script in
+    err_takes i j line said st.p st.q f outcome plays c.in-Err.e c.in-Err.is lines behind ended c.args.reply.now
 
 pub returns-in-Err-clause-holds : goal.returns-in-Err-clause-holds
 returns-in-Err-clause-holds c = λ other.
     let i : Session = c.args.self.now in
     let line = c.args.line.now in
     let said = c.in_ok-said.said in
-    let f = c.follow-is_synced.result in
-    let n : Session = c.follow-is_synced.new.self in
+    let f = c.follow-result.result in
+    let n : Session = c.follow-result.new.self in
     let outcome = n.outcome.items in
-    let kept : Script = c.keep_sync.new.self in
-    let j : Session = record { alloc = n.alloc; arena = n.arena; script = kept; played = n.played; cuts = n.cuts; outcome = n.outcome } in
+    let j : Session = record { alloc = n.alloc; arena = n.arena; script = n.script; played = n.played; cuts = n.cuts; outcome = n.outcome } in
     let R : PlayedView → PlayedView → Type 0 = λ p q. Follows p q said c.needs_sync-needs_sync.result f [] outcome in
-    let st = stages i.played n.played R c.follow-is_synced.ensures.followed in
+    let st = stages i.played n.played R c.follow-result.ensures.followed in
     let needs = c.needs_sync-needs_sync.ensures ∙ ap (λ (t : Told). i.script.is_behind_step && ends_told t) c.told_by-told.ensures in
     let plays : PlaysLine i j line said st.p st.q f outcome = record {
       holds = c.requires.holds;
@@ -141,12 +172,11 @@ returns-in-Err-clause-holds c = λ other.
       was = st.was;
       now = st.now;
       follows = subst (λ (b : Bool). Follows st.p st.q said b f [] outcome) needs st.rel;
-      reader = c.keep_sync.ensures.reader ∙ ap (λ (s : Script). s.reader) c.follow-is_synced.ensures.script;
-      cuts = c.follow-is_synced.ensures.cuts;
+      reader = ap (λ (s : Script). s.reader) c.follow-result.ensures.script;
+      cuts = c.follow-result.ensures.cuts;
     } in
-    let before = ap (λ (s : Script). s.saved.lines) c.follow-is_synced.ensures.script ∙ c.reserve.ensures.lines in
-    let synced_lines = c.keep_sync.ensures.lines ∙ ap (λ (ls : List (List ℕ)). ls ++ sync_lines f.is_synced) before in
-    let synced_behind = c.keep_sync.ensures.behind ∙ ap (λ (s : Script). cond f.is_synced false s.is_behind_step) c.follow-is_synced.ensures.script in
-    let synced_ended = c.keep_sync.ensures.ended ∙ ap (λ (s : Script). s.has_ended) c.follow-is_synced.ensures.script in
-    err_holds i j line said st.p st.q f outcome plays c.in-Err.e c.in-Err.is synced_lines synced_behind synced_ended
+    let lines = ap (λ (s : Script). s.saved.lines) c.follow-result.ensures.script ∙ c.reserve.ensures.lines in
+    let behind = ap (λ (s : Script). s.is_behind_step) c.follow-result.ensures.script in
+    let ended = ap (λ (s : Script). s.has_ended) c.follow-result.ensures.script in
+    err_holds i j line said st.p st.q f outcome plays c.in-Err.e c.in-Err.is lines behind ended
     (λ lost. other (ap (λ (e : Unanswered). Err e) lost))
