@@ -113,11 +113,18 @@ fn turn<S: Source, K: Sink>(
     // If a line is whole, it is answered, and nothing is read.
     ensures prompt { Contains arrivals.old.rest 10 →
         (S.left source.new ≡ S.left source.old) × (S.faults source.new ≡ S.faults source.old) }
-    ensures turned { Turns
-        (record { session = session_view session.old; arrivals = arrivals.old; waiting = waiting.old.items })
+    ensures turned { Turns (record {
+      session = session_view session.old;
+      arrivals = arrivals.old;
+      waiting = waiting.old.items;
+    })
         (change_of_source S.Source source.old source.new) result
         (change_of_sink K.Sink sink.old sink.new)
-        (record { session = session_view session.new; arrivals = arrivals.new; waiting = waiting.new.items }) }
+        (record {
+          session = session_view session.new;
+          arrivals = arrivals.new;
+          waiting = waiting.new.items;
+        }) }
     ensures unread { result ≡ Err stopped.Unread → HasFault (S.faults source.old) (S.faults source.new) }
     ensures unwritten { result ≡ Err stopped.Unwritten → HasFault (K.faults sink.old) (K.faults sink.new) }
     ensures rising { (S.faults source.old ≤ S.faults source.new) × (K.faults sink.old ≤ K.faults sink.new) }

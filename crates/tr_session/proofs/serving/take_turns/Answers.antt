@@ -14,11 +14,14 @@ returns-in_err-reserve-clause-served g c =
 pub loop-turns-init : goal.loop-turns-init
 loop-turns-init g c =
     let left = g.S.Source.left c.args.source.now in
-    let written = g.K.Sink.written c.args.sink.now in
-    (starts left written (g.K.Sink.written c.reserve.new.self) (session_view c.args.session.now) c.args.arrivals.now c.args.waiting.now.items
-    c.requires.view c.requires.begun c.requires.rest c.requires.empty c.reserve.ensures.unchanged,
-    c.requires.holds, record { few = omega (arith, ap length c.requires.empty); here = c.requires.room; there = c.in_ok-reserve.ensures.room }, omega arith,
-    omega (arith, c.reserve.ensures.rising))
+    let written = g.K.Sink.written c.args.sink.now in (
+      starts left written (g.K.Sink.written c.reserve.new.self) (session_view c.args.session.now) c.args.arrivals.now c.args.waiting.now.items
+          c.requires.view c.requires.begun c.requires.rest c.requires.empty c.reserve.ensures.unchanged,
+      c.requires.holds,
+      record { few = omega (arith, ap length c.requires.empty); here = c.requires.room; there = c.in_ok-reserve.ensures.room },
+      omega arith,
+      omega (arith, c.reserve.ensures.rising),
+    )
 
 pub loop-turns-preserved : goal.loop-turns-preserved
 loop-turns-preserved g c =
