@@ -19,8 +19,8 @@ use tr_io::{Sink, Source};
 
 /// Answers the lines of a source, one after another, until `!quit` or the end of the input. The answers to
 /// lines that came together are written together, before more is read. Bytes after the last line feed are no
-/// line. It stops early if a read or a write fails, or for want of memory at the start, in the sink, at
-/// `begin`, or once a line was done; elsewhere want of memory is an answer.
+/// line. It stops early if a read or a write fails, or for want of memory at the start, in the sink, or where
+/// the lines before a line have to be taken again; elsewhere want of memory is an answer.
 pub fn serve<S: Source, K: Sink>(alloc: Global, source: &mut S, sink: &mut K) -> Result<(), Stopped>
     ensures served { HasServed (change_of_source S.Source source.old source.new) result
         (change_of_sink K.Sink sink.old sink.new) }
