@@ -59,5 +59,5 @@ cuts_and_more c (now ∷ rest) more full =
 
 pub cuts_begin_anew : (screens more : List Picture) → BeginsAnew screens more
 cuts_begin_anew screens more full =
-    cuts_and_more no_cut screens more full
+    cuts_and_more no_cut screens more (omega (arith, full))
     ∙ ap (λ (bytes : List ℕ). bytes ++ bytes_of_cuts no_cut more) (cuts_are no_cut screens (omega (arith, full)))

@@ -1,15 +1,18 @@
 -- Lists whose first elements were replaced, and the screens of cuts.
-use Rattle.std.proofs.Common.{◌≡◌, ℕ, zero, suc, ◌<◌, ◌≤◌, true, List, [], ◌∷◌, ◌++◌, length, take, drop, get_or, map, min, refl, ap, ◌∙◌, arith}
+use Rattle.std.proofs.Common.{◌≡◌, ℕ, zero, suc, ◌<◌, ◌≤◌, true, List, [], ◌∷◌, ◌++◌, length, take, drop, get_or, map, min, refl, sym, ap, ◌∙◌, arith}
+use Rattle.std.specs.Prelude.{unsigned_abs}
 use Rattle.std.specs.List.{list_all}
 use Rattle.std.proofs.Math.ListN.{get_or-map, length-map, set}
 use Rattle.std.proofs.lemmas.Bool.{and_from, and_parts, lt-ltb, ltb-true}
 use Rattle.std.proofs.lemmas.List.Elements.{All-map}
+use Rattle.tr_base.specs.declared.Point.{Point}
 use Rattle.tr_base.specs.declared.Kind.{Kind}
 use Rattle.tr_base.specs.declared.Kind.TheVariants.{Mono, Map4, Map8}
-use Rattle.tr_screen.specs.Pictures.{IsPicture, Picture}
+use Rattle.tr_screen.specs.Pictures.{IsPicture, Picture, pixel_of, row_of}
 use Rattle.tr_mirror.specs.Standings.{has_pixel}
 use Rattle.tr_mirror.specs.Streams.{HasItsPixels, IsShowable}
 use Rattle.tr_session.specs.Cuts.{fitted, fitted_pixel}
+use Rattle.tr_session.specs.Laws.{KeepsPixel}
 
 module _ {A : Type 0} (f : A → A) where
   -- the next element is replaced
@@ -69,12 +72,28 @@ fitted_shows p is = record {
   pixels = fitted_pixels p;
 }
 
--- ---- a screen that a stream can show is fitted as it is
+-- ---- values of the kind stay
 
 same_pixel : (kind : Kind) (pixel : ℕ) → has_pixel kind pixel ≡ true → fitted_pixel kind pixel ≡ pixel
 same_pixel Mono pixel has = let below = ltb-true pixel 2 has in omega (arith, below)
 same_pixel Map4 pixel has = let below = ltb-true pixel 16 has in omega (arith, below)
 same_pixel Map8 pixel has = let below = ltb-true pixel 256 has in omega (arith, below)
+
+-- a point keeps its pixel, if that is a value of the kind
+zero_fits : (kind : Kind) → fitted_pixel kind 0 ≡ 0
+zero_fits Mono = refl
+zero_fits Map4 = refl
+zero_fits Map8 = refl
+
+pub fitted_point : (p : Picture) (at : Point) → KeepsPixel p at
+fitted_point p at has =
+    let fit : ℕ → ℕ = fitted_pixel p.kind in
+    let row : List ℕ = row_of p (unsigned_abs at.v) in
+    let h : ℕ = unsigned_abs at.h in
+    ap (λ (fitted : List ℕ). get_or fitted h 0) (get_or-map (map fit) p.rows (unsigned_abs at.v) [])
+    ∙ ap (λ (d : ℕ). get_or (map fit row) h d) (sym (zero_fits p.kind))
+    ∙ get_or-map fit row h 0
+    ∙ same_pixel p.kind (pixel_of p at) has
 
 same_row : (kind : Kind) (row : List ℕ) → list_all (has_pixel kind) row ≡ true → map (fitted_pixel kind) row ≡ row
 same_row kind [] all = refl
@@ -89,6 +108,7 @@ same_rows kind (row ∷ rows) all =
     ap (λ (fit : List ℕ). fit ∷ map (λ (other : List ℕ). map (fitted_pixel kind) other) rows) (same_row kind row (all 0 (omega arith)))
     ∙ ap (λ (fit : List (List ℕ)). row ∷ fit) (same_rows kind rows (λ v below. all (suc v) (omega (arith, below))))
 
+-- a screen that a stream can show is fitted as it is
 pub fitted_same : (p : Picture) → IsShowable p → fitted p ≡ p
 fitted_same p shows =
     ap (λ (rows : List (List ℕ)). record p { rows = rows })

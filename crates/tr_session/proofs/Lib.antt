@@ -5,6 +5,7 @@ mod OpenLemmas
 mod TellingLemmas
 mod ReportLemmas
 mod WrittenLemmas
+mod CutsWrittenLemmas
 mod CueLemmas
 mod LineLemmas
 mod TakenLemmas

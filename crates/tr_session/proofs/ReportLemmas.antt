@@ -158,7 +158,7 @@ reports_one s line screen session none =
 -- ---- the saved script
 
 -- a sync has no text
-pub sync_tells : (c : SoFar) → out_text (whole (after_line c (codes "sync"))) ≡ out_text (whole c)
+sync_tells : (c : SoFar) → out_text (whole (after_line c (codes "sync"))) ≡ out_text (whole c)
 sync_tells c =
     ap (λ (e : SoFar). out_text (whole e)) (sync_leads c)
     ∙ text_adds c (record c { place = places.Gap; ended = c.ended ++ c.part ∷ []; part = empty_part }) (makes Player steps.Sync ∷ [])

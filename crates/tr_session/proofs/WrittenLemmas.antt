@@ -1,24 +1,23 @@
 -- The reports that a session wrote: those of `serial` for the text that it saves.
-use Rattle.std.proofs.Common.{◌≡◌, ℕ, inl, inr, List, [], ◌∷◌, ◌++◌, Some, None, append_assoc, refl, sym, ap, subst, ◌∙◌}
+use Rattle.std.proofs.Common.{◌≡◌, ℕ, List, [], ◌∷◌, ◌++◌, Some, None, append_assoc, refl, sym, ap, subst, ◌∙◌}
 use Rattle.std.specs.Prelude.{Option}
 use Rattle.std.proofs.lemmas.List.{append-nil}
 use Rattle.tr_screen.specs.Pictures.{Picture}
 use Rattle.tr_grammar.specs.declared.Code.{Code}
 use Rattle.tr_grammar.specs.declared.Meaning.{Meaning}
 use Rattle.tr_grammar.specs.declared.Meaning.TheVariants as meanings
-use Rattle.tr_grammar.specs.States.{SoFar, nothing_yet}
+use Rattle.tr_grammar.specs.States.{nothing_yet}
 use Rattle.tr_grammar.specs.Scripts.{whole}
 use Rattle.tr_script.specs.Apart.{meaning_of_line}
 use Rattle.tr_serial.specs.Outputs.{out_text}
 use Rattle.tr_session.specs.declared.requests.Request.{Request}
 use Rattle.tr_session.specs.declared.requests.Request.TheVariants.{Save, Cut, Quit, Script}
-use Rattle.tr_session.specs.Answers.{Answer, AreAnswered, IsAnswered, IsKept, after, after_cut, after_for, after_script_line, bytes, due, due_for, due_of_cut, due_of_line, due_of_save, no_memory, refused, saved, text, text_for}
+use Rattle.tr_session.specs.Answers.{Answer, AreAnswered, IsAnswered, after, after_cut, after_for, after_script_line, bytes, due, due_for, due_of_cut, due_of_line, due_of_save, no_memory, refused, saved, text, text_for}
 use Rattle.tr_session.specs.Laws.{WritesAsSerial, report_for, report_in, reports_in}
-use Rattle.tr_session.specs.Lines.{added_lines, fault_in, request_of, sync_lines}
-use Rattle.tr_session.specs.Sessions.{IsSession, SessionView, no_session, so_far, with_lines}
-use Rattle.tr_session.proofs.ReportLemmas.{none_told, reports_all, reports_one, sync_tells}
+use Rattle.tr_session.specs.Lines.{fault_in, request_of}
+use Rattle.tr_session.specs.Sessions.{IsSession, SessionView, no_session, so_far}
+use Rattle.tr_session.proofs.ReportLemmas.{none_told, reports_all, reports_one}
 use Rattle.tr_session.proofs.SessionLemmas.{no_session_is}
-use Rattle.tr_session.proofs.TellingLemmas.{so_far_after}
 
 -- the text of `serial` for the lines so far
 abbrev text_of : SessionView → List ℕ

@@ -1,7 +1,9 @@
--- The laws of a session: a saved script is one, `serial` writes for it the session's reports, and a reader of the cuts has the screens.
+-- The laws of a session: a saved text is a script, `serial` writes for it the session's reports, and a reader of the cuts has the screens.
 use Rattle.std.specs.Prelude.{◌≡◌, ◌≤◌, ℕ, true, List, [], ◌∷◌, ◌++◌, length, All, IfSome, Option, Some, None}
-use Rattle.tr_screen.specs.Pictures.{IsPicture, Picture}
-use Rattle.tr_mirror.specs.Standings.{most_groups}
+use Rattle.std.specs.List.{flat_map}
+use Rattle.tr_base.specs.declared.Point.{Point}
+use Rattle.tr_screen.specs.Pictures.{IsPicture, Picture, pixel_of}
+use Rattle.tr_mirror.specs.Standings.{has_pixel, most_groups}
 use Rattle.tr_mirror.specs.Streams.{IsShowable, stream_of}
 use Rattle.tr_mirror.specs.Readings.{IsStream, screens_shown}
 use Rattle.tr_grammar.specs.declared.Code.TheVariants.{B7}
@@ -12,7 +14,7 @@ use Rattle.tr_grammar.specs.Faults.{reports_so_far}
 use Rattle.tr_grammar.specs.Scripts.{after_all_lines, most_script_bytes, refusal_of, script_of, whole}
 use Rattle.tr_script.specs.Apart.{meaning_of_line}
 use Rattle.tr_serial.specs.Outputs.{out_text}
-use Rattle.tr_session.specs.Answers.{Answer, AreAnswered, text, text_for}
+use Rattle.tr_session.specs.Answers.{Answer, AreAnswered, bytes, text, text_for}
 use Rattle.tr_session.specs.Cuts.{bytes_of_cuts, fitted, no_cut}
 use Rattle.tr_session.specs.Lines.{added_lines, fault_in, has_begun, last_lines}
 use Rattle.tr_session.specs.Sessions.{SessionView, IsSession, no_session, saved_text, so_far, with_lines}
@@ -54,8 +56,9 @@ abbrev pub report_in : Answer → Option Meaning → List ℕ
 report_in (text told) (Some (meanings.Report query)) = told
 report_in answer said = []
 
--- the reports in the answers to these lines, one after another
-abbrev pub reports_in : (s : SessionView) (lines : List (List ℕ)) (answers : List Answer) (t : SessionView) → AreAnswered s lines answers t → List ℕ
+-- the reports in the answers to these lines, one after another; `all` has the session before each line
+abbrev pub reports_in : (s : SessionView) (lines : List (List ℕ)) (answers : List Answer) (t : SessionView) →
+    AreAnswered s lines answers t → List ℕ
 reports_in s (line ∷ lines) (answer ∷ answers) t all =
     report_in answer (meaning_of_line (so_far s) line) ++ reports_in all.0 lines answers t all.2
 reports_in s lines answers t all = []
@@ -85,6 +88,32 @@ BeginsAnew screens more =
 abbrev pub IsFittedToShow : Picture → Type 0
 IsFittedToShow p = IsPicture p → IsShowable (fitted p)
 
+-- a cut keeps the pixel of a point, if that is a value of the kind
+abbrev pub KeepsPixel : Picture → Point → Type 0
+KeepsPixel p at = has_pixel p.kind (pixel_of p at) ≡ true → pixel_of (fitted p) at ≡ pixel_of p at
+
 -- a cut of a screen that a stream can show has that screen
 abbrev pub IsFittedAsItIs : Picture → Type 0
 IsFittedAsItIs p = IsShowable p → fitted p ≡ p
+
+-- the bytes of an answer that is a cut
+abbrev pub cut_in : Answer → List ℕ
+cut_in (bytes group) = group
+cut_in answer = []
+
+-- the screen of an answer that is a cut
+abbrev pub screen_of_cut : Answer → Option Picture → List Picture
+screen_of_cut (bytes group) (Some screen) = fitted screen ∷ []
+screen_of_cut answer screen = []
+
+-- the screens of the cuts in these answers, one after another, each from the session before its line
+abbrev pub screens_in : (s : SessionView) (lines : List (List ℕ)) (answers : List Answer) (t : SessionView) →
+    AreAnswered s lines answers t → List Picture
+screens_in s (line ∷ lines) (answer ∷ answers) t all = screen_of_cut answer s.screen ++ screens_in all.0 lines answers t all.2
+screens_in s lines answers t all = []
+
+-- the cuts in the answers to all lines are those of the session's screens, which streams can show
+pub record WritesCuts (lines : List (List ℕ)) (answers : List Answer) (last : SessionView) (all : AreAnswered no_session lines answers last) :
+    Type 0 where
+  pub cuts : flat_map cut_in answers ≡ bytes_of_cuts no_cut (screens_in no_session lines answers last all)
+  pub showable : All IsShowable (screens_in no_session lines answers last all)

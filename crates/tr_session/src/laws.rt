@@ -1,9 +1,10 @@
 //! Laws of sessions. Each of these functions does nothing; its clause is the law.
 ghost use Rattle.std.specs.Prelude.{List, ℕ, Option};
+ghost use Rattle.tr_base.specs.declared.Point.{Point};
 ghost use Rattle.tr_screen.specs.Pictures.{Picture};
-ghost use Rattle.tr_session.specs.Answers.{Answer};
-ghost use Rattle.tr_session.specs.Sessions.{SessionView};
-ghost use Rattle.tr_session.specs.Laws.{BeginsAnew, CutsAreShown, IsFittedAsItIs, IsFittedToShow, IsRefusedBeyond, ReportsAll, ReportsOne, SavesAScript, WritesAsSerial};
+ghost use Rattle.tr_session.specs.Answers.{Answer, AreAnswered};
+ghost use Rattle.tr_session.specs.Sessions.{SessionView, no_session};
+ghost use Rattle.tr_session.specs.Laws.{BeginsAnew, CutsAreShown, IsFittedAsItIs, IsFittedToShow, IsRefusedBeyond, KeepsPixel, ReportsAll, ReportsOne, SavesAScript, WritesAsSerial, WritesCuts};
 
 /// A text that a session saves is a script, if it is within the limits of scripts. Beyond them it is refused
 /// with B7.
@@ -21,15 +22,18 @@ pub fn reports_as_serial()
 {}
 
 /// At most 64 cuts in a row are a stream, and a reader of it has their screens. Behind 64 cuts another stream
-/// begins.
+/// begins. So it is with the cuts that a session wrote.
 pub fn cuts_are_shown()
     ensures shown { (screens : List Picture) → CutsAreShown screens }
     ensures anew { (screens more : List Picture) → BeginsAnew screens more }
+    ensures written { (lines : List (List ℕ)) (answers : List Answer) (last : SessionView)
+        (all : AreAnswered no_session lines answers last) → WritesCuts lines answers last all }
 {}
 
-/// A stream can show the screen of each cut. It is the screen of the session, if each pixel of that is a value
-/// of its kind.
+/// A stream can show the screen of each cut. A point keeps its pixel, if that is a value of the screen's kind;
+/// so the cut has the session's screen, if all of its pixels are.
 pub fn screens_are_fitted()
     ensures shown { (p : Picture) → IsFittedToShow p }
+    ensures points { (p : Picture) (at : Point) → KeepsPixel p at }
     ensures same { (p : Picture) → IsFittedAsItIs p }
 {}
