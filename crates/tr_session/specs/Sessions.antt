@@ -54,7 +54,7 @@ cues_for c (Some (meanings.Report query)) = sync_cues c (Some (meanings.Report q
 cues_for c (Some meanings.End) = sync_cues c (Some meanings.End)
 cues_for c said = []
 
--- the lines of the journal that it makes
+-- the lines of the journal that a line with this meaning makes
 abbrev pub made_by : SessionView → Option Meaning → List (JournalLine WidgetCmd)
 made_by s said = run_lines widgets (state_of s) (cues_for (so_far s) said)
 
@@ -79,6 +79,7 @@ abbrev pub IsShown : SessionView → Option Picture → Type 0
 IsShown s None = ⊤
 IsShown s (Some screen) = IsPicture screen × Agrees widgets (state_of s) screen
 
+-- the lines were taken one after another, a screen is there once `begin` was read, and it is right
 pub record IsSession (s : SessionView) : Type 0 where
   pub taken : AreTaken nothing_yet s.lines
   pub begun : is_some s.screen ≡ has_begun (so_far s).place
