@@ -9,8 +9,8 @@
 # program   The calls of the program trestle that judges/model/growths.py names, or those whose first word is one of
 #           WORD.. : each run ends with status 6 and nothing written, or it writes what is due. PROGRAM is a built
 #           trestle; where it is left out, the launcher proves and builds it.
-# session   The demos, line by line: a line is answered, or refused for want of memory and answered when it is sent again, or the
-#           session ends with status 6. SESSION is a built trestle-session, and judges/model/session_growths.py says more.
+# session   The demos, line by line: a line is answered, or refused for want of memory and answered when it is sent again; only at the
+#           start the session ends with status 6. SESSION is a built trestle-session, and judges/model/session_growths.py says more.
 # tests     Each test of the stage (crates/tr_stage_tests). A test makes a step once more that wanted memory, and then
 #           all must come out as without; or it ends for want of memory, where it was still making its stage. Any other
 #           end is an error. The random runs are left out: they have too many growths, and their model asks for none

@@ -5,8 +5,8 @@
 
 SESSION is a linked trestle-session, and LIBRARY bench/nth_allocation.c, compiled for LD_PRELOAD. The lines of each demo are
 sent one by one, with every second sync left out and requests and reports before the end. A line is answered as where no
-growth is refused; or it is refused for want of memory, and then it is sent again and answered so; or the session ends with
-status 6, with no answer to this line. Of each demo it is told how many sessions ended how, and at lines of which words."""
+growth is refused; or it is refused for want of memory, and then it is sent again and answered so. Only before the first
+answer a session may end with status 6. Of each demo it is told how many lines were refused, and of which words."""
 
 import os
 import re
@@ -79,11 +79,12 @@ def tried(program: str, library: str, demo: str) -> int:
     wanted = [plain.ask(line) for line in lines]
     growths = plain.end()[1]
     refused: Counter = Counter()
-    ended: Counter = Counter()
+    ended = 0
     wrong = 0
     for number in range(1, growths + 1):
         run = Run(program, library, number)
         last = None
+        answered = 0
         for line, due in zip(lines, wanted):
             answer = run.ask(line)
             if answer == b"refused memory\n":
@@ -92,14 +93,15 @@ def tried(program: str, library: str, demo: str) -> int:
             if answer != due:
                 last = (line, answer)
                 break
+            answered += 1
         status = run.end()[0]
-        if last and last[1] is None and status == NO_MEMORY:
-            ended[word_of(last[0])] += 1
+        if last and last[1] is None and not answered and status == NO_MEMORY:
+            ended += 1
         elif last or status:
             wrong += 1
             print(f"{demo}, growth {number}: status {status}, {last}")
-    told = ", ".join(f"{count} at {word}" for word, count in ended.most_common())
-    print(f"{demo}: {growths} growths, {sum(refused.values())} lines refused for memory, {sum(ended.values())} sessions ended ({told})", flush=True)
+    told = ", ".join(f"{count} at {word}" for word, count in refused.most_common())
+    print(f"{demo}: {growths} growths, {ended} sessions ended at the start, {sum(refused.values())} lines refused ({told})", flush=True)
     return wrong
 
 

@@ -1,6 +1,6 @@
 -- A session after a line up to `begin`.
-use Rattle.std.proofs.Common.{◌≡◌, ℕ, Bool, true, false, List, [], ◌∷◌, ◌++◌, Some, None, Ok, refl, sym, ap, subst, ◌∙◌, inl, Err}
-use Rattle.std.specs.Prelude.{Option, IsSomeAnd, codes, is_some, IfErr, OnOk, Result}
+use Rattle.std.proofs.Common.{◌≡◌, ℕ, Bool, true, false, List, [], ◌∷◌, ◌++◌, Some, None, Ok, refl, sym, ap, subst, ◌∙◌, Err}
+use Rattle.std.specs.Prelude.{Option, IsSomeAnd, codes, is_some, OnErr, OnOk, Result}
 use Rattle.tr_base.proofs.RectLemmas.{false-true}
 use Rattle.tr_screen.specs.Pictures.{Picture}
 use Rattle.tr_journal.specs.Journals.{JournalLine}
@@ -18,7 +18,7 @@ use Rattle.tr_grammar.specs.declared.Meaning.TheVariants as meanings
 use Rattle.tr_grammar.specs.States.{SoFar, nothing_yet}
 use Rattle.tr_grammar.specs.Texts.{is_silent}
 use Rattle.tr_grammar.specs.Faults.{allows, fault_of, has_ended, step_line}
-use Rattle.tr_grammar.specs.Scripts.{after_all_lines, after_line, whole}
+use Rattle.tr_grammar.specs.Scripts.{after_line, whole}
 use Rattle.tr_reader.specs.Adding.{is_at_steps, sort_of_meaning}
 use Rattle.tr_script.specs.Apart.{meaning_of_line}
 use Rattle.tr_serial.specs.Outputs.{serial_journal, widgets}
@@ -29,11 +29,11 @@ use Rattle.tr_session.specs.Answering.{Takes}
 use Rattle.tr_session.specs.Answers.{answer_bytes, text, text_for}
 use Rattle.tr_session.specs.Insides.{HasPlayed, HasItsLines, HoldsTogether, IsPlayed, Starts, opening_of, screen_in, session_view}
 use Rattle.tr_session.specs.Lines.{at_any_time, fault_in, has_begun}
-use Rattle.tr_session.specs.Playing.{HasStarted, IsWantOfMemory, PlayedView, begun_by}
+use Rattle.tr_session.specs.Playing.{HasStarted, PlayedView, begun_by}
 use Rattle.tr_session.specs.Sessions.{IsShown, SessionView, so_far, state_of, with_lines}
 use Rattle.tr_session.proofs.OpenLemmas.{Opens, begins, no_report_yet, no_step_yet, opens, tried_fresh}
 use Rattle.tr_session.proofs.ScriptLemmas.{silent_meaning}
-use Rattle.tr_session.proofs.SessionLemmas.{together, together_same, view_is}
+use Rattle.tr_session.proofs.SessionLemmas.{together, view_is}
 use Rattle.tr_session.proofs.TakenLemmas.{Rests, after_all_lines-append, has_meaning, opening_is, rested_all, taken-append}
 
 -- a line of the opening has no text

@@ -1,11 +1,8 @@
 -- A session after a line that was played.
-use Rattle.std.proofs.Common.{◌≡◌, inl, inr, ℕ, Bool, true, false, ◌&&◌, ◌||◌, cond, List, [], ◌∷◌, ◌++◌, Some, None, Ok, Err, refl, sym, ap, subst, ◌∙◌, append-nil, append_assoc}
-use Rattle.std.specs.Prelude.{Option, IfSome, IsSomeAnd, codes, is_some, IfErr, Result}
-use Rattle.std.proofs.lemmas.Bool.{and_parts}
+use Rattle.std.proofs.Common.{◌≡◌, ℕ, Bool, true, false, ◌&&◌, ◌||◌, cond, List, [], ◌∷◌, ◌++◌, Some, None, Ok, Err, refl, sym, ap, subst, ◌∙◌, append_assoc}
+use Rattle.std.specs.Prelude.{Option, IsSomeAnd, is_some, IfErr, Result}
 use Rattle.tr_base.proofs.RectLemmas.{false-true}
 use Rattle.tr_screen.specs.Pictures.{IsPicture}
-use Rattle.tr_journal.specs.Openings.{tree_of}
-use Rattle.tr_journal.specs.declared.Actor.TheVariants.{Player}
 use Rattle.tr_journal.specs.declared.Item.{Item}
 use Rattle.tr_journal.specs.declared.Step.TheVariants.{Sync}
 use Rattle.tr_widget.specs.declared.Widget.{Widget}
@@ -14,16 +11,13 @@ use Rattle.tr_widget.specs.Widgets.{widget_words}
 use Rattle.tr_machine.specs.States.{State}
 use Rattle.tr_machine.specs.Promises.{Agrees}
 use Rattle.tr_stage.specs.Stages.{StageView, state}
-use Rattle.tr_run.specs.Runs.{makes}
 use Rattle.tr_run.specs.Views.{Does, RunView}
 use Rattle.tr_grammar.specs.declared.Meaning.{Meaning}
 use Rattle.tr_grammar.specs.declared.Meaning.TheVariants as meanings
-use Rattle.tr_grammar.specs.declared.Place.{Place}
-use Rattle.tr_grammar.specs.declared.Place.TheVariants as places
-use Rattle.tr_grammar.specs.States.{SoFar, empty_part, nothing_yet}
-use Rattle.tr_grammar.specs.Faults.{fault_of, has_ended, nodes_so_far}
-use Rattle.tr_grammar.specs.Scripts.{after_all_lines, after_line}
-use Rattle.tr_reader.specs.Adding.{IsSoundMeaning, is_at_steps}
+use Rattle.tr_grammar.specs.States.{SoFar, nothing_yet}
+use Rattle.tr_grammar.specs.Faults.{fault_of, has_ended}
+use Rattle.tr_grammar.specs.Scripts.{after_all_lines}
+use Rattle.tr_reader.specs.Adding.{is_at_steps}
 use Rattle.tr_script.specs.Apart.{meaning_of_line}
 use Rattle.tr_serial.specs.Outputs.{widgets}
 use Rattle.tr_session.specs.declared.playing.Followed.{Followed}
@@ -33,19 +27,17 @@ use Rattle.tr_session.specs.declared.errors.Unanswered.TheVariants as unanswered
 use Rattle.tr_session.specs.declared.told.Told.{Told}
 use Rattle.tr_session.specs.declared.told.Told.TheVariants as told
 use Rattle.tr_session.specs.Answering.{Takes, Tells, behind_told, ends_told, is_end, told_by, tried_by}
-use Rattle.tr_session.specs.Answers.{IsKept, answer_bytes, text, text_for}
-use Rattle.tr_session.specs.Insides.{HasPlayed, HoldsTogether, IsPlayed, opening_of, reader_place, screen_in, session_view}
+use Rattle.tr_session.specs.Answers.{answer_bytes, text, text_for}
+use Rattle.tr_session.specs.Insides.{HasPlayed, HoldsTogether, IsPlayed, opening_of, screen_in, session_view}
 use Rattle.tr_session.specs.Lines.{added_lines, ends_steps, fault_in, has_begun, needs_sync, sync_lines, tried_against}
-use Rattle.tr_session.specs.Playing.{ActsBehindSync, Follows, IsMeant, IsWantOfMemory, IsWhole, PlayedView, as_run, cues_of_meaning}
+use Rattle.tr_session.specs.Playing.{ActsBehindSync, Follows, IsWantOfMemory, IsWhole, PlayedView, as_run, cues_of_meaning}
 use Rattle.tr_session.specs.Sessions.{SessionView, so_far, state_of, with_lines}
-use Rattle.tr_session.proofs.CueLemmas.{Continues, HasPlayedLines, plays_on, sync_more}
+use Rattle.tr_session.proofs.CueLemmas.{HasPlayedLines}
 use Rattle.tr_session.proofs.KeepingLemmas.{AddsLine, Runs, behind_after, ended_after, follows, opening_after, stage_after}
-use Rattle.tr_session.proofs.LineLemmas.{stays_at_gap, tried_is}
-use Rattle.tr_session.proofs.OpenLemmas.{meant}
-use Rattle.tr_session.proofs.SavedLemmas.{sync_leads}
+use Rattle.tr_session.proofs.LineLemmas.{tried_is}
 use Rattle.tr_session.proofs.SessionLemmas.{together, view_is}
 use Rattle.tr_session.proofs.TakenLemmas.{Rests, rested_all}
-use Rattle.tr_session.proofs.TellingLemmas.{session_after, session_behind_sync, session_same, so_far_after, state_of_lines, tells_text}
+use Rattle.tr_session.proofs.TellingLemmas.{session_after, session_same, so_far_after, state_of_lines, tells_text}
 
 -- ---- small facts
 
@@ -101,7 +93,7 @@ stages (Some p) None R has = absurd has
 stages (Some p) (Some q) R has = record { p = p; q = q; was = refl; now = refl; rel = has }
 
 -- a text that can't be told loses the session
-tells_err : (t : Told) (outcome report bytes : List ℕ) (e : Unanswered) → Tells t outcome report bytes (Err e) → e ≡ unanswered.Lost
+pub tells_err : (t : Told) (outcome report bytes : List ℕ) (e : Unanswered) → Tells t outcome report bytes (Err e) → e ≡ unanswered.Lost
 tells_err told.Nothing outcome report bytes e tells = tells
 tells_err told.Step outcome report bytes e tells = tells
 tells_err told.Sync outcome report bytes e tells = tells

@@ -1,13 +1,13 @@
 -- Lines that are taken again.
-use Rattle.std.proofs.Common.{◌≡◌, ℕ, Bool, false, List, [], ◌∷◌, ◌++◌, None, Ok, Err, append-nil, append_assoc, refl, sym, ap, subst, ◌∙◌}
+use Rattle.std.proofs.Common.{◌≡◌, ℕ, Bool, false, List, [], ◌∷◌, ◌++◌, None, Ok, Err, append-nil, append_assoc, length, arith, refl, sym, ap, subst, ◌∙◌}
 use Rattle.std.specs.Prelude.{Option, Result}
 use Rattle.tr_grammar.specs.States.{SoFar, nothing_yet}
 use Rattle.tr_grammar.specs.Scripts.{after_all_lines, after_line}
+use Rattle.tr_grammar.specs.Texts.{lines_of}
 use Rattle.tr_session.specs.declared.errors.Unanswered.{Unanswered}
 use Rattle.tr_session.specs.declared.errors.Unanswered.TheVariants as unanswered
 use Rattle.tr_session.specs.declared.sessions.Session.{Session}
 use Rattle.tr_session.specs.Answering.{Takes}
-use Rattle.tr_session.specs.Answers.{IsKept}
 use Rattle.tr_session.specs.Cuts.{AreCuts}
 use Rattle.tr_session.specs.Insides.{HasItsLines, HoldsTogether, IsPlayed, IsTakenAgain, screen_in, session_view}
 use Rattle.tr_session.specs.Lines.{added_lines, sync_lines}
@@ -52,6 +52,13 @@ takes_on old i j text rest more line bytes taking is takes holds =
           ∙ taking.lines;
       cuts = ap (λ (v : SessionView). v.cuts) view ∙ taking.cuts;
     }
+
+-- where no byte is left, all lines were taken
+pub taken_all : (old i : Session) (text : List (List ℕ)) (rest : List ℕ) → length rest ≡ 0 → IsTaking old i text (lines_of rest) →
+    i.script.saved.lines ≡ old.script.saved.lines ++ text
+unfolding lines_of
+taken_all old i text [] none taking = sym (append-nil i.script.saved.lines) ∙ taking.lines
+taken_all old i text (b ∷ rest) none taking = absurd (omega (arith, none))
 
 -- a line that lost the session changed nothing, if the lines before it were taken again
 pub again_takes : (i k j : Session) (line old bytes : List ℕ) (r : Result Unit Unanswered) →

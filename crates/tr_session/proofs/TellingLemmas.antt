@@ -1,6 +1,6 @@
 -- The session after a line, and the text of its answer.
-use Rattle.std.proofs.Common.{◌≡◌, ℕ, Bool, true, false, List, [], ◌∷◌, ◌++◌, Some, None, Ok, cond, refl, sym, ap, subst, ◌∙◌}
-use Rattle.std.specs.Prelude.{Option, codes}
+use Rattle.std.proofs.Common.{◌≡◌, ℕ, Bool, true, List, [], ◌∷◌, ◌++◌, Some, None, Ok, cond, refl, sym, ap, subst, ◌∙◌}
+use Rattle.std.specs.Prelude.{Option}
 use Rattle.std.specs.List.{flat_map}
 use Rattle.std.proofs.lemmas.List.{append-nil}
 use Rattle.tr_base.proofs.RectLemmas.{false-true}
@@ -27,10 +27,9 @@ use Rattle.tr_grammar.specs.declared.Place.TheVariants as places
 use Rattle.tr_grammar.specs.States.{SoFar, nothing_yet}
 use Rattle.tr_grammar.specs.Words.{word_at, words_of}
 use Rattle.tr_grammar.specs.Faults.{allows}
-use Rattle.tr_grammar.specs.Scripts.{after_all_lines, after_line, after_meaning}
+use Rattle.tr_grammar.specs.Scripts.{after_all_lines, after_meaning}
 use Rattle.tr_reader.specs.Adding.{sort_of_meaning}
 use Rattle.tr_dump.specs.Reports.{outcome_text}
-use Rattle.tr_script.specs.Apart.{meaning_of_line}
 use Rattle.tr_run.specs.Runs.{makes, run_lines}
 use Rattle.tr_run.specs.Texts.{texts_from}
 use Rattle.tr_run.specs.Views.{Does, RunView}
@@ -39,14 +38,13 @@ use Rattle.tr_run.specs.declared.Mode.TheVariants.{Serial}
 use Rattle.tr_serial.specs.Outputs.{widgets}
 use Rattle.tr_session.specs.Answering.{Tells, told_by}
 use Rattle.tr_session.specs.Answers.{answer_bytes, text, text_for}
-use Rattle.tr_session.specs.Lines.{added_lines, fault_in, has_begun, needs_sync, sync_lines}
+use Rattle.tr_session.specs.Lines.{added_lines, fault_in, has_begun, needs_sync}
 use Rattle.tr_session.specs.Playing.{HasOutcome, cues_of_meaning, has_outcome}
 use Rattle.tr_session.specs.Sessions.{AreTaken, IsSession, SessionView, cues_for, journal_of, so_far, state_of, with_lines}
 use Rattle.tr_session.proofs.CueLemmas.{HasPlayedLines, state_is}
 use Rattle.tr_session.proofs.KeepingLemmas.{AddsLine, alone, behind_sync, follows, silently}
 use Rattle.tr_session.proofs.PlayingLemmas.{does_both, outcome_of_last}
-use Rattle.tr_session.proofs.SavedLemmas.{sync_leads}
-use Rattle.tr_session.proofs.TakenLemmas.{added_taken, after_all_lines-append, sync_taken, taken-append}
+use Rattle.tr_session.proofs.TakenLemmas.{added_taken, after_all_lines-append, taken-append}
 
 -- ---- the session after a line
 

@@ -15,8 +15,8 @@ pub keep-requires-clause-plain : goal.keep-requires-clause-plain
 keep-requires-clause-plain c =
     plain_if_taken (tried_by c.args.self.now.script.reader c.args.self.now.script.has_ended) 1 c.args.line.now c.in_ok-said.ensures.none
 
-pub returns-in-Ok-in-Ok-clause-takes : goal.returns-in-Ok-in-Ok-clause-takes
-returns-in-Ok-in-Ok-clause-takes c =
+pub returns-in-Ok-tell-clause-takes : goal.returns-in-Ok-tell-clause-takes
+returns-in-Ok-tell-clause-takes c =
     let i : Session = c.args.self.now in
     let line = c.args.line.now in
     let said = c.in_ok-said.said in
@@ -51,11 +51,11 @@ returns-in-Ok-in-Ok-clause-takes c =
     let ended = c.keep.ensures.ended ∙ ap (λ (t : Told). c.keep_sync.new.self.has_ended || is_end t) c.told_by-told.ensures
     ∙ ap (λ (b : Bool). b || is_end (told_by said)) synced_ended in
     let tells = subst (λ (t : Told). Tells t outcome f.text c.tell.new.reply (Ok tt)) c.told_by-told.ensures
-    (subst (λ (o : List ℕ). Tells c.told_by-told.result o f.text c.tell.new.reply (Ok tt)) c.deref.ensures.value c.in-Ok-in-Ok.ensures) in
+    (subst (λ (o : List ℕ). Tells c.told_by-told.result o f.text c.tell.new.reply (Ok tt)) c.deref.ensures.value c.in-Ok-tell.ensures) in
     played_takes i j line said st.p st.q f outcome plays c.in-Ok.is lines behind ended c.tell.new.reply tells
 
-pub returns-in-Ok-in-Ok-clause-holds : goal.returns-in-Ok-in-Ok-clause-holds
-returns-in-Ok-in-Ok-clause-holds c = λ other.
+pub returns-in-Ok-tell-clause-holds : goal.returns-in-Ok-tell-clause-holds
+returns-in-Ok-tell-clause-holds c = λ other.
     let i : Session = c.args.self.now in
     let line = c.args.line.now in
     let said = c.in_ok-said.said in
@@ -91,8 +91,8 @@ returns-in-Ok-in-Ok-clause-holds c = λ other.
     ∙ ap (λ (b : Bool). b || is_end (told_by said)) synced_ended in
     played_holds i j line said st.p st.q f outcome plays c.in-Ok.is lines behind ended
 
-pub returns-in-Ok-in-Err-clause-takes : goal.returns-in-Ok-in-Err-clause-takes
-returns-in-Ok-in-Err-clause-takes c =
+pub returns-in-Err-tell-clause-takes : goal.returns-in-Err-tell-clause-takes
+returns-in-Err-tell-clause-takes c =
     let i : Session = c.args.self.now in
     let line = c.args.line.now in
     let said = c.in_ok-said.said in
@@ -114,14 +114,14 @@ returns-in-Ok-in-Err-clause-takes c =
       reader = ap (λ (s : Script). s.reader) c.follow-result.ensures.script;
       cuts = c.follow-result.ensures.cuts;
     } in
-    let tells = subst (λ (t : Told). Tells t outcome f.text c.tell.new.reply (Err c.in-Ok-in-Err.e)) c.told_by-told.ensures
-    (subst (λ (o : List ℕ). Tells c.told_by-told.result o f.text c.tell.new.reply (Err c.in-Ok-in-Err.e)) c.deref.ensures.value c.in-Ok-in-Err.ensures) in
-    untold_takes i j line said st.p st.q f outcome plays c.in-Ok-in-Err.e c.tell.new.reply (session_view j) tells
+    let tells = subst (λ (t : Told). Tells t outcome f.text c.tell.new.reply (Err c.in-Err-tell.e)) c.told_by-told.ensures
+    (subst (λ (o : List ℕ). Tells c.told_by-told.result o f.text c.tell.new.reply (Err c.in-Err-tell.e)) c.deref.ensures.value c.in-Err-tell.ensures) in
+    untold_takes i j line said st.p st.q f outcome plays c.in-Err-tell.e c.tell.new.reply (session_view j) tells
 
-pub returns-in-Ok-in-Err-clause-holds : goal.returns-in-Ok-in-Err-clause-holds
-returns-in-Ok-in-Err-clause-holds c = λ other.
+pub returns-in-Err-tell-clause-holds : goal.returns-in-Err-tell-clause-holds
+returns-in-Err-tell-clause-holds c = λ other.
     let f = c.follow-result.result in
-    let lost = tells_err c.told_by-told.result c.deref.result.now f.text c.tell.new.reply c.in-Ok-in-Err.e c.in-Ok-in-Err.ensures in
+    let lost = tells_err c.told_by-told.result c.deref.result.now f.text c.tell.new.reply c.in-Err-tell.e c.in-Err-tell.ensures in
     absurd (other (ap (λ (e : Unanswered). Err e) lost))
 
 pub returns-in-Err-clause-takes : goal.returns-in-Err-clause-takes
