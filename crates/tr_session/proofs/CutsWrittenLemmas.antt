@@ -13,6 +13,7 @@ use Rattle.tr_session.specs.Cuts.{CutsSoFar, bytes_of_cuts, cut_bytes, fitted}
 use Rattle.tr_session.specs.Laws.{WritesCuts, cut_in, screen_of_cut, screens_in}
 use Rattle.tr_session.specs.Lines.{fault_in, request_of}
 use Rattle.tr_session.specs.Sessions.{IsSession, IsShown, SessionView, no_session, so_far}
+use Rattle.tr_session.proofs.CutLemmas.{cuts_are_shown}
 use Rattle.tr_session.proofs.FitLemmas.{fitted_shows}
 use Rattle.tr_session.proofs.SessionLemmas.{no_session_is}
 
@@ -88,10 +89,10 @@ all_show s (line ∷ lines) (answer ∷ answers) t session all =
     All-append IsShowable (screen_of_cut answer s.screen) (screens_in all.0 lines answers t all.2) (one_shows s answer s.screen session.shown)
     (all_show all.0 lines answers t all.1.1 all.2)
 
--- all cuts are those of the session's screens
+-- all cuts are those of the session's screens, which readers of their streams have
 pub writes_cuts : (lines : List (List ℕ)) (answers : List Answer) (last : SessionView) (all : AreAnswered no_session lines answers last) →
     WritesCuts lines answers last all
 writes_cuts lines answers last all = record {
   cuts = all_go no_session lines answers last all;
-  showable = all_show no_session lines answers last no_session_is all;
+  shown = cuts_are_shown (screens_in no_session lines answers last all) (all_show no_session lines answers last no_session_is all);
 }

@@ -1,5 +1,5 @@
 -- The laws of a session: a saved text is a script, `serial` writes for it the session's reports, and a reader of the cuts has the screens.
-use Rattle.std.specs.Prelude.{◌≡◌, ◌≤◌, ℕ, true, List, [], ◌∷◌, ◌++◌, length, All, IfSome, Option, Some, None}
+use Rattle.std.specs.Prelude.{◌≡◌, ◌≤◌, ⊤, ℕ, true, List, [], ◌∷◌, ◌++◌, length, All, IfSome, Option, Some, None}
 use Rattle.std.specs.List.{flat_map}
 use Rattle.tr_base.specs.declared.Point.{Point}
 use Rattle.tr_screen.specs.Pictures.{IsPicture, Picture, pixel_of}
@@ -69,20 +69,28 @@ WritesAsSerial lines answers last =
     (all : AreAnswered no_session lines answers last) → IsWithin last →
     out_text (script_of (saved_text last)) ≡ reports_in no_session lines answers last all
 
--- the cuts of these screens are a stream, and a reader of it has the screens
-pub record ShowsCuts (screens : List Picture) : Type 0 where
-  pub bytes : bytes_of_cuts no_cut screens ≡ stream_of screens
+-- a reader of the stream of these screens has them
+pub record ShowsScreens (screens : List Picture) : Type 0 where
   pub is_stream : IsStream (stream_of screens)
   pub shows : screens_shown (stream_of screens) ≡ screens
 
--- so it is for up to 64 screens that a stream can show
-abbrev pub CutsAreShown : List Picture → Type 0
-CutsAreShown screens = length screens ≤ most_groups → All IsShowable screens → ShowsCuts screens
+-- each of these streams but the last has 64 screens, and the last at most 64
+abbrev pub AreFull : List (List Picture) → Type 0
+AreFull [] = ⊤
+AreFull (screens ∷ []) = length screens ≤ most_groups
+AreFull (screens ∷ more) = (length screens ≡ most_groups) × AreFull more
 
--- behind 64 cuts another stream begins
-abbrev pub BeginsAnew : List Picture → List Picture → Type 0
-BeginsAnew screens more =
-    length screens ≡ most_groups → bytes_of_cuts no_cut (screens ++ more) ≡ stream_of screens ++ bytes_of_cuts no_cut more
+-- the cuts of these screens are streams, one after another, and readers of the streams have the screens
+pub record ShowsCuts (screens : List Picture) : Type 0 where
+  pub streams : List (List Picture)
+  pub full : AreFull streams
+  pub whole : flat_map (λ part. part) streams ≡ screens
+  pub bytes : bytes_of_cuts no_cut screens ≡ flat_map stream_of streams
+  pub shown : All ShowsScreens streams
+
+-- so it is for screens that a stream can show
+abbrev pub CutsAreShown : List Picture → Type 0
+CutsAreShown screens = All IsShowable screens → ShowsCuts screens
 
 -- a stream can show the screen of each cut
 abbrev pub IsFittedToShow : Picture → Type 0
@@ -112,8 +120,8 @@ abbrev pub screens_in : (s : SessionView) (lines : List (List ℕ)) (answers : L
 screens_in s (line ∷ lines) (answer ∷ answers) t all = screen_of_cut answer s.screen ++ screens_in all.0 lines answers t all.2
 screens_in s lines answers t all = []
 
--- the cuts in the answers to all lines are those of the session's screens, which streams can show
+-- the cuts in the answers to all lines are those of the session's screens, and readers of their streams have these
 pub record WritesCuts (lines : List (List ℕ)) (answers : List Answer) (last : SessionView) (all : AreAnswered no_session lines answers last) :
     Type 0 where
   pub cuts : flat_map cut_in answers ≡ bytes_of_cuts no_cut (screens_in no_session lines answers last all)
-  pub showable : All IsShowable (screens_in no_session lines answers last all)
+  pub shown : ShowsCuts (screens_in no_session lines answers last all)

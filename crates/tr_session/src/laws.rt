@@ -4,7 +4,7 @@ ghost use Rattle.tr_base.specs.declared.Point.{Point};
 ghost use Rattle.tr_screen.specs.Pictures.{Picture};
 ghost use Rattle.tr_session.specs.Answers.{Answer, AreAnswered};
 ghost use Rattle.tr_session.specs.Sessions.{SessionView, no_session};
-ghost use Rattle.tr_session.specs.Laws.{BeginsAnew, CutsAreShown, IsFittedAsItIs, IsFittedToShow, IsRefusedBeyond, KeepsPixel, ReportsAll, ReportsOne, SavesAScript, WritesAsSerial, WritesCuts};
+ghost use Rattle.tr_session.specs.Laws.{CutsAreShown, IsFittedAsItIs, IsFittedToShow, IsRefusedBeyond, KeepsPixel, ReportsAll, ReportsOne, SavesAScript, WritesAsSerial, WritesCuts};
 
 /// A text that a session saves is a script, if it is within the limits of scripts. Beyond them it is refused
 /// with B7.
@@ -21,11 +21,10 @@ pub fn reports_as_serial()
         WritesAsSerial lines answers last }
 {}
 
-/// At most 64 cuts in a row are a stream, and a reader of it has their screens. Behind 64 cuts another stream
-/// begins. So it is with the cuts that a session wrote.
+/// The cuts of screens that a stream can show are streams of 64 groups, the last perhaps of fewer, and readers
+/// of the streams have the screens. So it is with the cuts that a session wrote.
 pub fn cuts_are_shown()
     ensures shown { (screens : List Picture) → CutsAreShown screens }
-    ensures anew { (screens more : List Picture) → BeginsAnew screens more }
     ensures written { (lines : List (List ℕ)) (answers : List Answer) (last : SessionView)
         (all : AreAnswered no_session lines answers last) → WritesCuts lines answers last all }
 {}
