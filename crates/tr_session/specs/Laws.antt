@@ -121,7 +121,7 @@ screens_in s (line ∷ lines) (answer ∷ answers) t all = screen_of_cut answer 
 screens_in s lines answers t all = []
 
 -- the cuts in the answers to all lines are those of the session's screens, and readers of their streams have these
-pub record WritesCuts (lines : List (List ℕ)) (answers : List Answer) (last : SessionView) (all : AreAnswered no_session lines answers last) :
-    Type 0 where
+pub record WritesCuts (lines : List (List ℕ)) (answers : List Answer) (last : SessionView)
+    (all : AreAnswered no_session lines answers last) : Type 0 where
   pub cuts : flat_map cut_in answers ≡ bytes_of_cuts no_cut (screens_in no_session lines answers last all)
   pub shown : ShowsCuts (screens_in no_session lines answers last all)

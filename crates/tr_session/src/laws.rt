@@ -29,8 +29,8 @@ pub fn cuts_are_shown()
         (all : AreAnswered no_session lines answers last) → WritesCuts lines answers last all }
 {}
 
-/// A stream can show the screen of each cut. A point keeps its pixel, if that is a value of the screen's kind;
-/// so the cut has the session's screen, if all of its pixels are.
+/// A stream can show the screen of each cut. A point keeps its pixel, if that is a value of the kind; so the
+/// cut has the session's screen, if all of its pixels are.
 pub fn screens_are_fitted()
     ensures shown { (p : Picture) → IsFittedToShow p }
     ensures points { (p : Picture) (at : Point) → KeepsPixel p at }
