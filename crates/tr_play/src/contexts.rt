@@ -6,7 +6,7 @@ use tr_server::{Server, Session};
 
 /// The shared data of all workers of a session.
 #[derive(Drop)]
-pub(crate) struct Context<'a, C: Client, L: Session, R, G: Gate> {
+pub(crate) struct Context<'a, C: Client, L: Session<C::Cmd>, R, G: Gate> {
     pub(crate) rt: &'a R,
     pub(crate) alloc: Global,
     pub(crate) gate: &'a G,

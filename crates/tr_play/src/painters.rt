@@ -24,7 +24,7 @@ use tr_server::{FEW_POINTS, Mu, Pass, Session};
 /// flush few commands itself.
 const MANY_WAITING: usize = 64;
 
-impl<C: Client, L: Session, R: Threads + Wait + Sync, G: Gate> Context<'_, C, L, R, G> {
+impl<C: Client, L: Session<C::Cmd>, R: Threads + Wait + Sync, G: Gate> Context<'_, C, L, R, G> {
     /// The painter brings the screen up to date once 16 steps of the part are counted, or all if it has
     /// fewer; after that whenever a quarter of the part, and at least 16 steps, are counted since; and for
     /// the last time when all are counted. It stops before only if memory runs out.

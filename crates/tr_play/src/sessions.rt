@@ -25,7 +25,7 @@ use tr_stage::Stage;
 
 /// A session on a stage: each actor makes the steps of its list in a thread of its own, `steps` in all, and
 /// the painter repaints the screen meanwhile.
-pub(crate) fn session<C: Client, L: Session, R: Threads + Wait + Sync, G: Gate + Sync>(
+pub(crate) fn session<C: Client, L: Session<C::Cmd>, R: Threads + Wait + Sync, G: Gate + Sync>(
     workers: &Workers<'_, R, G>,
     blank: Blank,
     stage: Stage<C>,
@@ -36,6 +36,7 @@ pub(crate) fn session<C: Client, L: Session, R: Threads + Wait + Sync, G: Gate +
     requires parts { (blank.parts ≡ L.parts) × (L.parts ≡ 2 * L.leaves + 3) }
     requires ids { HasIds L.nodes L.leaves stage.opening }
     requires entries { length stage.journal ≡ L.entries }
+    requires kept { stage.journal ≡ L.kept }
     requires count { length lists.now.leaves ≡ L.leaves }
     requires player { lists.now.player ≡ [] }
     requires ready { AreReady (tree_of stage.opening).nodes lists.now }
@@ -67,7 +68,7 @@ pub(crate) fn session<C: Client, L: Session, R: Threads + Wait + Sync, G: Gate +
 
 /// The same with the passes in a `Vec`, which is lent as a slice only here: so the prover has to consider
 /// one list of passes at a time.
-fn all_at_work<C: Client, L: Session, R: Threads + Wait + Sync, G: Gate + Sync>(
+fn all_at_work<C: Client, L: Session<C::Cmd>, R: Threads + Wait + Sync, G: Gate + Sync>(
     context: &Context<'_, C, L, R, G>,
     workers: &mut Vec<Pass<C, L>>,
     lists: &PartLists<'_, C::Cmd>,
@@ -86,7 +87,7 @@ fn all_at_work<C: Client, L: Session, R: Threads + Wait + Sync, G: Gate + Sync>(
 /// All workers do their work: two halves of them side by side if both have work and the part has several
 /// steps, and else one half after the other.
 #[cycle(workers)]
-fn all_work<C: Client, L: Session, R: Threads + Wait + Sync, G: Gate + Sync>(
+fn all_work<C: Client, L: Session<C::Cmd>, R: Threads + Wait + Sync, G: Gate + Sync>(
     context: &Context<'_, C, L, R, G>,
     lists: &PartLists<'_, C::Cmd>,
     steps: usize,
@@ -107,7 +108,7 @@ fn all_work<C: Client, L: Session, R: Threads + Wait + Sync, G: Gate + Sync>(
 /// Two halves of the workers do their work, side by side or one after the other. It is a function of its own,
 /// since a closure's `requires` must be that of the function around it.
 #[cycle(workers)]
-fn both_halves<C: Client, L: Session, R: Threads + Wait + Sync, G: Gate + Sync>(
+fn both_halves<C: Client, L: Session<C::Cmd>, R: Threads + Wait + Sync, G: Gate + Sync>(
     context: &Context<'_, C, L, R, G>,
     lists: &PartLists<'_, C::Cmd>,
     steps: usize,
@@ -142,7 +143,7 @@ fn both_halves<C: Client, L: Session, R: Threads + Wait + Sync, G: Gate + Sync>(
 
 /// Whether one of these workers has work for a thread. The painter has some if it may repaint more than once:
 /// else it waits for all steps, and works when the others have ended.
-fn has_work<C: Client, L: Session>(
+fn has_work<C: Client, L: Session<C::Cmd>>(
     lists: &PartLists<'_, C::Cmd>,
     steps: usize,
     workers: &[Pass<C, L>],
@@ -165,7 +166,7 @@ fn is_busy<M: Command>(lists: &PartLists<'_, M>, steps: usize, actor: Actor) -> 
 
 /// A worker does its own work: the painter repaints the screen, and each other actor makes the steps of
 /// its list. A worker gets its ladder here alone, one for all of its steps.
-fn do_own<C: Client, L: Session, R: Threads + Wait + Sync, G: Gate + Sync>(
+fn do_own<C: Client, L: Session<C::Cmd>, R: Threads + Wait + Sync, G: Gate + Sync>(
     context: &Context<'_, C, L, R, G>,
     pass: &mut Pass<C, L>,
     lists: &PartLists<'_, C::Cmd>,
@@ -183,7 +184,7 @@ fn do_own<C: Client, L: Session, R: Threads + Wait + Sync, G: Gate + Sync>(
 }
 
 /// Whether each actor but the painter made its whole list.
-fn are_whole<C: Client, L: Session>(
+fn are_whole<C: Client, L: Session<C::Cmd>>(
     workers: &Vec<Pass<C, L>>,
     lists: &PartLists<'_, C::Cmd>,
 ) -> bool
@@ -199,7 +200,7 @@ fn are_whole<C: Client, L: Session>(
 }
 
 /// Whether an actor made its whole list. The painter has none.
-fn is_whole<C: Client, L: Session>(pass: &Pass<C, L>, lists: &PartLists<'_, C::Cmd>) -> bool
+fn is_whole<C: Client, L: Session<C::Cmd>>(pass: &Pass<C, L>, lists: &PartLists<'_, C::Cmd>) -> bool
     requires { IsWorker (length lists.now.leaves) pass.now.actor }
     ensures { IsTrue result ↔ IsWhole pass.now lists.now }
 {

@@ -26,7 +26,7 @@ const MANY_POSTED: u8 = 8;
 /// A worker makes this many steps before it reports its progress.
 const STEPS_A_NOTE: usize = 16;
 
-impl<C: Client, L: Session, R: Wait, G: Gate> Context<'_, C, L, R, G> {
+impl<C: Client, L: Session<C::Cmd>, R: Wait, G: Gate> Context<'_, C, L, R, G> {
     /// Makes the steps of a list, one after another, until memory runs out. Commands are reported to the
     /// painter as they are made, since they wait for it, and other steps in the end: the next edit of the
     /// tree may cover the points that one makes bad. Until then only the progress is reported.
@@ -271,7 +271,7 @@ impl<C: Client, L: Session, R: Wait, G: Gate> Context<'_, C, L, R, G> {
 }
 
 /// The number in the part of the next step that is made with a pass, counted from 1.
-fn next_number<C: Client, L: Session>(pass: &Pass<C, L>) -> u32
+fn next_number<C: Client, L: Session<C::Cmd>>(pass: &Pass<C, L>) -> u32
     ensures { result ≡ min (length pass.now.mine + 1) (2 ^ 32 - 1) }
 {
     let made = u32::try_from(pass.mine().len()).unwrap_or(u32::MAX);

@@ -65,13 +65,6 @@ lists_gathered {M} n workers player empty after put who steps none count own las
     ∙ ap (λ (a : Actor). cond (is_by actor a) steps (made_by actor workers)) actor_is
     ∙ ap (λ (xs : List (Step M)). cond (is_by actor player.actor) xs (made_by actor workers)) mine)
 
--- of each leaf there is one
-pub as_many_lists : {M : Type 0} (n : ℕ) (workers : List (PassView M)) (player : PassView M) (gathered : ListsView M) →
-    gathered ≡ lists_of n workers player → length gathered.leaves ≡ n
-as_many_lists {M} n workers player gathered is =
-    ap (λ (l : ListsView M). length l.leaves) is
-    ∙ length-map-range_with_len (λ (k : ℕ). made_by (Leaf (record { 0 = k })) (player ∷ workers)) 0 n
-
 -- the entries of a journal are as many as are due
 pub due_whole : {C M : Type 0} (stage s : StageView C M) (due : Option ℕ) (all : ℕ) → IfSome due (λ d. d ≡ all) →
     due ≡ Some (length stage.journal) → s ≡ stage → length s.journal ≡ all

@@ -8,3 +8,4 @@ pub mod HandingLemmas
 pub mod MadeLemmas
 pub mod ShareLemmas
 pub mod DrawLemmas
+pub mod BeginLemmas

@@ -11,13 +11,13 @@ use tr_client::Client;
 /// The data protected by a window's lock: the book, the part of the ledger that counts the commands handed
 /// over, and a drawing of the commands that wait, if there is one. The model is the book.
 #[derive(Drop)]
-pub(crate) struct Basket<C: Client, L: Session> {
+pub(crate) struct Basket<C: Client, L: Session<C::Cmd>> {
     pub(crate) book: Book<C>,
     pub(crate) share: Share<L>,
     pub(crate) drawn: Option<Drawn<C>>,
 }
 
-impl<C: Client, L: Session> Model for Basket<C, L> {
+impl<C: Client, L: Session<C::Cmd>> Model for Basket<C, L> {
     ghost use Rattle.std.specs.Prelude.{◌≡◌, IfSome};
     ghost use Rattle.tr_book.specs.Books.{BookView};
     ghost use Rattle.tr_server.specs.Drawings.{IsDrawnOf};
@@ -30,7 +30,7 @@ impl<C: Client, L: Session> Model for Basket<C, L> {
         × IfSome b.drawn (λ d. IsDrawnOf C.Client b.book.prepared d.sketch) };
 }
 
-impl<C: Client, L: Session> Basket<C, L> {
+impl<C: Client, L: Session<C::Cmd>> Basket<C, L> {
     /// A book from which no command was handed over.
     pub(crate) fn new(book: Book<C>, share: Share<L>) -> Basket<C, L>
         requires share { (share.parts ≡ 1) × (share.amount ≡ 0) }

@@ -1,13 +1,12 @@
-ghost use Rattle.std.specs.Prelude.{◌≡◌, ℕ, ◌+◌, ◌<◌, ◌↔◌, if◌then◌else◌, length, vec_len, sum_by, Some, IsTrue, IfSome, IfOk, IfErr, OnOk};
-ghost use Rattle.tr_forest.specs.Nodes.{leaf_count};
+ghost use Rattle.std.specs.Prelude.{◌≡◌, ℕ, ◌+◌, ◌<◌, ◌≤◌, ◌↔◌, if◌then◌else◌, length, take, vec_len, sum_by, Some, IsTrue, IfSome, IfOk, IfErr, OnOk};
 ghost use Rattle.tr_journal.specs.declared.Actor.{Actor};
 ghost use Rattle.tr_journal.specs.Actors.{is_by};
 ghost use Rattle.tr_journal.specs.Differences.{Matches, account_of};
 ghost use Rattle.tr_journal.specs.Lists.{HasList, list_of, no_steps};
-ghost use Rattle.tr_journal.specs.Openings.{tree_of};
 ghost use Rattle.tr_server.specs.Closing.{HasDiffered, IfDiffers, IsClosed, TakesLast, lists_of, made_by, made_with, steps_with};
 ghost use Rattle.tr_server.specs.Differing.{IsDifference};
 
+use crate::audits::{entries_between, first_difference};
 use crate::passes::{Pass, Passes};
 use crate::servers::{Server, spend_all};
 use crate::sessions::Session;
@@ -104,11 +103,11 @@ impl<C: Client> Differs<C> {
     }
 }
 
-impl<C: Client, L: Session> Server<C, L> {
+impl<C: Client, L: Session<C::Cmd>> Server<C, L> {
     /// Ends the session: hands over the commands that wait in each window, takes all passes back, and
-    /// compares the stage with the opening and journal with which the server began, and with the steps of
-    /// each actor's pass, in whatever order the passes come. It consumes the server and the passes, whatever
-    /// it returns.
+    /// compares the stage with the opening with which the server began, and its new entries with the steps
+    /// of each actor's pass, in whatever order the passes come. The entries with which the server began
+    /// aren't compared: no step changes them. It consumes the server and the passes, whatever it returns.
     pub fn close<R: Wait>(self, rt: &R, passes: Passes<C, L>) -> Result<Stage<C>, CloseRefused<C>>
         requires { vec_len passes.workers ≡ L.leaves + 2 }
         ensures ok { let workers = passes.workers.items in
@@ -125,11 +124,11 @@ impl<C: Client, L: Session> Server<C, L> {
     {
         let lists = self.hand_over_all(rt);
         let Server {
-            alloc: _,
+            alloc,
             locked,
             windows,
             opening,
-            kept,
+            entries,
             is_taken: _,
         } = self;
         drop(windows);
@@ -138,14 +137,14 @@ impl<C: Client, L: Session> Server<C, L> {
         let (steps, mut all) = player.spend();
         let Ok(mut lists) = lists else {
             spend_all(workers);
-            drop((locked, opening, kept, steps, all));
+            drop((locked, opening, steps, all));
             return Err(CloseRefused::NoMemory);
         };
-        let due = due_with(Some(kept.len()), steps.len());
+        let due = due_with(Some(entries), steps.len());
         let due = gather(workers, &mut lists, &mut all, due);
         put_own(&mut lists, who, steps);
         let stage = locked.into_inner().end(all);
-        compare(stage, opening, kept, lists, due)
+        compare(alloc, stage, (opening, entries), lists, due)
     }
 
     /// Hands over the waiting commands of each window, and makes lists for the passes' steps.
@@ -162,7 +161,7 @@ impl<C: Client, L: Session> Server<C, L> {
 }
 
 /// Hands over the waiting commands of these windows, one window after another.
-fn hand_over_each<C: Client, L: Session, R: Wait>(
+fn hand_over_each<C: Client, L: Session<C::Cmd>, R: Wait>(
     rt: &R,
     mu: &mut Mu<'_, C, L>,
     windows: &[Window<C, L>],
@@ -176,7 +175,7 @@ fn hand_over_each<C: Client, L: Session, R: Wait>(
 /// Takes passes back, the last one first: the steps of each become its actor's list, and its part of the
 /// ledger joins the others. Returns how many entries are due, with these steps beside those that were due
 /// before.
-fn gather<C: Client, L: Session>(
+fn gather<C: Client, L: Session<C::Cmd>>(
     workers: Vec<Pass<C, L>>,
     lists: &mut Lists<C::Cmd>,
     all: &mut Share<L>,
@@ -223,7 +222,7 @@ fn is_due(due: Option<usize>, count: usize) -> bool
 }
 
 /// Takes the last pass back: its actor, its steps, and its part of the ledger, which is joined to the others.
-fn take_last<C: Client, L: Session>(
+fn take_last<C: Client, L: Session<C::Cmd>>(
     workers: &mut Vec<Pass<C, L>>,
     all: &mut Share<L>,
 ) -> (Actor, Vec<Step<C::Cmd>>)
@@ -261,25 +260,27 @@ fn has_list(leaves: u8, actor: Actor) -> bool
     }
 }
 
-/// The stage, if it has the given entries and steps, and its journal has as many entries as are due.
+/// The stage, if it has the given opening and steps, and its journal has as many entries as are due. The
+/// session began with the opening, and with this number of the stage's entries.
 fn compare<C: Client>(
+    alloc: Global,
     stage: Stage<C>,
-    opening: Opening<C>,
-    kept: Journal<C::Cmd>,
+    began: (Opening<C>, usize),
     lists: Lists<C::Cmd>,
     due: Option<usize>,
 ) -> Result<Stage<C>, CloseRefused<C>>
-    requires { length lists.leaves ≡ leaf_count (tree_of stage.opening).nodes }
+    requires { began.1 ≤ length stage.journal }
     ensures stage { IfOk result (λ s. s ≡ stage) }
     ensures due { OnOk result (due ≡ Some (length stage.journal)) }
-    ensures matches { OnOk result (Matches (account_of opening kept.lines) lists
+    ensures matches { OnOk result (Matches (account_of began.0 (take began.1 stage.journal)) lists
         (account_of stage.opening stage.journal)) }
-    ensures differs { IfErr result (λ e. IfDiffers e (λ d. (d.stage ≡ stage) × (d.opening ≡ opening)
-        × (d.kept ≡ kept.lines) × (d.lists ≡ lists) × IsDifference d)) }
+    ensures differs { IfErr result (λ e. IfDiffers e (λ d. (d.stage ≡ stage) × (d.opening ≡ began.0)
+        × (d.kept ≡ take began.1 stage.journal) × (d.lists ≡ lists) × IsDifference d)) }
 {
-    match stage.audit(&opening, &kept, &lists) {
+    let (opening, entries) = began;
+    match first_difference(alloc, &stage, &opening, entries, &lists) {
         Ok(None) => {
-            drop((opening, kept, lists));
+            drop((opening, lists));
             if is_due(due, stage.journal().len()) {
                 Ok(stage)
             } else {
@@ -287,15 +288,21 @@ fn compare<C: Client>(
                 Err(CloseRefused::NoMemory)
             }
         }
-        Ok(Some(difference)) => Err(CloseRefused::Differs(Differs {
-            difference,
-            stage,
-            opening,
-            kept,
-            lists,
-        })),
+        Ok(Some(difference)) => {
+            let Ok(kept) = entries_between(alloc, stage.journal(), 0, entries) else {
+                drop((difference, stage, opening, lists));
+                return Err(CloseRefused::NoMemory);
+            };
+            Err(CloseRefused::Differs(Differs {
+                difference,
+                stage,
+                opening,
+                kept,
+                lists,
+            }))
+        }
         Err(_) => {
-            drop((stage, opening, kept, lists));
+            drop((stage, opening, lists));
             Err(CloseRefused::NoMemory)
         }
     }

@@ -2,6 +2,7 @@
 //! waiting commands of the window's client, and a pass for each actor, with which the actor makes its steps.
 #![tactic(auto)]
 
+mod audits;
 mod baskets;
 mod closing;
 mod drawings;

@@ -1,4 +1,4 @@
-ghost use Rattle.std.specs.Prelude.{◌≡◌, ◌+◌, ◌<◌, ◌≤◌, ◌++◌, ◌∷◌, ◌⊎◌, [], false, Some, IsTrue, length, IfOk, IfSome, OnOk, OnErr};
+ghost use Rattle.std.specs.Prelude.{◌≡◌, ◌+◌, ◌<◌, ◌≤◌, ◌++◌, ◌∷◌, ◌⊎◌, [], false, Some, IsTrue, length, take, IfOk, IfSome, OnOk, OnErr};
 ghost use Rattle.tr_forest.specs.Nodes.{leaf_count};
 ghost use Rattle.tr_spot.specs.Leaves.{leaf_size};
 ghost use Rattle.tr_journal.specs.declared.Actor.TheVariants.{Leaf};
@@ -27,17 +27,18 @@ use tr_levels::{Held, Level};
 use tr_sketch::Sketch;
 use tr_stage::Stage;
 
-/// The data protected by the tree's lock: the stage, and the total of the session's ledger, which is the
-/// number of entries after those with which the session began. The model is the stage.
+/// The data protected by the tree's lock: the stage, whose first entries are those with which the session
+/// began, and the total of the session's ledger, which is the number of entries after these. The model is
+/// the stage.
 #[derive(Drop)]
-pub(crate) struct Locked<C: Client, L: Session> {
+pub(crate) struct Locked<C: Client, L: Session<C::Cmd>> {
     pub(crate) alloc: Global,
     pub(crate) stage: Stage<C>,
     pub(crate) counted: Total<L>,
 }
 
-impl<C: Client, L: Session> Model for Locked<C, L> {
-    ghost use Rattle.std.specs.Prelude.{◌≡◌, ◌+◌, length};
+impl<C: Client, L: Session<C::Cmd>> Model for Locked<C, L> {
+    ghost use Rattle.std.specs.Prelude.{◌≡◌, ◌+◌, length, take};
     ghost use Rattle.tr_stage.specs.Stages.{StageView};
     ghost use Rattle.tr_server.specs.Sessions.{HasIds};
 
@@ -46,14 +47,15 @@ impl<C: Client, L: Session> Model for Locked<C, L> {
     ghost view = { λ k. k.stage };
 
     ghost invariant = { λ k. (L.entries + k.counted.total ≡ length k.stage.journal)
-        × HasIds L.nodes L.leaves k.stage.opening };
+        × HasIds L.nodes L.leaves k.stage.opening × (take L.entries k.stage.journal ≡ L.kept) };
 }
 
-impl<C: Client, L: Session> Locked<C, L> {
+impl<C: Client, L: Session<C::Cmd>> Locked<C, L> {
     /// A stage. The total counts none of the entries that it has at the session's start.
     pub(crate) fn new(alloc: Global, stage: Stage<C>, counted: Total<L>) -> Locked<C, L>
         requires counted { L.entries + counted.total ≡ length stage.journal }
         requires ids { HasIds L.nodes L.leaves stage.opening }
+        requires kept { take L.entries stage.journal ≡ L.kept }
         ensures { result ≡ stage }
     {
         Locked {
@@ -71,11 +73,13 @@ impl<C: Client, L: Session> Locked<C, L> {
         &self.stage
     }
 
-    /// The stage. A part of the ledger counts at most as many entries as were made in the session.
+    /// The stage. Its first entries are those with which the session began, and a part of the ledger counts
+    /// at most as many entries as were made in the session.
     pub(crate) fn end(self, share: Share<L>) -> Stage<C>
         ensures value { result ≡ self }
         ensures ids { HasIds L.nodes L.leaves result.opening }
         ensures counted { L.entries + share.amount ≤ length result.journal }
+        ensures kept { take L.entries result.journal ≡ L.kept }
     {
         let Locked {
             alloc: _,

@@ -14,14 +14,14 @@ use tr_levels::Held;
 
 /// The token of an actor in a session, with the list of the steps that the actor made with it. It can't be
 /// dropped: `Server::close` consumes it.
-pub struct Pass<C: Client, L: Session> {
+pub struct Pass<C: Client, L: Session<C::Cmd>> {
     pub(crate) actor: Actor,
     pub(crate) mine: Vec<Step<C::Cmd>>,
     pub(crate) posted: u8,
     pub(crate) share: Share<L>,
 }
 
-impl<C: Client, L: Session> Model for Pass<C, L> {
+impl<C: Client, L: Session<C::Cmd>> Model for Pass<C, L> {
     ghost use Rattle.std.specs.Prelude.{◌≡◌};
     ghost use Rattle.tr_server.specs.Passes.{PassView};
 
@@ -39,12 +39,12 @@ impl<C: Client, L: Session> Model for Pass<C, L> {
 
 /// The passes of a session. `workers` has those of the leaves' clients, by the leaves' numbers, then the
 /// desk's, then the painter's; `player` is the player's.
-pub struct Passes<C: Client, L: Session> {
+pub struct Passes<C: Client, L: Session<C::Cmd>> {
     pub workers: Vec<Pass<C, L>>,
     pub player: Pass<C, L>,
 }
 
-impl<C: Client, L: Session> Pass<C, L> {
+impl<C: Client, L: Session<C::Cmd>> Pass<C, L> {
     /// A pass with which no step was made.
     pub(crate) fn fresh(alloc: Global, actor: Actor, share: Share<L>) -> Pass<C, L>
         requires { (share.parts ≡ 1) × (share.amount ≡ 0) }

@@ -34,7 +34,7 @@ use tr_stage::Painted;
 /// no more points are bad, `Mu::repaint_shared` paints all windows in turn, on one thread.
 pub const FEW_POINTS: u32 = 1 << 18;
 
-impl<C: Client, L: Session> Locked<C, L> {
+impl<C: Client, L: Session<C::Cmd>> Locked<C, L> {
     /// The shares that may be painted.
     pub(crate) fn shares(&self) -> Result<Vec<Share<'_, C>>, NoMemory>
         ensures { IfOk result (λ shares. shares.items ≡ spec.shares_of C.Client self.now) }

@@ -14,6 +14,7 @@ use crate::passes::{Pass, Passes};
 use crate::sessions::Session;
 use crate::tree_locks::Mu;
 use crate::windows::Window;
+use crossbeam_utils::CachePadded;
 use std::alloc::Global;
 use std::marker::Model;
 use std::sync::atomic::{AtomicBool, Ordering};
@@ -23,7 +24,7 @@ use std::thread::yield_now;
 use tr_base::{LeafId, NoMemory};
 use tr_book::Book;
 use tr_client::Client;
-use tr_journal::{Actor, Journal, Opening};
+use tr_journal::{Actor, Opening};
 use tr_levels::Ladder;
 use tr_stage::Stage;
 
@@ -33,30 +34,32 @@ const MOST_LOOKS: u32 = 1000;
 /// A stage with the tree's lock, and for each leaf a window, whose lock protects the waiting commands of its
 /// client. The model is the opening and the journal with which it began.
 #[derive(Drop)]
-pub struct Server<C: Client, L: Session> {
+pub struct Server<C: Client, L: Session<C::Cmd>> {
     pub(crate) alloc: Global,
     pub(crate) locked: Mutex<Locked<C, L>>,
     pub(crate) windows: Vec<Window<C, L>>,
     pub(crate) opening: Opening<C>,
-    pub(crate) kept: Journal<C::Cmd>,
-    /// Whether a thread has the tree's lock: a hint for those that wait for it.
-    pub(crate) is_taken: AtomicBool,
+    /// The number of entries with which it began.
+    pub(crate) entries: usize,
+    /// Whether a thread has the tree's lock: a hint for those that wait for it. They read it all the time, so
+    /// it is alone on its cache line.
+    pub(crate) is_taken: CachePadded<AtomicBool>,
 }
 
-impl<C: Client, L: Session> Model for Server<C, L> {
+impl<C: Client, L: Session<C::Cmd>> Model for Server<C, L> {
     ghost use Rattle.std.specs.Prelude.{◌≡◌, length};
     ghost use Rattle.tr_server.specs.Servers.{AreLeavesInOrder, ServerView};
     ghost use Rattle.tr_server.specs.Sessions.{HasIds};
 
     ghost Value = { ServerView C C.Cmd };
 
-    ghost view = { λ s. record { opening = s.opening; kept = s.kept.lines } };
+    ghost view = { λ s. record { opening = s.opening; kept = L.kept } };
 
-    ghost invariant = { λ s. HasIds L.nodes L.leaves s.opening × (length s.kept.lines ≡ L.entries)
-        × AreLeavesInOrder L.leaves s.windows.items };
+    ghost invariant = { λ s. HasIds L.nodes L.leaves s.opening × (length L.kept ≡ L.entries)
+        × AreLeavesInOrder L.leaves s.windows.items × (s.entries ≡ L.entries) };
 }
 
-impl<C: Client, L: Session> Server<C, L> {
+impl<C: Client, L: Session<C::Cmd>> Server<C, L> {
     /// Starts a session on a stage. No command waits in a window, and no step was made with a pass. If memory
     /// runs out, it returns the stage.
     pub fn start(
@@ -68,6 +71,7 @@ impl<C: Client, L: Session> Server<C, L> {
         requires parts { (blank.parts ≡ L.parts) × (L.parts ≡ 2 * L.leaves + 3) }
         requires ids { HasIds L.nodes L.leaves stage.opening }
         requires entries { length stage.journal ≡ L.entries }
+        requires kept { stage.journal ≡ L.kept }
         ensures opening { IfOk result (λ r. r.0.opening ≡ stage.opening) }
         ensures kept { IfOk result (λ r. r.0.kept ≡ stage.journal) }
         ensures workers { IfOk result (λ r. AreFresh L.leaves r.1.workers.items) }
@@ -75,11 +79,12 @@ impl<C: Client, L: Session> Server<C, L> {
         ensures same { IfErr result (λ s. s ≡ stage) }
     {
         let (counted, all) = blank.open::<L>();
-        let Ok((opening, kept)) = copies_of(&stage) else {
+        let entries = stage.journal().len();
+        let Ok(opening) = stage.opening().copy() else {
             return Err(stage);
         };
         let Ok((windows, passes)) = windows_and_passes(alloc, &stage, all) else {
-            drop((opening, kept));
+            drop(opening);
             return Err(stage);
         };
         let server = Server {
@@ -87,8 +92,8 @@ impl<C: Client, L: Session> Server<C, L> {
             locked: Mutex::new(Locked::new(alloc, stage, counted)),
             windows,
             opening,
-            kept,
-            is_taken: AtomicBool::new(false),
+            entries,
+            is_taken: CachePadded::new(AtomicBool::new(false)),
         };
         Ok((server, passes))
     }
@@ -109,7 +114,7 @@ impl<C: Client, L: Session> Server<C, L> {
         self.is_taken.store(true, Ordering::SeqCst);
         Mu {
             guard,
-            is_taken: &self.is_taken,
+            is_taken: &*self.is_taken,
         }
     }
 
@@ -159,21 +164,8 @@ impl<C: Client, L: Session> Server<C, L> {
     }
 }
 
-/// Copies of a stage's opening, and of its journal.
-fn copies_of<C: Client>(stage: &Stage<C>) -> Result<(Opening<C>, Journal<C::Cmd>), NoMemory>
-    ensures opening { IfOk result (λ r. r.0 ≡ stage.now.opening) }
-    ensures kept { IfOk result (λ r. r.1.lines ≡ stage.now.journal) }
-{
-    let opening = stage.opening().copy()?;
-    let Ok(kept) = stage.journal().copy() else {
-        drop(opening);
-        return Err(NoMemory);
-    };
-    Ok((opening, kept))
-}
-
 /// A window for each leaf, with no command waiting in its book, and the passes, with which no step was made.
-fn windows_and_passes<C: Client, L: Session>(
+fn windows_and_passes<C: Client, L: Session<C::Cmd>>(
     alloc: Global,
     stage: &Stage<C>,
     mut all: Share<L>,
@@ -196,7 +188,7 @@ fn windows_and_passes<C: Client, L: Session>(
 }
 
 /// The windows of this number of leaves, with no command waiting in their books.
-fn windows_of<C: Client, L: Session>(
+fn windows_of<C: Client, L: Session<C::Cmd>>(
     alloc: Global,
     stage: &Stage<C>,
     leaves: u8,
@@ -231,7 +223,7 @@ fn book_of<C: Client>(alloc: Global, stage: &Stage<C>, leaf: LeafId) -> Result<B
 }
 
 /// The passes of the leaves' clients, of the desk and of the painter.
-fn workers_of<C: Client, L: Session>(
+fn workers_of<C: Client, L: Session<C::Cmd>>(
     alloc: Global,
     leaves: u8,
     all: &mut Share<L>,
@@ -253,7 +245,7 @@ fn workers_of<C: Client, L: Session>(
 }
 
 /// Adds these passes.
-fn add_workers<C: Client, L: Session>(
+fn add_workers<C: Client, L: Session<C::Cmd>>(
     alloc: Global,
     leaves: u8,
     all: &mut Share<L>,
@@ -274,7 +266,7 @@ fn add_workers<C: Client, L: Session>(
 }
 
 /// Adds a pass with which no step was made.
-fn add_worker<C: Client, L: Session>(
+fn add_worker<C: Client, L: Session<C::Cmd>>(
     alloc: Global,
     actor: Actor,
     all: &mut Share<L>,
@@ -295,7 +287,7 @@ fn add_worker<C: Client, L: Session>(
 }
 
 /// Spends passes.
-pub(crate) fn spend_all<C: Client, L: Session>(workers: Vec<Pass<C, L>>) {
+pub(crate) fn spend_all<C: Client, L: Session<C::Cmd>>(workers: Vec<Pass<C, L>>) {
     let mut workers = workers;
     while let Some(pass) = workers.pop() {
         pass.spend();

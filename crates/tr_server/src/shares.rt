@@ -65,7 +65,7 @@ impl<C: Client> Share<'_, C> {
     pub fn give_back(self) {}
 }
 
-impl<C: Client, L: Session> Mu<'_, C, L> {
+impl<C: Client, L: Session<C::Cmd>> Mu<'_, C, L> {
     /// A share for each leaf that has bad visible points and no waiting commands, in the order of the
     /// leaves' numbers. While a share lives, no step can be made.
     pub fn shares(&self) -> Result<Vec<Share<'_, C>>, NoMemory>

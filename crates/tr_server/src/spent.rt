@@ -10,15 +10,15 @@ trait LetGo {}
 
 impl<T: Drop> LetGo for T {}
 
-impl<C: Client, L: Session> LetGo for Pass<C, L> {}
+impl<C: Client, L: Session<C::Cmd>> LetGo for Pass<C, L> {}
 
-impl<'a, C: Client, L: Session> LetGo for Mu<'a, C, L> {}
+impl<'a, C: Client, L: Session<C::Cmd>> LetGo for Mu<'a, C, L> {}
 
 /// The trait of a type that can be copied.
 trait UsedTwice {}
 
 impl<T: Copy> UsedTwice for T {}
 
-impl<C: Client, L: Session> UsedTwice for Pass<C, L> {}
+impl<C: Client, L: Session<C::Cmd>> UsedTwice for Pass<C, L> {}
 
-impl<'a, C: Client, L: Session> UsedTwice for Mu<'a, C, L> {}
+impl<'a, C: Client, L: Session<C::Cmd>> UsedTwice for Mu<'a, C, L> {}

@@ -23,12 +23,12 @@ use tr_levels::{Held, Ladder, Level};
 use tr_stage::Stage;
 
 /// The tree's lock, while a thread holds it. Only `leave` releases it. The model is the stage.
-pub struct Mu<'a, C: Client, L: Session> {
+pub struct Mu<'a, C: Client, L: Session<C::Cmd>> {
     pub(crate) guard: MutexGuard<'a, Locked<C, L>>,
     pub(crate) is_taken: &'a AtomicBool,
 }
 
-impl<'a, C: Client, L: Session> Model for Mu<'a, C, L> {
+impl<'a, C: Client, L: Session<C::Cmd>> Model for Mu<'a, C, L> {
     ghost use Rattle.std.specs.Sync.Mutex.{mutex_guard_value};
     ghost use Rattle.tr_stage.specs.Stages.{StageView};
 
@@ -37,7 +37,7 @@ impl<'a, C: Client, L: Session> Model for Mu<'a, C, L> {
     ghost view = { λ m. mutex_guard_value m.guard };
 }
 
-impl<C: Client, L: Session> Mu<'_, C, L> {
+impl<C: Client, L: Session<C::Cmd>> Mu<'_, C, L> {
     /// The stage.
     pub fn stage(&self) -> &Stage<C>
         ensures value { result.now ≡ self.now }

@@ -16,12 +16,12 @@ use tr_levels::Ladder;
 
 /// A leaf's window. Its lock protects the waiting commands of its client. The model is the leaf.
 #[derive(Drop)]
-pub struct Window<C: Client, L: Session> {
+pub struct Window<C: Client, L: Session<C::Cmd>> {
     pub(crate) leaf: LeafId,
     pub(crate) basket: Mutex<Basket<C, L>>,
 }
 
-impl<C: Client, L: Session> Model for Window<C, L> {
+impl<C: Client, L: Session<C::Cmd>> Model for Window<C, L> {
     ghost use Rattle.std.specs.Prelude.{◌<◌};
     ghost use Rattle.tr_base.specs.declared.LeafId.{LeafId};
 
@@ -32,7 +32,7 @@ impl<C: Client, L: Session> Model for Window<C, L> {
     ghost invariant = { λ w. w.leaf.0 < L.leaves };
 }
 
-impl<C: Client, L: Session> Window<C, L> {
+impl<C: Client, L: Session<C::Cmd>> Window<C, L> {
     /// A window with a book.
     pub(crate) fn new(leaf: LeafId, basket: Basket<C, L>) -> Window<C, L>
         requires { leaf.0 < L.leaves }

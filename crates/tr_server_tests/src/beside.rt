@@ -38,7 +38,7 @@ fn came(flag: &AtomicU32) -> bool {
 }
 
 /// Has the tree's lock until a command is posted.
-fn hold<C: Coloured, L: Session, R: Wait>(rt: &R, server: &Server<C, L>, flags: &Flags) {
+fn hold<C: Coloured, L: Session<C::Cmd>, R: Wait>(rt: &R, server: &Server<C, L>, flags: &Flags) {
     let mu = server.enter(rt, Ladder::ground());
     flags.held.store(1, Ordering::SeqCst);
     if came(&flags.posted) {
@@ -48,7 +48,7 @@ fn hold<C: Coloured, L: Session, R: Wait>(rt: &R, server: &Server<C, L>, flags: 
 }
 
 /// Posts a command once the tree's lock is held.
-fn post_beside<C: Coloured, L: Session, R: Wait + Abort>(
+fn post_beside<C: Coloured, L: Session<C::Cmd>, R: Wait + Abort>(
     rt: &R,
     server: &Server<C, L>,
     flags: &Flags,
@@ -61,7 +61,7 @@ fn post_beside<C: Coloured, L: Session, R: Wait + Abort>(
 }
 
 /// Both at once, each with a pass of its own.
-pub fn act_beside<C: Coloured, L: Session, R: Threads + Wait + Sync + Abort>(
+pub fn act_beside<C: Coloured, L: Session<C::Cmd>, R: Threads + Wait + Sync + Abort>(
     rt: &R,
     server: &Server<C, L>,
     workers: &mut [Pass<C, L>],

@@ -10,7 +10,7 @@ use tr_levels::Ladder;
 use tr_server::{Mu, Pass, Server, Session, Window};
 
 /// The only window.
-pub fn window<'a, C: Client, L: Session>(
+pub fn window<'a, C: Client, L: Session<C::Cmd>>(
     rt: &impl Abort,
     server: &'a Server<C, L>,
 ) -> &'a Window<C, L> {
@@ -19,7 +19,7 @@ pub fn window<'a, C: Client, L: Session>(
 }
 
 /// The window's client posts a command: the colour is this one.
-pub fn post<C: Coloured, L: Session, R: Wait + Abort>(
+pub fn post<C: Coloured, L: Session<C::Cmd>, R: Wait + Abort>(
     rt: &R,
     window: &Window<C, L>,
     pass: &mut Pass<C, L>,
@@ -33,7 +33,7 @@ pub fn post<C: Coloured, L: Session, R: Wait + Abort>(
 }
 
 /// The window's client makes this command under the tree's lock.
-pub fn act_under<C: Coloured, L: Session, R: Wait + Abort>(
+pub fn act_under<C: Coloured, L: Session<C::Cmd>, R: Wait + Abort>(
     rt: &R,
     server: &Server<C, L>,
     pass: &mut Pass<C, L>,
@@ -48,7 +48,7 @@ pub fn act_under<C: Coloured, L: Session, R: Wait + Abort>(
 }
 
 /// The window's client makes another step under it.
-pub fn client_step<C: Coloured, L: Session, R: Wait + Abort>(
+pub fn client_step<C: Coloured, L: Session<C::Cmd>, R: Wait + Abort>(
     rt: &R,
     server: &Server<C, L>,
     pass: &mut Pass<C, L>,
@@ -67,7 +67,7 @@ pub fn client_step<C: Coloured, L: Session, R: Wait + Abort>(
 }
 
 /// An actor that is no client makes a step.
-pub fn step<C: Coloured, L: Session>(
+pub fn step<C: Coloured, L: Session<C::Cmd>>(
     rt: &impl Abort,
     mu: &mut Mu<'_, C, L>,
     pass: &mut Pass<C, L>,

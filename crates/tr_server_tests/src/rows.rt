@@ -17,7 +17,7 @@ use tr_stage::Stage;
 use w_plain::Solid;
 
 /// A command is posted, the screen gets another size, and what waits is handed over.
-pub fn hand_over_later<C: Coloured, L: Session, R: Wait + Abort>(
+pub fn hand_over_later<C: Coloured, L: Session<C::Cmd>, R: Wait + Abort>(
     rt: &R,
     server: &Server<C, L>,
     workers: &mut [Pass<C, L>],
@@ -81,7 +81,7 @@ pub fn leaves_lines<R: Threads + Wait + Sync + Abort + AllocGlobal>(
 }
 
 /// Posts the commands for the colours from 0 to 63, as many as may be.
-fn fill<C: Coloured, L: Session, R: Wait + Abort>(
+fn fill<C: Coloured, L: Session<C::Cmd>, R: Wait + Abort>(
     rt: &R,
     server: &Server<C, L>,
     pass: &mut Pass<C, L>,
@@ -94,7 +94,7 @@ fn fill<C: Coloured, L: Session, R: Wait + Abort>(
 }
 
 /// Fills a pass, and makes one command more under the tree's lock.
-pub fn fill_and_act<C: Coloured, L: Session, R: Wait + Abort>(
+pub fn fill_and_act<C: Coloured, L: Session<C::Cmd>, R: Wait + Abort>(
     rt: &R,
     server: &Server<C, L>,
     pass: &mut Pass<C, L>,
@@ -105,7 +105,7 @@ pub fn fill_and_act<C: Coloured, L: Session, R: Wait + Abort>(
 }
 
 /// The same, and then fills it again.
-pub fn fill_again<C: Coloured, L: Session, R: Wait + Abort>(
+pub fn fill_again<C: Coloured, L: Session<C::Cmd>, R: Wait + Abort>(
     rt: &R,
     server: &Server<C, L>,
     pass: &mut Pass<C, L>,
@@ -146,7 +146,7 @@ fn a_pass_can_be_filled_again(rt: HostRuntime) {
 }
 
 /// Two commands are posted, and then a part of the window is marked.
-pub fn post_and_mark<C: Coloured, L: Session, R: Wait + Abort>(
+pub fn post_and_mark<C: Coloured, L: Session<C::Cmd>, R: Wait + Abort>(
     rt: &R,
     server: &Server<C, L>,
     pass: &mut Pass<C, L>,
@@ -166,7 +166,7 @@ fn what_waits_comes_before_a_step_of_its_client(rt: HostRuntime) {
 }
 
 /// A command is posted, and then the client's pass and the desk's change places.
-pub fn post_and_exchange<C: Coloured, L: Session, R: Wait + Abort>(
+pub fn post_and_exchange<C: Coloured, L: Session<C::Cmd>, R: Wait + Abort>(
     rt: &R,
     server: &Server<C, L>,
     workers: &mut [Pass<C, L>],

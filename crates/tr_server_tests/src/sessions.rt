@@ -40,7 +40,7 @@ pub enum Trial {
 }
 
 /// Makes the calls of a trial, with the passes of the client, the desk and the painter.
-fn make<C: Coloured, L: Session, R: Threads + Wait + Sync + Abort>(
+fn make<C: Coloured, L: Session<C::Cmd>, R: Threads + Wait + Sync + Abort>(
     rt: &R,
     trial: Trial,
     server: &Server<C, L>,
@@ -80,7 +80,7 @@ pub fn played_on<C: Coloured, R: Threads + Wait + Sync + Abort + AllocGlobal>(
 }
 
 /// The same, in a session with a name.
-fn session<C: Coloured, L: Session, R: Threads + Wait + Sync + Abort + AllocGlobal>(
+fn session<C: Coloured, L: Session<C::Cmd>, R: Threads + Wait + Sync + Abort + AllocGlobal>(
     rt: &R,
     trial: Trial,
     blank: Blank,
@@ -90,13 +90,14 @@ fn session<C: Coloured, L: Session, R: Threads + Wait + Sync + Abort + AllocGlob
     requires parts { (blank.parts ≡ L.parts) × (L.parts ≡ 2 * L.leaves + 3) }
     requires ids { HasIds L.nodes L.leaves stage.opening }
     requires entries { length stage.journal ≡ L.entries }
+    requires kept { stage.journal ≡ L.kept }
 {
     let (server, passes) = made(rt, Server::<C, L>::start(rt.alloc(), blank, stage));
     make_and_close(rt, trial, server, passes)
 }
 
 /// Makes the calls of a trial, and closes the session, which has all its passes.
-fn make_and_close<C: Coloured, L: Session, R: Threads + Wait + Sync + Abort>(
+fn make_and_close<C: Coloured, L: Session<C::Cmd>, R: Threads + Wait + Sync + Abort>(
     rt: &R,
     trial: Trial,
     server: Server<C, L>,

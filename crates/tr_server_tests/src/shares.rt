@@ -94,7 +94,7 @@ fn bordered<C: Coloured>(rt: &(impl Abort + AllocGlobal)) -> Stage<C> {
 }
 
 /// The painter's pass of a session.
-fn painter<'a, C: Client, L: Session>(
+fn painter<'a, C: Client, L: Session<C::Cmd>>(
     rt: &impl Abort,
     workers: &'a mut [Pass<C, L>],
 ) -> &'a mut Pass<C, L> {
@@ -104,7 +104,7 @@ fn painter<'a, C: Client, L: Session>(
 }
 
 /// The painter brings the screen up to date by way of shares.
-fn repaint<C: Client, L: Session, R: Threads + Wait + Sync + Abort>(
+fn repaint<C: Client, L: Session<C::Cmd>, R: Threads + Wait + Sync + Abort>(
     rt: &R,
     server: &Server<C, L>,
     pass: &mut Pass<C, L>,
@@ -117,7 +117,7 @@ fn repaint<C: Client, L: Session, R: Threads + Wait + Sync + Abort>(
 }
 
 /// It does so twice.
-pub fn repaint_twice<C: Client, L: Session, R: Threads + Wait + Sync + Abort>(
+pub fn repaint_twice<C: Client, L: Session<C::Cmd>, R: Threads + Wait + Sync + Abort>(
     rt: &R,
     server: &Server<C, L>,
     workers: &mut [Pass<C, L>],
@@ -220,7 +220,7 @@ fn is_one_share<C: Client>(mut shares: Vec<Share<'_, C>>) -> bool {
 }
 
 /// A share of the screen is lent, and given back.
-pub fn give_back<C: Client, L: Session, R: Wait + Abort>(rt: &R, server: &Server<C, L>) {
+pub fn give_back<C: Client, L: Session<C::Cmd>, R: Wait + Abort>(rt: &R, server: &Server<C, L>) {
     let mu = server.enter(rt, Ladder::ground());
     let is_one = is_one_share(made(rt, mu.shares()));
     mu.leave().end();
@@ -234,7 +234,7 @@ fn a_share_is_given_back(rt: HostRuntime) {
 }
 
 /// Paints the share of the last leaf that has one, apart from the screen.
-fn paint_last<C: Client, L: Session>(rt: &impl Abort, mu: &Mu<'_, C, L>) -> Option<Painted>
+fn paint_last<C: Client, L: Session<C::Cmd>>(rt: &impl Abort, mu: &Mu<'_, C, L>) -> Option<Painted>
     ensures { IfSome result (λ painted.
         IsPaintedOf C.Client (state C.Client mu.now) painted.leaf painted.part painted.pixels.items) }
 {
@@ -246,7 +246,7 @@ fn paint_last<C: Client, L: Session>(rt: &impl Abort, mu: &Mu<'_, C, L>) -> Opti
 }
 
 /// The painter puts what was painted of it onto the screen.
-fn put_last<C: Client, L: Session>(rt: &impl Abort, mu: &mut Mu<'_, C, L>, pass: &mut Pass<C, L>) {
+fn put_last<C: Client, L: Session<C::Cmd>>(rt: &impl Abort, mu: &mut Mu<'_, C, L>, pass: &mut Pass<C, L>) {
     let Some(painted) = paint_last(rt, mu) else {
         return;
     };
@@ -260,7 +260,7 @@ fn put_last<C: Client, L: Session>(rt: &impl Abort, mu: &mut Mu<'_, C, L>, pass:
 }
 
 /// The same under the tree's lock.
-pub fn paint_share<C: Client, L: Session, R: Wait + Abort>(
+pub fn paint_share<C: Client, L: Session<C::Cmd>, R: Wait + Abort>(
     rt: &R,
     server: &Server<C, L>,
     workers: &mut [Pass<C, L>],

@@ -7,10 +7,11 @@ use Rattle.tr_server_tests.proofs.sessions.played_on.Given as goal
 abbrev pub ghosts-session-L-Ledger : goal.ghosts-session-L-Ledger
 ghosts-session-L-Ledger g a = record { name = a.blank.name; parts = a.blank.parts }
 
--- its numbers are those of the stage
+-- its numbers are those of the stage, and the entries that it keeps are those of the journal
 abbrev pub ghosts-session-L-Session : goal.ghosts-session-L-Session
 ghosts-session-L-Session g a = record {
   nodes = length (tree_of a.stage.opening).nodes.entries;
   leaves = leaf_count (tree_of a.stage.opening).nodes;
   entries = length a.stage.journal;
+  kept = a.stage.journal;
 }

@@ -1,5 +1,6 @@
 use Rattle.std.proofs.Common.{◌≡◌, ◌<◌, length, ◌^◌, ap, ◌∙◌, arith, rules}
 use Rattle.tr_book.specs.Books.{PreparedView}
+use Rattle.tr_server.proofs.BeginLemmas.{kept_more}
 use Rattle.tr_server.proofs.CountLemmas.{grown}
 use Rattle.tr_server.proofs.locked.Locked.hand_over_all.Goals as goal
 
@@ -32,4 +33,6 @@ invariant_of-self-2 g c =
     let more = grown g.C.Client c.self.inside.stage c.args.leaf cmds c.deref.result.now c.take_all.new.self.journal c.in_default.ensures.ok same in (
       omega (arith, more, all, c.add.ensures.total, c.waiting-more.ensures.waiting, c.audit.ensures.total, c.self.invariant.0),
       rw c.take_all.ensures.opening c.self.invariant.1,
+      kept_more g.L.Session.entries c.self.inside.counted.total c.self.inside.stage.journal c.take_all.new.self.journal _ g.L.Session.kept
+          c.self.invariant.0 c.in_default.ensures.ok c.self.invariant.2,
     )

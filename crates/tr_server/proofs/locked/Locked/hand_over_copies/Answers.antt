@@ -1,5 +1,6 @@
 use Rattle.std.proofs.Common.{◌≡◌, ◌<◌, length, ◌^◌, sym, ap, ◌∙◌, arith, rules}
 use Rattle.tr_book.specs.Books.{PreparedView}
+use Rattle.tr_server.proofs.BeginLemmas.{kept_more}
 use Rattle.tr_server.proofs.CountLemmas.{grown}
 use Rattle.tr_server.proofs.locked.Locked.hand_over_copies.Goals as goal
 
@@ -30,4 +31,6 @@ invariant_of-self-2 g c =
     let more = grown g.C.Client c.self.inside.stage c.args.leaf cmds c.levels.result.now c.take_over-taken.new.self.journal c.in-Ok.ensures.ok same in (
       omega (arith, more, all, c.add.ensures.total, c.waiting-more.ensures.waiting, c.audit.ensures.total, c.self.invariant.0),
       rw c.take_over-taken.ensures.opening c.self.invariant.1,
+      kept_more g.L.Session.entries c.self.inside.counted.total c.self.inside.stage.journal c.take_over-taken.new.self.journal _ g.L.Session.kept
+          c.self.invariant.0 c.in-Ok.ensures.ok c.self.invariant.2,
     )

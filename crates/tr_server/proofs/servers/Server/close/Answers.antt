@@ -1,8 +1,8 @@
-use Rattle.std.proofs.Common.{◌≡◌, ◌+◌, ◌≤◌, length, refl, sym, ap, ◌∙◌, arith, rules}
+use Rattle.std.proofs.Common.{◌≡◌, ◌+◌, ◌≤◌, length, take, refl, ap, ◌∙◌, arith, rules}
 use Rattle.std.proofs.lemmas.Result.{IfErr-weaker, IfOk-weaker}
 use Rattle.tr_server.specs.Closing.{lists_of, made_with}
 use Rattle.tr_server.specs.Servers.{ServerView}
-use Rattle.tr_server.proofs.CloseLemmas.{as_many_lists, due_whole, has_differed, if_differs_weaker, is_closed, lists_gathered, still_empty}
+use Rattle.tr_server.proofs.CloseLemmas.{due_whole, has_differed, if_differs_weaker, is_closed, lists_gathered, still_empty}
 use Rattle.tr_server.proofs.ResultLemmas.{both_ok}
 use Rattle.tr_server.proofs.servers.Server.close.Goals as goal
 
@@ -10,14 +10,7 @@ pub gather-due-requires-after_bounds : goal.gather-due-requires-after_bounds
 gather-due-requires-after_bounds g c κs within = still_empty g.L.Session.leaves c.in-Ok.lists c.in-Ok.ensures
 
 pub compare-requires-after_bounds : goal.compare-requires-after_bounds
-compare-requires-after_bounds g c κs within =
-    let n = g.L.Session.leaves in
-    let workers = c.args.passes.workers.items in
-    let lists = lists_gathered n workers c.args.passes.player c.in-Ok.lists c.gather-due.new.lists c.put_own.new.lists _ _
-    c.in-Ok.ensures c.gather-due.ensures.count c.gather-due.ensures.lists
-    (record { count = c.put_own.ensures.count; lists = c.put_own.ensures.lists })
-    c.actor-who.ensures c.spend-steps.ensures.mine in
-    as_many_lists n workers c.args.passes.player c.put_own.new.lists lists ∙ sym c.end-stage.ensures.ids.leaves_are
+compare-requires-after_bounds g c κs within = omega (arith, c.end-stage.ensures.counted, c.self.invariant.3)
 
 pub returns-clause-ok : goal.returns-clause-ok
 returns-clause-ok g c =
@@ -28,6 +21,8 @@ returns-clause-ok g c =
     c.in-Ok.ensures c.gather-due.ensures.count c.gather-due.ensures.lists
     (record { count = c.put_own.ensures.count; lists = c.put_own.ensures.lists })
     c.actor-who.ensures c.spend-steps.ensures.mine in
+    let kept = ap (λ n. take n c.end-stage.result.journal) c.self.invariant.3
+    ∙ (c.end-stage.ensures.kept ∙ ap (λ (v : ServerView _ _). v.kept) c.self.view_is) in
     let counted : length c.args.self.kept + made_with workers player ≤ length c.end-stage.result.journal =
     omega (
       arith,
@@ -39,18 +34,19 @@ returns-clause-ok g c =
     ) in
     IfOk-weaker c.compare.result _ _
     (λ s h. is_closed c.args.self (lists_of n workers player) (made_with workers player) c.end-stage.result _ _ c.put_own.new.lists
-    (ap (λ (v : ServerView _ _). v.opening) c.self.view_is) (ap (λ (v : ServerView _ _). v.kept) c.self.view_is) lists counted s h.0 h.1)
+    (ap (λ (v : ServerView _ _). v.opening) c.self.view_is) kept lists counted s h.0 h.1)
     (both_ok _ _ c.compare.result c.compare.ensures.matches c.compare.ensures.stage)
 
 pub returns-clause-whole : goal.returns-clause-whole
 returns-clause-whole g c =
     let workers = c.args.passes.workers.items in
     let player = c.args.passes.player in
-    let kept : c.len.result ≡ length c.args.self.kept =
-    c.len.ensures.count ∙ ap (λ (v : ServerView _ _). length v.kept) c.self.view_is in
-    let own : c.len-2.result ≡ length c.spend-steps.result.0.items = search rules in
+    let entries = c.self.inside.entries in
+    let kept : entries ≡ length c.args.self.kept =
+    omega (arith, c.self.invariant.3, c.self.invariant.1, ap (λ (v : ServerView _ _). length v.kept) c.self.view_is) in
+    let own : c.len.result ≡ length c.spend-steps.result.0.items = search rules in
     let mine = ap length c.spend-steps.ensures.mine in
-    let all = c.gather-due.ensures.due (c.len.result + c.len-2.result) (c.due_with-due.ensures c.len.result refl) in
+    let all = c.gather-due.ensures.due (entries + c.len.result) (c.due_with-due.ensures entries refl) in
     IfOk-weaker c.compare.result _ _
     (λ s h. let whole = due_whole c.end-stage.result s _ _ all h.0 h.1 in omega (arith, whole, kept, own, mine))
     (both_ok _ _ c.compare.result c.compare.ensures.due c.compare.ensures.stage)
@@ -64,6 +60,8 @@ returns-clause-differs g c =
     c.in-Ok.ensures c.gather-due.ensures.count c.gather-due.ensures.lists
     (record { count = c.put_own.ensures.count; lists = c.put_own.ensures.lists })
     c.actor-who.ensures c.spend-steps.ensures.mine in
+    let kept = ap (λ n. take n c.end-stage.result.journal) c.self.invariant.3
+    ∙ (c.end-stage.ensures.kept ∙ ap (λ (v : ServerView _ _). v.kept) c.self.view_is) in
     let counted : length c.args.self.kept + made_with workers player ≤ length c.end-stage.result.journal =
     omega (
       arith,
@@ -76,5 +74,5 @@ returns-clause-differs g c =
     IfErr-weaker c.compare.result _ _
     (λ e. if_differs_weaker e _ _
     (has_differed c.args.self (lists_of n workers player) (made_with workers player) c.end-stage.result _ _ c.put_own.new.lists
-    (ap (λ (v : ServerView _ _). v.opening) c.self.view_is) (ap (λ (v : ServerView _ _). v.kept) c.self.view_is) lists counted))
+    (ap (λ (v : ServerView _ _). v.opening) c.self.view_is) kept lists counted))
     c.compare.ensures.differs
