@@ -31,7 +31,7 @@ fn served(
 ) -> (u8, Vec<u8>) {
     let alloc = rt.alloc();
     let bytes = made(rt, Vec::from_slice(alloc, input.as_bytes()));
-    let mut source = PieceSource::new(bytes, piece, made(rt, Vec::from_slice(alloc, reads)));
+    let mut source = PieceSource::new(bytes, piece.max(1), made(rt, Vec::from_slice(alloc, reads)));
     let mut sink = MemorySink::new(alloc, 5, made(rt, Vec::from_slice(alloc, writes)));
     let status = match serve(alloc, &mut source, &mut sink) {
         Ok(()) => 0,
