@@ -3,14 +3,8 @@ use Rattle.std.proofs.Common.{◌≡◌, ℕ, Bool, true, false, List, refl, sym
 use Rattle.tr_base.proofs.RectLemmas.{false-true}
 use Rattle.tr_grammar.specs.declared.Place.{Place}
 use Rattle.tr_grammar.specs.declared.Place.TheVariants as places
-use Rattle.tr_grammar.specs.declared.Meaning.TheVariants as meanings
 use Rattle.tr_grammar.specs.States.{SoFar}
 use Rattle.tr_grammar.specs.Faults.{has_ended}
-use Rattle.tr_grammar.specs.Scripts.{after_meaning}
-use Rattle.tr_journal.specs.declared.Actor.{Actor}
-use Rattle.tr_journal.specs.declared.Step.{Step}
-use Rattle.tr_journal.specs.declared.Query.{Query}
-use Rattle.tr_widget.specs.declared.WidgetCmd.{WidgetCmd}
 use Rattle.tr_session.specs.Answering.{tried_by}
 use Rattle.tr_session.specs.Insides.{opening_of, reader_place}
 use Rattle.tr_session.specs.Lines.{at_any_time, has_begun, tried_against}

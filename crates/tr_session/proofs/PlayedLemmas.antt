@@ -3,8 +3,6 @@ use Rattle.std.proofs.Common.{◌≡◌, ℕ, Bool, true, false, ◌&&◌, ◌||
 use Rattle.std.specs.Prelude.{Option, IsSomeAnd, is_some, IfErr, Result}
 use Rattle.tr_base.proofs.RectLemmas.{false-true}
 use Rattle.tr_screen.specs.Pictures.{IsPicture}
-use Rattle.tr_journal.specs.declared.Item.{Item}
-use Rattle.tr_journal.specs.declared.Step.TheVariants.{Sync}
 use Rattle.tr_widget.specs.declared.Widget.{Widget}
 use Rattle.tr_widget.specs.declared.WidgetCmd.{WidgetCmd}
 use Rattle.tr_widget.specs.Widgets.{widget_words}

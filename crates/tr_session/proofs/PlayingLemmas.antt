@@ -1,20 +1,15 @@
 -- The stage, the outcome and the text after a line.
 use Rattle.std.proofs.Common.{◌≡◌, ℕ, ◌-◌, Bool, true, false, cond, ◌&&◌, List, [], ◌∷◌, ◌++◌, Some, None, length, length-append, refl, sym, ap, subst, append_assoc, ◌∙◌, arith}
 use Rattle.std.specs.Prelude.{Option, IsSomeAnd, slice_get}
-use Rattle.std.specs.List.{flat_map}
 use Rattle.std.proofs.lemmas.List.{append-nil}
 use Rattle.tr_base.proofs.RectLemmas.{false-true}
-use Rattle.tr_journal.specs.declared.Actor.{Actor}
 use Rattle.tr_journal.specs.declared.Actor.TheVariants.{Player}
 use Rattle.tr_journal.specs.declared.Item.TheVariants as items
-use Rattle.tr_journal.specs.declared.Step.{Step}
 use Rattle.tr_journal.specs.declared.Step.TheVariants.{Sync}
 use Rattle.tr_journal.specs.Journals.{JournalLine}
-use Rattle.tr_journal.specs.Names.{Names}
 use Rattle.tr_widget.specs.declared.Widget.{Widget}
 use Rattle.tr_widget.specs.declared.WidgetCmd.{WidgetCmd}
 use Rattle.tr_widget.specs.Widgets.{widget_words}
-use Rattle.tr_machine.specs.States.{State}
 use Rattle.tr_grammar.specs.declared.Meaning.{Meaning}
 use Rattle.tr_grammar.specs.declared.Meaning.TheVariants as meanings
 use Rattle.tr_grammar.specs.declared.Place.TheVariants as places
@@ -23,7 +18,7 @@ use Rattle.tr_grammar.specs.Faults.{allows}
 use Rattle.tr_grammar.specs.Scripts.{after_meaning, whole}
 use Rattle.tr_reader.specs.Adding.{is_at_steps, sort_of_meaning}
 use Rattle.tr_dump.specs.Reports.{outcome_text}
-use Rattle.tr_run.specs.Runs.{Cue, makes, run_lines}
+use Rattle.tr_run.specs.Runs.{Cue, makes}
 use Rattle.tr_run.specs.Views.{Does, RunView}
 use Rattle.tr_run.proofs.RunLemmas.{Does-append}
 use Rattle.tr_serial.specs.Outputs.{cues, widgets}

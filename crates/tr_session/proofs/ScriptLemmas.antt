@@ -3,17 +3,13 @@ use Rattle.std.proofs.Common.{◌≡◌, ℕ, Bool, true, false, cond, List, Som
 use Rattle.std.specs.Prelude.{Option, IfErr, IfOk, OnOk, Result}
 use Rattle.tr_grammar.specs.declared.Code.{Code}
 use Rattle.tr_grammar.specs.declared.Code.TheVariants.{B8, B9}
-use Rattle.tr_grammar.specs.declared.LineRefused.{LineRefused}
-use Rattle.tr_grammar.specs.declared.LineRefused.TheVariants as refused
 use Rattle.tr_grammar.specs.declared.Meaning.{Meaning}
 use Rattle.tr_grammar.specs.States.{SoFar}
 use Rattle.tr_grammar.specs.Texts.{is_plain, is_silent}
 use Rattle.tr_grammar.specs.Faults.{fault_of}
-use Rattle.tr_reader.specs.Adding.{IsFault}
 use Rattle.tr_script.specs.Apart.{meaning_of_line}
 use Rattle.tr_session.specs.declared.errors.Unanswered.{Unanswered}
 use Rattle.tr_session.specs.Answering.{ClaimsFault, tried_by}
-use Rattle.tr_session.specs.Refusals.{unanswered_of}
 
 by_tests : (plain silent : Bool) → cond {A = Option Code} (not plain) (Some B9) (cond silent None (Some B8)) ≡ cond plain (cond silent None (Some B8)) (Some B9)
 by_tests true silent = refl

@@ -5,7 +5,6 @@ use Rattle.std.specs.Result.{IsErrAnd}
 use Rattle.std.proofs.lemmas.List.{take-take}
 use Rattle.std.proofs.lemmas.List.Elements.{All-push, All-take}
 use Rattle.std.proofs.Math.Seq.{take-length}
-use Rattle.tr_base.proofs.RectLemmas.{false-true}
 use Rattle.tr_io.specs.Streams.{Grew, GrewByPrefix}
 use Rattle.tr_session.specs.declared.errors.Stopped.{Stopped}
 use Rattle.tr_session.specs.declared.errors.Stopped.TheVariants as stopped
@@ -13,7 +12,7 @@ use Rattle.tr_session.specs.Answers.{Answer, AreAnswered, IsNext, answer_bytes, 
 use Rattle.tr_session.specs.Arrivals.{ArrivalsView, front_of, whole_lines}
 use Rattle.tr_session.specs.Calls.{AreAll, HasQuit, HasServed, SinkChange, SourceChange}
 use Rattle.tr_session.specs.Sessions.{SessionView, no_session}
-use Rattle.tr_session.specs.Turns.{AnswersInPart, AnswersOne, ReadsNothing, Serving, Turns, Writes}
+use Rattle.tr_session.specs.Turns.{AnswersInPart, ReadsNothing, Serving, Turns, Writes}
 use Rattle.tr_session.proofs.FrontLemmas.{ends_by_front}
 use Rattle.tr_session.proofs.GatheringLemmas.{bytes_of, front_written, none_left, part_written}
 use Rattle.tr_session.proofs.ServingLemmas.{HasCome, IsServed, all_whole, first_whole, line_begun, line_came, next_by_front, none_came, none_served, one_answered, one_served, quit_served, read_served, take_before_last, written_served}

@@ -1,5 +1,5 @@
 -- The answer of a session to a line.
-use Rattle.std.specs.Prelude.{◌≡◌, ◌⊎◌, ℕ, Bool, true, false, ◌==◌, List, [], ◌∷◌, ◌++◌, length, count_by, Option, Some, None, is_some, codes, decimal}
+use Rattle.std.specs.Prelude.{◌≡◌, ℕ, Bool, true, false, ◌==◌, List, [], ◌∷◌, ◌++◌, length, count_by, Option, Some, None, is_some, codes, decimal}
 use Rattle.std.specs.List.{flat_map}
 use Rattle.tr_screen.specs.Pictures.{Picture}
 use Rattle.tr_widget.specs.Widgets.{widget_words}
@@ -18,7 +18,7 @@ use Rattle.tr_serial.specs.Outputs.{widgets}
 use Rattle.tr_session.specs.declared.requests.Request.{Request}
 use Rattle.tr_session.specs.declared.requests.Request.TheVariants.{Save, Cut, Quit, Script}
 use Rattle.tr_session.specs.Cuts.{cut_bytes, fitted, with_cut}
-use Rattle.tr_session.specs.Lines.{added_lines, fault_in, request_of, sync_lines, needs_sync}
+use Rattle.tr_session.specs.Lines.{added_lines, fault_in, request_of}
 use Rattle.tr_session.specs.Sessions.{IsSession, SessionView, so_far, journal_of, state_of, made_by, with_lines, saved_text}
 
 -- ---- the bytes of an answer
