@@ -46,18 +46,6 @@ together_empty i lines played cuts reader ended behind =
     together i no_session (view_is i [] None no_cut lines (ap screen_in played) cuts) no_session_is reader ended behind
     (subst (λ (p : Option PlayedView). IsPlayed no_session p) (sym played) refl)
 
--- other parts with the same lines, stage and cuts
-pub same_view : (i j : Session) → j.script.saved.lines ≡ i.script.saved.lines → j.played ≡ i.played → j.cuts ≡ i.cuts →
-    session_view j ≡ session_view i
-same_view i j lines played cuts = view_is j i.script.saved.lines (screen_in i.played) i.cuts lines (ap screen_in played) cuts
-
-pub together_same : (i j : Session) → HoldsTogether i → j.script.saved.lines ≡ i.script.saved.lines → j.played ≡ i.played → j.cuts ≡ i.cuts →
-    j.script.reader ≡ i.script.reader → j.script.has_ended ≡ i.script.has_ended → j.script.is_behind_step ≡ i.script.is_behind_step →
-    HoldsTogether j
-together_same i j holds lines played cuts reader ended behind =
-    together j (session_view i) (same_view i j lines played cuts) holds.session (reader ∙ holds.reader) (ended ∙ holds.ended) (behind ∙ holds.behind)
-    (subst (λ (p : Option PlayedView). IsPlayed (session_view i) p) (sym played) holds.played)
-
 -- the view of no line, no stage and no cut
 pub empty_view : (lines : List (List ℕ)) (cuts : CutsSoFar) → lines ≡ [] → cuts ≡ no_cut →
     record { lines = lines; screen = None; cuts = cuts } ≡ no_session

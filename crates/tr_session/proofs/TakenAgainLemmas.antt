@@ -1,28 +1,14 @@
 -- Lines that are taken again.
-use Rattle.std.proofs.Common.{◌≡◌, ℕ, Bool, false, List, [], ◌∷◌, ◌++◌, None, Ok, Err, append-nil, append_assoc, length, arith, refl, sym, ap, subst, ◌∙◌}
-use Rattle.std.specs.Prelude.{Option, Result}
+use Rattle.std.proofs.Common.{◌≡◌, ℕ, Bool, List, [], ◌∷◌, ◌++◌, Ok, append-nil, append_assoc, length, arith, sym, ap, subst, ◌∙◌}
 use Rattle.tr_grammar.specs.States.{SoFar, nothing_yet}
 use Rattle.tr_grammar.specs.Scripts.{after_all_lines, after_line}
 use Rattle.tr_grammar.specs.Texts.{lines_of}
-use Rattle.tr_session.specs.declared.errors.Unanswered.{Unanswered}
-use Rattle.tr_session.specs.declared.errors.Unanswered.TheVariants as unanswered
 use Rattle.tr_session.specs.declared.sessions.Session.{Session}
 use Rattle.tr_session.specs.Answering.{Takes}
-use Rattle.tr_session.specs.Cuts.{AreCuts}
-use Rattle.tr_session.specs.Insides.{HasItsLines, HoldsTogether, IsPlayed, IsTakenAgain, screen_in, session_view}
+use Rattle.tr_session.specs.Insides.{HoldsTogether, screen_in, session_view}
 use Rattle.tr_session.specs.Lines.{added_lines, sync_lines}
-use Rattle.tr_session.specs.Playing.{PlayedView}
 use Rattle.tr_session.specs.Sessions.{AreTaken, SessionView, so_far, with_lines}
-use Rattle.tr_session.proofs.SessionLemmas.{together, view_is}
 use Rattle.tr_session.proofs.TakenLemmas.{after_all_lines-append}
-
--- no line was taken again yet
-pub none_again : (i : Session) → i.script.saved.lines ≡ [] → i.played ≡ None → AreCuts i.cuts → i.script.reader ≡ nothing_yet →
-    i.script.has_ended ≡ false → i.script.is_behind_step ≡ false → HoldsTogether i
-none_again i lines played cuts reader ended behind =
-    let s : SessionView = record { lines = []; screen = None; cuts = i.cuts } in
-    together i s (view_is i [] None i.cuts lines (ap screen_in played) refl) (record { taken = tt; begun = refl; shown = tt; cuts = cuts })
-    reader ended behind (subst (λ (p : Option PlayedView). IsPlayed s p) (sym played) refl)
 
 -- from one session to a later one, lines of this text were taken again, and these are the others
 pub record IsTaking (old i : Session) (text rest : List (List ℕ)) : Type 0 where
@@ -59,19 +45,3 @@ pub taken_all : (old i : Session) (text : List (List ℕ)) (rest : List ℕ) →
 unfolding lines_of
 taken_all old i text [] none taking = sym (append-nil i.script.saved.lines) ∙ taking.lines
 taken_all old i text (b ∷ rest) none taking = absurd (omega (arith, none))
-
--- a line that lost the session changed nothing, if the lines before it were taken again
-pub again_takes : (i k j : Session) (line old bytes : List ℕ) (r : Result Unit Unanswered) →
-    Takes (session_view i) line old (Err unanswered.Lost) (session_view k) → HasItsLines i k → IsTakenAgain k r j →
-    Takes (session_view i) line bytes r (session_view j)
-again_takes i k j line old bytes (Ok done) takes lost again = absurd cc
-again_takes i k j line old bytes (Err (unanswered.Fault code)) takes lost again = absurd cc
-again_takes i k j line old bytes (Err unanswered.NoMemory) takes lost again =
-    view_is j i.script.saved.lines (screen_in j.played) i.cuts (again.0.lines ∙ lost.lines) refl (again.0.cuts ∙ lost.cuts)
-again_takes i k j line old bytes (Err unanswered.Lost) takes lost again = takes
-
-pub again_holds : (k j : Session) (r : Result Unit Unanswered) → IsTakenAgain k r j → (r ≡ Err unanswered.Lost → ⊥) → HoldsTogether j
-again_holds k j (Ok done) again other = absurd cc
-again_holds k j (Err (unanswered.Fault code)) again other = absurd cc
-again_holds k j (Err unanswered.NoMemory) again other = again.1
-again_holds k j (Err unanswered.Lost) again other = absurd (other refl)
