@@ -23,7 +23,7 @@ use Rattle.tr_run.specs.Runs.{Cue, makes}
 use Rattle.tr_run.specs.Views.{Does, RunView}
 use Rattle.tr_serial.specs.Outputs.{cues, widgets}
 use Rattle.tr_script.specs.Apart.{meaning_of_line}
-use Rattle.tr_session.specs.Answering.{behind_told, is_end, told_by}
+use Rattle.tr_session.specs.Answering.{behind_sort, is_end, sort_of}
 use Rattle.tr_session.specs.Insides.{opening_of}
 use Rattle.tr_session.specs.Lines.{added_lines, at_any_time, ends_steps, fault_in, has_begun, needs_sync, sync_lines}
 use Rattle.tr_session.specs.Playing.{cues_of_meaning}
@@ -129,7 +129,7 @@ opening_after c line d begun (behind_sync m said needs is) =
 
 -- whether the last line made a step
 step_after : (c : SoFar) (w : List ℕ) (m : Meaning) → allows places.Gap (sort_of_meaning m) ≡ true →
-    is_at_steps (after_meaning c w m).place ≡ behind_told (told_by (Some m)) (is_at_steps c.place)
+    is_at_steps (after_meaning c w m).place ≡ behind_sort (sort_of (Some m)) (is_at_steps c.place)
 step_after c w (meanings.Version n) allowed = absurd (false-true allowed)
 step_after c w (meanings.Item (items.Screen size kind)) allowed = absurd (false-true allowed)
 step_after c w (meanings.Item (items.Glyph byte rows)) allowed = absurd (false-true allowed)
@@ -144,7 +144,7 @@ step_after c w (meanings.Report query) allowed = refl
 step_after c w meanings.End allowed = refl
 
 -- a line that needs a sync is a report or the end, which makes no step
-no_step : (at_steps before : Bool) (m : Meaning) → (at_steps && ends_steps (Some m)) ≡ true → behind_told (told_by (Some m)) before ≡ false
+no_step : (at_steps before : Bool) (m : Meaning) → (at_steps && ends_steps (Some m)) ≡ true → behind_sort (sort_of (Some m)) before ≡ false
 no_step true before (meanings.Version n) needs = absurd (false-true needs)
 no_step true before (meanings.Item item) needs = absurd (false-true needs)
 no_step true before meanings.Begin needs = absurd (false-true needs)
@@ -155,24 +155,24 @@ no_step true before meanings.End needs = refl
 no_step false before m needs = absurd (false-true needs)
 
 pub behind_after : (c : SoFar) (line : List ℕ) (d : SoFar) → AddsLine c line d →
-    is_at_steps d.place ≡ behind_told (told_by (meaning_of_line c line)) (is_at_steps c.place)
+    is_at_steps d.place ≡ behind_sort (sort_of (meaning_of_line c line)) (is_at_steps c.place)
 behind_after c line d (silently said is) =
     ap (λ (e : SoFar). is_at_steps e.place) is
-    ∙ sym (ap (λ (found : Option Meaning). behind_told (told_by found) (is_at_steps c.place)) said)
+    ∙ sym (ap (λ (found : Option Meaning). behind_sort (sort_of found) (is_at_steps c.place)) said)
 behind_after c line d (alone m said needs is) =
     ap (λ (e : SoFar). is_at_steps e.place) is
     ∙ step_after c (word_at (words_of line) 1) m said.allowed
-    ∙ sym (ap (λ (found : Option Meaning). behind_told (told_by found) (is_at_steps c.place)) said.said)
+    ∙ sym (ap (λ (found : Option Meaning). behind_sort (sort_of found) (is_at_steps c.place)) said.said)
 behind_after c line d (behind_sync m said needs is) =
     ap (λ (e : SoFar). is_at_steps e.place) is
     ∙ step_after (after_meaning c [] meanings.Sync) (word_at (words_of line) 1) m said.allowed
     ∙ no_step (is_at_steps c.place) false m needs
     ∙ sym (no_step (is_at_steps c.place) (is_at_steps c.place) m needs)
-    ∙ sym (ap (λ (found : Option Meaning). behind_told (told_by found) (is_at_steps c.place)) said.said)
+    ∙ sym (ap (λ (found : Option Meaning). behind_sort (sort_of found) (is_at_steps c.place)) said.said)
 
 -- whether the end was read
 end_after : (c : SoFar) (w : List ℕ) (m : Meaning) → allows places.Gap (sort_of_meaning m) ≡ true →
-    has_ended (after_meaning c w m).place ≡ is_end (told_by (Some m))
+    has_ended (after_meaning c w m).place ≡ is_end (sort_of (Some m))
 end_after c w (meanings.Version n) allowed = absurd (false-true allowed)
 end_after c w (meanings.Item (items.Screen size kind)) allowed = absurd (false-true allowed)
 end_after c w (meanings.Item (items.Glyph byte rows)) allowed = absurd (false-true allowed)
@@ -191,21 +191,21 @@ or_none true = refl
 or_none false = refl
 
 pub ended_after : (c : SoFar) (line : List ℕ) (d : SoFar) → AddsLine c line d →
-    has_ended d.place ≡ (has_ended c.place || is_end (told_by (meaning_of_line c line)))
+    has_ended d.place ≡ (has_ended c.place || is_end (sort_of (meaning_of_line c line)))
 ended_after c line d (silently said is) =
     ap (λ (e : SoFar). has_ended e.place) is
     ∙ or_none (has_ended c.place)
-    ∙ sym (ap (λ (found : Option Meaning). has_ended c.place || is_end (told_by found)) said)
+    ∙ sym (ap (λ (found : Option Meaning). has_ended c.place || is_end (sort_of found)) said)
 ended_after c line d (alone m said needs is) =
     ap (λ (e : SoFar). has_ended e.place) is
     ∙ end_after c (word_at (words_of line) 1) m said.allowed
-    ∙ sym (ap (λ (b : Bool). b || is_end (told_by (Some m))) said.early)
-    ∙ sym (ap (λ (found : Option Meaning). has_ended c.place || is_end (told_by found)) said.said)
+    ∙ sym (ap (λ (b : Bool). b || is_end (sort_of (Some m))) said.early)
+    ∙ sym (ap (λ (found : Option Meaning). has_ended c.place || is_end (sort_of found)) said.said)
 ended_after c line d (behind_sync m said needs is) =
     ap (λ (e : SoFar). has_ended e.place) is
     ∙ end_after (after_meaning c [] meanings.Sync) (word_at (words_of line) 1) m said.allowed
-    ∙ sym (ap (λ (b : Bool). b || is_end (told_by (Some m))) said.early)
-    ∙ sym (ap (λ (found : Option Meaning). has_ended c.place || is_end (told_by found)) said.said)
+    ∙ sym (ap (λ (b : Bool). b || is_end (sort_of (Some m))) said.early)
+    ∙ sym (ap (λ (found : Option Meaning). has_ended c.place || is_end (sort_of found)) said.said)
 
 -- ---- the stage
 

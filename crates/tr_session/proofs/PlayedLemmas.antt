@@ -22,13 +22,13 @@ use Rattle.tr_session.specs.declared.playing.Followed.{Followed}
 use Rattle.tr_session.specs.declared.sessions.Session.{Session}
 use Rattle.tr_session.specs.declared.errors.Unanswered.{Unanswered}
 use Rattle.tr_session.specs.declared.errors.Unanswered.TheVariants as unanswered
-use Rattle.tr_session.specs.declared.told.Told.{Told}
-use Rattle.tr_session.specs.declared.told.Told.TheVariants as told
-use Rattle.tr_session.specs.Answering.{Takes, Tells, behind_told, ends_told, is_end, told_by, tried_by}
+use Rattle.tr_session.specs.declared.sorts.LineSort.{LineSort}
+use Rattle.tr_session.specs.declared.sorts.LineSort.TheVariants as sorts
+use Rattle.tr_session.specs.Answering.{Takes, Tells, behind_sort, sort_ends_steps, is_end, sort_of, tried_by}
 use Rattle.tr_session.specs.Answers.{answer_bytes, text, text_for}
 use Rattle.tr_session.specs.Insides.{HasPlayed, HoldsTogether, IsPlayed, opening_of, screen_in, session_view}
 use Rattle.tr_session.specs.Lines.{added_lines, ends_steps, fault_in, has_begun, needs_sync, sync_lines, tried_against}
-use Rattle.tr_session.specs.Playing.{ActsBehindSync, Follows, IsWantOfMemory, IsWhole, PlayedView, as_run, cues_of_meaning}
+use Rattle.tr_session.specs.Playing.{ActsBehindSync, Follows, IsWantOfMemory, KeepsLines, PlayedView, as_run, cues_of_meaning}
 use Rattle.tr_session.specs.Sessions.{SessionView, so_far, state_of, with_lines}
 use Rattle.tr_session.proofs.CueLemmas.{HasPlayedLines}
 use Rattle.tr_session.proofs.KeepingLemmas.{AddsLine, Runs, behind_after, ended_after, follows, opening_after, stage_after}
@@ -43,7 +43,7 @@ meaning_tried : (c : SoFar) (line : List ℕ) → meaning_of_line (tried_against
 unfolding meaning_of_line
 meaning_tried c line = refl
 
-ends_same : (said : Option Meaning) → ends_told (told_by said) ≡ ends_steps said
+ends_same : (said : Option Meaning) → sort_ends_steps (sort_of said) ≡ ends_steps said
 ends_same None = refl
 ends_same (Some (meanings.Version n)) = refl
 ends_same (Some (meanings.Item item)) = refl
@@ -55,7 +55,7 @@ ends_same (Some meanings.End) = refl
 
 -- a sync before a line doesn't change whether the line is behind a step
 behind_once : (said : Option Meaning) (synced at : Bool) → synced ≡ (at && ends_steps said) →
-    behind_told (told_by said) (cond synced false at) ≡ behind_told (told_by said) at
+    behind_sort (sort_of said) (cond synced false at) ≡ behind_sort (sort_of said) at
 behind_once said false at is = refl
 behind_once said true false is = absurd (false-true (sym is))
 behind_once None true true is = absurd (false-true (sym is))
@@ -91,12 +91,12 @@ stages (Some p) None R has = absurd has
 stages (Some p) (Some q) R has = record { p = p; q = q; was = refl; now = refl; rel = has }
 
 -- a text that can't be told loses the session
-pub tells_err : (t : Told) (outcome report bytes : List ℕ) (e : Unanswered) → Tells t outcome report bytes (Err e) → e ≡ unanswered.Lost
-tells_err told.Nothing outcome report bytes e tells = tells
-tells_err told.Step outcome report bytes e tells = tells
-tells_err told.Sync outcome report bytes e tells = tells
-tells_err told.Report outcome report bytes e tells = tells
-tells_err told.End outcome report bytes e tells = tells
+pub tells_err : (t : LineSort) (outcome report bytes : List ℕ) (e : Unanswered) → Tells t outcome report bytes (Err e) → e ≡ unanswered.Lost
+tells_err sorts.Nothing outcome report bytes e tells = tells
+tells_err sorts.Step outcome report bytes e tells = tells
+tells_err sorts.Sync outcome report bytes e tells = tells
+tells_err sorts.Report outcome report bytes e tells = tells
+tells_err sorts.End outcome report bytes e tells = tells
 
 -- ---- a line that was read and followed
 
@@ -108,7 +108,7 @@ pub record PlaysLine (i j : Session) (line : List ℕ) (said : Option Meaning) (
   pub means : said ≡ meaning_of_line (tried_by i.script.reader i.script.has_ended) line
   pub was : i.played ≡ Some p
   pub now : j.played ≡ Some q
-  pub follows : Follows p q said (i.script.is_behind_step && ends_told (told_by said)) f [] outcome
+  pub follows : Follows p q said (i.script.is_behind_step && sort_ends_steps (sort_of said)) f [] outcome
   pub reader : j.script.reader ≡ i.script.reader
   pub cuts : j.cuts ≡ i.cuts
 
@@ -125,7 +125,7 @@ module _ (i j : Session) (line : List ℕ) (said : Option Meaning) (p q : Played
 
   -- a sync is needed before the line
   abbrev pub needs : Bool
-  needs = i.script.is_behind_step && ends_told (told_by said)
+  needs = i.script.is_behind_step && sort_ends_steps (sort_of said)
 
   abbrev acts : ActsBehindSync widgets (as_run p) b said needs f.result [] outcome
   acts = plays.follows.acts
@@ -144,7 +144,7 @@ module _ (i j : Session) (line : List ℕ) (said : Option Meaning) (p q : Played
 
   needs_is : needs ≡ needs_sync c said
   needs_is =
-      ap (λ (at : Bool). at && ends_told (told_by said)) plays.holds.behind
+      ap (λ (at : Bool). at && sort_ends_steps (sort_of said)) plays.holds.behind
       ∙ ap (λ (ends : Bool). is_at_steps c.place && ends) (ends_same said)
 
   rested : Rests c
@@ -175,8 +175,8 @@ module _ (i j : Session) (line : List ℕ) (said : Option Meaning) (p q : Played
   -- ---- the line was done
 
   module _ (done : f.result ≡ Ok tt) (lines : j.script.saved.lines ≡ (i.script.saved.lines ++ sync_lines needs) ++ line ∷ [])
-      (behind : j.script.is_behind_step ≡ behind_told (told_by said) (cond needs false i.script.is_behind_step))
-      (ended : j.script.has_ended ≡ (i.script.has_ended || is_end (told_by said))) where
+      (behind : j.script.is_behind_step ≡ behind_sort (sort_of said) (cond needs false i.script.is_behind_step))
+      (ended : j.script.has_ended ≡ (i.script.has_ended || is_end (sort_of said))) where
     abbrev d : SoFar
     d = after_all_lines c (added_lines c line)
 
@@ -213,24 +213,24 @@ module _ (i j : Session) (line : List ℕ) (said : Option Meaning) (p q : Played
         together j t view (session_after s line b q.stage.screen plays.holds.session none_in plays.begun after screen_right)
         (plays.reader ∙ plays.holds.reader ∙ sym (opening_after c line d plays.begun adds) ∙ ap opening_of (sym next))
         (ended
-        ∙ ap (λ (e : Bool). e || is_end (told_by said)) plays.holds.ended
-        ∙ ap (λ (m : Option Meaning). has_ended c.place || is_end (told_by m)) said_in
+        ∙ ap (λ (e : Bool). e || is_end (sort_of said)) plays.holds.ended
+        ∙ ap (λ (m : Option Meaning). has_ended c.place || is_end (sort_of m)) said_in
         ∙ sym (ended_after c line d adds)
         ∙ ap (λ (e : SoFar). has_ended e.place) (sym next))
         (behind
-        ∙ ap (λ (at : Bool). behind_told (told_by said) (cond needs false at)) plays.holds.behind
+        ∙ ap (λ (at : Bool). behind_sort (sort_of said) (cond needs false at)) plays.holds.behind
         ∙ behind_once said needs (is_at_steps c.place) needs_is
-        ∙ ap (λ (m : Option Meaning). behind_told (told_by m) (is_at_steps c.place)) said_in
+        ∙ ap (λ (m : Option Meaning). behind_sort (sort_of m) (is_at_steps c.place)) said_in
         ∙ sym (behind_after c line d adds)
         ∙ ap (λ (e : SoFar). is_at_steps e.place) (sym next))
         (has_played t (subst (λ (e : SoFar). HasPlayedLines e b) (sym next) after))
 
-    pub played_takes : (bytes : List ℕ) → Tells (told_by said) outcome f.text bytes (Ok tt) → Takes s line bytes (Ok tt) (session_view j)
+    pub played_takes : (bytes : List ℕ) → Tells (sort_of said) outcome f.text bytes (Ok tt) → Takes s line bytes (Ok tt) (session_view j)
     played_takes bytes tells = (
       none_in,
       tells_text s said needs (as_run p) acts.begun b outcome bytes played refl refl needs_is (acts.sync done) (acts.did done)
           (acts.outcome done)
-          (subst (λ (told : List ℕ). Tells (told_by said) outcome told bytes (Ok tt)) plays.follows.text tells)
+          (subst (λ (told : List ℕ). Tells (sort_of said) outcome told bytes (Ok tt)) plays.follows.text tells)
           ∙ ap (λ (m : Option Meaning). answer_bytes (text (text_for s m))) said_in,
       view_is j (s.lines ++ added_lines c line) (screen_in j.played) s.cuts lines_are refl plays.cuts,
     )
@@ -242,7 +242,7 @@ module _ (i j : Session) (line : List ℕ) (said : Option Meaning) (p q : Played
     -- for want of memory the stage is the same
     kept : f.result ≡ Err unanswered.NoMemory → HoldsTogether j
     kept lost =
-        let whole : IsWhole p.stage b.stage = acts.whole lost in
+        let whole : KeepsLines p.stage b.stage = acts.whole lost in
         let now : HasPlayedLines c b = record {
           opening = whole.opening ∙ played.opening;
           names = acts.names ∙ played.names;
@@ -275,6 +275,6 @@ module _ (i j : Session) (line : List ℕ) (said : Option Meaning) (p q : Played
         by_error unanswered.Lost is other = absurd (other refl)
 
   -- a text that can't be told loses the session
-  pub untold_takes : (e : Unanswered) (bytes : List ℕ) (v : SessionView) → Tells (told_by said) outcome f.text bytes (Err e) → Takes s line bytes (Err e) v
+  pub untold_takes : (e : Unanswered) (bytes : List ℕ) (v : SessionView) → Tells (sort_of said) outcome f.text bytes (Err e) → Takes s line bytes (Err e) v
   untold_takes e bytes v tells =
-      subst (λ (lost : Unanswered). Takes s line bytes (Err lost) v) (sym (tells_err (told_by said) outcome f.text bytes e tells)) none_in
+      subst (λ (lost : Unanswered). Takes s line bytes (Err lost) v) (sym (tells_err (sort_of said) outcome f.text bytes e tells)) none_in

@@ -36,7 +36,7 @@ use Rattle.tr_run.specs.Views.{Does, RunView}
 use Rattle.tr_run.specs.declared.Mode.{Mode}
 use Rattle.tr_run.specs.declared.Mode.TheVariants.{Serial}
 use Rattle.tr_serial.specs.Outputs.{widgets}
-use Rattle.tr_session.specs.Answering.{Tells, told_by}
+use Rattle.tr_session.specs.Answering.{Tells, sort_of}
 use Rattle.tr_session.specs.Answers.{answer_bytes, text, text_for}
 use Rattle.tr_session.specs.Lines.{added_lines, fault_in, has_begun, needs_sync}
 use Rattle.tr_session.specs.Playing.{HasOutcome, cues_of_meaning, has_outcome}
@@ -139,13 +139,13 @@ module _ (s : SessionView) (a b : RunView Widget WidgetCmd) (played : HasPlayedL
 pub tells_text : (s : SessionView) (said : Option Meaning) (synced : Bool) (a now b : RunView Widget WidgetCmd) (outcome bytes : List ℕ) →
     HasPlayedLines (so_far s) a → a.mode ≡ Serial → a.text ≡ [] → synced ≡ needs_sync (so_far s) said →
     Does widgets widget_words a now (cond synced (makes Player Sync ∷ []) []) → Does widgets widget_words now b (cues_of_meaning said) →
-    (has_outcome said ≡ true → HasOutcome b [] outcome) → Tells (told_by said) outcome b.text bytes (Ok tt) →
+    (has_outcome said ≡ true → HasOutcome b [] outcome) → Tells (sort_of said) outcome b.text bytes (Ok tt) →
     bytes ≡ answer_bytes (text (text_for s said))
 tells_text s said synced a now b outcome bytes played serial none is first last has tells =
     by_meaning said (does_both (so_far s) said synced a now b is first last) has tells
   where
     by_meaning : (said : Option Meaning) → Does widgets widget_words a b (cues_for (so_far s) said) →
-        (has_outcome said ≡ true → HasOutcome b [] outcome) → Tells (told_by said) outcome b.text bytes (Ok tt) →
+        (has_outcome said ≡ true → HasOutcome b [] outcome) → Tells (sort_of said) outcome b.text bytes (Ok tt) →
         bytes ≡ answer_bytes (text (text_for s said))
     by_meaning (Some (meanings.Step actor step)) did has tells =
         tells ∙ ap (λ (t : List ℕ). answer_bytes (text t)) (outcome_is s a b played actor step outcome did (has refl))

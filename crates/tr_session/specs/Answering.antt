@@ -9,35 +9,35 @@ use Rattle.tr_grammar.specs.declared.Meaning.TheVariants as meanings
 use Rattle.tr_session.specs.declared.errors.Lost.{Lost}
 use Rattle.tr_session.specs.declared.errors.Unanswered.{Unanswered}
 use Rattle.tr_session.specs.declared.errors.Unanswered.TheVariants as unanswered
-use Rattle.tr_session.specs.declared.told.Told.{Told}
-use Rattle.tr_session.specs.declared.told.Told.TheVariants as told
+use Rattle.tr_session.specs.declared.sorts.LineSort.{LineSort}
+use Rattle.tr_session.specs.declared.sorts.LineSort.TheVariants as sorts
 use Rattle.tr_session.specs.Answers.{Answer, IsKept, refused, text, no_memory, answer_bytes, due_of_line, after_script_line}
 use Rattle.tr_session.specs.Lines.{fault_in}
 use Rattle.tr_session.specs.Sessions.{SessionView, so_far}
 
 -- the sort of a meaning
-abbrev pub told_by : Option Meaning → Told
-told_by (Some (meanings.Step actor step)) = told.Step
-told_by (Some meanings.Sync) = told.Sync
-told_by (Some (meanings.Report query)) = told.Report
-told_by (Some meanings.End) = told.End
-told_by said = told.Nothing
+abbrev pub sort_of : Option Meaning → LineSort
+sort_of (Some (meanings.Step actor step)) = sorts.Step
+sort_of (Some meanings.Sync) = sorts.Sync
+sort_of (Some (meanings.Report query)) = sorts.Report
+sort_of (Some meanings.End) = sorts.End
+sort_of said = sorts.Nothing
 
 -- a script has a sync between a step and this line
-abbrev pub ends_told : Told → Bool
-ends_told told.Report = true
-ends_told told.End = true
-ends_told t = false
+abbrev pub sort_ends_steps : LineSort → Bool
+sort_ends_steps sorts.Report = true
+sort_ends_steps sorts.End = true
+sort_ends_steps t = false
 
 -- whether the last line that isn't silent makes a step, with this line
-abbrev pub behind_told : Told → Bool → Bool
-behind_told told.Nothing before = before
-behind_told told.Step before = true
-behind_told t before = false
+abbrev pub behind_sort : LineSort → Bool → Bool
+behind_sort sorts.Nothing before = before
+behind_sort sorts.Step before = true
+behind_sort t before = false
 
 -- the line is the end
-abbrev pub is_end : Told → Bool
-is_end told.End = true
+abbrev pub is_end : LineSort → Bool
+is_end sorts.End = true
 is_end t = false
 
 -- the reader's script so far, or the same after the end
@@ -66,10 +66,10 @@ Takes s line bytes (Err unanswered.NoMemory) t = IsKept s t
 Takes s line bytes (Err unanswered.Lost) t = fault_in (so_far s) line ≡ None
 
 -- the reply has the text of a line that was played: the outcome of its step, its report, or nothing
-abbrev pub Tells : Told → List ℕ → List ℕ → List ℕ → Result Unit Unanswered → Type 0
-Tells told.Step outcome report bytes (Ok done) = bytes ≡ answer_bytes (text outcome)
-Tells told.Sync outcome report bytes (Ok done) = bytes ≡ answer_bytes (text outcome)
-Tells told.Report outcome report bytes (Ok done) = bytes ≡ answer_bytes (text report)
+abbrev pub Tells : LineSort → List ℕ → List ℕ → List ℕ → Result Unit Unanswered → Type 0
+Tells sorts.Step outcome report bytes (Ok done) = bytes ≡ answer_bytes (text outcome)
+Tells sorts.Sync outcome report bytes (Ok done) = bytes ≡ answer_bytes (text outcome)
+Tells sorts.Report outcome report bytes (Ok done) = bytes ≡ answer_bytes (text report)
 Tells t outcome report bytes (Ok done) = bytes ≡ answer_bytes (text [])
 Tells t outcome report bytes (Err e) = e ≡ unanswered.Lost
 

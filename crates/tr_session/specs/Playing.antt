@@ -62,7 +62,7 @@ cues_of_meaning (Some (meanings.Report query)) = reporting query
 cues_of_meaning said = []
 
 -- a stage has no more lines than before; the bad points of its screen may have other pixels
-pub record IsWhole {C M : Type 0} (old new : StageView C M) : Type 0 where
+pub record KeepsLines {C M : Type 0} (old new : StageView C M) : Type 0 where
   pub opening : new.opening ≡ old.opening
   pub journal : new.journal ≡ old.journal
 
@@ -88,7 +88,7 @@ pub record Acts {C : Type 0} (client : Ghosts C WidgetCmd) (a b : RunView C Widg
   pub names : b.names ≡ a.names
   pub did : result ≡ Ok tt → Does client widget_words a b (cues_of_meaning said)
   pub outcome : result ≡ Ok tt → has_outcome said ≡ true → HasOutcome b old new
-  pub whole : result ≡ Err unanswered.NoMemory → IsWhole a.stage b.stage
+  pub whole : result ≡ Err unanswered.NoMemory → KeepsLines a.stage b.stage
   pub fault : IfErr result IsWantOfMemory
 
 -- the same, after a sync if one is needed
@@ -99,7 +99,7 @@ pub record ActsBehindSync {C : Type 0} (client : Ghosts C WidgetCmd) (a b : RunV
   pub sync : result ≡ Ok tt → Does client widget_words a begun (if needs then makes Player Sync ∷ [] else [])
   pub did : result ≡ Ok tt → Does client widget_words begun b (cues_of_meaning said)
   pub outcome : result ≡ Ok tt → has_outcome said ≡ true → HasOutcome b old new
-  pub whole : result ≡ Err unanswered.NoMemory → IsWhole a.stage b.stage
+  pub whole : result ≡ Err unanswered.NoMemory → KeepsLines a.stage b.stage
   pub fault : IfErr result IsWantOfMemory
 
 -- a line was followed: its cues were done, and the texts are theirs, unless the session is lost

@@ -20,7 +20,7 @@ use crate::requests::{Request, request_of};
 use crate::saving::is_refused;
 use crate::scripts::Script;
 use crate::sessions::Session;
-use crate::told::{Told, told_by};
+use crate::sorts::{LineSort, sort_of};
 use tr_base::NoMemory;
 use tr_grammar::{Code, Meaning};
 use tr_output::Output;
@@ -206,14 +206,14 @@ impl<'a> Session<'a> {
     {
         self.script.saved.reserve(line)?;
         let said = self.script.read(self.alloc, line)?;
-        let told = told_by(&said);
-        let needs_sync = self.script.needs_sync(told);
+        let sort = sort_of(&said);
+        let needs_sync = self.script.needs_sync(sort);
         let Followed { result, text } = self.follow(said, needs_sync);
         match result {
-            Ok(()) => match tell(told, &self.outcome, text, reply) {
+            Ok(()) => match tell(sort, &self.outcome, text, reply) {
                 Ok(()) => {
                     self.script.keep_sync(needs_sync);
-                    self.script.keep(line, told);
+                    self.script.keep(line, sort);
                     Ok(())
                 }
                 Err(e) => Err(e),
@@ -251,13 +251,13 @@ impl<'a> Session<'a> {
 }
 
 /// The answer to a line that was played.
-fn tell(told: Told, outcome: &[u8], report: Output, reply: &mut Reply) -> Result<(), Unanswered>
-    ensures { Tells told outcome.now report reply.new result }
+fn tell(sort: LineSort, outcome: &[u8], report: Output, reply: &mut Reply) -> Result<(), Unanswered>
+    ensures { Tells sort outcome.now report reply.new result }
 {
-    let told = match told {
-        Told::Step | Told::Sync => reply.set_text(outcome),
-        Told::Report => reply.set_report(&report),
-        Told::Nothing | Told::End => {
+    let told = match sort {
+        LineSort::Step | LineSort::Sync => reply.set_text(outcome),
+        LineSort::Report => reply.set_report(&report),
+        LineSort::Nothing | LineSort::End => {
             reply.set_empty();
             Ok(())
         }

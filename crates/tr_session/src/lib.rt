@@ -16,7 +16,7 @@ mod saving;
 mod scripts;
 mod serving;
 mod sessions;
-mod told;
+mod sorts;
 
 pub use errors::Stopped;
 pub use laws::{cuts_are_shown, reports_as_serial, saves_a_script, screens_are_fitted};

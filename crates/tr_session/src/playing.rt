@@ -9,7 +9,7 @@ ghost use Rattle.tr_run.specs.Runs.{makes, reporting};
 ghost use Rattle.tr_run.specs.Views.{Does};
 ghost use Rattle.tr_run.specs.declared.Mode.TheVariants.{Serial};
 ghost use Rattle.tr_session.specs.declared.errors.Unanswered.TheVariants as unanswered;
-ghost use Rattle.tr_session.specs.Playing.{Acts, ActsBehindSync, Follows, HasOutcome, HasStarted, IsMeant, IsWantOfMemory, IsWhole, begun_by};
+ghost use Rattle.tr_session.specs.Playing.{Acts, ActsBehindSync, Follows, HasOutcome, HasStarted, IsMeant, IsWantOfMemory, KeepsLines, begun_by};
 
 use crate::errors::Unanswered;
 use crate::openings::script_of;
@@ -173,7 +173,7 @@ fn make<C: Client<Cmd = WidgetCmd>, N: NameOf>(
     ensures names { run.new.names ≡ run.old.names }
     ensures did { OnOk result (Does C.Client widget_words run.old run.new (makes actor step ∷ [])) }
     ensures outcome { OnOk result (HasOutcome run.new out.old.items out.new.items) }
-    ensures err { result ≡ Err unanswered.NoMemory → IsWhole run.old.stage run.new.stage }
+    ensures err { result ≡ Err unanswered.NoMemory → KeepsLines run.old.stage run.new.stage }
     ensures fault { IfErr result (λ e. IsWantOfMemory e) }
 {
     if out.reserve(OUTCOME_ROOM).is_err() {
@@ -193,7 +193,7 @@ fn report<C: Client, N: NameOf>(run: &mut Run<C, N>, query: Query) -> Result<(),
     requires { IsQuery (tree_of run.old.stage.opening).nodes query }
     ensures names { run.new.names ≡ run.old.names }
     ensures did { OnOk result (Does C.Client C.Cmd.words run.old run.new (reporting query)) }
-    ensures err { result ≡ Err unanswered.NoMemory → IsWhole run.old.stage run.new.stage }
+    ensures err { result ≡ Err unanswered.NoMemory → KeepsLines run.old.stage run.new.stage }
     ensures fault { IfErr result (λ e. IsWantOfMemory e) }
 {
     let before = run.stage().journal().len();

@@ -10,13 +10,13 @@ ghost use Rattle.tr_grammar.specs.Texts.{is_plain, is_silent};
 ghost use Rattle.tr_grammar.specs.Words.{word_at, words_of};
 ghost use Rattle.tr_reader.specs.Adding.{IsSoundMeaning};
 ghost use Rattle.tr_script.specs.Apart.{meaning_of_line};
-ghost use Rattle.tr_session.specs.Answering.{ClaimsFault, behind_told, ends_told, is_end, tried_by};
+ghost use Rattle.tr_session.specs.Answering.{ClaimsFault, behind_sort, is_end, sort_ends_steps, tried_by};
 ghost use Rattle.tr_session.specs.Lines.{sync_lines};
 ghost use Rattle.tr_session.specs.Saving.{ending};
 
 use crate::errors::Unanswered;
 use crate::saving::Saved;
-use crate::told::Told;
+use crate::sorts::LineSort;
 use bumpalo::Bump;
 use std::alloc::Global;
 use tr_base::NoMemory;
@@ -100,10 +100,10 @@ impl<'a> Script<'a> {
     }
 
     /// Whether a script has a sync between the last line and this one.
-    pub(crate) fn needs_sync(&self, told: Told) -> bool
-        ensures { result ≡ (self.now.is_behind_step && ends_told told) }
+    pub(crate) fn needs_sync(&self, sort: LineSort) -> bool
+        ensures { result ≡ (self.now.is_behind_step && sort_ends_steps sort) }
     {
-        self.is_behind_step && told.ends_steps()
+        self.is_behind_step && sort.ends_steps()
     }
 
     /// Adds a sync, if one was made. There is room for it.
@@ -122,17 +122,17 @@ impl<'a> Script<'a> {
     }
 
     /// Adds a line that was played. There is room for it.
-    pub(crate) fn keep(&mut self, line: &[u8], told: Told)
+    pub(crate) fn keep(&mut self, line: &[u8], sort: LineSort)
         requires room { length line.now + 1 ≤ self.old.saved.room }
         requires plain { is_plain line.now ≡ true }
         ensures lines { self.new.saved.lines ≡ self.old.saved.lines ++ line.now ∷ [] }
         ensures reader { self.new.reader ≡ self.old.reader }
-        ensures behind { self.new.is_behind_step ≡ behind_told told self.old.is_behind_step }
-        ensures ended { self.new.has_ended ≡ self.old.has_ended || is_end told }
+        ensures behind { self.new.is_behind_step ≡ behind_sort sort self.old.is_behind_step }
+        ensures ended { self.new.has_ended ≡ self.old.has_ended || is_end sort }
     {
         self.saved.push(line);
-        self.is_behind_step = told.is_behind_step(self.is_behind_step);
-        self.has_ended = self.has_ended || told == Told::End;
+        self.is_behind_step = sort.is_behind_step(self.is_behind_step);
+        self.has_ended = self.has_ended || sort == LineSort::End;
     }
 
     /// The text of the lines so far and those that make a script of them.

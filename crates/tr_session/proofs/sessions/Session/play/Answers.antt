@@ -2,8 +2,8 @@ use Rattle.std.proofs.Common.{ℕ, Bool, false, ◌&&◌, ◌||◌, cond, List, 
 use Rattle.tr_session.specs.declared.scripts.Script.{Script}
 use Rattle.tr_session.specs.declared.sessions.Session.{Session}
 use Rattle.tr_session.specs.declared.errors.Unanswered.{Unanswered}
-use Rattle.tr_session.specs.declared.told.Told.{Told}
-use Rattle.tr_session.specs.Answering.{Tells, behind_told, ends_told, is_end, told_by, tried_by}
+use Rattle.tr_session.specs.declared.sorts.LineSort.{LineSort}
+use Rattle.tr_session.specs.Answering.{Tells, behind_sort, sort_ends_steps, is_end, sort_of, tried_by}
 use Rattle.tr_session.specs.Insides.{session_view}
 use Rattle.tr_session.specs.Lines.{sync_lines}
 use Rattle.tr_session.specs.Playing.{Follows, PlayedView}
@@ -26,7 +26,7 @@ returns-in-Ok-tell-clause-takes c =
     let j : Session = record { alloc = n.alloc; arena = n.arena; script = c.keep.new.self; played = n.played; cuts = n.cuts; outcome = n.outcome } in
     let R : PlayedView → PlayedView → Type 0 = λ p q. Follows p q said c.needs_sync-needs_sync.result f [] outcome in
     let st = stages i.played n.played R c.follow-result.ensures.followed in
-    let needs = c.needs_sync-needs_sync.ensures ∙ ap (λ (t : Told). i.script.is_behind_step && ends_told t) c.told_by-told.ensures in
+    let needs = c.needs_sync-needs_sync.ensures ∙ ap (λ (t : LineSort). i.script.is_behind_step && sort_ends_steps t) c.sort_of-sort.ensures in
     let plays : PlaysLine i j line said st.p st.q f outcome = record {
       holds = c.requires.holds;
       begun = c.requires.begun;
@@ -46,12 +46,12 @@ returns-in-Ok-tell-clause-takes c =
     ∙ ap (λ (b : Bool). cond b false i.script.is_behind_step) needs in
     let synced_ended = c.keep_sync.ensures.ended ∙ ap (λ (s : Script). s.has_ended) c.follow-result.ensures.script in
     let lines = c.keep.ensures.lines ∙ ap (λ (ls : List (List ℕ)). ls ++ line ∷ []) synced_lines in
-    let behind = c.keep.ensures.behind ∙ ap (λ (t : Told). behind_told t c.keep_sync.new.self.is_behind_step) c.told_by-told.ensures
-    ∙ ap (λ (b : Bool). behind_told (told_by said) b) synced_behind in
-    let ended = c.keep.ensures.ended ∙ ap (λ (t : Told). c.keep_sync.new.self.has_ended || is_end t) c.told_by-told.ensures
-    ∙ ap (λ (b : Bool). b || is_end (told_by said)) synced_ended in
-    let tells = subst (λ (t : Told). Tells t outcome f.text c.tell.new.reply (Ok tt)) c.told_by-told.ensures
-    (subst (λ (o : List ℕ). Tells c.told_by-told.result o f.text c.tell.new.reply (Ok tt)) c.deref.ensures.value c.in-Ok-tell.ensures) in
+    let behind = c.keep.ensures.behind ∙ ap (λ (t : LineSort). behind_sort t c.keep_sync.new.self.is_behind_step) c.sort_of-sort.ensures
+    ∙ ap (λ (b : Bool). behind_sort (sort_of said) b) synced_behind in
+    let ended = c.keep.ensures.ended ∙ ap (λ (t : LineSort). c.keep_sync.new.self.has_ended || is_end t) c.sort_of-sort.ensures
+    ∙ ap (λ (b : Bool). b || is_end (sort_of said)) synced_ended in
+    let tells = subst (λ (t : LineSort). Tells t outcome f.text c.tell.new.reply (Ok tt)) c.sort_of-sort.ensures
+    (subst (λ (o : List ℕ). Tells c.sort_of-sort.result o f.text c.tell.new.reply (Ok tt)) c.deref.ensures.value c.in-Ok-tell.ensures) in
     played_takes i j line said st.p st.q f outcome plays c.in-Ok.is lines behind ended c.tell.new.reply tells
 
 pub returns-in-Ok-tell-clause-holds : goal.returns-in-Ok-tell-clause-holds
@@ -65,7 +65,7 @@ returns-in-Ok-tell-clause-holds c = λ other.
     let j : Session = record { alloc = n.alloc; arena = n.arena; script = c.keep.new.self; played = n.played; cuts = n.cuts; outcome = n.outcome } in
     let R : PlayedView → PlayedView → Type 0 = λ p q. Follows p q said c.needs_sync-needs_sync.result f [] outcome in
     let st = stages i.played n.played R c.follow-result.ensures.followed in
-    let needs = c.needs_sync-needs_sync.ensures ∙ ap (λ (t : Told). i.script.is_behind_step && ends_told t) c.told_by-told.ensures in
+    let needs = c.needs_sync-needs_sync.ensures ∙ ap (λ (t : LineSort). i.script.is_behind_step && sort_ends_steps t) c.sort_of-sort.ensures in
     let plays : PlaysLine i j line said st.p st.q f outcome = record {
       holds = c.requires.holds;
       begun = c.requires.begun;
@@ -85,10 +85,10 @@ returns-in-Ok-tell-clause-holds c = λ other.
     ∙ ap (λ (b : Bool). cond b false i.script.is_behind_step) needs in
     let synced_ended = c.keep_sync.ensures.ended ∙ ap (λ (s : Script). s.has_ended) c.follow-result.ensures.script in
     let lines = c.keep.ensures.lines ∙ ap (λ (ls : List (List ℕ)). ls ++ line ∷ []) synced_lines in
-    let behind = c.keep.ensures.behind ∙ ap (λ (t : Told). behind_told t c.keep_sync.new.self.is_behind_step) c.told_by-told.ensures
-    ∙ ap (λ (b : Bool). behind_told (told_by said) b) synced_behind in
-    let ended = c.keep.ensures.ended ∙ ap (λ (t : Told). c.keep_sync.new.self.has_ended || is_end t) c.told_by-told.ensures
-    ∙ ap (λ (b : Bool). b || is_end (told_by said)) synced_ended in
+    let behind = c.keep.ensures.behind ∙ ap (λ (t : LineSort). behind_sort t c.keep_sync.new.self.is_behind_step) c.sort_of-sort.ensures
+    ∙ ap (λ (b : Bool). behind_sort (sort_of said) b) synced_behind in
+    let ended = c.keep.ensures.ended ∙ ap (λ (t : LineSort). c.keep_sync.new.self.has_ended || is_end t) c.sort_of-sort.ensures
+    ∙ ap (λ (b : Bool). b || is_end (sort_of said)) synced_ended in
     played_holds i j line said st.p st.q f outcome plays c.in-Ok.is lines behind ended
 
 pub returns-in-Err-tell-clause-takes : goal.returns-in-Err-tell-clause-takes
@@ -102,7 +102,7 @@ returns-in-Err-tell-clause-takes c =
     let j : Session = record { alloc = n.alloc; arena = n.arena; script = n.script; played = n.played; cuts = n.cuts; outcome = n.outcome } in
     let R : PlayedView → PlayedView → Type 0 = λ p q. Follows p q said c.needs_sync-needs_sync.result f [] outcome in
     let st = stages i.played n.played R c.follow-result.ensures.followed in
-    let needs = c.needs_sync-needs_sync.ensures ∙ ap (λ (t : Told). i.script.is_behind_step && ends_told t) c.told_by-told.ensures in
+    let needs = c.needs_sync-needs_sync.ensures ∙ ap (λ (t : LineSort). i.script.is_behind_step && sort_ends_steps t) c.sort_of-sort.ensures in
     let plays : PlaysLine i j line said st.p st.q f outcome = record {
       holds = c.requires.holds;
       begun = c.requires.begun;
@@ -114,14 +114,14 @@ returns-in-Err-tell-clause-takes c =
       reader = ap (λ (s : Script). s.reader) c.follow-result.ensures.script;
       cuts = c.follow-result.ensures.cuts;
     } in
-    let tells = subst (λ (t : Told). Tells t outcome f.text c.tell.new.reply (Err c.in-Err-tell.e)) c.told_by-told.ensures
-    (subst (λ (o : List ℕ). Tells c.told_by-told.result o f.text c.tell.new.reply (Err c.in-Err-tell.e)) c.deref.ensures.value c.in-Err-tell.ensures) in
+    let tells = subst (λ (t : LineSort). Tells t outcome f.text c.tell.new.reply (Err c.in-Err-tell.e)) c.sort_of-sort.ensures
+    (subst (λ (o : List ℕ). Tells c.sort_of-sort.result o f.text c.tell.new.reply (Err c.in-Err-tell.e)) c.deref.ensures.value c.in-Err-tell.ensures) in
     untold_takes i j line said st.p st.q f outcome plays c.in-Err-tell.e c.tell.new.reply (session_view j) tells
 
 pub returns-in-Err-tell-clause-holds : goal.returns-in-Err-tell-clause-holds
 returns-in-Err-tell-clause-holds c = λ other.
     let f = c.follow-result.result in
-    let lost = tells_err c.told_by-told.result c.deref.result.now f.text c.tell.new.reply c.in-Err-tell.e c.in-Err-tell.ensures in
+    let lost = tells_err c.sort_of-sort.result c.deref.result.now f.text c.tell.new.reply c.in-Err-tell.e c.in-Err-tell.ensures in
     absurd (other (ap (λ (e : Unanswered). Err e) lost))
 
 pub returns-in-Err-clause-takes : goal.returns-in-Err-clause-takes
@@ -135,7 +135,7 @@ returns-in-Err-clause-takes c =
     let j : Session = record { alloc = n.alloc; arena = n.arena; script = n.script; played = n.played; cuts = n.cuts; outcome = n.outcome } in
     let R : PlayedView → PlayedView → Type 0 = λ p q. Follows p q said c.needs_sync-needs_sync.result f [] outcome in
     let st = stages i.played n.played R c.follow-result.ensures.followed in
-    let needs = c.needs_sync-needs_sync.ensures ∙ ap (λ (t : Told). i.script.is_behind_step && ends_told t) c.told_by-told.ensures in
+    let needs = c.needs_sync-needs_sync.ensures ∙ ap (λ (t : LineSort). i.script.is_behind_step && sort_ends_steps t) c.sort_of-sort.ensures in
     let plays : PlaysLine i j line said st.p st.q f outcome = record {
       holds = c.requires.holds;
       begun = c.requires.begun;
@@ -163,7 +163,7 @@ returns-in-Err-clause-holds c = λ other.
     let j : Session = record { alloc = n.alloc; arena = n.arena; script = n.script; played = n.played; cuts = n.cuts; outcome = n.outcome } in
     let R : PlayedView → PlayedView → Type 0 = λ p q. Follows p q said c.needs_sync-needs_sync.result f [] outcome in
     let st = stages i.played n.played R c.follow-result.ensures.followed in
-    let needs = c.needs_sync-needs_sync.ensures ∙ ap (λ (t : Told). i.script.is_behind_step && ends_told t) c.told_by-told.ensures in
+    let needs = c.needs_sync-needs_sync.ensures ∙ ap (λ (t : LineSort). i.script.is_behind_step && sort_ends_steps t) c.sort_of-sort.ensures in
     let plays : PlaysLine i j line said st.p st.q f outcome = record {
       holds = c.requires.holds;
       begun = c.requires.begun;
