@@ -21,8 +21,8 @@ pub fn reports_as_serial()
         WritesAsSerial lines answers last }
 {}
 
-/// The cuts of screens that a stream can show are streams of 64 groups, the last perhaps of fewer, and readers
-/// of the streams have the screens. So it is with the cuts that a session wrote.
+/// The cuts of screens that a stream can show are streams of 64 groups, the last perhaps of fewer. Readers of
+/// the streams have the screens. So it is with the cuts that a session wrote.
 pub fn cuts_are_shown()
     ensures shown { (screens : List Picture) → CutsAreShown screens }
     ensures written { (lines : List (List ℕ)) (answers : List Answer) (last : SessionView)
