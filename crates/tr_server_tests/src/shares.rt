@@ -246,7 +246,11 @@ fn paint_last<C: Client, L: Session<C::Cmd>>(rt: &impl Abort, mu: &Mu<'_, C, L>)
 }
 
 /// The painter puts what was painted of it onto the screen.
-fn put_last<C: Client, L: Session<C::Cmd>>(rt: &impl Abort, mu: &mut Mu<'_, C, L>, pass: &mut Pass<C, L>) {
+fn put_last<C: Client, L: Session<C::Cmd>>(
+    rt: &impl Abort,
+    mu: &mut Mu<'_, C, L>,
+    pass: &mut Pass<C, L>,
+) {
     let Some(painted) = paint_last(rt, mu) else {
         return;
     };
