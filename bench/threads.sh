@@ -1,16 +1,18 @@
 #!/bin/sh
-# Plays scripts by `serial` and by `play`, in turn, and prints the milliseconds of both and their ratio.
+# Plays scripts by `serial` and by `play`, and prints the milliseconds of both and their ratio.
 #
 #     bench/threads.sh [ROUNDS] [PROGRAM]
 #
-# Each time is the best of ROUNDS (3 if left out), and each round plays both. PROGRAM is a built trestle; where it is left out,
-# the launcher proves and builds it. It wants date with %N. The first line tells how many processors there are.
+# Each of ROUNDS (3 if left out) plays both, in an order by chance. A line has the best round of each word, the ratio of the
+# best rounds, the ratio of the means of all rounds, and the aim for the latter, where there is one: for four processors.
+# PROGRAM is a built trestle; where it is left out, the launcher proves and builds it. It wants date with %N. The first line
+# tells how many processors there are.
 #
 # `desktop` has seven windows, of five a command each in turn, moves and a change of the screen. `eight` has eight windows with
 # 4,000 figures or lines each, and a flush after each 25th; of `alone` one of these windows has its lines, and the others have
 # none: what its worker takes by itself, and so what all eight take at least. `waiting` is `eight` without a flush, so that by
-# serial all of it waits for the dump. The aims, for four processors: `play` at most 0.6 of `serial` on `eight`, and at most 1.2
-# on each of the workloads of bench/workloads.sh, which follow. They have one client or none, and the painter beside it.
+# serial all of it waits for the dump. `parts` has 991 parts, in each a line by each of two clients. The workloads of
+# bench/workloads.sh follow. They have one client or none, and the painter beside it.
 set -eu
 case ${1-} in
     -h | --help) sed -n '2,/^[^#]/s/^# \{0,1\}//p' "$0"; exit ;;
@@ -54,6 +56,17 @@ write() {
     }' >"$folder/$1"
 }
 
+# write_parts: a script of 991 parts with two steps each.
+write_parts() {
+    awk 'BEGIN {
+        print "trestle 1\nscreen 200 100 map8\nnode desk z 24"
+        print "leaf a 0 90 90 0 90 90 lines\nleaf b 0 90 90 0 90 90 lines"
+        print "put a desk 5 5\nput b desk 100 5\nroot desk\nbegin"
+        for (i = 0; i < 991; i++) print "@a line x" i "\n@b line y" i "\nsync"
+        print "dump\nend"
+    }' >"$folder/parts"
+}
+
 # timed WORD FILE: the nanoseconds that the program takes for a script.
 timed() {
     start=$(date +%s%N)
@@ -61,39 +74,42 @@ timed() {
     echo $(($(date +%s%N) - start))
 }
 
-# least A B: the lesser of two numbers, of which the first may be missing.
-least() {
-    if [ -n "$1" ] && [ "$1" -le "$2" ]; then echo "$1"; else echo "$2"; fi
-}
-
 # measure NAME AIM: the script of this name by both words, and whether the aim is reached.
 measure() {
-    serial= play= round=0
+    round=0
     while [ "$round" -lt "$rounds" ]; do
-        taken=$(timed serial "$folder/$1")
-        serial=$(least "$serial" "$taken")
-        taken=$(timed play "$folder/$1")
-        play=$(least "$play" "$taken")
+        chance=$((chance * 40014 % 2147483563))
+        if [ $((chance / 65536 % 2)) -eq 0 ]; then words='serial play'; else words='play serial'; fi
+        for word in $words; do
+            taken=$(timed "$word" "$folder/$1") || exit 1
+            echo "$word $taken"
+        done
         round=$((round + 1))
-    done
-    echo "$1 $serial $play $2" | awk '{
-        note = $4 == "" ? "" : sprintf(" aim=%s%s", $4, $3 <= $4 * $2 ? "" : " missed")
-        printf "%-10s serial ms=%.1f play ms=%.1f ratio=%.2f%s\n", $1, $2 / 1e6, $3 / 1e6, $3 / $2, note
-    }'
+    done | awk -v name="$1" -v aim="$2" '
+        { sum[$1] += $2; if (!($1 in least) || $2 < least[$1]) least[$1] = $2 }
+        END {
+            if (!("play" in sum)) exit 1
+            means = sum["play"] / sum["serial"]
+            note = aim == "" ? "" : sprintf(" aim=%s%s", aim, means <= aim ? "" : " missed")
+            printf "%-10s serial ms=%.1f play ms=%.1f ratio=%.2f means=%.2f%s\n", name, least["serial"] / 1e6,
+                least["play"] / 1e6, least["play"] / least["serial"], means, note
+        }'
+    chance=$((chance * 40014 % 2147483563))
 }
 
+chance=12345
 echo "processors $(getconf _NPROCESSORS_ONLN)"
-"$top/bench/workloads.sh" --write desktop 1000 >"$folder/desktop"
-measure desktop ''
 write eight 8 4000 25
 measure eight 0.6
+write waiting 8 4000 0
+measure waiting 0.6
 write alone 1 4000 25
 measure alone ''
-write waiting 8 4000 0
-measure waiting ''
-for workload in 'typescript 40000' 'unseen 45000' 'repaints 40000' 'editor 20000' 'moves 10000' 'painted 10000' 'figures 60000' \
-    'events 90000' 'dumps 60' 'colours 60' 'steps 2000'; do
-    name=${workload% *}
-    "$top/bench/workloads.sh" --write "$name" "${workload#* }" >"$folder/$name"
-    measure "$name" 1.2
+write_parts
+measure parts 1.5
+for workload in 'desktop 1000 1.0' 'typescript 40000 0.85' 'unseen 45000 0.85' 'repaints 40000 0.85' 'editor 20000 0.85' \
+    'moves 10000 1.0' 'painted 10000 0.6' 'figures 60000 0.85' 'events 90000 1.0' 'dumps 60' 'colours 60' 'steps 2000 1.0'; do
+    set -- $workload
+    "$top/bench/workloads.sh" --write "$1" "$2" >"$folder/$1"
+    measure "$1" "${3-}"
 done
