@@ -41,7 +41,8 @@ class Scene:
         self.version = draw.choice((1, 2))
         self.kinds = ["mono", "map8"] + ["map4"] * (self.version == 2)
         widgets = ["solid 7", "board 8040201008040201 0 0", "label hi", "lines", "canvas", "meter 4"] + ["edit"] * (self.version == 2)
-        self.leaves = [(f"w{i}", draw.choice(widgets)) for i in range(draw.randint(1, 6))]
+        # (a few have as many windows as there can be)
+        self.leaves = [(f"w{i}", draw.choice(widgets)) for i in range(draw.choice([1, 2, 3, 4, 5, 6] * 10 + [32]))]
         self.nodes: Dict[str, str] = {}
 
     def opening(self) -> List[str]:
