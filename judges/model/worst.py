@@ -147,6 +147,18 @@ def dumps(count: int) -> List[str]:
     return [*one("canvas")[:-1], *["dump"] * max(1, count * 63 // STEPS), "end"]
 
 
+def rows(_: int) -> List[str]:
+    """64 dumps of the largest screen without two equal rows, whatever the size: each row has an edge of a figure, and each dump
+    another colour at its west."""
+    names = [f"c{strip}" for strip in range(16)]
+    leaves = [f"leaf {name} 0 {SIDE // 16} {SIDE // 16} 0 {SIDE} {SIDE} canvas" for name in names]
+    puts = [f"put {name} desk {strip * SIDE // 16} 0" for strip, name in enumerate(names)]
+    edges = [f"@{name} rect 0 {SIDE // 16} {16 * number + strip} {SIDE} {4 * number + 1}"
+        for number in range(64) for strip, name in enumerate(names)]
+    opening = [*HEAD, "node desk z 24", *leaves, f"leaf s 0 8 8 0 {SIDE} {SIDE} solid 1", *puts, "put s desk 0 0", "root desk", "begin"]
+    return [*opening, *edges, *[line for number in range(64) for line in (f"@s tint {number + 2}", "sync", "dump")], "end"]
+
+
 def checked(count: int) -> List[str]:
     """A check of the undone canvas."""
     side = 256
@@ -206,7 +218,7 @@ SCRIPTS: Dict[str, Callable[[int], List[str]]] = {
     it.__name__: it
     for it in (
         comments, feeds, commands, figures, undone, flushed, marks, waiting_marks, spotted, tinted, striped, crowd,
-        combs, sizes, journals, dumps, checked, parted, shared, events, written, turned,
+        combs, sizes, journals, dumps, rows, checked, parted, shared, events, written, turned,
     )
 }  # fmt: skip
 
