@@ -11,8 +11,8 @@
 # `desktop` has seven windows, of five a command each in turn, moves and a change of the screen. `eight` has eight windows with
 # 4,000 figures or lines each, and a flush after each 25th; of `alone` one of these windows has its lines, and the others have
 # none: what its worker takes by itself, and so what all eight take at least. `waiting` is `eight` without a flush, so that by
-# serial all of it waits for the dump. `parts` has 991 parts, in each a line by each of two clients. The workloads of
-# bench/workloads.sh follow. They have one client or none, and the painter beside it.
+# serial all of it waits for the dump. `parts` has 991 parts, in each a line by each of two clients. The other workloads of
+# bench/workloads.sh have one client or none, and the painter beside it.
 set -eu
 case ${1-} in
     -h | --help) sed -n '2,/^[^#]/s/^# \{0,1\}//p' "$0"; exit ;;
