@@ -39,19 +39,25 @@ two_colours true one other small_one small_other =
 two_colours false one other small_one small_other =
     ap (λ n. bit_xor n other) (and_comm 0 (bit_xor one other) ∙ and_zero_r (bit_xor one other)) ∙ xor_comm 0 other ∙ xor_zero_r other
 
--- a pixel in a column of letters, from the row of all glyphs
-pub pixel_is : (font : List (List ℕ)) (source text : List ℕ) (v : ℕ) (inks : Inks) (one column : ℕ) → AllPass is_printable text
+-- a pixel in a column of letters, from the row of all glyphs, is that of its bit
+pub pixel_of_bits : (font : List (List ℕ)) (source text : List ℕ) (v column : ℕ) → AllPass is_printable text
     → ((byte h : ℕ) → 32 ≤ byte → byte ≤ 126 → h < 8 → get_or source (8 * (byte - 32) + h) 0 ≡ pixel_of_bit (glyph_bit font byte h v))
-    → inks.change ≡ bit_xor one inks.zero → one < 2 ^ 8 → inks.zero < 2 ^ 8 → column < 8 * length text
-    → inked inks (pixel_in source text column) ≡ cond (bit_in_letters font text v column) one inks.zero
-pixel_is font source text v inks one column printable each change small_one small_zero within =
+    → column < 8 * length text → pixel_in source text column ≡ pixel_of_bit (bit_in_letters font text v column)
+pixel_of_bits font source text v column printable each within =
     let letter = column / 8 in
     let h = column % 8 in
     let byte = get_or text letter 0 in
     let range = printable_at text letter printable (omega arith) in
     let place : h % 8 ≡ column % 8 = omega arith in
-    ap₂ (λ p d. bit_xor (bit_and p d) inks.zero) (each byte h range.0 range.1 (omega arith)
-    ∙ ap (λ q. pixel_of_bit (bit_at (get_or (glyph_of font byte) v 0) (7 - q) == 1)) place) change
+    each byte h range.0 range.1 (omega arith) ∙ ap (λ q. pixel_of_bit (bit_at (get_or (glyph_of font byte) v 0) (7 - q) == 1)) place
+
+-- the same in two colours
+pub pixel_is : (font : List (List ℕ)) (source text : List ℕ) (v : ℕ) (inks : Inks) (one column : ℕ) → AllPass is_printable text
+    → ((byte h : ℕ) → 32 ≤ byte → byte ≤ 126 → h < 8 → get_or source (8 * (byte - 32) + h) 0 ≡ pixel_of_bit (glyph_bit font byte h v))
+    → inks.change ≡ bit_xor one inks.zero → one < 2 ^ 8 → inks.zero < 2 ^ 8 → column < 8 * length text
+    → inked inks (pixel_in source text column) ≡ cond (bit_in_letters font text v column) one inks.zero
+pixel_is font source text v inks one column printable each change small_one small_zero within =
+    ap₂ (λ p d. bit_xor (bit_and p d) inks.zero) (pixel_of_bits font source text v column printable each within) change
     ∙ two_colours (bit_in_letters font text v column) one inks.zero small_one small_zero
 
 -- so many lanes in two colours

@@ -6,3 +6,4 @@ pub mod MaskLemmas
 pub mod PairLemmas
 pub mod AgreeLemmas
 pub mod LetterLemmas
+pub mod BlockLemmas

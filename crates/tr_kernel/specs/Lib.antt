@@ -3,3 +3,4 @@ pub mod Differences
 pub mod Masks
 pub mod Steps
 pub mod Letters
+pub mod Blocks

@@ -103,7 +103,7 @@ fn write_whole(row: &mut [u8], source: &[u8], text: &[u8], inks: Inks)
 
 /// Eight pixels of a row of all glyphs from one place on, and eight from another, in two colours.
 #[inline(always)]
-fn pair_pixels(source: &[u8], near: usize, far: usize, inks: Inks) -> u8x16
+pub(crate) fn pair_pixels(source: &[u8], near: usize, far: usize, inks: Inks) -> u8x16
     requires near { near + 8 ≤ length source.now }
     requires far { far + 8 ≤ length source.now }
     ensures lanes { length result ≡ 16 }
@@ -131,7 +131,7 @@ fn side_by_side(near: u8x8, far: u8x8) -> u8x16
 
 /// Eight pixels of a row of all glyphs, in two colours.
 #[inline(always)]
-fn letter_pixels(source: &[u8], place: usize, inks: Inks) -> u8x8
+pub(crate) fn letter_pixels(source: &[u8], place: usize, inks: Inks) -> u8x8
     requires { place + 8 ≤ length source.now }
     ensures lanes { length result ≡ 8 }
     ensures each { (h : ℕ) → h < 8 →
@@ -153,7 +153,7 @@ fn write_part(row: &mut [u8], pixels: &[u8], inks: Inks)
 
 /// The index of a letter's pixels in a row of all glyphs.
 #[inline(always)]
-fn place_of(byte: u8) -> usize
+pub(crate) fn place_of(byte: u8) -> usize
     requires first { 32 ≤ byte }
     requires last { byte ≤ 126 }
     ensures { result ≡ 8 * (byte - 32) }

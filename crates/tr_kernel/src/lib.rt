@@ -2,6 +2,7 @@
 //! and comparisons. A row is a slice of bytes, one for each pixel.
 #![tactic(auto)]
 
+mod blocks;
 mod differences;
 mod lanes;
 mod letters;
@@ -9,6 +10,7 @@ mod masks;
 mod patterns;
 mod rows;
 
+pub use blocks::{Block, Lettering, letter_block};
 pub use differences::{count_row, first_difference, last_difference};
 pub use letters::{Letters, letter_row};
 pub use masks::{Mask, mask_row};
