@@ -4,3 +4,4 @@ pub mod RunLemmas
 pub mod Repainting
 pub mod ResizingLemmas
 pub mod ReadingLemmas
+pub mod WritingLemmas

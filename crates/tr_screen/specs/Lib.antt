@@ -5,3 +5,4 @@ pub mod RunLending
 pub mod Copies
 pub mod Resizing
 pub mod Readings
+pub mod Letters

@@ -20,7 +20,18 @@ pub fn start_of(size: Size, run: Run) -> usize
     ensures value { result ≡ spec.start_of size run }
     ensures fits { result + spec.width_of run ≤ size.high * size.wide }
 {
-    run.v.unsigned_abs() as usize * usize::from(size.wide) + run.west.unsigned_abs() as usize
+    let first = Point {
+        h: run.west,
+        v: run.v,
+    };
+    index_of(size, first)
+}
+
+/// The place of a point among the pixels of a screen, row by row.
+pub fn index_of(size: Size, p: Point) -> usize
+    ensures { result ≡ spec.index_of size p }
+{
+    p.v.unsigned_abs() as usize * usize::from(size.wide) + p.h.unsigned_abs() as usize
 }
 
 /// The number of points of the run.

@@ -1,4 +1,4 @@
-ghost use Rattle.std.specs.Prelude.{◌≡◌, ◌<◌, ◌≤◌, ◌++◌, ℕ, List, length, All, pos, ◌-ℤ◌, ◌≤ℤ◌, slice_index, true, IsTrue, IfOk, OnOk};
+ghost use Rattle.std.specs.Prelude.{◌≡◌, ◌<◌, ◌≤◌, ◌++◌, ℕ, List, length, All, pos, ◌+ℤ◌, ◌-ℤ◌, ◌≤ℤ◌, slice_index, unsigned_abs, true, if◌then◌else◌, IsTrue, IfOk, OnOk};
 ghost use Rattle.std.specs.Borrow.{sem};
 ghost use Rattle.tr_base.specs.declared.points.Point.{Point};
 ghost use Rattle.tr_base.specs.Rects.{before_shift, has_point, whole_of, IsScreenSize};
@@ -7,14 +7,16 @@ ghost use Rattle.tr_screen.specs.Lending.{LendsRow};
 ghost use Rattle.tr_screen.specs.RunLending.{LendsRun, run_overwritten};
 ghost use Rattle.tr_screen.specs.Runs.{in_run, in_rows, run_before, width_of, column_in, IsOn, IsRun, Repaints};
 ghost use Rattle.tr_screen.specs.Resizing.{kept_pixel};
+ghost use Rattle.tr_kernel.specs.Letters.{bit_in_letters};
+ghost use Rattle.tr_screen.specs.Letters.{first_row, in_letters};
 ghost use Rattle.tr_screen.specs.Readings.{LiesOn, rect_by, rects_by, run_by};
 
 use crate::copies::{copy_pixels, copy_through, fill_pixels};
-use crate::runs::{Run, row_before, row_in, row_start, source_of, start_of, width_of};
+use crate::runs::{Run, index_of, row_before, row_in, row_start, source_of, start_of, width_of};
 use std::alloc::Global;
 use std::marker::Model;
 use tr_base::{Kind, NoMemory, Point, Rect, Size};
-use tr_kernel::copy_row;
+use tr_kernel::{Block, Lettering, copy_row, letter_block};
 
 /// The pixels of a screen, 1 to 1024 from west to east and 1 to 1024 from north to south.
 #[derive(Debug, Drop)]
@@ -80,9 +82,7 @@ impl Screen {
         ensures value { result ≡ pixel_of self.now p }
         ensures invariant { IsPicture self.now }
     {
-        let v = p.v as usize;
-        let h = p.h as usize;
-        self.pixels[v * usize::from(self.size.wide) + h]
+        self.pixels[index_of(self.size, p)]
     }
 
     /// The pixels of row `v`, counted from the north, from west to east.
@@ -225,6 +225,22 @@ impl Screen {
         let start = usize::from(north) * wide;
         let count = usize::from(south - north) * wide;
         fill_pixels(&mut self.pixels, start, count, pixel);
+    }
+
+    /// Writes all rows of a text of at least one letter, which begins at the point `at`.
+    pub fn write_lettering(&mut self, at: Point, lettering: &Lettering<'_>)
+        requires first { IsRun self.old.size (first_row at (length lettering.now.text.now)) }
+        requires last { (at.v +ℤ pos 8) ≤ℤ pos self.old.size.high }
+        ensures { Repaints (in_letters at (length lettering.now.text.now))
+            (λ p. let v = unsigned_abs (p.v -ℤ at.v) in let column = unsigned_abs (p.h -ℤ at.h) in
+            if bit_in_letters lettering.now.font.now lettering.now.text.now v column
+            then lettering.now.one else lettering.now.zero) self.old self.new }
+    {
+        let block = Block {
+            start: index_of(self.size, at),
+            stride: usize::from(self.size.wide),
+        };
+        letter_block(&mut self.pixels, block, lettering);
     }
 
     /// A screen of this size and kind. With the same kind, each point that is on both screens keeps
