@@ -11,3 +11,4 @@ pub mod PaintingLemmas
 pub mod TracedLemmas
 pub mod GlyphLemmas
 pub mod BaseLemmas
+pub mod CellLemmas

@@ -11,10 +11,10 @@ ghost use Rattle.tr_kernel.specs.Masks.{painted};
 ghost use Rattle.tr_screen.specs.Runs.{in_run, point_in};
 ghost use Rattle.tr_exec.specs.Strokes.{IsCorner};
 
-use crate::strokes::{GlyphRows, Lettering, letters_run, pixels_run, text_run, texture_run};
+use crate::strokes::{GlyphRows, letters_run, pixels_run, text_run, texture_run};
 use crate::walks::Brush;
 use tr_base::{Kind, Pixmap, Point, Rect, Tile};
-use tr_kernel::{Mask, exchange_row, fill_row};
+use tr_kernel::{Lettering, Mask, exchange_row, fill_row};
 use tr_screen::Run;
 
 /// Gives each point one pixel.

@@ -11,7 +11,7 @@ ghost use Rattle.tr_exec.specs.Strokes.{IsWithin, IsInCells, AreGlyphRows, east_
 
 use std::simd::prelude::*;
 use tr_base::{Font, Kind, LINE, Line, Pixmap, Point, Tile, place_of, resolved};
-use tr_kernel::{Letters, Mask, copy_row, letter_row};
+use tr_kernel::{Lettering, Letters, Mask, copy_row, letter_row};
 
 /// The number of bytes of the glyphs of the longest text.
 const BITS: usize = 8 * LINE;
@@ -104,15 +104,6 @@ pub(crate) fn text_run(mask: &Mask, glyphs: &GlyphRows<'_>, at: Point, pixels: &
     // Tells the prover that the text isn't longer than a row.
     let _ = glyphs.text.bytes();
     mask.cells(pixels, &glyphs.bits[row + h / 8..row + LINE], (h % 8) as u8);
-}
-
-/// A text that is written in two colours: one where a glyph's bit is set, and one where it isn't.
-#[derive(Clone, Copy)]
-pub(crate) struct Lettering<'a> {
-    pub font: &'a Font,
-    pub text: &'a Line,
-    pub one: u8,
-    pub zero: u8,
 }
 
 /// Writes a run of a text. The run begins at the point `at` of the text's cells.

@@ -1,21 +1,23 @@
-//! A text is written in two colours if both operations are opaque, else it is painted through a mask.
-ghost use Rattle.std.specs.Prelude.{◌≡◌, ◌*◌, pos, true, length};
+//! A text of two opaque operations is written in two colours: as one block if all its cells are visible, else
+//! run by run. Any other text is painted through a mask.
+ghost use Rattle.std.specs.Prelude.{◌≡◌, ◌*◌, ◌<◌, pos, ◌+ℤ◌, true, length, IsTrue};
 ghost use Rattle.tr_base.specs.declared.Point.{Point};
+ghost use Rattle.tr_base.specs.Layouts.{IsBetween};
 ghost use Rattle.tr_base.specs.Ops.{opaque as is_opaque};
-ghost use Rattle.tr_base.specs.Rects.{has_point, rect_of, before_shift};
+ghost use Rattle.tr_base.specs.Rects.{InReach, has_point, rect_of, before_shift};
 ghost use Rattle.tr_region.specs.Points.{holds};
 ghost use Rattle.tr_screen.specs.Pictures.{pixel_of};
 ghost use Rattle.tr_screen.specs.Runs.{Repaints};
-ghost use Rattle.tr_paint.specs.Paints.{text_bit};
+ghost use Rattle.tr_paint.specs.Paints.{cells_of, text_bit};
 ghost use Rattle.tr_kernel.specs.Masks.{painted};
 ghost use Rattle.tr_exec.specs.Strokes.{IsCorner};
 ghost use Rattle.tr_exec.specs.Walks.{AreOn, in_area};
 
 use crate::brushes::{LettersBrush, TextBrush};
-use crate::strokes::{GlyphRows, Lettering};
+use crate::strokes::GlyphRows;
 use crate::walks::paint_within;
 use tr_base::{Env, Line, Pair, Point, Rect, eff, opaque};
-use tr_kernel::Mask;
+use tr_kernel::{Lettering, Mask};
 use tr_region::Region;
 use tr_screen::Screen;
 
@@ -67,12 +69,16 @@ fn write_text(screen: &mut Screen, visible: &Region, env: &Env<'_>, text: &Place
         one: eff(env.kind, text.ops.one, 0),
         zero: eff(env.kind, text.ops.zero, 0),
     };
-    let brush = LettersBrush {
-        area: text.area,
-        lettering: &lettering,
-        at: text.at,
-    };
-    paint_within(screen, visible, &brush);
+    if is_all_visible(visible, text) {
+        screen.write_lettering(text.at, &lettering);
+    } else {
+        let brush = LettersBrush {
+            area: text.area,
+            lettering: &lettering,
+            at: text.at,
+        };
+        paint_within(screen, visible, &brush);
+    }
 }
 
 /// The same for any operations.
@@ -90,4 +96,60 @@ fn mask_text(screen: &mut Screen, visible: &Region, env: &Env<'_>, text: &Placed
         at: text.at,
     };
     paint_within(screen, visible, &brush);
+}
+
+/// Whether the area of a text has all its cells, of which there are some, and all of them are visible in one
+/// rectangle.
+fn is_all_visible(visible: &Region, text: &PlacedText<'_>) -> bool
+    ensures some { IsTrue result → 0 < length text.now.text.now }
+    ensures cells { IsTrue result → text.now.area ≡ cells_of text.now.at (length text.now.text.now) }
+    ensures visible { IsTrue result → (p : Point) → has_point text.now.area p ≡ true →
+        holds visible.now p ≡ true }
+{
+    !text.text.bytes().is_empty() && has_all_cells(text) && is_in_one_rect(&text.area, visible)
+}
+
+/// Whether the area of a text has all its cells.
+fn has_all_cells(text: &PlacedText<'_>) -> bool
+    ensures { IsTrue result → text.now.area ≡ cells_of text.now.at (length text.now.text.now) }
+{
+    text.area == cells(text)
+}
+
+/// The cells of a text.
+fn cells(text: &PlacedText<'_>) -> Rect
+    ensures { result ≡ cells_of text.now.at (length text.now.text.now) }
+{
+    Rect::edges(text.at.h, end_of(text), text.at.v, text.at.v + 8)
+}
+
+/// The column after a text's last cell.
+fn end_of(text: &PlacedText<'_>) -> i32
+    ensures value { result ≡ text.now.at.h +ℤ pos (8 * length text.now.text.now) }
+    ensures reach { InReach result }
+{
+    text.at.h + 8 * text.text.bytes().len() as i32
+}
+
+/// Whether a region is one rectangle that has all points of an area.
+fn is_in_one_rect(area: &Rect, visible: &Region) -> bool
+    ensures { IsTrue result → (p : Point) → has_point area.now p ≡ true → holds visible.now p ≡ true }
+{
+    let rects = visible.rects();
+    if rects.len() == 1 {
+        is_between(area, &rects[0])
+    } else {
+        false
+    }
+}
+
+/// Whether the edges of a rectangle lie between those of another.
+fn is_between(inner: &Rect, outer: &Rect) -> bool
+    ensures { IsTrue result → IsBetween inner.now outer.now }
+{
+    let west = outer.west() <= inner.west();
+    let east = inner.east() <= outer.east();
+    let north = outer.north() <= inner.north();
+    let south = inner.south() <= outer.south();
+    west && east && north && south
 }
