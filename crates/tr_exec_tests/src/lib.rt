@@ -13,6 +13,8 @@ mod executions;
 #[cfg(test)]
 mod repairs;
 #[cfg(test)]
+mod texts;
+#[cfg(test)]
 mod traces;
 #[cfg(test)]
 mod walks;
