@@ -1,9 +1,10 @@
 ghost use Rattle.std.specs.Prelude.{◌≡◌};
 ghost use Rattle.tr_paint.specs.Paints.{IsNearPaint};
+ghost use Rattle.tr_paint.specs.Views.{viewed};
 ghost use Rattle.tr_exec.specs.Unknown as spec;
 
 use tr_base::Point;
-use tr_paint::Paint;
+use tr_paint::PaintView;
 use tr_region::Region;
 
 /// The effect of a command on the knowledge of the points of its area.
@@ -20,14 +21,14 @@ pub(crate) enum Effect {
 }
 
 /// The effect of the command on the knowledge of the points of its area.
-pub(crate) fn effect_of(paint: &Paint) -> Effect
-    requires { IsNearPaint paint.now }
-    ensures value { result ≡ spec.effect_of paint.now }
+pub(crate) fn effect_of(paint: &PaintView) -> Effect
+    requires { IsNearPaint (viewed paint.now) }
+    ensures value { result ≡ spec.effect_of (viewed paint.now) }
     ensures near { spec.IsNearEffect result }
 {
     match paint {
-        Paint::Scroll { delta, .. } => Effect::Moves(*delta),
-        Paint::Spoil { .. } => Effect::Loses,
+        PaintView::Scroll { delta, .. } => Effect::Moves(*delta),
+        PaintView::Spoil { .. } => Effect::Loses,
         _ if paint.is_opaque() => Effect::Tells,
         _ => Effect::Keeps,
     }

@@ -8,6 +8,7 @@ ghost use Rattle.tr_base.specs.Pixmaps.{pixmap_at};
 ghost use Rattle.tr_region.specs.Points.{holds};
 ghost use Rattle.tr_screen.specs.Pictures.{pixel_of};
 ghost use Rattle.tr_paint.specs.Paints.{IsNearPaint, IsNearPoint};
+ghost use Rattle.tr_paint.specs.Views.{viewed};
 ghost use Rattle.tr_paint.specs.Traces.{look_of};
 ghost use Rattle.tr_exec.specs.Executions.{IsOrigin, RegionLiesOn, screen_point, base_of};
 ghost use Rattle.tr_exec.specs.Strokes.{IsCorner};
@@ -21,7 +22,7 @@ use crate::tints::{Tint, paint_tint};
 use crate::walks::paint_within;
 use tr_base::{Env, Point, moved};
 use tr_kernel::Mask;
-use tr_paint::{Batch, Paint};
+use tr_paint::{Batch, Paint, PaintView};
 use tr_region::Region;
 use tr_repair::move_pixels;
 use tr_screen::Screen;
@@ -40,24 +41,26 @@ impl Site<'_> {
             (bad : List Edges) → ShowsBatch look (base_of origin visible bad screen.old) batch.now
             origin visible screen.old screen.new }
     {
-        let paints = batch.paints();
-        for i in 0..paints.len() {
-            self.paint(env, &paints[i], &moves[i], screen);
+        // Names `Paint`, so that the borrow checker knows the types that a view lends.
+        let _none: Option<Paint> = None;
+        for i in 0..batch.len() {
+            let paint = batch.get(i);
+            self.paint(env, &paint, &moves[i], screen);
         }
     }
 
     /// Executes a command on the screen.
-    fn paint(&self, env: &Env<'_>, paint: &Paint, moved: &Region, screen: &mut Screen)
-        requires near { IsNearPaint paint.now }
+    fn paint(&self, env: &Env<'_>, paint: &PaintView, moved: &Region, screen: &mut Screen)
+        requires near { IsNearPaint (viewed paint.now) }
         requires origin { IsOrigin self.now.origin }
         requires visible { RegionLiesOn screen.old.size self.now.visible.now }
-        requires moved { IsMovedBy self.now.origin self.now.visible.now paint.now moved.now }
+        requires moved { IsMovedBy self.now.origin self.now.visible.now (viewed paint.now) moved.now }
         ensures { let look = look_of env.now.kind env.now.font.now in
-            IsPainted look paint.now self.now.origin self.now.visible.now screen.old screen.new }
+            IsPainted look (viewed paint.now) self.now.origin self.now.visible.now screen.old screen.new }
     {
         let area = self.area(paint);
         match paint {
-            Paint::Tint { op, .. } => {
+            PaintView::Tint { op, .. } => {
                 let tint = Tint {
                     area,
                     kind: env.kind,
@@ -65,7 +68,7 @@ impl Site<'_> {
                 };
                 paint_tint(screen, self.visible, tint);
             }
-            Paint::Texture {
+            PaintView::Texture {
                 ops,
                 tile,
                 delta,
@@ -79,7 +82,7 @@ impl Site<'_> {
                 };
                 paint_within(screen, self.visible, &brush);
             }
-            Paint::Pixels { src, delta, .. } => {
+            PaintView::Pixels { src, delta, .. } => {
                 let brush = PixelsBrush {
                     area,
                     kind: env.kind,
@@ -88,7 +91,7 @@ impl Site<'_> {
                 };
                 paint_within(screen, self.visible, &brush);
             }
-            Paint::Text { at, ops, text, .. } => {
+            PaintView::Text { at, ops, text, .. } => {
                 let placed = PlacedText {
                     area,
                     at: self.place(*at),
@@ -97,8 +100,8 @@ impl Site<'_> {
                 };
                 paint_text(screen, self.visible, env, &placed);
             }
-            Paint::Scroll { delta, .. } => move_pixels(screen, moved, *delta),
-            Paint::Spoil { .. } => {}
+            PaintView::Scroll { delta, .. } => move_pixels(screen, moved, *delta),
+            PaintView::Spoil { .. } => {}
         }
     }
 

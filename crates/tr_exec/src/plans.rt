@@ -10,7 +10,7 @@ ghost use Rattle.tr_exec.specs.Unknown.{IsMovedBy, bad_after};
 use crate::effects::{effect_of, keeps_known};
 use crate::sites::Site;
 use tr_base::NoMemory;
-use tr_paint::Batch;
+use tr_paint::{Batch, Paint};
 use tr_region::Region;
 
 /// The results that are computed before the first pixel is written, so that no memory is needed afterwards.
@@ -34,14 +34,17 @@ impl Site<'_> {
             holds plan.bad p ≡ bad_after look (base_of self.now.origin self.now.visible.now bad.now screen)
             batch.now self.now.origin self.now.visible.now bad.now p) }
     {
+        // Names `Paint`, so that the borrow checker knows the types that a view lends.
+        let _none: Option<Paint> = None;
         let mut moves = Vec::with_capacity(self.alloc, batch.len())?;
         let mut unknown = self.visible.meet(bad)?;
-        for paint in batch.paints() {
-            let effect = effect_of(paint);
+        for i in 0..batch.len() {
+            let paint = batch.get(i);
+            let effect = effect_of(&paint);
             if keeps_known(effect, &unknown) {
                 moves.push(Region::empty(self.alloc))?;
             } else {
-                let area = Region::of_rect(self.alloc, self.area(paint))?;
+                let area = Region::of_rect(self.alloc, self.area(&paint))?;
                 moves.push(self.moved_by(effect, &area)?)?;
                 unknown = self.unknown_after(effect, &area, unknown)?;
             }

@@ -3,13 +3,14 @@ ghost use Rattle.tr_base.specs.declared.Point.{Point};
 ghost use Rattle.tr_base.specs.Rects.{has_point, before_shift};
 ghost use Rattle.tr_region.specs.Points.{holds, Includes};
 ghost use Rattle.tr_paint.specs.Paints.{IsNearPaint, IsNearPoint, area as area_of};
+ghost use Rattle.tr_paint.specs.Views.{viewed};
 ghost use Rattle.tr_exec.specs.Executions.{IsOrigin, RegionLiesOn, greatest_screen};
 ghost use Rattle.tr_exec.specs.Unknown as spec;
 
 use crate::effects::Effect;
 use std::alloc::Global;
 use tr_base::{NoMemory, Point, Rect};
-use tr_paint::Paint;
+use tr_paint::PaintView;
 use tr_region::Region;
 
 /// The place of a batch: the window's north-west corner on the screen, and the visible points of the
@@ -23,11 +24,11 @@ pub(crate) struct Site<'a> {
 
 impl Site<'_> {
     /// The area of a command, in the screen's coordinates.
-    pub fn area(&self, paint: &Paint) -> Rect
-        requires near { IsNearPaint paint.now }
+    pub fn area(&self, paint: &PaintView) -> Rect
+        requires near { IsNearPaint (viewed paint.now) }
         requires origin { IsOrigin self.now.origin }
         ensures { (p : Point) → has_point result p
-            ≡ has_point (area_of paint.now) (before_shift p self.now.origin) }
+            ≡ has_point (area_of (viewed paint.now)) (before_shift p self.now.origin) }
     {
         paint.area().shift(self.origin)
     }

@@ -1,4 +1,6 @@
 pub mod NearLemmas
+pub mod CommandListLemmas
+pub mod BatchLemmas
 pub mod HullLemmas
 pub mod SumLemmas
 pub mod TraceLemmas

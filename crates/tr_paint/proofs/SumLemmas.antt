@@ -1,10 +1,10 @@
 -- The sums of commands in a row.
-use Rattle.std.proofs.Common.{◌≡◌, ◌≢◌, ℕ, ◌+◌, ◌-◌, ◌*◌, ◌^◌, Bool, true, false, ◌||◌, List, [], ◌∷◌, ◌++◌, refl, sym, ap, ◌∙◌, ⊎_elim, take, arith, zero-add}
+use Rattle.std.proofs.Common.{◌≡◌, ◌≢◌, ℕ, ◌+◌, ◌-◌, ◌*◌, ◌^◌, Bool, true, false, ◌||◌, List, [], ◌∷◌, ◌++◌, refl, sym, ap, ◌∙◌, ⊎_elim, arith, zero-add}
 use Rattle.std.specs.Prelude.{min, int_lt}
 use Rattle.std.proofs.lemmas.Bool.{or_cases, and_parts, or_left, or_right}
 use Rattle.std.proofs.lemmas.List.Folds.{list_any-append}
 use Rattle.std.proofs.lemmas.List.Sums.{sum_by-append}
-use Rattle.std.proofs.lemmas.List.Elements.{All-append, All-weaker, All-nil, All-cons, All-take, All-from_recursion, recursion_from_All}
+use Rattle.std.proofs.lemmas.List.Elements.{All-append, All-weaker, All-nil, All-cons}
 use Rattle.tr_base.specs.declared.Point.{Point}
 use Rattle.tr_base.specs.Rects.{Edges, IsRect, empty_rect, has_point}
 use Rattle.tr_paint.specs.declared.paints.Paint.{Paint}
@@ -12,7 +12,7 @@ use Rattle.tr_paint.specs.declared.paints.Paint.TheVariants.{Scroll}
 use Rattle.tr_paint.specs.declared.sums.Scrolls.{Scrolls}
 use Rattle.tr_paint.specs.declared.sums.Scrolls.TheVariants.{Absent, Alike, Various}
 use Rattle.tr_paint.specs.Paints.{area, has_area}
-use Rattle.tr_paint.specs.Batches.{touches, IsKept, IsBatch}
+use Rattle.tr_paint.specs.Batches.{touches, IsBatch}
 use Rattle.tr_paint.specs.Hulls.{HasAll}
 use Rattle.tr_paint.proofs.HullLemmas.{lies}
 use Rattle.tr_paint.specs.Sums.{points_in, weight, cost_of, is_spoil, has_spoil, IsOneOf, AreScrolls, IsHull}
@@ -83,10 +83,6 @@ spoils-still c xs h =
 pub batch-append : (xs ys : List Paint) → IsBatch xs → IsBatch ys → IsBatch (xs ++ ys)
 batch-append [] ys some others = others
 batch-append (x ∷ xs) ys some others = (some.0, batch-append xs ys some.1 others)
-
--- the first commands of a batch are one
-pub batch-take : (n : ℕ) (xs : List Paint) → IsBatch xs → IsBatch (take n xs)
-batch-take n xs is = recursion_from_All IsKept (take n xs) (All-take IsKept n xs (All-from_recursion IsKept xs is))
 
 -- a command whose area isn't the empty rectangle is kept
 pub full-area : (c : Paint) (e : Edges) → e ≡ area c → IsRect e → e ≢ empty_rect → has_area c ≡ true

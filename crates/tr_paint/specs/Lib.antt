@@ -1,4 +1,6 @@
 pub mod Paints
+pub mod Views
+pub mod CommandLists
 pub mod Traces
 pub mod Batches
 pub mod Hulls

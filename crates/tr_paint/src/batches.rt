@@ -1,12 +1,16 @@
-ghost use Rattle.std.specs.Prelude.{◌≡◌, ◌<◌, ◌↔◌, ◌++◌, [], length, slice_get, take, Some, IsTrue, IfOk, OnOk, OnErr};
+ghost use Rattle.std.specs.Prelude.{◌≡◌, ◌<◌, ◌↔◌, ◌++◌, ◌∷◌, [], length, slice_get, take, Some, IsTrue, IfOk, OnOk, OnErr};
 ghost use Rattle.tr_paint.specs.Paints.{IsNearPaint, IsNearPoint, IsNearRect};
 ghost use Rattle.tr_paint.specs.Sums.{AreNear, AreScrolls, IsHull, cost_of, has_spoil};
 ghost use Rattle.tr_base.specs.declared.Point.{Point};
 ghost use Rattle.tr_paint.specs.Traces.{Look, Base, after, left_by};
 ghost use Rattle.tr_paint.specs.Batches as spec;
+ghost use Rattle.tr_paint.specs.Views.{viewed};
+ghost use Rattle.tr_paint.specs.CommandLists.{IsNoText};
 
+use crate::command_lists::CommandList;
 use crate::paints::{Paint, cells};
 use crate::sums::{Scrolls, Sums, sums_of};
+use crate::views::PaintView;
 use std::alloc::Global;
 use std::marker::Model;
 use tr_base::{Line, NoMemory, Op, Pair, Point, Rect};
@@ -16,7 +20,7 @@ use tr_base::{Line, NoMemory, Op, Pair, Point, Rect};
 /// these.
 #[derive(Debug, Drop)]
 pub struct Batch {
-    paints: Vec<Paint>,
+    commands: CommandList,
     sums: Sums,
 }
 
@@ -27,9 +31,9 @@ impl Model for Batch {
 
     ghost Value = { List Paint };
 
-    ghost view = { λ b. b.paints.items };
+    ghost view = { λ b. b.commands };
 
-    ghost invariant = { λ b. IsSummed b.paints.items b.sums };
+    ghost invariant = { λ b. IsSummed b.commands b.sums };
 }
 
 impl Batch {
@@ -38,19 +42,20 @@ impl Batch {
         ensures { result ≡ [] }
     {
         Batch {
-            paints: Vec::new(alloc),
+            commands: CommandList::new(alloc),
             sums: Sums::none(),
         }
     }
 
-    /// Appends a command, unless its area is empty. If memory runs out, nothing changes.
+    /// Appends a command, unless its area is empty. If memory runs out, or 2^32 - 1 different commands or
+    /// texts wait, nothing changes.
     #[inline(always)]
     pub fn push(&mut self, paint: Paint) -> Result<(), NoMemory>
         requires { IsNearPaint paint }
         ensures ok { OnOk result (self.new ≡ self.old ++ spec.kept paint) }
         ensures err { OnErr result (self.new ≡ self.old) }
     {
-        // Each caller names the sort of its command, so its copy of this call needs one arm.
+        // Most callers name the sort of their command, so their copies of this call need one arm.
         match paint {
             Paint::Tint { clip, op } => self.push_tint(clip, op),
             Paint::Text {
@@ -60,7 +65,7 @@ impl Batch {
                 text,
             } => self.push_text(ops, clip, at, text),
             Paint::Scroll { clip, delta } => self.push_scroll(clip, delta),
-            other => self.push_any(other),
+            whole => self.push_whole(whole),
         }
     }
 
@@ -73,7 +78,7 @@ impl Batch {
         if clip.is_empty() {
             return Ok(());
         }
-        self.paints.push(Paint::Tint { clip, op })?;
+        self.commands.push_tint(clip, op)?;
         self.sums.add_still(&clip, 1);
         Ok(())
     }
@@ -89,12 +94,7 @@ impl Batch {
         if area.is_empty() {
             return Ok(());
         }
-        self.paints.push(Paint::Text {
-            ops,
-            clip,
-            at,
-            text,
-        })?;
+        self.commands.push_text(ops, clip, at, text)?;
         self.sums.add_still(&area, 3);
         Ok(())
     }
@@ -109,14 +109,15 @@ impl Batch {
         if clip.is_empty() {
             return Ok(());
         }
-        self.paints.push(Paint::Scroll { clip, delta })?;
+        self.commands.push_scroll(clip, delta)?;
         self.sums.add_scroll(&clip, delta);
         Ok(())
     }
 
-    /// The same for a command of any sort.
-    fn push_any(&mut self, paint: Paint) -> Result<(), NoMemory>
-        requires { IsNearPaint paint }
+    /// The same for a command that isn't a text.
+    fn push_whole(&mut self, paint: Paint) -> Result<(), NoMemory>
+        requires near { IsNearPaint paint }
+        requires no_text { IsNoText paint }
         ensures ok { OnOk result (self.new ≡ self.old ++ spec.kept paint) }
         ensures err { OnErr result (self.new ≡ self.old) }
     {
@@ -125,8 +126,8 @@ impl Batch {
             return Ok(());
         }
         let mut sums = self.sums;
-        sums.add(&paint, &area);
-        self.paints.push(paint)?;
+        sums.add(&paint.view(), &area);
+        self.commands.push_whole(paint)?;
         self.sums = sums;
         Ok(())
     }
@@ -140,67 +141,86 @@ impl Batch {
         ensures in_a_row { (look : Look) (base : Base) (q : Point) →
             after look base (self.old ++ other.now) q ≡ after look (left_by look base self.old) other.now q }
     {
-        let mut copies = copies_of(&other.paints)?;
-        self.paints.append(&mut copies)?;
-        self.sums = self.sums.with(&other.sums);
+        self.make_room(other)?;
+        // Names `Paint`, so that the borrow checker knows the types that a view lends.
+        let _none: Option<Paint> = None;
+        let before = self.len();
+        for i in 0..other.len() {
+            let paint = other.get(i);
+            if let Err(error) = self.push_copy(&paint) {
+                self.truncate(before);
+                return Err(error);
+            }
+        }
         Ok(())
     }
 
-    /// Appends the commands of another batch, all of them or none. It moves them, without a copy of their
-    /// texts and pixels.
+    /// Makes room for copies of the commands of another batch, if they repeat the last of their sorts.
+    fn make_room(&mut self, other: &Batch) -> Result<(), NoMemory>
+        ensures { self.new ≡ self.old }
+    {
+        let commands = &other.commands;
+        self.commands.reserve(commands.len(), commands.text_count())
+    }
+
+    /// Appends a copy of another batch's command.
+    fn push_copy(&mut self, paint: &PaintView) -> Result<(), NoMemory>
+        requires { spec.IsKept (viewed paint.now) }
+        ensures ok { OnOk result (self.new ≡ self.old ++ viewed paint.now ∷ []) }
+        ensures err { OnErr result (self.new ≡ self.old) }
+    {
+        let copied = paint.copy()?;
+        self.push(copied)
+    }
+
+    /// Appends the commands of another batch, all of them or none. Their texts and pixels are shared.
     pub fn extend(&mut self, other: Batch) -> Result<(), NoMemory>
         ensures ok { OnOk result (self.new ≡ self.old ++ other) }
         ensures err { OnErr result (self.new ≡ self.old) }
     {
-        let Batch { mut paints, sums } = other;
-        self.paints.append(&mut paints)?;
-        self.sums = self.sums.with(&sums);
-        Ok(())
+        self.append(&other)
     }
 
-    /// Makes room for `more` commands.
+    /// Makes room for `more` commands that repeat the last one of their sort.
     pub fn reserve(&mut self, more: usize) -> Result<(), NoMemory>
         ensures { self.new ≡ self.old }
     {
-        self.paints.reserve(more)?;
-        Ok(())
+        self.commands.reserve(more, more)
     }
 
     /// The number of its commands.
     pub fn len(&self) -> usize
-        ensures { result ≡ length self.now }
+        ensures value { result ≡ length self.now }
+        ensures invariant { spec.IsBatch self.now }
     {
-        self.paints.len()
+        self.commands.len()
     }
 
     /// Whether it has no command.
     pub fn is_empty(&self) -> bool
         ensures { IsTrue result ↔ (self.now ≡ []) }
     {
-        self.paints.is_empty()
+        self.commands.len() == 0
     }
 
     /// The command at index `i`, counted from 0.
-    pub fn get(&self, i: usize) -> &Paint
+    #[inline(always)]
+    pub fn get(&self, i: usize) -> PaintView<'_>
         requires { i < length self.now }
-        ensures { slice_get self.now i ≡ Some result.now }
+        ensures value { slice_get self.now i ≡ Some (viewed result) }
+        ensures kept { spec.IsKept (viewed result) }
     {
-        &self.paints[i]
-    }
-
-    /// Its commands in their order.
-    pub fn paints(&self) -> &[Paint]
-        ensures value { result.now ≡ self.now }
-        ensures invariant { spec.IsBatch self.now }
-    {
-        &self.paints
+        self.commands.get(i)
     }
 
     /// Whether the point lies in the area of one of the commands.
     pub fn touches(&self, q: Point) -> bool
         ensures { result ≡ spec.touches self.now q }
     {
-        for paint in &self.paints {
+        // Names `Paint`, so that the borrow checker knows the types that a view lends.
+        let _none: Option<Paint> = None;
+        for i in 0..self.len() {
+            let paint = self.get(i);
             if paint.area().has(q) {
                 return true;
             }
@@ -242,37 +262,26 @@ impl Batch {
     pub fn clear(&mut self)
         ensures { self.new ≡ [] }
     {
-        self.paints.clear();
+        self.commands.clear();
         self.sums = Sums::none();
     }
 
     /// Removes all commands after the first `count`. It walks over these to compute the sums again; callers
-    /// need it only if memory runs out in the middle of a patch.
+    /// need it only if memory runs out in the middle of a patch. The texts and pictures of the others are
+    /// kept until the batch is cleared.
     pub fn truncate(&mut self, count: usize)
         ensures { self.new ≡ take count self.old }
     {
-        self.paints.truncate(count);
-        self.sums = sums_of(&self.paints);
+        self.commands.truncate(count);
+        self.sums = sums_of(&self.commands);
     }
 
     /// A copy of the batch.
     pub fn copy(&self) -> Result<Batch, NoMemory>
         ensures { IfOk result (λ b. b ≡ self.now) }
     {
-        Ok(Batch {
-            paints: copies_of(&self.paints)?,
-            sums: self.sums,
-        })
+        let mut copied = Batch::new(self.commands.alloc());
+        copied.append(self)?;
+        Ok(copied)
     }
-}
-
-/// A copy of the commands.
-fn copies_of(paints: &Vec<Paint>) -> Result<Vec<Paint>, NoMemory>
-    ensures { IfOk result (λ copies. copies.items ≡ paints.now.items) }
-{
-    let mut copies = Vec::with_capacity(*paints.allocator(), paints.len())?;
-    for paint in paints {
-        copies.push(paint.copy()?)?;
-    }
-    Ok(copies)
 }

@@ -5,13 +5,17 @@
 #![tactic(auto)]
 
 mod batches;
+mod command_lists;
 mod hulls;
 mod paints;
 mod pictures;
+mod places;
 mod sums;
+mod views;
 
 pub use batches::Batch;
 pub use hulls::hull;
 pub use paints::{NEAR, Paint};
 pub use pictures::SharedPixmap;
 pub use sums::{Scrolls, points_in};
+pub use views::PaintView;

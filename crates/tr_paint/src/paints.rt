@@ -1,9 +1,11 @@
-ghost use Rattle.std.specs.Prelude.{◌≡◌, ◌*◌, ◌≤ℤ◌, pos, length, IfOk};
+ghost use Rattle.std.specs.Prelude.{◌≡◌, ◌*◌, ◌≤ℤ◌, pos, length};
 ghost use Rattle.tr_paint.specs.Paints as spec;
+ghost use Rattle.tr_paint.specs.Views.{viewed};
 
 use crate::pictures::SharedPixmap;
+use crate::views::PaintView;
 use std::mem::size_of;
-use tr_base::{Line, NoMemory, Op, Pair, Point, Rect, Tile, moved, opaque, whole};
+use tr_base::{Line, Op, Pair, Point, Rect, Tile, moved, opaque};
 
 /// The greatest distance of a paint command's coordinate from 0.
 pub const NEAR: i32 = 16_384;
@@ -56,47 +58,17 @@ pub enum Paint {
     },
 }
 
-// Millions of commands may wait in memory.
+// Each stored command takes this much.
 const _: () = prove!(size_of::<Paint>() == 40);
 
 impl Paint {
-    /// The points that it can touch: its clip, or the part of the clip in the cells of its text, of 8 by 8
-    /// points each, or in its picture.
-    pub fn area(&self) -> Rect
-        requires { spec.IsNearPaint self.now }
-        ensures value { result ≡ spec.area self.now }
-        ensures near { spec.IsNearRect result }
+    /// A view of the command.
+    #[inline(always)]
+    pub(crate) fn view(&self) -> PaintView<'_>
+        ensures { viewed result ≡ self.now }
     {
         match self {
-            Paint::Tint { clip, .. }
-            | Paint::Texture { clip, .. }
-            | Paint::Scroll { clip, .. }
-            | Paint::Spoil { clip } => *clip,
-            Paint::Pixels { clip, src, delta } => {
-                clip.meet(&whole(src.pixmap().size()).shift(*delta))
-            }
-            Paint::Text { clip, at, text, .. } => clip.meet(&cells(*at, text)),
-        }
-    }
-
-    /// Whether the pixels after it don't depend on those before it.
-    pub fn is_opaque(&self) -> bool
-        ensures { result ≡ spec.is_opaque self.now }
-    {
-        match self {
-            Paint::Tint { op, .. } => opaque(*op),
-            Paint::Texture { ops, .. } | Paint::Text { ops, .. } => are_opaque(*ops),
-            Paint::Pixels { .. } => true,
-            Paint::Scroll { .. } | Paint::Spoil { .. } => false,
-        }
-    }
-
-    /// A copy of the command.
-    pub fn copy(&self) -> Result<Paint, NoMemory>
-        ensures { IfOk result (λ c. c ≡ self.now) }
-    {
-        Ok(match self {
-            Paint::Tint { clip, op } => Paint::Tint {
+            Paint::Tint { clip, op } => PaintView::Tint {
                 clip: *clip,
                 op: *op,
             },
@@ -105,15 +77,15 @@ impl Paint {
                 clip,
                 tile,
                 delta,
-            } => Paint::Texture {
+            } => PaintView::Texture {
                 ops: *ops,
                 clip: *clip,
                 tile: *tile,
                 delta: *delta,
             },
-            Paint::Pixels { clip, src, delta } => Paint::Pixels {
+            Paint::Pixels { clip, src, delta } => PaintView::Pixels {
                 clip: *clip,
-                src: src.copy()?,
+                src,
                 delta: *delta,
             },
             Paint::Text {
@@ -121,23 +93,44 @@ impl Paint {
                 clip,
                 at,
                 text,
-            } => Paint::Text {
+            } => PaintView::Text {
                 ops: *ops,
                 clip: *clip,
                 at: *at,
-                text: text.copy()?,
+                text,
             },
-            Paint::Scroll { clip, delta } => Paint::Scroll {
+            Paint::Scroll { clip, delta } => PaintView::Scroll {
                 clip: *clip,
                 delta: *delta,
             },
-            Paint::Spoil { clip } => Paint::Spoil { clip: *clip },
-        })
+            Paint::Spoil { clip } => PaintView::Spoil { clip: *clip },
+        }
+    }
+
+    /// The points that it can touch: its clip, or the part of the clip in the cells of its text, of 8 by 8
+    /// points each, or in its picture.
+    pub fn area(&self) -> Rect
+        requires { spec.IsNearPaint self.now }
+        ensures value { result ≡ spec.area self.now }
+        ensures near { spec.IsNearRect result }
+    {
+        // Names `Paint`, so that the borrow checker knows the types that a view lends.
+        let _none: Option<Paint> = None;
+        self.view().area()
+    }
+
+    /// Whether the pixels after it don't depend on those before it.
+    pub fn is_opaque(&self) -> bool
+        ensures { result ≡ spec.is_opaque self.now }
+    {
+        // Names `Paint`, so that the borrow checker knows the types that a view lends.
+        let _none: Option<Paint> = None;
+        self.view().is_opaque()
     }
 }
 
 /// Whether both operations are opaque.
-fn are_opaque(ops: Pair) -> bool
+pub(crate) fn are_opaque(ops: Pair) -> bool
     ensures { result ≡ spec.both_opaque ops }
 {
     opaque(ops.zero) && opaque(ops.one)

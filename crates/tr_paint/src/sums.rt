@@ -2,10 +2,13 @@ ghost use Rattle.std.specs.Prelude.{◌≡◌, false, ◌||◌, ◌++◌, ◌∷
 ghost use Rattle.tr_paint.specs.declared.paints.Paint.{Paint};
 ghost use Rattle.tr_paint.specs.Paints.{IsNearPaint, IsNearPoint, IsNearRect, area as area_of};
 ghost use Rattle.tr_paint.specs.Batches.{IsBatch};
+ghost use Rattle.tr_paint.specs.Views.{viewed};
 ghost use Rattle.tr_paint.specs.Sums as spec;
 
+use crate::command_lists::CommandList;
 use crate::hulls::hull;
 use crate::paints::Paint;
+use crate::views::PaintView;
 use tr_base::{Point, Rect};
 
 /// A summary of the scrolls of a batch.
@@ -45,11 +48,11 @@ impl Sums {
     }
 
     /// Adds a command with this area after the others.
-    pub fn add(&mut self, paint: &Paint, area: &Rect)
-        requires near { IsNearPaint paint.now }
-        requires area { area.now ≡ area_of paint.now }
+    pub fn add(&mut self, paint: &PaintView, area: &Rect)
+        requires near { IsNearPaint (viewed paint.now) }
+        requires area { area.now ≡ area_of (viewed paint.now) }
         ensures { (front : List Paint) → spec.AreSums self.old front →
-            spec.AreSums self.new (front ++ paint.now ∷ []) }
+            spec.AreSums self.new (front ++ viewed paint.now ∷ []) }
     {
         self.hull = hull(&self.hull, area);
         self.cost = self.cost.saturating_add(cost_of_one(paint, area));
@@ -81,29 +84,19 @@ impl Sums {
         let scroll = Scrolls::Alike { clip: *clip, delta };
         self.scrolls = both_scrolls(&self.scrolls, &scroll);
     }
-
-    /// The sums of commands followed by others.
-    pub fn with(&self, behind: &Sums) -> Sums
-        ensures { (front back : List Paint) → spec.AreSums self.now front → spec.AreSums behind.now back →
-            spec.AreSums result (front ++ back) }
-    {
-        Sums {
-            hull: hull(&self.hull, &behind.hull),
-            cost: self.cost.saturating_add(behind.cost),
-            spoils: either(self.spoils, behind.spoils),
-            scrolls: both_scrolls(&self.scrolls, &behind.scrolls),
-        }
-    }
 }
 
 /// The sums of commands, computed by a walk over them.
-pub(crate) fn sums_of(paints: &[Paint]) -> Sums
-    requires { IsBatch paints.now }
-    ensures { spec.AreSums result paints.now }
+pub(crate) fn sums_of(commands: &CommandList) -> Sums
+    requires { IsBatch commands.now }
+    ensures { spec.AreSums result commands.now }
 {
+    // Names `Paint`, so that the borrow checker knows the types that a view lends.
+    let _none: Option<Paint> = None;
     let mut sums = Sums::none();
-    for paint in paints {
-        sums.add(paint, &paint.area());
+    for i in 0..commands.len() {
+        let paint = commands.get(i);
+        sums.add(&paint, &paint.area());
     }
     sums
 }
@@ -117,29 +110,29 @@ pub fn points_in(rect: &Rect) -> u64
 }
 
 /// The measured cost of a point of a command's area, relative to the cost of a filled point.
-fn weight(paint: &Paint) -> u64
-    ensures { result ≡ spec.weight paint.now }
+fn weight(paint: &PaintView) -> u64
+    ensures { result ≡ spec.weight (viewed paint.now) }
 {
     match paint {
-        Paint::Tint { .. } | Paint::Pixels { .. } | Paint::Spoil { .. } => 1,
-        Paint::Texture { .. } | Paint::Scroll { .. } => 2,
-        Paint::Text { .. } => 3,
+        PaintView::Tint { .. } | PaintView::Pixels { .. } | PaintView::Spoil { .. } => 1,
+        PaintView::Texture { .. } | PaintView::Scroll { .. } => 2,
+        PaintView::Text { .. } => 3,
     }
 }
 
 /// The estimated work of executing a command with this area.
-fn cost_of_one(paint: &Paint, area: &Rect) -> u64
-    requires { area.now ≡ area_of paint.now }
-    ensures { result ≡ spec.cost_of (paint.now ∷ []) }
+fn cost_of_one(paint: &PaintView, area: &Rect) -> u64
+    requires { area.now ≡ area_of (viewed paint.now) }
+    ensures { result ≡ spec.cost_of (viewed paint.now ∷ []) }
 {
     points_in(area).saturating_mul(weight(paint))
 }
 
 /// Whether a command makes the pixels of its points unknown.
-fn is_spoil(paint: &Paint) -> bool
-    ensures { result ≡ spec.is_spoil paint.now }
+fn is_spoil(paint: &PaintView) -> bool
+    ensures { result ≡ spec.is_spoil (viewed paint.now) }
 {
-    matches!(paint, Paint::Spoil { .. })
+    matches!(paint, PaintView::Spoil { .. })
 }
 
 /// Whether one of the two is true.
@@ -150,13 +143,13 @@ fn either(a: bool, b: bool) -> bool
 }
 
 /// The summary of the scrolls of this one command.
-fn scrolls_of(paint: &Paint) -> Scrolls
-    requires { IsNearPaint paint.now }
-    ensures one { spec.IsOneOf result paint.now }
+fn scrolls_of(paint: &PaintView) -> Scrolls
+    requires { IsNearPaint (viewed paint.now) }
+    ensures one { spec.IsOneOf result (viewed paint.now) }
     ensures near { spec.AreNear result }
 {
     match paint {
-        Paint::Scroll { clip, delta } => Scrolls::Alike {
+        PaintView::Scroll { clip, delta } => Scrolls::Alike {
             clip: *clip,
             delta: *delta,
         },

@@ -3,5 +3,5 @@ use Rattle.tr_paint.specs.Sums as spec
 use Rattle.tr_paint.proofs.sums.sums_of.Given as goal
 
 -- the sums are those of the commands so far
-abbrev pub invariant-loop-paint : goal.invariant-loop-paint
-invariant-loop-paint l = spec.AreSums l.sums (take l.paint-index l.paints)
+abbrev pub invariant-loop-i : goal.invariant-loop-i
+invariant-loop-i l = spec.AreSums l.sums (take l.i l.commands)

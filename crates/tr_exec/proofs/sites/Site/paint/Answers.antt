@@ -18,7 +18,7 @@ pub invariant_of-brush-in-Pixels : goal.invariant_of-brush-in-Pixels
 invariant_of-brush-in-Pixels c = record {
   corner = c.place-in-Pixels.ensures.corner;
   within = rw (c.pixmap.ensures, c.place-in-Pixels.ensures.value)
-      (pixels_within c.area-area.result c.in-Pixels.clip c.in-Pixels.src.size c.args.self.now.origin c.in-Pixels.delta
+      (pixels_within c.area-area.result c.in-Pixels.clip c.in-Pixels.src.now.size c.args.self.now.origin c.in-Pixels.delta
       (rw c.in-Pixels.is at c.area-area.ensures));
 }
 
@@ -29,7 +29,7 @@ pub invariant_of-placed : goal.invariant_of-placed
 invariant_of-placed c = record {
   corner = c.place-in-Text.ensures.corner;
   within = rw c.place-in-Text.ensures.value
-      (text_within c.area-area.result c.in-Text.clip (length c.in-Text.text) c.args.self.now.origin c.in-Text.at (rw c.in-Text.is at c.area-area.ensures));
+      (text_within c.area-area.result c.in-Text.clip (length c.in-Text.text.now) c.args.self.now.origin c.in-Text.at (rw c.in-Text.is at c.area-area.ensures));
 }
 
 pub paint_text-requires : goal.paint_text-requires
@@ -64,7 +64,7 @@ returns-in-Pixels c =
     rw c.in-Pixels.is (repaints_as _ _ _ _ old c.paint_within-in-Pixels.new.screen
     (rw (c.pixmap.ensures, c.place-in-Pixels.ensures.value) at c.paint_within-in-Pixels.ensures)
     (λ p. ap (λ b. holds visible p && b) (sym (area p)))
-    (λ p. ap (λ (r : Point). resolved kind (pixmap_at c.in-Pixels.src r)) (before-both origin p c.in-Pixels.delta)))
+    (λ p. ap (λ (r : Point). resolved kind (pixmap_at c.in-Pixels.src.now r)) (before-both origin p c.in-Pixels.delta)))
 
 pub returns-in-Text : goal.returns-in-Text
 returns-in-Text c =
@@ -77,5 +77,5 @@ returns-in-Text c =
     rw c.in-Text.is (repaints_as _ _ _ _ old c.paint_text.new.screen (rw c.place-in-Text.ensures.value at c.paint_text.ensures)
     (λ p. ap (λ b. holds visible p && b) (sym (area p)))
     (λ p. ap (λ (r : Point). eff kind
-    (chosen c.in-Text.ops (glyph_bit font (slice_index c.in-Text.text (unsigned_abs r.h / 8)) (unsigned_abs r.h) (unsigned_abs r.v))) (pixel_of old p))
+    (chosen c.in-Text.ops (glyph_bit font (slice_index c.in-Text.text.now (unsigned_abs r.h / 8)) (unsigned_abs r.h) (unsigned_abs r.v))) (pixel_of old p))
     (before-both origin p c.in-Text.at)))

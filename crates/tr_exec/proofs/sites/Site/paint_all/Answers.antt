@@ -1,8 +1,10 @@
-use Rattle.std.proofs.Common.{◌≡◌, ◌+◌, ◌∷◌, [], ◌++◌, List, take, length, sym, ap, subst, ◌∙◌}
-use Rattle.std.proofs.lemmas.List.{take_more, take_all}
+use Rattle.std.proofs.Common.{◌≡◌, [], take, sym, subst, arith}
+use Rattle.std.proofs.lemmas.List.{take_all}
+use Rattle.std.proofs.lemmas.Option.{get_or_from_slice_get, slice_get_within}
 use Rattle.tr_base.specs.declared.Size.{Size}
-use Rattle.tr_paint.specs.declared.Paint.{Paint}
 use Rattle.tr_paint.specs.Traces.{look_of}
+use Rattle.tr_paint.specs.Views.{viewed}
+use Rattle.tr_paint.proofs.BatchLemmas.{take_next}
 use Rattle.tr_exec.specs.Executions.{RegionLiesOn}
 use Rattle.tr_exec.proofs.ShownLemmas.{shown_none, shown_more}
 use Rattle.tr_exec.proofs.PaintingLemmas.{zip_at}
@@ -19,22 +21,20 @@ paint-requires-clause-visible c =
 
 pub paint-requires-clause-moved : goal.paint-requires-clause-moved
 paint-requires-clause-moved c =
-    let items : length c.args.batch.now ≡ length c.paints-paints.result.now = ap (λ (l : List Paint). length l) (sym c.paints-paints.ensures.value) in
-    zip_at _ c.args.batch.now c.args.moves.now c.loop-i.i c.index-paints-i.result c.index-moves-i.result c.requires.moves
-    (rw items c.loop-i-test.true) (rw c.paints-paints.ensures.value at c.index-paints-i.is) c.index-moves-i.is
+    let paint = viewed c.get-paint.result in
+    zip_at _ c.args.batch.now c.args.moves.now c.loop-i.i paint c.index-moves-i.result c.requires.moves
+    (slice_get_within c.args.batch.now c.loop-i.i paint c.get-paint.ensures.value)
+    (sym (get_or_from_slice_get c.args.batch.now c.loop-i.i paint paint c.get-paint.ensures.value)) c.index-moves-i.is
 
 pub loop-i-preserved : goal.loop-i-preserved
 loop-i-preserved c = λ bad.
-    let items = c.paints-paints.result.now in
+    let items = c.args.batch.now in
     let i = c.loop-i.i in
-    let item = c.index-paints-i.result in
-    let next : take (i + 1) items ≡ take i items ++ item ∷ [] =
-    take_more items i item c.loop-i-test.true ∙ ap (λ (x : Paint). take i items ++ x ∷ []) (sym c.index-paints-i.is) in
-    rw next (shown_more _ _ _ bad c.args.screen.now c.requires.visible (take i items) item
+    let item = viewed c.get-paint.result in
+    rw (take_next items i item c.get-paint.ensures.value) (shown_more _ _ _ bad c.args.screen.now c.requires.visible (take i items) item
     c.loop-i.screen c.paint.new.screen (c.loop-i.invariant bad) c.paint.ensures)
 
 pub returns : goal.returns
 returns c = λ bad.
-    let items = c.paints-paints.result.now in
-    let all : take c.loop-i.i items ≡ c.args.batch.now = take_all _ items c.loop-i-test.false ∙ c.paints-paints.ensures.value in
+    let all : take c.loop-i.i c.args.batch.now ≡ c.args.batch.now = take_all _ c.args.batch.now (omega (arith, c.loop-i-test.false)) in
     rw all at (c.loop-i.invariant bad)

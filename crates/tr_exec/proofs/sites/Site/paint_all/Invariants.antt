@@ -8,4 +8,4 @@ use Rattle.tr_exec.proofs.sites.Site.paint_all.Given as goal
 -- the screen shows what the commands so far make of it
 abbrev pub invariant-loop-i : goal.invariant-loop-i
 invariant-loop-i l = (bad : List Edges) → ShowsBatch (look_of l.env.kind l.env.font.now) (base_of l.self.origin l.self.visible.now bad l.fn.screen)
-    (take l.i l.paints) l.self.origin l.self.visible.now l.fn.screen l.screen
+    (take l.i l.batch) l.self.origin l.self.visible.now l.fn.screen l.screen

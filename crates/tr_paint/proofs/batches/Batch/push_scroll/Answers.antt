@@ -11,7 +11,7 @@ invariant_of-self-2 c =
     let paint : Paint = Scroll c.args.clip c.args.delta in
     let some : has_area paint ≡ true =
     full-area paint c.args.clip refl c.is_empty.ensures.invariant (λ e. false-true (c.if-is_empty.ensures.value.1 e)) in
-    rw c.in_ok-push.ensures.items (record {
+    rw c.in_ok-push_scroll.ensures.ok (record {
       batch = batch-append _ _ c.self.invariant.batch (record { near = (c.requires.clip, c.requires.delta); some = some }, tt);
       known = c.add_scroll.ensures _ c.self.invariant.known;
     })

@@ -13,7 +13,7 @@ invariant_of-self-2 c =
     let is : c.meet-area.result ≡ area paint = c.meet-area.ensures.edges ∙ ap (meet_of c.args.clip) c.cells.ensures in
     let some : has_area paint ≡ true =
     full-area paint c.meet-area.result is c.is_empty.ensures.invariant (λ e. false-true (c.if-is_empty.ensures.value.1 e)) in
-    rw c.in_ok-push.ensures.items (record {
+    rw c.in_ok-push_text.ensures.ok (record {
       batch = batch-append _ _ c.self.invariant.batch (record { near = (c.requires.clip, c.requires.at); some = some }, tt);
       known = c.add_still.ensures _ paint is refl refl tt c.self.invariant.known;
     })

@@ -11,7 +11,7 @@ invariant_of-self-2 c =
     let paint : Paint = Tint c.args.clip c.args.op in
     let some : has_area paint ≡ true =
     full-area paint c.args.clip refl c.is_empty.ensures.invariant (λ e. false-true (c.if-is_empty.ensures.value.1 e)) in
-    rw c.in_ok-push.ensures.items (record {
+    rw c.in_ok-push_tint.ensures.ok (record {
       batch = batch-append _ _ c.self.invariant.batch (record { near = c.requires; some = some }, tt);
       known = c.add_still.ensures _ paint refl refl refl tt c.self.invariant.known;
     })

@@ -1,6 +1,7 @@
 use Rattle.std.proofs.Common.{◌≡◌, ◌||◌, Bool, true, false, [], ◌∷◌, refl, ◌∙◌}
 use Rattle.std.proofs.lemmas.List.Folds.{list_any-append}
 use Rattle.tr_paint.specs.Sums.{IsHull, is_spoil}
+use Rattle.tr_paint.specs.Views.{viewed}
 use Rattle.tr_paint.proofs.SumLemmas.{hull-append, hull-one, cost-append, scrolls-append, scrolls-one}
 use Rattle.tr_paint.proofs.sums.Sums.add.Goals as goal
 
@@ -10,7 +11,7 @@ alone false = refl
 
 pub returns : goal.returns
 returns c = λ front some.
-    let paint = c.args.paint.now in
+    let paint = viewed c.args.paint.now in
     let one : IsHull c.args.area.now (paint ∷ []) = rw c.requires.area (hull-one paint) in
     record {
       hull = hull-append _ _ _ front (paint ∷ []) c.hull-self.ensures.first c.hull-self.ensures.second c.hull-self.ensures.least some.hull one;

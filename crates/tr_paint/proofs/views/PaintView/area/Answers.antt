@@ -1,7 +1,7 @@
 use Rattle.std.proofs.Common.{◌<◌, rules}
 use Rattle.tr_paint.specs.Paints.{IsNearPoint}
 use Rattle.tr_paint.proofs.NearLemmas.{near-meet, whole-in_reach}
-use Rattle.tr_paint.proofs.paints.Paint.area.Goals as goal
+use Rattle.tr_paint.proofs.views.PaintView.area.Goals as goal
 
 pub shift-requires : goal.shift-requires
 shift-requires c =

@@ -1,0 +1,20 @@
+use Rattle.std.proofs.Common.{[], ◌∷◌, ◌++◌, List, refl, ap, ◌∙◌}
+use Rattle.tr_paint.specs.declared.paints.Paint.{Paint}
+use Rattle.tr_paint.specs.declared.paints.Paint.TheVariants.{Tint}
+use Rattle.tr_paint.proofs.CommandListLemmas.{parts-pushed, grew-none, pushed}
+use Rattle.tr_paint.proofs.command_lists.CommandList.push_tint.Goals as goal
+
+pub invariant_of-self-2 : goal.invariant_of-self-2
+invariant_of-self-2 c =
+    let fields = c.self.inside in
+    rw (c.push_reserved.ensures.items, c.in_ok-reserve.ensures.items)
+    (parts-pushed fields.stored.items _ fields.texts.items _ fields.places.items c.in_ok-command.command 0 (Tint c.args.clip c.args.op)
+    c.self.invariant c.in_ok-command.ensures.ok (grew-none fields.texts.items) tt)
+
+pub returns-clause-ok : goal.returns-clause-ok
+returns-clause-ok c =
+    let fields = c.self.inside in
+    rw (c.push_reserved.ensures.items, c.in_ok-reserve.ensures.items)
+    (pushed fields.stored.items _ fields.texts.items _ fields.places.items c.in_ok-command.command 0 (Tint c.args.clip c.args.op)
+    c.self.invariant c.in_ok-command.ensures.ok (grew-none fields.texts.items) refl
+    ∙ ap (λ (cs : List Paint). cs ++ Tint c.args.clip c.args.op ∷ []) c.self.view_is)
