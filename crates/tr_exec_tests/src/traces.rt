@@ -107,7 +107,9 @@ impl Ground<'_> {
     }
 
     /// The first point of the screen of which the trace tells something else than a batch has left.
-    fn first_difference(&self, batch: &Batch, screen: &Screen, bad: &Region) -> Option<Point> {
+    fn first_difference(&self, paints: &[Paint], screen: &Screen, bad: &Region) -> Option<Point>
+        requires { IsBatch paints.now }
+    {
         let size = self.screen.size();
         for v in 0..size.high {
             for h in 0..size.wide {
@@ -115,7 +117,7 @@ impl Ground<'_> {
                     h: i32::from(h),
                     v: i32::from(v),
                 };
-                let (pixel, is_bad) = self.told(batch.paints(), p);
+                let (pixel, is_bad) = self.told(paints, p);
                 if bad.has(p) != is_bad || pixel.is_some() && pixel != shown(screen, p) {
                     return Some(p);
                 }
@@ -198,6 +200,18 @@ fn cell_bit(font: &Font, text: &Line, from: Point) -> bool
     is_set(font.glyph_of(text.bytes()[h / 8])[v], (h % 8) as u8)
 }
 
+/// Copies of the commands of a batch.
+fn copies_of(rt: &(impl Abort + AllocGlobal), batch: &Batch) -> Vec<Paint>
+    ensures { IsBatch result.items }
+{
+    let mut copies = Vec::new(rt.alloc());
+    for i in 0..batch.len() {
+        let copy = made(rt, batch.get(i).copy());
+        made(rt, copies.push(copy));
+    }
+    copies
+}
+
 /// Whether a random batch leaves what the trace tells, and nothing else changes.
 fn leaves_what_is_traced(rt: &(impl Abort + AllocGlobal), draw: &mut Draw) -> bool {
     let font = draw.font(rt);
@@ -231,7 +245,8 @@ fn leaves_what_is_traced(rt: &(impl Abort + AllocGlobal), draw: &mut Draw) -> bo
             &mut bad,
         ),
     );
-    ground.first_difference(&batch, &screen, &bad).is_none()
+    let paints = copies_of(rt, &batch);
+    ground.first_difference(&paints, &screen, &bad).is_none()
 }
 
 #[test]

@@ -11,7 +11,7 @@ use tr_base::{LeafId, Op, Rect, Size, whole};
 use tr_forest::Edit;
 use tr_journal::Step;
 use tr_levels::Ladder;
-use tr_paint::Paint;
+use tr_paint::PaintView;
 use tr_server::{Pass, Server, Session};
 use tr_stage::Stage;
 use w_plain::Solid;
@@ -39,12 +39,12 @@ fn waits_alone<C: Coloured>(stage: &Stage<C>, size: Size, tint: u8) -> bool {
     if stage.opening().tree().leaves() == 0 {
         return false;
     }
-    let paints = stage.batch(LeafId(0)).paints();
-    if paints.len() != 1 {
+    let batch = stage.batch(LeafId(0));
+    if batch.len() != 1 {
         return false;
     }
-    match &paints[0] {
-        Paint::Tint { clip, op } => *clip == whole(size) && *op == Op::Set(tint),
+    match batch.get(0) {
+        PaintView::Tint { clip, op } => clip == whole(size) && op == Op::Set(tint),
         _ => false,
     }
 }

@@ -21,7 +21,7 @@ use crate::survivors::Survivors;
 use crate::tree_changes::{Known, TreeChange};
 use std::alloc::Global;
 use tr_base::{LeafId, NoMemory, NodeId, Point, Rect, Size};
-use tr_paint::Batch;
+use tr_paint::{Batch, Paint};
 use tr_region::Region;
 use tr_repair::shifted;
 use tr_spot::{from_corner, own_points, size_of};
@@ -316,8 +316,11 @@ fn comes_to(old: Point, new: Point, by: Point) -> bool
 fn untouched(alloc: Global, rect: Rect, batch: &Batch) -> Result<Region, NoMemory>
     ensures { IfOk result (λ r. (q : Point) → holds r q ≡ (has_point rect q && not (touches batch.now q))) }
 {
+    // Names `Paint`, so that the borrow checker knows the types that a view lends.
+    let _none: Option<Paint> = None;
     let mut left = Region::of_rect(alloc, rect)?;
-    for paint in batch.paints() {
+    for i in 0..batch.len() {
+        let paint = batch.get(i);
         let Ok(area) = Region::of_rect(alloc, paint.area()) else {
             drop(left);
             return Err(NoMemory);

@@ -4,7 +4,7 @@ use std::process::Abort;
 use std::test::Fail;
 use tr_base::{Command, Env, Font, Kind, Line, Op, Point, Rect, Size, Tile};
 use tr_client::{Client, Prepared};
-use tr_paint::Paint;
+use tr_paint::{Batch, PaintView};
 use tr_widget::{Widget, WidgetCmd};
 use w_canvas::{Area, Canvas, CanvasCmd};
 use w_edit::{Editor, EditorCmd};
@@ -146,6 +146,17 @@ fn a_command_of_another_widget_does_nothing(rt: HostRuntime) -> Result<(), Fail>
     Ok(())
 }
 
+/// Whether a batch is this one tint.
+fn is_tint_alone(batch: &Batch, want: (Rect, Op)) -> bool {
+    if batch.len() != 1 {
+        return false;
+    }
+    match batch.get(0) {
+        PaintView::Tint { clip, op } => (clip, op) == want,
+        _ => false,
+    }
+}
+
 /// Whether a command that is prepared for a square of two by two, and fitted anew to a row of three, has this
 /// one tint as its patch.
 fn is_fitted_anew<C: Client>(
@@ -163,11 +174,7 @@ fn is_fitted_anew<C: Client>(
     let again = made(rt, content.copy(alloc));
     let row = Size { wide: 3, high: 1 };
     made(rt, prepared.refit(again, &font, row, Kind::Map8));
-    let is_tint = match prepared.batch.paints() {
-        [Paint::Tint { clip, op }] => (*clip, *op) == want,
-        _ => false,
-    };
-    is_tint && !prepared.to.same(&prepared.from)
+    is_tint_alone(&prepared.batch, want) && !prepared.to.same(&prepared.from)
 }
 
 #[test]

@@ -3,6 +3,7 @@ ghost use Rattle.tr_base.specs.declared.Point.{Point};
 ghost use Rattle.tr_base.specs.Rects.{has_point, whole_of};
 ghost use Rattle.tr_paint.specs.Batches.{touches};
 ghost use Rattle.tr_paint.specs.Paints.{IsNearPaint, IsNearPoint};
+ghost use Rattle.tr_paint.specs.Views.{viewed};
 ghost use Rattle.tr_paint.specs.Traces.{Look};
 ghost use Rattle.tr_client.specs.Laws.{IsWindowSize};
 ghost use Rattle.tr_windows.specs.Losses.{BringsOwn, Spares};
@@ -12,7 +13,7 @@ use crate::areas::{part_in_window, spanned};
 use crate::exposures::Exposure;
 use tr_base::{Point, Rect, Size};
 use tr_client::window;
-use tr_paint::{Batch, Paint, Scrolls, points_in};
+use tr_paint::{Batch, Paint, PaintView, Scrolls, points_in};
 
 /// Whether a painting may replace the commands that wait for a window, and may cost less. A painting
 /// costs at least the area that it paints: the least rectangle that has all points that the waiting
@@ -77,8 +78,11 @@ fn spares_all(batch: &Batch, exposure: &Exposure) -> bool
     requires { IsWindowSize exposure.now.size }
     ensures { IsTrue result → (look : Look) → LosesNothingOf exposure.now look batch.now }
 {
-    for paint in batch.paints() {
-        if !spares(paint, exposure) {
+    // Names `Paint`, so that the borrow checker knows the types that a view lends.
+    let _none: Option<Paint> = None;
+    for i in 0..batch.len() {
+        let paint = batch.get(i);
+        if !spares(&paint, exposure) {
             return false;
         }
     }
@@ -86,14 +90,14 @@ fn spares_all(batch: &Batch, exposure: &Exposure) -> bool
 }
 
 /// Whether each point that was known before a command is known after it.
-fn spares(paint: &Paint, exposure: &Exposure) -> bool
-    requires near { IsNearPaint paint.now }
+fn spares(paint: &PaintView, exposure: &Exposure) -> bool
+    requires near { IsNearPaint (viewed paint.now) }
     requires size { IsWindowSize exposure.now.size }
-    ensures { IsTrue result → Spares exposure.now paint.now }
+    ensures { IsTrue result → Spares exposure.now (viewed paint.now) }
 {
     match paint {
-        Paint::Scroll { clip, delta } => spares_scroll(clip, *delta, exposure),
-        Paint::Spoil { .. } => false,
+        PaintView::Scroll { clip, delta } => spares_scroll(clip, *delta, exposure),
+        PaintView::Spoil { .. } => false,
         _ => true,
     }
 }

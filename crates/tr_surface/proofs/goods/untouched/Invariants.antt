@@ -6,5 +6,5 @@ use Rattle.tr_paint.specs.Batches.{touches}
 use Rattle.tr_surface.proofs.goods.untouched.Given as goal
 
 -- the points that the commands so far don't touch
-abbrev pub invariant-loop-paint : goal.invariant-loop-paint
-invariant-loop-paint l = (q : Point) → holds l.left q ≡ (has_point l.fn.rect q && not (touches (take l.paint-index l.paint-items) q))
+abbrev pub invariant-loop-i : goal.invariant-loop-i
+invariant-loop-i l = (q : Point) → holds l.left q ≡ (has_point l.fn.rect q && not (touches (take l.i l.batch) q))

@@ -5,7 +5,7 @@ use Rattle.w_canvas.proofs.canvases.CanvasClient.apply.Goals as goal
 pub returns-in-Err-clause-batch_err : goal.returns-in-Err-clause-batch_err
 returns-in-Err-clause-batch_err c =
     let put = c.in_ok-put_patch.ensures.ok (look_of c.args._env.now.kind c.args._env.now.font.now) in
-    rw (c.truncate.ensures, c.len-before.ensures, put) (take-append_seam c.args.batch.now _)
+    rw (c.truncate.ensures, c.len-before.ensures.value, put) (take-append_seam c.args.batch.now _)
 
 pub returns-clause-batch_ok : goal.returns-clause-batch_ok
 returns-clause-batch_ok c = c.in_ok-put_patch.ensures.ok (look_of c.args._env.now.kind c.args._env.now.font.now)
