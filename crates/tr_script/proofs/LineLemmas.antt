@@ -1,19 +1,14 @@
 -- What a line says and its first fault, and the lines that are read so far.
-use Rattle.std.proofs.Common.{◌≡◌, ℕ, ◌+◌, ◌-◌, ◌<◌, ◌≤◌, Bool, true, false, List, [], ◌∷◌, ◌++◌, Option, Some, None, Err}
-use Rattle.std.proofs.Common.{cond, length, take, drop, refl, sym, ap, ◌∙◌, arith}
-use Rattle.std.proofs.lemmas.List.{length-take}
-use Rattle.std.proofs.lemmas.List.Splits.{length-slice_split}
-use Rattle.std.proofs.lemmas.List.Sums.{count_by-le-length}
+use Rattle.std.proofs.Common.{◌≡◌, ℕ, ◌+◌, ◌<◌, ◌≤◌, Bool, true, false, List, [], ◌∷◌, ◌++◌, Option, Some, None, Err}
+use Rattle.std.proofs.Common.{cond, length, refl, sym, ap, ◌∙◌, arith}
 use Rattle.std.proofs.lemmas.Option.{none-some}
-use Rattle.std.specs.Prelude.{◌==◌}
-use Rattle.std.specs.List.{slice_split}
 use Rattle.std.specs.Borrow.{Bor}
 use Rattle.tr_grammar.specs.declared.Code.{Code}
 use Rattle.tr_grammar.specs.declared.Code.TheVariants.{B1, B8}
 use Rattle.tr_grammar.specs.declared.LineRefused.{LineRefused}
 use Rattle.tr_grammar.specs.declared.LineRefused.TheVariants as refused
 use Rattle.tr_grammar.specs.declared.Meaning.{Meaning}
-use Rattle.tr_grammar.specs.Texts.{is_plain, is_silent, lines_of, ends_empty}
+use Rattle.tr_grammar.specs.Texts.{is_plain, is_silent, lines_of}
 use Rattle.tr_grammar.specs.Words.{word_at, words_of}
 use Rattle.tr_grammar.specs.Forms.{Form, form_of}
 use Rattle.tr_grammar.specs.Meanings.{meaning_of}
@@ -100,22 +95,6 @@ next_of_words c bytes h = rw h.loud refl
 
 -- ---- all lines
 
--- i of all lines are read, and the script behind them is c
-pub record IsRead (all : List (List ℕ)) (i : ℕ) (c : SoFar) : Type 0 where
-  pub fault : first_bad_line nothing_yet 1 all ≡ first_bad_line c (i + 1) (drop i all)
-  pub script : after_all_lines nothing_yet all ≡ after_all_lines c (drop i all)
-
-pub one_read : (all : List (List ℕ)) (i : ℕ) (c : SoFar) (t : List ℕ) → IsRead all i c → drop i all ≡ t ∷ drop (i + 1) all →
-    fault_of c (i + 1) t ≡ None → IsRead all (i + 1) (after_line c t)
-one_read all i c t so_far at none = record {
-  fault = so_far.fault ∙ rw (at, none) refl;
-  script = so_far.script ∙ rw at refl;
-}
-
-pub is_refused_at : (all : List (List ℕ)) (i : ℕ) (c : SoFar) (t : List ℕ) (e : Code) → IsRead all i c → drop i all ≡ t ∷ drop (i + 1) all →
-    fault_of c (i + 1) t ≡ Some e → first_bad_line nothing_yet 1 all ≡ Some (refused_at (i + 1) e)
-is_refused_at all i c t e so_far at fault = so_far.fault ∙ rw (at, fault) refl
-
 -- the lines of a text are read up to those of its rest, of which the first has this number, and the script behind them is c
 pub record IsReadTo (bytes rest : List ℕ) (number : ℕ) (c : SoFar) : Type 0 where
   pub fault : first_bad_line nothing_yet 1 (lines_of bytes) ≡ first_bad_line c number (lines_of rest)
@@ -148,14 +127,3 @@ unfolding lines_of
 last_fault bytes [] number c so_far none ended is =
     so_far.fault ∙ ap (λ (b : Bool). cond {A = Option Refusal} b None (Some (refused_at number B8))) is
 last_fault bytes (b ∷ rest) number c so_far none ended is = absurd (omega (arith, none))
-
--- there is at most one line more than there are bytes
-pub few_lines : (bytes : List ℕ) → length (lines_of bytes) ≤ length bytes + 1
-unfolding lines_of
-few_lines bytes =
-    let pieces = slice_split (λ (b : ℕ). b == 10) bytes in
-    omega (arith, fewer pieces (ends_empty pieces), length-slice_split (λ (b : ℕ). b == 10) bytes, count_by-le-length (λ (b : ℕ). b == 10) bytes)
-  where
-    fewer : (ps : List (List ℕ)) (b : Bool) → length (cond b (take (length ps - 1) ps) ps) ≤ length ps
-    fewer ps true = omega (arith, length-take (length ps - 1) ps)
-    fewer ps false = omega arith

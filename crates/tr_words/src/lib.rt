@@ -7,7 +7,7 @@ mod texts;
 mod values;
 mod words;
 
-pub use texts::{at_space, first_line, is_silent, lines_of, plain_text, rest_after, words_into};
+pub use texts::{at_space, first_line, is_silent, plain_text, rest_after, words_into};
 pub use values::{
     byte, edge, extent, first_number, glyph_byte, name, number, offset, only_number, place, rows,
     shape, shift, short, side, signed, small, text, time,

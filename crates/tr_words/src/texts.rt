@@ -1,14 +1,13 @@
 //! A text is cut into lines, and a line into words.
-ghost use Rattle.std.specs.Prelude.{◌≡◌, ◌<◌, [], ◌∷◌, ◌++◌, ◌==◌, true, false, IfOk, OnOk, OnErr, MatchOption, IfSome, drop, length, List, ℕ};
-ghost use Rattle.std.specs.List.{slice_split, AllPass};
+ghost use Rattle.std.specs.Prelude.{◌≡◌, ◌<◌, [], ◌∷◌, ◌++◌, true, false, OnOk, OnErr, MatchOption, IfSome, drop, length, List, ℕ};
+ghost use Rattle.std.specs.List.{AllPass};
 ghost use Rattle.tr_base.specs.Lines.{is_printable};
 ghost use Rattle.tr_grammar.specs.Words.{words_of, rest_after};
-ghost use Rattle.tr_grammar.specs.Texts.{is_plain, is_silent, ends_empty, without_empty_end, lines_of};
+ghost use Rattle.tr_grammar.specs.Texts.{is_plain, is_silent, lines_of};
 ghost use Rattle.tr_words.specs.Answers.{AreWordsOf, texts};
 
 use crate::lanes::{are_printable, first_space};
 use memchr::memchr;
-use std::alloc::{AllocError, Global};
 use tr_base::NoMemory;
 
 /// The most bytes that a line may have.
@@ -110,37 +109,4 @@ pub fn first_line(bytes: &[u8]) -> (&[u8], &[u8])
         Some(at) => (&bytes[..at], &bytes[at + 1..]),
         None => (bytes, &bytes[bytes.len()..]),
     }
-}
-
-fn pieces_of<'a>(alloc: Global, bytes: &'a [u8]) -> Result<Vec<&'a [u8]>, AllocError>
-    ensures { IfOk result (λ ts. texts ts.items ≡ slice_split (λ b. b == 10) bytes.now) }
-{
-    bytes.split(|byte| *byte == b'\n').collect(alloc)
-}
-
-fn ends_empty(pieces: &[&[u8]]) -> bool
-    ensures { result ≡ ends_empty (texts pieces.now) }
-{
-    match pieces.last() {
-        Some(piece) => piece.is_empty(),
-        None => false,
-    }
-}
-
-fn without_empty_end<'a>(mut pieces: Vec<&'a [u8]>) -> Vec<&'a [u8]>
-    ensures { texts result.items ≡ without_empty_end (texts pieces.entry.items) }
-{
-    if ends_empty(&pieces) {
-        pieces.pop();
-    }
-    pieces
-}
-
-/// The pieces between line feeds, without an empty piece at the end.
-#[tactic(auto, unfolding(tr_grammar::specs::Texts::lines_of))]
-pub fn lines_of<'a>(alloc: Global, bytes: &'a [u8]) -> Result<Vec<&'a [u8]>, AllocError>
-    ensures { IfOk result (λ ts. texts ts.items ≡ lines_of bytes.now) }
-{
-    let pieces = pieces_of(alloc, bytes)?;
-    Ok(without_empty_end(pieces))
 }
