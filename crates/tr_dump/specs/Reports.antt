@@ -59,6 +59,10 @@ abbrev pub fate_text : Bool → List ℕ
 fate_text true = codes " dropped "
 fate_text false = codes " "
 
+-- the name of a delivery's leaf, its fate, and its event; only private contracts cite this definition
+abbrev pub sent_event : Names → Delivery → List ℕ
+sent_event names delivery = leaf_name names delivery.leaf ++ fate_text delivery.dropped ++ event_text delivery.event
+
 -- a delivery of a step; it follows the answer
 abbrev pub delivery_text : Names → Delivery → List ℕ
 delivery_text names delivery =

@@ -116,7 +116,23 @@ fn append_delivery<N: NameOf>(
         out.old.items ++ spec.delivery_text (names_of N.NameOf names.now) delivery.now) }
     ensures err { OnErr result (Begins out.new.items out.old.items) }
 {
-    append_all(out, &[b"; ", leaf_name(names, delivery.leaf)])?;
+    out.extend_from_slice(b"; ")?;
+    append_sent_event(delivery, names, out)
+}
+
+/// Appends the name of a delivery's leaf, its fate, and its event.
+#[tactic(auto, using(crate::proofs::BeginsLemmas::begins_itself, crate::proofs::BeginsLemmas::begins_before))]
+fn append_sent_event<N: NameOf>(
+    delivery: &Delivery,
+    names: &N,
+    out: &mut Vec<u8>,
+) -> Result<(), NoMemory>
+    requires { HasLeaf (names_of N.NameOf names.now) delivery.now.leaf }
+    ensures ok { OnOk result (out.new.items ≡
+        out.old.items ++ spec.sent_event (names_of N.NameOf names.now) delivery.now) }
+    ensures err { OnErr result (Begins out.new.items out.old.items) }
+{
+    out.extend_from_slice(leaf_name(names, delivery.leaf))?;
     out.extend_from_slice(fate_text(delivery.dropped))?;
     append_event(&delivery.event, out)
 }
@@ -196,8 +212,6 @@ fn append_sent_line<N: NameOf>(
         out.old.items ++ spec.sent_line (names_of N.NameOf names.now) delivery.now) }
     ensures err { OnErr result (Begins out.new.items out.old.items) }
 {
-    out.extend_from_slice(leaf_name(names, delivery.leaf))?;
-    out.extend_from_slice(fate_text(delivery.dropped))?;
-    append_event(&delivery.event, out)?;
+    append_sent_event(delivery, names, out)?;
     Ok(out.push(b'\n')?)
 }
