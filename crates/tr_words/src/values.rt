@@ -1,6 +1,6 @@
 //! The readers of single values. Each returns B2 if the word doesn't spell such a value, or spells
 //! one that is out of range.
-ghost use Rattle.std.specs.Prelude.{◌≡◌, ◌≤◌, ◌<◌, ◌≤ℤ◌, ◌↔◌, ◌^◌, [], ◌∷◌, ◌==◌, false, slice_index, ℕ, pos, neg_ℤ, not, ⊤, nat_le, length, IsTrue, IfOk, IfSome, MatchOption, decimal, take};
+ghost use Rattle.std.specs.Prelude.{◌≡◌, ◌≤◌, ◌<◌, ◌≤ℤ◌, ◌↔◌, ◌^◌, [], ◌∷◌, ◌==◌, false, slice_index, ℕ, pos, neg_ℤ, not, ⊤, nat_le, length, IsTrue, IfOk, IfNone, IfSome, MatchOption, List, decimal, take};
 ghost use Rattle.std.specs.List.{list_all, AllPass};
 ghost use Rattle.std.specs.Str.Parse.{AllDigits, digits_value};
 ghost use Rattle.tr_base.specs.Lines.{is_printable};
@@ -100,10 +100,12 @@ fn decimal_of(word: &str) -> Option<u32>
     Some(number as u32)
 }
 
-/// The number of the digits before the first space, and the place of that space, if at most ten digits and
-/// no other bytes are before it.
+/// The number of the digits before the first space, and the place of that space, if there is one and at most
+/// ten digits and no other bytes are before it.
 #[inline(always)] // so that no call returns the pair through memory
 fn digits_to_space(text: &[u8]) -> Option<(u64, usize)>
+    ensures none { IfNone result ((at : ℕ) → at < length text.now → at ≤ 10 →
+        slice_index text.now at ≡ 32 → AllDigits 10 (take at text.now) → ⊥) }
     ensures within { IfSome result (λ p. p.1 < length text.now) }
     ensures few { IfSome result (λ p. p.1 ≤ 10) }
     ensures space { IfSome result (λ p. slice_index text.now p.1 ≡ 32) }
@@ -123,11 +125,13 @@ fn digits_to_space(text: &[u8]) -> Option<(u64, usize)>
     None
 }
 
-/// The number that the first word of a text spells, and the text after the space behind it.
+/// The number that the first of several words of a text spells, and the text after the space behind it.
 #[inline(always)]
 pub fn first_number(text: &str) -> Option<(u32, &str)>
     ensures words { IfSome result (λ p. words_of text.now ≡ decimal p.0 ∷ words_of p.1.now) }
     ensures small { IfSome result (λ p. p.0 < 2 ^ 32) }
+    ensures none { IfNone result ((n : ℕ) (next : List ℕ) (later : List (List ℕ)) → n < 2 ^ 32 →
+        words_of text.now ≡ decimal n ∷ next ∷ later → ⊥) }
 {
     let bytes = text.as_bytes();
     let (number, at) = digits_to_space(bytes)?;
@@ -143,7 +147,8 @@ pub fn first_number(text: &str) -> Option<(u32, &str)>
 /// The number that a text of one word spells.
 #[inline(always)]
 pub fn only_number(text: &str) -> Option<u32>
-    ensures { IfSome result (λ n. words_of text.now ≡ decimal n ∷ []) }
+    ensures { MatchOption result ((n : ℕ) → n < 2 ^ 32 → words_of text.now ≡ decimal n ∷ [] → ⊥)
+        (λ n. words_of text.now ≡ decimal n ∷ []) }
 {
     let number = decimal_of(text)?;
     Some(number)
