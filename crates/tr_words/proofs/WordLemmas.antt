@@ -59,3 +59,6 @@ plain_is_utf8 bs e = IsUtf8-from_ascii bs (is_ascii bs (and_parts _ _ e).1)
 pub plain_is_printable : (bs : List ℕ) → is_plain bs ≡ true → AllPass is_printable bs
 unfolding is_plain
 plain_is_printable bs e = AllPass-from_list_all is_printable bs (and_parts _ _ e).1
+
+-- what a reader of a line cites
+pub ruleset text_rules = (plain_is_utf8, plain_is_printable)

@@ -21,7 +21,7 @@ fn is_plain(line: &[u8]) -> bool
 }
 
 /// The text of a line, of at most 1,024 bytes from hex 20 to 7e.
-#[tactic(auto, using(crate::proofs::WordLemmas::plain_is_utf8, crate::proofs::WordLemmas::plain_is_printable))]
+#[tactic(auto, using(crate::proofs::WordLemmas::text_rules))]
 pub fn plain_text(line: &[u8]) -> Option<&str>
     ensures value { MatchOption result (is_plain line.now ≡ false)
         (λ s. (is_plain line.now ≡ true) × (s.now ≡ line.now)) }
