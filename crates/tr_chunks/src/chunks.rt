@@ -1,5 +1,5 @@
 //! Chunks: lines that make steps, cut into stretches, which are read side by side.
-ghost use Rattle.std.specs.Prelude.{◌≡◌, ◌+◌, ◌-◌, ◌*◌, ◌^◌, ◌<◌, ◌≤◌, min, true, map, take, All, Some, IfSome, IfOk, OnOk, OnErr, length};
+ghost use Rattle.std.specs.Prelude.{◌≡◌, ◌+◌, ◌-◌, ◌*◌, ◌^◌, ◌<◌, min, true, map, take, All, Some, IfSome, IfOk, OnOk, length};
 ghost use Rattle.tr_grammar.specs.Faults.{nodes_so_far};
 ghost use Rattle.tr_grammar.specs.Texts.{lines_of};
 ghost use Rattle.tr_grammar.specs.Scripts.{IsPlayable};
