@@ -1,7 +1,7 @@
 mod EdgeLemmas
 mod FormLemmas
 pub mod LineLemmas
-mod MotionLemmas
+mod InputLemmas
 mod NameLemmas
 mod StepLemmas
 mod ApartLemmas

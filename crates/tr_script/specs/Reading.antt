@@ -17,6 +17,7 @@ use Rattle.tr_forest.specs.Nodes.{IsNode}
 use Rattle.tr_journal.specs.Steps.{IsLeaf}
 use Rattle.tr_journal.specs.declared.Actor.{Actor}
 use Rattle.tr_journal.specs.declared.Step.{Step}
+use Rattle.tr_journal.specs.declared.Step.TheVariants as steps
 use Rattle.tr_widget.specs.declared.WidgetCmd.{WidgetCmd}
 use Rattle.tr_base.specs.declared.LeafId.{LeafId}
 use Rattle.tr_base.specs.declared.NodeId.{NodeId}
@@ -29,6 +30,8 @@ use Rattle.tr_words.specs.declared.LeafWords.{LeafWords}
 use Rattle.tr_words.specs.declared.ShapeWords.{ShapeWords}
 use Rattle.tr_script.specs.declared.act_lines.EdgeWords.{EdgeWords}
 use Rattle.tr_script.specs.declared.act_lines.ActLine.{ActLine}
+use Rattle.tr_script.specs.declared.desk_lines.Input.{Input}
+use Rattle.tr_script.specs.declared.desk_lines.Input.TheVariants as inputs
 use Rattle.tr_reader.specs.Adding.{IsFault, IsSoundMeaning}
 use Rattle.tr_script.specs.Apart.{meaning_as}
 
@@ -237,3 +240,9 @@ ReadsTint c new tint value (Err e) = first_of (node_faults c new tint (is_err va
 abbrev pub SaysStep : Meaning → List (Actor × Step WidgetCmd) → List (Actor × Step WidgetCmd) → Bool → Type 0
 SaysStep (meanings.Step actor step) old new taken = (taken ≡ true) × (new ≡ old ++ (actor, step) ∷ [])
 SaysStep m old new taken = (taken ≡ false) × (new ≡ old)
+
+-- the step of the desk that an input device makes
+abbrev pub step_of_input : Input → Step WidgetCmd
+step_of_input (inputs.Motion time at) = steps.Motion time at
+step_of_input (inputs.Mouse time button down) = steps.Mouse time button down
+step_of_input (inputs.Key time code) = steps.Key time code

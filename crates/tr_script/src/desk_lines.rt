@@ -1,13 +1,14 @@
 //! The readers of the desk's steps. Each tests for its faults in the order of their codes.
-ghost use Rattle.std.specs.Prelude.{◌≡◌, ◌≤◌, [], ◌∷◌, ◌||◌, bytes_eq, codes, false, not, pos, IfErr, IfOk, IfSome, Ok, Some};
+ghost use Rattle.std.specs.Prelude.{◌≡◌, ◌≤◌, ◌<◌, ◌^◌, [], ◌∷◌, ◌||◌, bytes_eq, codes, decimal, true, false, not, pos, IfErr, IfOk, IfSome, OnSome, Ok, Some};
 ghost use Rattle.tr_journal.specs.Steps.{IsButton, IsPosition, IsTime};
 ghost use Rattle.tr_grammar.specs.declared.Code.TheVariants.{B2};
+ghost use Rattle.tr_grammar.specs.Faults.{allows, step_line};
 ghost use Rattle.tr_grammar.specs.Words.{int_of, is_number, is_signed, nat_of, words_of};
 ghost use Rattle.tr_grammar.specs.Forms.{button_words, Mouse, Motion, Key, Attach, AttachAt, Detach};
 ghost use Rattle.tr_grammar.specs.Forms.{Tint, Widen, Offset, Fix, Move, Lift, Show, Turn, Reshape, Resize};
 ghost use Rattle.tr_grammar.specs.Forms.{Rescreen};
 ghost use Rattle.tr_words.specs.Answers.{Answers, Chooses, texts};
-ghost use Rattle.tr_script.specs.Reading.{Reads, ReadsAs, ReadsNode, ReadsPlain, desk_forms, is_no_shape, lengths_in, words_of_two_shapes};
+ghost use Rattle.tr_script.specs.Reading.{Reads, ReadsAs, ReadsNode, ReadsPlain, desk_forms, is_no_shape, lengths_in, step_of_input, words_of_two_shapes};
 
 use crate::names::node_of;
 use crate::opening_lines::{ORIGIN, hanging_of, offset_of, size_of};
@@ -18,7 +19,9 @@ use tr_grammar::{Code, LineRefused, Meaning};
 use tr_journal::{Actor, Step};
 use tr_reader::Reader;
 use tr_widget::WidgetCmd;
-use tr_words::{ShapeWords, byte, first_number, only_number, place, shape, side, small, time};
+use tr_words::{
+    ShapeWords, at_space, byte, first_number, only_number, place, shape, side, small, time,
+};
 
 /// A step of the desk.
 fn on_desk(step: Step<WidgetCmd>) -> Meaning
@@ -190,24 +193,96 @@ fn place_of(h: u32, v: u32) -> Option<Point>
     Some(Point { h, v })
 }
 
-/// The values of a motion's line, if they have no minus and the line has no fault. They are the words after
-/// the first one.
+/// The number, if it is from `low` to `high`.
+fn ranged(number: u32, low: u8, high: u8) -> Option<u8>
+    ensures { IfSome result (λ n. (low ≤ number) × (number ≤ high) × (n ≡ number)) }
+{
+    if number < u32::from(low) {
+        return None;
+    }
+    if number > u32::from(high) {
+        return None;
+    }
+    Some(number as u8)
+}
+
+/// What an input device does.
+#[derive(Clone, Copy)]
+pub enum Input {
+    Motion { time: u32, at: Point },
+    Mouse { time: u32, button: u8, down: bool },
+    Key { time: u32, code: u8 },
+}
+
+/// The step of the desk that an input device makes.
 #[inline(always)]
-pub fn plain_motion(reader: &Reader, values: &str) -> Option<(u32, Point)>
-    ensures { IfSome result (λ m. Reads reader.now (Motion ∷ []) (codes "motion" ∷ words_of values.now)
-        (Ok (Meaning.Step Actor.Desk (Step.Motion m.0 m.1)))) }
+pub fn step_of(input: Input) -> Step<WidgetCmd>
+    ensures { result ≡ step_of_input input }
+{
+    match input {
+        Input::Motion { time, at } => Step::Motion { time, at },
+        Input::Mouse { time, button, down } => Step::Mouse { time, button, down },
+        Input::Key { time, code } => Step::Key { time, code },
+    }
+}
+
+/// The time at the front of an input device's values, and the text after it, if it is in range and a step may
+/// come here.
+#[inline(always)]
+fn time_of<'a>(reader: &Reader, values: &'a str) -> Option<(u32, &'a str)>
+    ensures here { OnSome result (allows reader.now.place step_line ≡ true) }
+    ensures low { IfSome result (λ t. 1 ≤ t.0) }
+    ensures small { IfSome result (λ t. t.0 < 2 ^ 32) }
+    ensures words { IfSome result (λ t. words_of values.now ≡ decimal t.0 ∷ words_of t.1.now) }
 {
     let (time, rest) = first_number(values)?;
-    let (h, rest) = first_number(rest)?;
-    let v = only_number(rest)?;
-    let at = place_of(h, v)?;
     if time == 0 {
         return None;
     }
     let Ok(()) = reader.in_steps() else {
         return None;
     };
-    Some((time, at))
+    Some((time, rest))
+}
+
+/// What the line of a motion makes, if its values have no minus and it has no fault. The values are the words
+/// after the first one.
+#[inline(always)]
+pub fn plain_motion(reader: &Reader, values: &str) -> Option<Input>
+    ensures { IfSome result (λ input. Reads reader.now (Motion ∷ []) (codes "motion" ∷ words_of values.now)
+        (Ok (Meaning.Step Actor.Desk (step_of_input input)))) }
+{
+    let (time, rest) = time_of(reader, values)?;
+    let (h, rest) = first_number(rest)?;
+    let v = only_number(rest)?;
+    let at = place_of(h, v)?;
+    Some(Input::Motion { time, at })
+}
+
+/// The same for a mouse button.
+#[inline(always)]
+pub fn plain_mouse(reader: &Reader, values: &str) -> Option<Input>
+    ensures { IfSome result (λ input. Reads reader.now (Mouse ∷ []) (codes "mouse" ∷ words_of values.now)
+        (Ok (Meaning.Step Actor.Desk (step_of_input input)))) }
+{
+    let (time, rest) = time_of(reader, values)?;
+    let (way, rest) = at_space(rest)?;
+    let down = is_down(way)?;
+    let number = only_number(rest)?;
+    let button = ranged(number, 1, 5)?;
+    Some(Input::Mouse { time, button, down })
+}
+
+/// The same for a key.
+#[inline(always)]
+pub fn plain_key(reader: &Reader, values: &str) -> Option<Input>
+    ensures { IfSome result (λ input. Reads reader.now (Key ∷ []) (codes "key" ∷ words_of values.now)
+        (Ok (Meaning.Step Actor.Desk (step_of_input input)))) }
+{
+    let (time, rest) = time_of(reader, values)?;
+    let number = only_number(rest)?;
+    let code = ranged(number, 0, 255)?;
+    Some(Input::Key { time, code })
 }
 
 fn read_attach(reader: &Reader, words: &[&str]) -> Result<Meaning, LineRefused>

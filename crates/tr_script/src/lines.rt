@@ -12,11 +12,12 @@ ghost use Rattle.tr_words.specs.Answers.{texts};
 ghost use Rattle.tr_reader.specs.Adding.{IsFault, IsSoundMeaning, is_at_steps};
 ghost use Rattle.tr_script.specs.Apart.{TakesStep, stays_at_steps};
 ghost use Rattle.tr_script.specs.Apart as spec;
-ghost use Rattle.tr_script.specs.Reading.{Reads, SaysStep, TakesWords, plain_forms};
+ghost use Rattle.tr_script.specs.Reading.{Reads, SaysStep, TakesWords, plain_forms, step_of_input};
 
 use crate::act_lines::read_at;
 use crate::desk_lines::{
-    plain_motion, read_desk, read_key, read_lift, read_motion, read_mouse, read_move,
+    Input, plain_key, plain_motion, plain_mouse, read_desk, read_key, read_lift, read_motion,
+    read_mouse, read_move, step_of,
 };
 use crate::leaf_lines::read_leaf;
 use crate::opening_lines::{
@@ -28,9 +29,9 @@ use crate::report_lines::{
 };
 use crate::widget_lines::{read_line, read_rect, read_swap, read_undo};
 use std::alloc::Global;
-use tr_base::{NoMemory, Point};
+use tr_base::NoMemory;
 use tr_grammar::{Code, LineRefused, Meaning};
-use tr_journal::{Actor, Step};
+use tr_journal::Actor;
 use tr_reader::{Reader, Steps};
 use tr_widget::WidgetCmd;
 use tr_words::{at_space, is_silent, plain_text, words_into};
@@ -153,7 +154,7 @@ fn take_said(
 /// Reads the line of this number separately from those before it: the reader knows their declarations, and
 /// their steps have no influence. Returns whether the line has no fault and is silent or makes a step; its
 /// step, if it makes one, is appended to `steps`. Else `steps` is unchanged: the line has a fault, or is a
-/// sync. The list `words` is used for the line's words.
+/// sync. The list `words` is room for words; nothing is promised of what it has afterwards.
 pub fn take_step<'a>(
     alloc: Global,
     reader: &Reader,
@@ -178,11 +179,20 @@ pub fn take_step<'a>(
     if is_silent(line) {
         return Ok(true);
     }
-    words_into(line, words)?;
-    match read_words(alloc, reader, words, line) {
-        Ok(meaning) => take_said(reader, steps, meaning),
-        Err(LineRefused::NoMemory) => Err(NoMemory),
-        Err(LineRefused::Fault(_)) => Ok(false),
+    match input_of(reader, line) {
+        Some(input) => {
+            let actor = Actor::Desk;
+            let step = step_of(input);
+            push_said(steps, Meaning::Step { actor, step })
+        }
+        None => {
+            words_into(line, words)?;
+            match read_words(alloc, reader, words, line) {
+                Ok(meaning) => take_said(reader, steps, meaning),
+                Err(LineRefused::NoMemory) => Err(NoMemory),
+                Err(LineRefused::Fault(_)) => Ok(false),
+            }
+        }
     }
 }
 
@@ -340,42 +350,53 @@ fn take_words<'a>(
     }
 }
 
-/// Adds the motion of a line.
+/// Adds the step of an input device's line.
 #[inline(always)]
-fn take_motion(
+fn take_input(
     reader: &mut Reader,
     number: usize,
     line: &str,
-    motion: (u32, Point),
+    input: Input,
 ) -> Result<(), LineRefused>
     requires { Reads reader.old forms (words_of line.now)
-        (Ok (Meaning.Step Actor.Desk (Step.Motion motion.0 motion.1))) }
+        (Ok (Meaning.Step Actor.Desk (step_of_input input))) }
     ensures { TakesWords reader.old number (words_of line.now) reader.new result }
 {
-    let (time, at) = motion;
     let actor = Actor::Desk;
-    let step = Step::Motion { time, at };
+    let step = step_of(input);
     take_meaning(reader, number, "", Meaning::Step { actor, step })
 }
 
-/// The values of a line's motion, if they have no minus and the line has no fault.
+/// What an input device's line makes, if its values have no minus and it has no fault.
 #[inline(always)]
-fn motion_of(reader: &Reader, line: &str) -> Option<(u32, Point)>
-    ensures { IfSome result (λ m. Reads reader.now forms (words_of line.now)
-        (Ok (Meaning.Step Actor.Desk (Step.Motion m.0 m.1)))) }
+fn input_of(reader: &Reader, line: &str) -> Option<Input>
+    ensures { IfSome result (λ input. Reads reader.now forms (words_of line.now)
+        (Ok (Meaning.Step Actor.Desk (step_of_input input)))) }
 {
+    // Only the lines that may be meant are searched for a space.
+    let [b'k' | b'm', ..] = line.as_bytes() else {
+        return None;
+    };
     let (first, values) = at_space(line)?;
     match first {
         "motion" => {
             let motion = plain_motion(reader, values)?;
             Some(motion)
         }
+        "mouse" => {
+            let press = plain_mouse(reader, values)?;
+            Some(press)
+        }
+        "key" => {
+            let stroke = plain_key(reader, values)?;
+            Some(stroke)
+        }
         _ => None,
     }
 }
 
-/// Takes a line that isn't silent. A motion, the most common step of all, is taken without a list of its
-/// words, which spares some 270 instructions.
+/// Takes a line that isn't silent. A line of an input device, the most common of all, is taken without a list
+/// of its words, which spares some 270 instructions.
 fn take_text<'a>(
     alloc: Global,
     reader: &mut Reader<'a>,
@@ -386,8 +407,8 @@ fn take_text<'a>(
     requires { AllPass is_printable line.now }
     ensures { TakesWords reader.old number (words_of line.now) reader.new result }
 {
-    match motion_of(reader, line) {
-        Some(motion) => take_motion(reader, number, line, motion),
+    match input_of(reader, line) {
+        Some(input) => take_input(reader, number, line, input),
         None => {
             words_into(line, words)?;
             take_words(alloc, reader, number, words, line)
@@ -396,7 +417,8 @@ fn take_text<'a>(
 }
 
 /// Reads the line of this number. After an `Err` the reader is unchanged; but after the 100,000th line it
-/// may include the refused line. The list `words` is used for the line's words.
+/// may include the refused line. The list `words` is room for words; nothing is promised of what it has
+/// afterwards.
 #[tactic(auto, unfolding(tr_grammar::specs::Faults::fault_of, tr_grammar::specs::Scripts::after_line))]
 pub fn take_line<'a>(
     alloc: Global,
