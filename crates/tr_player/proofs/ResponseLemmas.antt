@@ -96,6 +96,13 @@ refused_due command bytes r line code result same_line same_code cause made =
     (λ (response : Response). (due : Due) × IsResponse due response × IsDueOfText command bytes due)
     (λ response is. (refused r, subst (λ (s : Refusal). IsResponse (refused s) response) same is, due_refused command bytes r cause)) made
 
+-- the same of a text by the bytes that were lent
+pub due_of_lent : (command : Command) (lent bytes : List ℕ) (result : Result Response NoMemory) → lent ≡ bytes →
+    IfOk result (λ response. (due : Due) × IsResponse due response × IsDueOfText command lent due) →
+    IfOk result (λ response. (due : Due) × IsResponse due response × IsDueOfText command bytes due)
+due_of_lent command lent bytes result same h =
+    subst (λ (text : List ℕ). IfOk result (λ response. (due : Due) × IsResponse due response × IsDueOfText command text due)) same h
+
 -- and bytes that are no stream, with the response that names their fault
 pub faulty_due : (bytes : List ℕ) (f : MirrorFault) (result : Result Response NoMemory) → first_fault bytes ≡ Some f →
     IfOk result (λ response. IsResponse (faulty f) response) →

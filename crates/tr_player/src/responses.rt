@@ -162,7 +162,7 @@ fn response_to_play<R: Threads + Wait + Sync, S: Source, G: Gate + Sync>(
     ensures rising { S.faults source.old ≤ S.faults source.new }
 {
     match read_all(workers.alloc, source, most_read(Command::Play)) {
-        Ok(bytes) => response_to_played(workers, &bytes),
+        Ok(bytes) => response_to_played(workers, bytes),
         Err(ReadError::Failed) => Ok(Response::ReadFault),
         Err(ReadError::NoMemory) => Err(NoMemory),
     }
@@ -171,13 +171,16 @@ fn response_to_play<R: Threads + Wait + Sync, S: Source, G: Gate + Sync>(
 /// The response of threads to the bytes of a script.
 fn response_to_played<R: Threads + Wait + Sync, G: Gate + Sync>(
     workers: &Workers<'_, R, G>,
-    bytes: &[u8],
+    bytes: Vec<u8>,
 ) -> Result<Response, NoMemory>
     ensures { IfOk result (λ response.
-        (due : Due) × IsResponse due response × IsDueOfText Play bytes.now due) }
+        (due : Due) × IsResponse due response × IsDueOfText Play bytes.items due) }
 {
-    match read_script_in_chunks(workers.rt, workers.alloc, bytes) {
-        Ok(script) => Ok(Response::Threaded(threads(workers, script)?)),
+    match read_script_in_chunks(workers.rt, workers.alloc, &bytes) {
+        Ok(script) => {
+            give_back(bytes);
+            Ok(Response::Threaded(threads(workers, script)?))
+        }
         Err(ReadRefused::Refused { line, code }) => refusal(workers.alloc, line, code),
         Err(ReadRefused::NoMemory) => Err(NoMemory),
     }
@@ -195,7 +198,7 @@ fn response_to_source<S: Source>(
     ensures rising { S.faults source.old ≤ S.faults source.new }
 {
     match read_all(alloc, source, most_read(command)) {
-        Ok(bytes) => response_to_bytes(alloc, command, &bytes),
+        Ok(bytes) => response_to_bytes(alloc, command, bytes),
         Err(ReadError::Failed) => Ok(Response::ReadFault),
         Err(ReadError::NoMemory) => Err(NoMemory),
     }
@@ -212,16 +215,30 @@ fn most_read(command: Command) -> usize
 }
 
 /// The response to the bytes of a script.
-fn response_to_bytes(alloc: Global, command: Command, bytes: &[u8]) -> Result<Response, NoMemory>
+fn response_to_bytes(
+    alloc: Global,
+    command: Command,
+    bytes: Vec<u8>,
+) -> Result<Response, NoMemory>
     requires { command ≢ Play }
     ensures { IfOk result (λ response.
-        (due : Due) × IsResponse due response × IsDueOfText command bytes.now due) }
+        (due : Due) × IsResponse due response × IsDueOfText command bytes.items due) }
 {
-    match read_script(alloc, bytes) {
-        Ok(script) => response_to_script(alloc, command, script),
+    match read_script(alloc, &bytes) {
+        Ok(script) => {
+            give_back(bytes);
+            response_to_script(alloc, command, script)
+        }
         Err(ReadRefused::Refused { line, code }) => refusal(alloc, line, code),
         Err(ReadRefused::NoMemory) => Err(NoMemory),
     }
+}
+
+/// Gives back the memory of a script's bytes before the script is played. The block is made small first: once
+/// glibc's malloc has freed a mapped block, it takes blocks up to that size from its heap.
+fn give_back(mut bytes: Vec<u8>) {
+    bytes.clear();
+    bytes.shrink_to(1);
 }
 
 /// The response to a script: it is played, unless a check of it is beyond the limits.
