@@ -1,6 +1,6 @@
 -- What follows of an answered call, clause by clause.
 use Rattle.std.proofs.Common.{◌≡◌, ◌≢◌, ◌⊎◌, ◌↔◌, ℕ, ◌+◌, ◌<◌, Bool, true, false, nat_lt, List, [], length, take, drop, refl, sym, ◌∙◌, ap, subst, arith, inl, inr}
-use Rattle.std.specs.Prelude.{◌++◌, Option, Some, None, IfSome, IsNone, IsSome, IsSomeAnd, if◌then◌else◌}
+use Rattle.std.specs.Prelude.{◌++◌, Option, Some, None, Result, Ok, Err, IfOk, IfSome, IsNone, IsSome, IsSomeAnd, OnErr, if◌then◌else◌}
 use Rattle.std.specs.Option.{option_map}
 use Rattle.std.proofs.lemmas.Bool.Decides.{nat_tests}
 use Rattle.std.proofs.lemmas.Grind.{common_steps}
@@ -28,11 +28,13 @@ use Rattle.tr_threads.specs.Threads.{HasDifferedIn, IsPlayed, IsThreaded, again_
 use Rattle.tr_arguments.specs.declared.Command.{Command}
 use Rattle.tr_arguments.specs.declared.Command.TheVariants as commands
 use Rattle.tr_player.specs.declared.calls.Outcome.{Outcome}
+use Rattle.tr_player.specs.declared.responses.Response.{Response}
 use Rattle.tr_player.specs.declared.statuses.Status.{Status}
 use Rattle.tr_player.specs.declared.statuses.Status.TheVariants.{NoMemory, WriteFault}
 use Rattle.tr_player.specs.Statuses.{code}
 use Rattle.tr_player.specs.Checks.{check_refusal}
-use Rattle.tr_player.specs.Answers.{most_read, OfBytesRead, IsReadThrough, or_else, refusal_for, text_for, usage_text, read_fault_text, refused_text, faulty_text, IsReadBack, IsWritten, IsByThreads, Due, usage, read_fault, refused, faulty, played, threaded, shown, status_of, due_text, SourceChange, IsDueOfBytes, IsDueOfStream, IsDue, SinkChange, HasPlayed, IsStageOf, IsDifferenceOf, IsDelivered, IsAnswered, ReadsNone, Yields, OfReader, OfScriptRead, OfOneThread, OfThreads, OfStreamRead, OfNumber, IsAllowed, of_one_thread}
+use Rattle.tr_player.specs.Answers.{most_read, OfBytesRead, IsReadThrough, or_else, refusal_for, text_for, usage_text, read_fault_text, refused_text, faulty_text, IsReadBack, IsWritten, IsByThreads, Due, usage, read_fault, refused, faulty, played, threaded, shown, status_of, due_text, SourceChange, IsDueOfBytes, IsDueOfStream, IsDue, SinkChange, HasPlayed, IsStageOf, IsDifferenceOf, IsDelivered, IsAnswered, IsUnread, ReadsNone, Yields, OfReader, OfScriptRead, OfOneThread, OfThreads, OfStreamRead, OfNumber, IsAllowed, of_one_thread}
+use Rattle.tr_player.specs.Responses.{IsResponse}
 
 -- ---- the bytes that were read
 
@@ -136,6 +138,27 @@ written_text command s text is = is
 for_play : (command : Command) (s : Script) (end : Threaded) → IsByThreads command s end → command ≡ commands.Play
 for_play commands.Play s end is = refl
 for_play command s end is = absurd is
+
+-- ---- the answer
+
+-- a call that delivers its response, if it has one, has answered
+pub answers : {E : Type 0} (asked : Option Command) (from : SourceChange) (out : Outcome) (to : SinkChange) (response : Result Response E) →
+    IfOk response (λ r. (due : Due) × IsResponse due r × IsDue asked from due) →
+    IfOk response (λ r. (due : Due) → IsResponse due r → IsDelivered due out to) →
+    OnErr response ((out.status ≡ code NoMemory) × (out.stage ≡ None) × (to.written_new ≡ to.written) × (out.differs ≡ None)) →
+    (ReadsNone asked → IsUnread from) → IsAnswered asked from out to
+answers asked from out to (Ok r) due delivered none unread = inr (due.0, due.2, delivered due.0 due.1)
+answers asked from out to (Err e) due delivered none unread = inl (none.0, none.1, none.2, unread, none.3)
+
+-- the status of an answer is below those of a write fault and of want of memory
+below_faults : (due : Due) → code (status_of due) < 5
+below_faults usage = omega arith
+below_faults read_fault = omega arith
+below_faults (refused r) = omega arith
+below_faults (faulty f) = omega arith
+below_faults (played s text) = omega arith
+below_faults (threaded s end) = omega arith
+below_faults (shown text) = omega arith
 
 -- ---- the clauses
 
@@ -679,13 +702,7 @@ module _ (asked : Option Command) (from : SourceChange) (out : Outcome) (to : Si
       delivered : (due : Due) → IsDelivered due out to → HasFault to.faults to.faults_new
       delivered due (inr (inl v)) = v.2
       delivered due (inr (inr v)) = absurd (omega arith)
-      delivered usage (inl v) = absurd (omega arith)
-      delivered read_fault (inl v) = absurd (omega arith)
-      delivered (refused r) (inl v) = absurd (omega arith)
-      delivered (faulty f) (inl v) = absurd (omega arith)
-      delivered (played s text) (inl v) = absurd (omega arith)
-      delivered (threaded s end) (inl v) = absurd (omega arith)
-      delivered (shown text) (inl v) = absurd (omega arith)
+      delivered due (inl v) = absurd (omega (arith, v.0, below_faults due, e))
 
       by_cases : IsAnswered asked from out to → HasFault to.faults to.faults_new
       by_cases (inl w) = absurd (omega arith)
@@ -698,13 +715,7 @@ module _ (asked : Option Command) (from : SourceChange) (out : Outcome) (to : Si
       delivered : (due : Due) → IsDelivered due out to → GrewByPrefix to.written to.written_new (due_text due)
       delivered due (inr (inl v)) = v.3
       delivered due (inr (inr v)) = absurd (omega arith)
-      delivered usage (inl v) = absurd (omega arith)
-      delivered read_fault (inl v) = absurd (omega arith)
-      delivered (refused r) (inl v) = absurd (omega arith)
-      delivered (faulty f) (inl v) = absurd (omega arith)
-      delivered (played s text) (inl v) = absurd (omega arith)
-      delivered (threaded s end) (inl v) = absurd (omega arith)
-      delivered (shown text) (inl v) = absurd (omega arith)
+      delivered due (inl v) = absurd (omega (arith, v.0, below_faults due, e))
 
       by_cases : IsAnswered asked from out to → (due : Due) × IsDue asked from due × GrewByPrefix to.written to.written_new (due_text due)
       by_cases (inl w) = absurd (omega arith)
@@ -717,13 +728,7 @@ module _ (asked : Option Command) (from : SourceChange) (out : Outcome) (to : Si
       delivered : (due : Due) → IsDelivered due out to → to.written_new ≡ to.written
       delivered due (inr (inl v)) = absurd (omega arith)
       delivered due (inr (inr v)) = v.2
-      delivered usage (inl v) = absurd (omega arith)
-      delivered read_fault (inl v) = absurd (omega arith)
-      delivered (refused r) (inl v) = absurd (omega arith)
-      delivered (faulty f) (inl v) = absurd (omega arith)
-      delivered (played s text) (inl v) = absurd (omega arith)
-      delivered (threaded s end) (inl v) = absurd (omega arith)
-      delivered (shown text) (inl v) = absurd (omega arith)
+      delivered due (inl v) = absurd (omega (arith, v.0, below_faults due, e))
 
       by_cases : IsAnswered asked from out to → to.written_new ≡ to.written
       by_cases (inl w) = w.2

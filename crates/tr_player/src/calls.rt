@@ -1,5 +1,5 @@
 ghost use Rattle.std.specs.Prelude.{◌≡◌, ◌≢◌, ◌⊎◌, ◌↔◌, ◌≤◌, ◌++◌, [], List, ℕ, None, Some, take};
-ghost use Rattle.std.specs.Prelude.{IfSome, IsNone, IsSome, IsSomeAnd};
+ghost use Rattle.std.specs.Prelude.{IfOk, IfSome, IsNone, IsSome, IsSomeAnd, OnErr};
 ghost use Rattle.tr_io.specs.Faults.{HasFault};
 ghost use Rattle.tr_io.specs.Streams.{Grew, GrewByPrefix};
 ghost use Rattle.tr_grammar.specs.Scripts.{Script, script_of};
@@ -26,6 +26,7 @@ use crate::statuses::Status;
 use std::alloc::Global;
 use std::sync::Wait;
 use std::thread::Threads;
+use tr_base::NoMemory;
 use tr_io::{Sink, Source};
 use tr_output::WriteRefused;
 use tr_play::{Gate, Workers};
@@ -188,17 +189,15 @@ pub fn serial_call<S: Source, K: Sink>(
         (HasFault (K.faults sink.old) (K.faults sink.new) → ⊥) →
         (result.status ≡ code Status.Done) ⊎ (result.status ≡ code Status.NoMemory) }
 {
-    let Ok(response) = response_on_one_thread(alloc, words, source) else {
-        return nothing();
-    };
-    deliver(sink, response)
+    let response = response_on_one_thread(alloc, words, source);
+    answer(sink, response)
 }
 
-/// Plays a script by threads if the words are `play`, else does the same as `serial_call`. For `play` each
-/// leaf's client has a thread that makes its steps, the desk has one, too, and the painter's thread brings
-/// the screen up to date meanwhile. A thread calls the gate before each step of a script, unless the gate
-/// says that it makes no thread wait. The text is the script's reports, and `played threads`. If a session
-/// finds a stage that differs from its passes, all is played again on one thread, and the text says so.
+/// Plays a script by threads if the words are `play`, else does the same as `serial_call`. For `play` threads
+/// make the steps of the leaves' clients and of the desk, and the painter brings the screen up to date
+/// meanwhile. A thread calls the gate before each step of a script; an open gate is called before commands
+/// alone. The text is the script's reports, and `played threads`. If a session finds a stage that differs
+/// from its passes, all is played again on one thread, and the text says so.
 ///
 /// The threads take locks, so with `play` the call may wait; it returns if each thread returns.
 pub fn trestle_call<R: Threads + Wait + Sync, S: Source, K: Sink, G: Gate + Sync>(
@@ -327,10 +326,22 @@ pub fn trestle_call<R: Threads + Wait + Sync, S: Source, K: Sink, G: Gate + Sync
         (result.status ≡ code Status.Done) ⊎ (result.status ≡ code Status.NoMemory) }
 {
     let workers = Workers { rt, alloc, gate };
-    let Ok(response) = response_by_threads(&workers, words, source) else {
-        return nothing();
-    };
-    deliver(sink, response)
+    let response = response_by_threads(&workers, words, source);
+    answer(sink, response)
+}
+
+/// Delivers a response, or answers that memory ran out before there was one.
+fn answer<K: Sink>(sink: &mut K, response: Result<Response, NoMemory>) -> Outcome
+    ensures ok { IfOk response (λ r. (due : Due) → IsResponse due r →
+        IsDelivered due result (sink_change K.Sink sink.old sink.new)) }
+    ensures err { OnErr response ((result.status ≡ code Status.NoMemory) × (result.stage ≡ None)
+        × (K.written sink.new ≡ K.written sink.old) × (result.differs ≡ None)) }
+    ensures rising { K.faults sink.old ≤ K.faults sink.new }
+{
+    match response {
+        Ok(response) => deliver(sink, response),
+        Err(NoMemory) => nothing(),
+    }
 }
 
 /// The answer for want of memory.
