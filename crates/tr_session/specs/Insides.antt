@@ -1,14 +1,12 @@
 -- Private contracts alone cite this file.
 -- The stored parts of a session.
-use Rattle.std.specs.Prelude.{◌≡◌, ℕ, false, List, [], ◌∷◌, ◌++◌, Option, Some, None, Result, Err, IsSomeAnd}
+use Rattle.std.specs.Prelude.{◌≡◌, ℕ, false, List, [], ◌∷◌, ◌++◌, Option, Some, None, IsSomeAnd}
 use Rattle.tr_screen.specs.Pictures.{Picture}
 use Rattle.tr_grammar.specs.declared.Place.{Place}
 use Rattle.tr_grammar.specs.declared.Place.TheVariants as places
 use Rattle.tr_grammar.specs.States.{SoFar, empty_part}
 use Rattle.tr_grammar.specs.Faults.{has_ended}
 use Rattle.tr_reader.specs.Adding.{is_at_steps}
-use Rattle.tr_session.specs.declared.errors.Unanswered.{Unanswered}
-use Rattle.tr_session.specs.declared.errors.Unanswered.TheVariants as unanswered
 use Rattle.tr_session.specs.declared.sessions.Session.{Session}
 use Rattle.tr_session.specs.Playing.{HasStarted, PlayedView, begun_by}
 use Rattle.tr_session.specs.Lines.{has_begun}
@@ -65,8 +63,3 @@ pub record Starts (old : Session) (line : List ℕ) (new : Session) : Type 0 whe
 pub record HasItsLines (old new : Session) : Type 0 where
   pub lines : new.script.saved.lines ≡ old.script.saved.lines
   pub cuts : new.cuts ≡ old.cuts
-
--- the lines were taken again, unless memory ran out before the last of them
-abbrev pub IsTakenAgain : Session → Result Unit Unanswered → Session → Type 0
-IsTakenAgain old (Err unanswered.NoMemory) new = HasItsLines old new × HoldsTogether new
-IsTakenAgain old result new = result ≡ Err unanswered.Lost

@@ -6,7 +6,7 @@ ghost use Rattle.tr_grammar.specs.Texts.{is_plain, lines_of};
 ghost use Rattle.tr_session.specs.declared.errors.Unanswered.TheVariants as unanswered;
 ghost use Rattle.tr_session.specs.Answers as spec;
 ghost use Rattle.tr_session.specs.Answers.{Answer, IsAnswered, answer_bytes, text as texts};
-ghost use Rattle.tr_session.specs.Insides.{HasItsLines, HoldsTogether, IsTakenAgain, Starts, session_view};
+ghost use Rattle.tr_session.specs.Insides.{HasItsLines, HoldsTogether, Starts, session_view};
 ghost use Rattle.tr_session.specs.Lines.{has_begun};
 ghost use Rattle.tr_session.specs.Cuts.{AreCuts};
 ghost use Rattle.tr_session.specs.Playing.{Follows, IsMeant};
@@ -100,25 +100,25 @@ impl<'a> Session<'a> {
         ensures holds { result ≢ Err unanswered.Lost → HoldsTogether self.new }
     {
         match self.take_once(line, reply) {
-            Err(Unanswered::Lost) => self.take_again(reply),
+            Err(Unanswered::Lost) => match self.take_again(reply) {
+                Ok(()) => Err(Unanswered::NoMemory),
+                Err(Lost) => Err(Unanswered::Lost),
+            },
             taken => taken,
         }
     }
 
     /// Takes the lines so far again, from the first one on.
-    fn take_again(&mut self, reply: &mut Reply) -> Result<(), Unanswered>
+    fn take_again(&mut self, reply: &mut Reply) -> Result<(), Lost>
         requires taken { AreTaken nothing_yet self.old.script.saved.lines }
         requires cuts { AreCuts self.old.cuts }
-        ensures { IsTakenAgain self.old result self.new }
+        ensures { OnOk result (HasItsLines self.old self.new × HoldsTogether self.new) }
     {
         drop(self.played.take());
         let before = std::mem::replace(&mut self.script, Script::new(self.alloc));
         let taken = self.take_lines(before.saved.text(), reply);
         drop(before);
-        match taken {
-            Ok(()) => Err(Unanswered::NoMemory),
-            Err(_) => Err(Unanswered::Lost),
-        }
+        taken
     }
 
     /// Takes lines, each of which was taken once before.
