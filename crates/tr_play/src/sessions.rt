@@ -23,8 +23,8 @@ use tr_levels::Ladder;
 use tr_server::{CloseRefused, Pass, Server, Session};
 use tr_stage::Stage;
 
-/// A session on a stage: each actor makes the steps of its list in a thread of its own, `steps` in all, and
-/// the painter repaints the screen meanwhile.
+/// A session on a stage: threads make the steps of the actors' lists, `steps` in all, and the painter repaints
+/// the screen meanwhile.
 pub(crate) fn session<C: Client, L: Session<C::Cmd>, R: Threads + Wait + Sync, G: Gate + Sync>(
     workers: &Workers<'_, R, G>,
     blank: Blank,

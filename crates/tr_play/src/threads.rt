@@ -21,7 +21,7 @@ use tr_server::CloseRefused;
 use tr_stage::Stage;
 
 /// The shared data of all workers: the right to start threads and to wait, the allocator, and the gate, which
-/// is called before each step of a client or of the desk.
+/// is called before each step of a client or of the desk; if it is open, before commands alone.
 #[derive(Drop)]
 pub struct Workers<'a, R, G> {
     pub rt: &'a R,
@@ -35,9 +35,10 @@ pub(crate) const STEPS_A_REPAINT: usize = 16;
 /// A long part is repainted about so many times.
 pub(crate) const PARTS_A_REPAINT: u64 = 4;
 
-/// Makes the steps of a part on a stage, by threads: no thread has steps of two actors. The painter brings
-/// the screen up to date, once and at most once more for each 16 steps, in a thread of its own if the part
-/// has more than 16. If there is no step, and the screen is up to date, it starts no thread.
+/// Makes the steps of a part on a stage, by threads: no thread has steps of two actors, unless a thread can't
+/// be started. The painter brings the screen up to date, once and at most once more for each 16 steps, in a
+/// thread of its own if the part has more than 16. If there is no step, and the screen is up to date, it
+/// starts no thread.
 pub(crate) fn make_side_by_side<C: Client, R: Threads + Wait + Sync, G: Gate + Sync>(
     workers: &Workers<'_, R, G>,
     stage: Stage<C>,

@@ -12,12 +12,12 @@ use Rattle.tr_server.specs.Handing.{HandedAndStepped, HandedOver, with_acts}
 use Rattle.tr_server.specs.Passes.{both_locks}
 
 module _ {C M : Type 0} (client : Ghosts C M) (leaf here : LeafId) (old seen new : StageView C M) (book : BookView C M)
-    (leaf_is : here ≡ leaf) (old_is : seen ≡ old) (waited : HaveLevels book.prepared.commands book.levels) where
+    (leaf_is : here ≡ leaf) (old_is : seen ≡ old) (have_levels : HaveLevels book.prepared.commands book.levels) where
   pub handed_over : new.journal ≡ (with_acts client seen here book.prepared.commands book.levels).journal → HandedOver client leaf old new
   handed_over is = record {
     commands = book.prepared.commands;
     levels = book.levels;
-    waited = waited;
+    have_levels = have_levels;
     journal = rw (sym leaf_is, sym old_is) is;
   }
 
@@ -29,7 +29,7 @@ module _ {C M : Type 0} (client : Ghosts C M) (leaf here : LeafId) (old seen new
   handed_and_stepped step reply is replied = record {
     commands = book.prepared.commands;
     levels = book.levels;
-    waited = waited;
+    have_levels = have_levels;
     journal = rw (sym leaf_is, sym old_is) is;
     replied = rw (sym leaf_is, sym old_is) replied;
   }

@@ -19,18 +19,18 @@ module _ {C M : Type 0} (client : Ghosts C M) where
   with_acts s leaf commands levels =
       record s { journal = s.journal ++ lines_by client (Leaf leaf) (state client s) (act_steps leaf commands levels) }
 
-  -- commands that waited for a leaf were handed over, and no other step was made
+  -- commands of a leaf's client were handed over, and no other step was made
   pub record HandedOver (leaf : LeafId) (old new : StageView C M) : Type 0 where
     pub commands : List M
     pub levels : List (List Level)
-    pub waited : HaveLevels commands levels
+    pub have_levels : HaveLevels commands levels
     pub journal : new.journal ≡ (with_acts old leaf commands levels).journal
 
-  -- commands that waited for a leaf were handed over, and then its client made a step, with this reply
+  -- commands of a leaf's client were handed over, and then it made a step, with this reply
   pub record HandedAndStepped (leaf : LeafId) (step : Step M) (reply : Reply) (old new : StageView C M) : Type 0 where
     pub commands : List M
     pub levels : List (List Level)
-    pub waited : HaveLevels commands levels
+    pub have_levels : HaveLevels commands levels
     pub journal : let mid = with_acts old leaf commands levels in
         new.journal ≡ mid.journal ++ line client mid (Leaf leaf) (both_locks leaf) step ∷ []
     pub replied : let mid = with_acts old leaf commands levels in
