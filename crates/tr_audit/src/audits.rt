@@ -93,8 +93,9 @@ fn entry_of<M: Command>(
     }
 }
 
-/// The first difference between the lists and the steps after the first `from` entries.
-fn own_difference<M: Command>(
+/// The first difference between the lists and the steps after the first `from` entries. The deliveries of
+/// steps aren't compared, and the painter's steps aren't either.
+pub fn own_difference<M: Command>(
     alloc: Global,
     lists: &Lists<M>,
     journal: &Journal<M>,

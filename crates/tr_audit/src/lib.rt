@@ -5,4 +5,4 @@
 mod audits;
 mod progress;
 
-pub use audits::first_apart;
+pub use audits::{first_apart, own_difference};

@@ -1,7 +1,7 @@
 //! One pass over the entries after the kept ones. For each actor it finds how many of its first steps
 //! are those of its list. It takes memory for the actors, and none for entries.
-ghost use Rattle.std.specs.Prelude.{◌≡◌, ◌↔◌, ◌+◌, ◌^◌, ◌<◌, ◌≤◌, ℕ, IsTrue, IsNone, IfOk, IfNone, IfSome, drop, length, get_or, slice_get, replicate, Some};
-ghost use Rattle.tr_journal.specs.Lists.{HasList, list_of};
+ghost use Rattle.std.specs.Prelude.{◌≡◌, ◌↔◌, ◌+◌, ◌^◌, ◌<◌, ◌≤◌, ℕ, IsTrue, IfOk, IfNone, IfSome, drop, length, slice_get, replicate, Some};
+ghost use Rattle.tr_journal.specs.Lists.{HasList};
 ghost use Rattle.tr_journal.specs.Actors.{entries_of};
 ghost use Rattle.tr_audit.specs.Progress as spec;
 ghost use Rattle.tr_audit.specs.Audits.{HaveSameSteps};

@@ -1,8 +1,8 @@
 -- The entries with which a session began are the first of its journal, and what an audit of the later ones finds.
-use Rattle.std.proofs.Common.{◌≡◌, ℕ, ◌+◌, ◌<◌, ◌≤◌, List, [], ◌∷◌, ◌++◌, Option, Some, None, length, map, take, drop, sym, ap, subst, ◌∙◌, arith}
+use Rattle.std.proofs.Common.{◌≡◌, ℕ, ◌+◌, ◌≤◌, List, [], ◌∷◌, ◌++◌, Option, Some, None, length, map, take, drop, sym, ap, subst, ◌∙◌, arith}
 use Rattle.std.specs.Prelude.{All, IfNone, IfOk, IfSome, Result, slice_get}
 use Rattle.std.specs.Option.{option_map}
-use Rattle.std.proofs.lemmas.List.{drop-append-le, drop-map, length-map, length-take-le, take-append-le, take-map, take_all, take_more}
+use Rattle.std.proofs.lemmas.List.{length-map, length-take-le, take-append-le, take-map, take_more}
 use Rattle.std.proofs.lemmas.List.Elements.{All-get_or}
 use Rattle.std.proofs.lemmas.Result.{IfOk-weaker}
 use Rattle.std.proofs.lemmas.Option.{get_or_from_slice_get, slice_get-map, slice_get_within}
@@ -28,7 +28,9 @@ module _ {C M : Type 0} (o p : List (Item C)) (n : ℕ) (lines : List (JournalLi
   first_count = simp length-map (length-take-le n lines low)
 
   first_taken : (k : ℕ) → k ≡ n → entries_of (take n lines) ≡ take k (entries_of lines)
-  first_taken k is = subst (λ (j : ℕ). entries_of (take n lines) ≡ take j (entries_of lines)) (sym is) (sym (take-map (λ (line : JournalLine M). line.entry) n lines))
+  first_taken k is =
+      subst (λ (j : ℕ). entries_of (take n lines) ≡ take j (entries_of lines)) (sym is)
+      (sym (take-map (λ (line : JournalLine M). line.entry) n lines))
 
   -- nothing differs
   matches_begun : o ≡ p → HaveSameSteps lists (drop n (entries_of lines)) → Matches (account_of o (take n lines)) lists (account_of p lines)
@@ -102,18 +104,9 @@ counted_at lines k line at all =
     subst IsCounted (get_or_from_slice_get lines k line line at) (All-get_or IsCounted lines k line (slice_get_within lines k line at) all)
 
 -- one line more
-pub between_more : {A : Type 0} (xs part more : List A) (from k : ℕ) (x : A) → from ≤ k → slice_get xs k ≡ Some x → part ≡ drop from (take k xs) →
-    more ≡ part ++ x ∷ [] → more ≡ drop from (take (k + 1) xs)
-between_more xs part more from k x order at so_far is =
-    let low : k < length xs = slice_get_within xs k x at in
-    let count : length (take k xs) ≡ k = length-take-le k xs (omega arith) in
+pub first_more : {A : Type 0} (xs part more : List A) (k : ℕ) (x : A) → slice_get xs k ≡ Some x → part ≡ take k xs → more ≡ part ++ x ∷ [] →
+    more ≡ take (k + 1) xs
+first_more xs part more k x at so_far is =
     let next : take (k + 1) xs ≡ take k xs ++ x ∷ [] =
-    take_more xs k x low ∙ ap (λ y. take k xs ++ y ∷ []) (get_or_from_slice_get xs k x x at) in
-    is ∙ ap (λ p. p ++ x ∷ []) so_far ∙ sym (ap (λ l. drop from l) next ∙ drop-append-le from (take k xs) (x ∷ []) (omega arith))
-
--- the entries of the later lines
-pub later_entries : {M : Type 0} (lines part : List (JournalLine M)) (from to : ℕ) → to ≡ length lines → part ≡ drop from (take to lines) →
-    entries_of part ≡ drop from (entries_of lines)
-later_entries {M} lines part from to all is =
-    ap (λ (l : List (JournalLine M)). entries_of l) (is ∙ ap (λ l. drop from l) (ap (λ n. take n lines) all ∙ take_all (length lines) lines (omega arith)))
-    ∙ sym (drop-map (λ (line : JournalLine M). line.entry) from lines)
+    take_more xs k x (slice_get_within xs k x at) ∙ ap (λ y. take k xs ++ y ∷ []) (get_or_from_slice_get xs k x x at) in
+    is ∙ ap (λ p. p ++ x ∷ []) so_far ∙ sym next

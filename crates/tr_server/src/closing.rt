@@ -6,7 +6,7 @@ ghost use Rattle.tr_journal.specs.Lists.{HasList, list_of, no_steps};
 ghost use Rattle.tr_server.specs.Closing.{HasDiffered, IfDiffers, IsClosed, TakesLast, lists_of, made_by, made_with, steps_with};
 ghost use Rattle.tr_server.specs.Differing.{IsDifference};
 
-use crate::audits::{entries_between, first_difference};
+use crate::audits::{first_difference, first_entries};
 use crate::passes::{Pass, Passes};
 use crate::servers::{Server, spend_all};
 use crate::sessions::Session;
@@ -289,7 +289,7 @@ fn compare<C: Client>(
             }
         }
         Ok(Some(difference)) => {
-            let Ok(kept) = entries_between(alloc, stage.journal(), 0, entries) else {
+            let Ok(kept) = first_entries(alloc, stage.journal(), entries) else {
                 drop((difference, stage, opening, lists));
                 return Err(CloseRefused::NoMemory);
             };

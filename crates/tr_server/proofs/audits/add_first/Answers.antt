@@ -1,7 +1,7 @@
-use Rattle.std.proofs.Common.{◌≤◌, ◌∙◌, Some, ap, sym, arith}
+use Rattle.std.proofs.Common.{◌∙◌, Some, ap, sym}
 use Rattle.tr_journal.specs.Journals.{JournalLine}
-use Rattle.tr_server.proofs.BeginLemmas.{between_more, counted_at, line_at}
-use Rattle.tr_server.proofs.audits.add_entries.Goals as goal
+use Rattle.tr_server.proofs.BeginLemmas.{counted_at, first_more, line_at}
+use Rattle.tr_server.proofs.audits.add_first.Goals as goal
 
 pub push-requires : goal.push-requires
 push-requires g c =
@@ -17,5 +17,4 @@ loop-k-preserved g c =
     let line : JournalLine _ = record { entry = c.in_ok-copy.field-0; sent = c.sent.result.now } in
     let at = line_at lines c.loop-k.k line
     (c.get.ensures ∙ ap (λ e. Some e) (sym c.in_ok-copy.ensures)) c.sent.ensures in
-    let low : c.args.from ≤ c.loop-k.k = omega (arith, c.loop-k.auto.k) in
-    between_more lines c.loop-k.part.lines c.push.new.self.lines c.args.from c.loop-k.k line low at c.loop-k.invariant c.in_ok-push.ensures.ok
+    first_more lines c.loop-k.part.lines c.push.new.self.lines c.loop-k.k line at c.loop-k.invariant c.in_ok-push.ensures.ok
