@@ -9,8 +9,9 @@ use std::io;
 use tr_base::{Kind, LeafId, NoMemory, NodeId, Point, Shape, Shapes, Size};
 use tr_client::Client;
 use tr_forest::{Edit, EditRefused, NodeKind};
-use tr_journal::{Actor, Answer, Opening, Step, are_levels, covers, is_edit, is_step, may, stated};
-use tr_levels::Held;
+use tr_journal::{
+    Actor, Answer, Attempt, Opening, Step, are_levels, covers, is_edit, is_step, may, stated,
+};
 use tr_stage::Stage;
 use tr_tree::Tree;
 
@@ -189,11 +190,12 @@ pub fn make_copies<C: Client>(
 pub fn make<C: Client>(stage: &mut Stage<C>, step: Step<C::Cmd>) -> Result<(), Stopped> {
     let actor = maker_of(&step);
     let level = stated(&step);
-    if !is_allowed(stage, actor, level, &step) {
-        drop(step);
+    let attempt = Attempt { actor, level, step };
+    if !is_allowed(stage, &attempt) {
+        drop(attempt);
         return Err(Stopped::Refused);
     }
-    let reply = stage.step(actor, level, step)?;
+    let reply = stage.step(attempt)?;
     if reply.answer.same(&Answer::Done) {
         Ok(())
     } else {
@@ -210,11 +212,12 @@ fn maker_of<M>(step: &Step<M>) -> Actor {
     }
 }
 
-/// Whether the actor may make the step at this level.
-fn is_allowed<C: Client>(stage: &Stage<C>, actor: Actor, level: Held, step: &Step<C::Cmd>) -> bool
-    ensures { IsTrue result → IsFor (tree_of stage.now.opening).nodes actor level step.now }
+/// Whether the actor may make the step at its levels.
+fn is_allowed<C: Client>(stage: &Stage<C>, attempt: &Attempt<C::Cmd>) -> bool
+    ensures { IsTrue result → IsFor (tree_of stage.now.opening).nodes
+        attempt.now.actor attempt.now.level attempt.now.step }
 {
     let tree = stage.opening().tree();
-    let is_made_so = may(actor, step) && covers(level, step);
-    is_made_so && are_levels(tree, &level) && is_step(tree, step)
+    let is_made_so = may(attempt.actor, &attempt.step) && covers(attempt.level, &attempt.step);
+    is_made_so && are_levels(tree, &attempt.level) && is_step(tree, &attempt.step)
 }

@@ -5,7 +5,7 @@ use std::alloc::Global;
 use tr_base::{Kind, NodeId, Point, Shape, Shapes, Size};
 use tr_client::Client;
 use tr_forest::{Edit, NodeKind};
-use tr_journal::{Actor, Opening, Step, is_edit, is_step, may, stated};
+use tr_journal::{Actor, Attempt, Opening, Step, is_edit, is_step, may, stated};
 use tr_stage::Stage;
 
 const SCREEN: Size = Size { wide: 64, high: 4 };
@@ -101,6 +101,6 @@ fn make<C: Client>(stage: &mut Stage<C>, actor: Actor, step: Step<C::Cmd>) -> Re
         return Err(Stopped::Refused);
     }
     let level = stated(&step);
-    stage.step(actor, level, step)?;
+    stage.step(Attempt { actor, level, step })?;
     Ok(())
 }

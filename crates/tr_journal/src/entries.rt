@@ -6,6 +6,14 @@ use std::alloc::Global;
 use tr_base::{Command, NoMemory};
 use tr_levels::Held;
 
+/// A step that an actor is to make, with the levels that the actor holds.
+#[derive(Drop)]
+pub struct Attempt<M> {
+    pub actor: Actor,
+    pub level: Held,
+    pub step: Step<M>,
+}
+
 /// A step that was made, with its actor, the levels that the actor held, and the reply.
 #[derive(Debug, Drop)]
 pub struct Entry<M> {

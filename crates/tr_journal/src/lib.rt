@@ -19,7 +19,7 @@ mod steps;
 
 pub use answers::{Answer, Reply};
 pub use differences::{Apart, Difference};
-pub use entries::Entry;
+pub use entries::{Attempt, Entry};
 pub use items::Item;
 pub use journals::{DELIVERIES, Journal};
 pub use lists::Lists;

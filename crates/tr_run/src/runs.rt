@@ -36,7 +36,7 @@ use std::marker::Model;
 use tr_base::NoMemory;
 use tr_client::Client;
 use tr_dump::outcome;
-use tr_journal::{Actor, NameOf, Opening, Query, Step, stated};
+use tr_journal::{Actor, Attempt, NameOf, Opening, Query, Step, stated};
 use tr_output::Output;
 use tr_stage::Stage;
 
@@ -240,7 +240,7 @@ impl<'a, C: Client, N: NameOf> Run<'a, C, N> {
         self.stage.stands();
         let _tree = self.stage.tree();
         let level = stated(&step);
-        self.stage.step(actor, level, step)?;
+        self.stage.step(Attempt { actor, level, step })?;
         Ok(())
     }
 

@@ -22,7 +22,7 @@ use std::sync::ledger::{Book as Total, Share};
 use tr_base::{Font, Kind, LeafId, NoMemory, Size};
 use tr_book::Book;
 use tr_client::{Client, Prepared};
-use tr_journal::{Reply, Step};
+use tr_journal::{Attempt, Reply, Step};
 use tr_levels::{Held, Level};
 use tr_sketch::Sketch;
 use tr_stage::Stage;
@@ -114,7 +114,8 @@ impl<C: Client, L: Session<C::Cmd>> Locked<C, L> {
             drop((refused, step));
             return Err(NoMemory);
         }
-        match self.stage.step(pass.actor, level, step) {
+        let actor = pass.actor;
+        match self.stage.step(Attempt { actor, level, step }) {
             Ok(reply) => {
                 self.counted.add(&mut pass.share, 1);
                 Ok(reply)

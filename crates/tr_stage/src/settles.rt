@@ -15,7 +15,7 @@ ghost use Rattle.tr_stage.specs.Standings.{Stands};
 use crate::stages::Stage;
 use tr_base::{LeafId, NoMemory};
 use tr_client::Client;
-use tr_journal::{Actor, Step};
+use tr_journal::{Actor, Attempt, Step};
 use tr_levels::{Held, Level};
 
 impl<C: Client> Stage<C> {
@@ -97,7 +97,11 @@ impl<C: Client> Stage<C> {
     {
         let level = Held::none().with(Level::Mu);
         for step in steps {
-            self.step(Actor::Painter, level, step)?;
+            self.step(Attempt {
+                actor: Actor::Painter,
+                level,
+                step,
+            })?;
         }
         Ok(())
     }

@@ -14,8 +14,7 @@ use std::alloc::Global;
 use std::marker::Model;
 use tr_base::NoMemory;
 use tr_client::Client;
-use tr_journal::{Actor, Journal, Opening, Reply, Step};
-use tr_levels::Held;
+use tr_journal::{Attempt, Journal, Opening, Reply, Step};
 use tr_mail::{Mail, Outbox};
 use tr_surface::Surface;
 use tr_windows::Windows;
@@ -100,15 +99,17 @@ impl<C: Client> Stage<C> {
 
     /// Makes a step. The journal gets the step's line, with its answer and the events that it sends. For
     /// want of memory no step is made.
-    pub fn step(&mut self, actor: Actor, level: Held, step: Step<C::Cmd>) -> Result<Reply, NoMemory>
-        requires allowed { IsFor (tree_of self.old.opening).nodes actor level step }
-        ensures made { Makes C.Client self.old self.new actor level step result }
+    pub fn step(&mut self, attempt: Attempt<C::Cmd>) -> Result<Reply, NoMemory>
+        requires allowed { IsFor (tree_of self.old.opening).nodes attempt.actor attempt.level attempt.step }
+        ensures made { Makes C.Client self.old self.new attempt.actor attempt.level attempt.step result }
 
         // The screen doesn't change, unless the step paints; and each pixel that it may not paint stays.
-        ensures screen { IfOk result (λ r. paints step r.answer ≡ false → self.new.screen ≡ self.old.screen) }
+        ensures screen { IfOk result (λ r. paints attempt.step r.answer ≡ false →
+            self.new.screen ≡ self.old.screen) }
         ensures others { let t = (state C.Client self.old).tree in
-            OnOk result (KeepsOthers t step self.old.screen self.new.screen) }
+            OnOk result (KeepsOthers t attempt.step self.old.screen self.new.screen) }
     {
+        let Attempt { actor, level, step } = attempt;
         let by = By { actor, level };
         match step {
             Step::Act { leaf, cmd } => self.act(&by, leaf, cmd),
@@ -160,14 +161,15 @@ impl<C: Client> Stage<C> {
 
     /// Makes a step of the input devices, or a change of a cage, in the room that `reserve` made. It takes
     /// no memory.
-    pub fn step_reserved(&mut self, actor: Actor, level: Held, step: Step<C::Cmd>) -> Reply
+    pub fn step_reserved(&mut self, attempt: Attempt<C::Cmd>) -> Reply
         requires spare { 0 < self.old.spare }
-        requires reservable { spec.is_reservable step ≡ true }
-        requires allowed { IsFor (tree_of self.old.opening).nodes actor level step }
-        ensures made { Makes C.Client self.old self.new actor level step (Ok result) }
+        requires reservable { spec.is_reservable attempt.step ≡ true }
+        requires allowed { IsFor (tree_of self.old.opening).nodes attempt.actor attempt.level attempt.step }
+        ensures made { Makes C.Client self.old self.new attempt.actor attempt.level attempt.step (Ok result) }
         ensures screen { self.new.screen ≡ self.old.screen }
         ensures spare { self.old.spare ≤ self.new.spare + 1 }
     {
+        let Attempt { actor, level, step } = attempt;
         let by = By { actor, level };
         match step {
             Step::SetCage { leaf, cage } => self.set_cage(&by, leaf, cage),

@@ -14,20 +14,32 @@ use tr_base::{Env, Event, LeafId, Line, NoMemory, Point, Selection, Size, whole}
 use tr_book::Book;
 use tr_client::{Client, Prepared};
 use tr_journal::{
-    Actor, Delivery, Difference, Entry, Journal, Lists, Opening, Reply, Step, are_levels, covers,
-    is_step, may,
+    Actor, Attempt, Delivery, Difference, Entry, Journal, Lists, Opening, Reply, Step, are_levels,
+    covers, is_step, may,
 };
 use tr_levels::{Held, Level};
 use tr_sketch::{Sketch, fits_screen};
 use tr_stage::{Peek, Stage, is_reservable};
 
 /// Ends the test where the step may not be made.
-fn allow<C: Client>(rt: &impl Abort, stage: &Stage<C>, by: &By, step: &Step<C::Cmd>)
-    ensures { IsFor (tree_of stage.now.opening).nodes by.now.actor by.now.level step.now }
+fn allow<C: Client>(rt: &impl Abort, stage: &Stage<C>, attempt: &Attempt<C::Cmd>)
+    ensures { IsFor (tree_of stage.now.opening).nodes
+        attempt.now.actor attempt.now.level attempt.now.step }
 {
-    assert!(rt; may(by.actor, step) && covers(by.level, step));
+    assert!(rt; may(attempt.actor, &attempt.step) && covers(attempt.level, &attempt.step));
     let tree = stage.opening().tree();
-    assert!(rt; are_levels(tree, &by.level) && is_step(tree, step));
+    assert!(rt; are_levels(tree, &attempt.level) && is_step(tree, &attempt.step));
+}
+
+/// The step, made so.
+fn attempt_of<M>(by: &By, step: Step<M>) -> Attempt<M>
+    ensures { result ≡ record { actor = by.now.actor; level = by.now.level; step = step } }
+{
+    Attempt {
+        actor: by.actor,
+        level: by.level,
+        step,
+    }
 }
 
 /// Ends the test where room may not be reserved for the step.
@@ -68,8 +80,9 @@ pub fn make<C: Client>(
     by: &By,
     step: Step<C::Cmd>,
 ) -> Result<Reply, NoMemory> {
-    allow(rt, stage, by, &step);
-    stage.step(by.actor, by.level, step)
+    let attempt = attempt_of(by, step);
+    allow(rt, stage, &attempt);
+    stage.step(attempt)
 }
 
 /// Makes a step for which there is room.
@@ -77,9 +90,10 @@ fn reserved<C: Client>(rt: &impl Abort, stage: &mut Stage<C>, by: &By, step: Ste
     requires { 0 < stage.old.spare }
     ensures { stage.old.spare ≤ stage.new.spare + 1 }
 {
-    allow(rt, stage, by, &step);
-    allow_reserved(rt, &step);
-    stage.step_reserved(by.actor, by.level, step)
+    let attempt = attempt_of(by, step);
+    allow(rt, stage, &attempt);
+    allow_reserved(rt, &attempt.step);
+    stage.step_reserved(attempt)
 }
 
 pub fn make_reserved<C: Client>(
@@ -157,7 +171,7 @@ pub fn flush_with<C: Client>(
     by: &By,
     leaf: LeafId,
 ) -> Reply {
-    allow(rt, stage, by, &Step::Flush { leaf });
+    allow(rt, stage, &attempt_of(by, Step::Flush { leaf }));
     let size = stage.leaf_size(leaf);
     let all = whole(size);
     assert!(rt; fits_screen(size, &all));
