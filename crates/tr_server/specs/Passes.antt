@@ -25,6 +25,11 @@ pub record CountsStep {M A : Type 0} (old new : PassView M) (step : Step M) (ans
   pub mine : OnOk answered (new ≡ record old { mine = old.mine ++ step ∷ []; made = old.made + 1 })
   pub err : OnErr answered (new ≡ old)
 
+-- a client's step under the tree's lock is made with a pass: the same, and no command was posted with the pass since
+pub record CountsClientStep {M A : Type 0} (old new : PassView M) (step : Step M) (answered : Result A NoMemory) : Type 0 where
+  pub mine : OnOk answered (new ≡ record old { mine = old.mine ++ step ∷ []; posted = 0; made = old.made + 1 })
+  pub err : OnErr answered (new ≡ old)
+
 -- the actor is the client of a leaf
 abbrev pub is_client : Actor → Bool
 is_client (Leaf leaf) = true

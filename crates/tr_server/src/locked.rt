@@ -9,7 +9,7 @@ ghost use Rattle.tr_stage.specs.Making.{Makes};
 ghost use Rattle.tr_stage.specs.Sketching.{IsSketchOf};
 ghost use Rattle.tr_stage.specs.Stages.{KeepsOthers, line, paints, state};
 ghost use Rattle.tr_server.specs.Handing.{with_acts};
-ghost use Rattle.tr_server.specs.Passes.{CountsStep, both_locks};
+ghost use Rattle.tr_server.specs.Passes.{CountsClientStep, CountsStep, both_locks};
 ghost use Rattle.tr_server.specs.Sessions.{HasIds};
 
 use crate::baskets::Basket;
@@ -356,12 +356,7 @@ impl<C: Client, L: Session<C::Cmd>> Locked<C, L> {
         ensures no_levels { OnOk result (basket.new.levels ≡ []) }
         ensures handed { OnOk result (basket.new.handed ≡
             basket.old.handed + length basket.old.prepared.commands) }
-        ensures mine { OnOk result (pass.new ≡ record pass.old {
-          mine = pass.old.mine ++ step ∷ [];
-          posted = 0;
-          made = pass.old.made + 1;
-        }) }
-        ensures err_pass { OnErr result (pass.new ≡ pass.old) }
+        ensures pass { CountsClientStep pass.old pass.new step result }
         ensures err_screen { OnErr result (self.new.screen ≡ self.old.screen) }
 
         // The screen stays as it is, unless the step paints; and where it may not paint, each pixel stays.

@@ -1,4 +1,4 @@
-ghost use Rattle.std.specs.Prelude.{◌≡◌, ◌+◌, ◌++◌, ◌∷◌, ◌⊎◌, [], false, IfOk, OnOk, OnErr};
+ghost use Rattle.std.specs.Prelude.{◌≡◌, ◌∷◌, ◌⊎◌, [], false, IfOk, OnOk, OnErr};
 ghost use Rattle.tr_levels.specs.declared.Level.TheVariants.{Mu as MuLevel};
 ghost use Rattle.tr_journal.specs.declared.Actor.TheVariants.{Leaf};
 ghost use Rattle.tr_journal.specs.Openings.{tree_of};
@@ -6,7 +6,7 @@ ghost use Rattle.tr_journal.specs.Steps.{IsOwn};
 ghost use Rattle.tr_stage.specs.Making.{Makes};
 ghost use Rattle.tr_stage.specs.Stages.{KeepsOthers, paints, state};
 ghost use Rattle.tr_server.specs.Handing.{HandedOver, HandedAndStepped};
-ghost use Rattle.tr_server.specs.Passes.{CountsStep, is_client};
+ghost use Rattle.tr_server.specs.Passes.{CountsClientStep, CountsStep, is_client};
 ghost use Rattle.tr_server.specs.Sessions.{HasIds};
 
 use crate::locked::Locked;
@@ -95,18 +95,13 @@ impl<C: Client, L: Session<C::Cmd>> Mu<'_, C, L> {
         requires own { IsOwn (tree_of self.old.opening).nodes pass.old.actor step }
         ensures opening { self.new.opening ≡ self.old.opening }
         ensures ok { IfOk result (λ r. HandedAndStepped C.Client window.now step r self.old self.new) }
-        ensures mine { OnOk result (pass.new ≡ record pass.old {
-          mine = pass.old.mine ++ step ∷ [];
-          posted = 0;
-          made = pass.old.made + 1;
-        }) }
+        ensures pass { CountsClientStep pass.old pass.new step result }
         ensures err { OnErr result ((self.new.journal ≡ self.old.journal)
             ⊎ HandedOver C.Client window.now self.old self.new) }
         ensures screen { IfOk result (λ r. paints step r.answer ≡ false → self.new.screen ≡ self.old.screen) }
         ensures others { let t = (state C.Client self.old).tree in
             OnOk result (KeepsOthers t step self.old.screen self.new.screen) }
         ensures err_screen { OnErr result (self.new.screen ≡ self.old.screen) }
-        ensures err_pass { OnErr result (pass.new ≡ pass.old) }
     {
         let locked = &mut *self.guard;
         let _ = locked.stage();

@@ -2,6 +2,7 @@ ghost use Rattle.std.specs.Prelude.{◌≡◌, ◌+◌, ◌<◌, ◌++◌, ◌�
 ghost use Rattle.tr_levels.specs.Levels.{HoldsNoLeaf};
 ghost use Rattle.tr_journal.specs.declared.Actor.TheVariants.{Leaf};
 ghost use Rattle.tr_server.specs.Handing.{HandedOver, HandedAndStepped};
+ghost use Rattle.tr_server.specs.Passes.{CountsClientStep};
 
 use crate::baskets::Basket;
 use crate::passes::Pass;
@@ -98,16 +99,11 @@ impl<C: Client, L: Session<C::Cmd>> Window<C, L> {
         ensures opening { mu.new.opening ≡ mu.old.opening }
         ensures ok { OnOk result ((r : _) ×
             HandedAndStepped C.Client self.now (Step.Act self.now cmd) r mu.old mu.new) }
-        ensures mine { OnOk result (pass.new ≡ record pass.old {
-          mine = pass.old.mine ++ Step.Act self.now cmd ∷ [];
-          posted = 0;
-          made = pass.old.made + 1;
-        }) }
+        ensures pass { CountsClientStep pass.old pass.new (Step.Act self.now cmd) result }
         ensures err { OnErr result ((mu.new.journal ≡ mu.old.journal)
             ⊎ HandedOver C.Client self.now mu.old mu.new) }
         ensures screen { OnOk result (mu.new.screen ≡ mu.old.screen) }
         ensures err_screen { OnErr result (mu.new.screen ≡ mu.old.screen) }
-        ensures err_pass { OnErr result (pass.new ≡ pass.old) }
     {
         // These calls tell the prover that the leaf is one of the stage's.
         let leaf = self.leaf();
