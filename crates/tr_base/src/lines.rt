@@ -61,6 +61,13 @@ impl Line {
         })
     }
 
+    /// Tells the invariant of lines. Nothing runs.
+    pub fn invariant(&self)
+        ensures { IsLine self.now }
+    {
+        let _bytes = self.bytes();
+    }
+
     /// Its bytes.
     pub fn bytes(&self) -> &[u8]
         ensures value { result.now ≡ self.now }

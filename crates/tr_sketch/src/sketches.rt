@@ -137,8 +137,7 @@ fn painted<C: Client>(
         (q : Point) → has_point part.now q ≡ true →
         slice_index v.items (place_within part.now q) ≡ C.pic look size content.now q) }
 {
-    // Tells the prover that the edges are those of a rectangle.
-    let _ = part.is_empty();
+    part.invariant();
     let sides = size_of(part);
     // The window's corner, relative to that of the part.
     let origin = from_corner(part, Point { h: 0, v: 0 });

@@ -39,7 +39,7 @@ impl Command for EditorCmd {
     fn known(&self) {
         match self {
             EditorCmd::Insert(text) => {
-                let _bytes = text.bytes();
+                text.invariant();
             }
             EditorCmd::Goto { row, column } => {
                 let (_row, _column) = (row.number(), column.number());

@@ -79,6 +79,7 @@ impl Editor {
         ensures value { result ≡ self.now.column }
         ensures limit { result ≤ LINE }
     {
+        // Called for its clause: it is a line, so it has at most `LINE` bytes.
         let _line = self.line();
         self.column
     }
@@ -138,7 +139,7 @@ impl Editor {
         ensures line { IsLine result.now }
     {
         let line = &self.lines[self.row];
-        let _bytes = line.bytes();
+        line.invariant();
         line
     }
 
@@ -167,7 +168,7 @@ impl Editor {
         ensures line { IsLine result.now }
     {
         let line = &self.lines[self.row - 1];
-        let _bytes = line.bytes();
+        line.invariant();
         line
     }
 

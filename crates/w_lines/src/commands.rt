@@ -20,7 +20,7 @@ impl Command for LinesCmd {
 
     fn known(&self) {
         if let LinesCmd::Line(line) = self {
-            let _bytes = line.bytes();
+            line.invariant();
         }
     }
 

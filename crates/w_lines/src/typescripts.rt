@@ -74,7 +74,7 @@ impl Lines {
         ensures ok { OnOk result (self.new ≡ spec.newest_lines MOST_LINES (self.old ++ line.now ∷ [])) }
         ensures err { OnErr result (self.new ≡ self.old) }
     {
-        let _bytes = line.bytes();
+        line.invariant();
         self.block.push(line.copy()?)?;
         self.stale = without_stale(&mut self.block, self.stale);
         Ok(())

@@ -79,7 +79,7 @@ fn text_of(cmd: &LabelCmd) -> &Line
 {
     match cmd {
         LabelCmd::Text(text) => {
-            let _bytes = text.bytes();
+            text.invariant();
             text
         }
     }

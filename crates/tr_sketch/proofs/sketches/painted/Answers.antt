@@ -14,7 +14,7 @@ use Rattle.tr_sketch.proofs.sketches.painted.Goals as goal
 
 pub size_of-sides-requires : goal.size_of-sides-requires
 size_of-sides-requires g c =
-    small_domain c.args.part.now (record { rect = c.is_empty.ensures.invariant; near = c.requires.near; room = c.requires.room })
+    small_domain c.args.part.now (record { rect = c.invariant.ensures; near = c.requires.near; room = c.requires.room })
 
 pub blank-requires : goal.blank-requires
 blank-requires g c = subst IsScreenSize (sym c.size_of-sides.ensures) c.requires.room
@@ -22,14 +22,14 @@ blank-requires g c = subst IsScreenSize (sym c.size_of-sides.ensures) c.requires
 pub execute-executed-requires-clause-origin : goal.execute-executed-requires-clause-origin
 execute-executed-requires-clause-origin g c =
     subst IsOrigin (sym c.from_corner-origin.ensures)
-    (small_origin c.args.part.now (record { rect = c.is_empty.ensures.invariant; near = c.requires.near; room = c.requires.room }))
+    (small_origin c.args.part.now (record { rect = c.invariant.ensures; near = c.requires.near; room = c.requires.room }))
 
 pub returns-clause-many : goal.returns-clause-many
 returns-clause-many g c =
     let part = c.args.part.now in
     let all = c.in_ok-all.all in
     let origin = c.from_corner-origin.result in
-    let small : IsSmall part = record { rect = c.is_empty.ensures.invariant; near = c.requires.near; room = c.requires.room } in
+    let small : IsSmall part = record { rect = c.invariant.ensures; near = c.requires.near; room = c.requires.room } in
     let aside : IsAside part all origin = aside_is part c.whole.result all origin c.size_of-sides.result small
     c.size_of-sides.ensures c.whole.ensures.edges c.in_ok-all.ensures.one c.from_corner-origin.ensures in
     subst (λ n. IfOk c.pixels_at-pixels.result (λ v. length v.items ≡ n)) (aside_area part all origin aside) c.pixels_at-pixels.ensures.many
@@ -39,7 +39,7 @@ returns-clause-colours g c =
     let part = c.args.part.now in
     let all = c.in_ok-all.all in
     let origin = c.from_corner-origin.result in
-    let small : IsSmall part = record { rect = c.is_empty.ensures.invariant; near = c.requires.near; room = c.requires.room } in
+    let small : IsSmall part = record { rect = c.invariant.ensures; near = c.requires.near; room = c.requires.room } in
     let aside : IsAside part all origin = aside_is part c.whole.result all origin c.size_of-sides.result small
     c.size_of-sides.ensures c.whole.ensures.edges c.in_ok-all.ensures.one c.from_corner-origin.ensures in
     let look = look_of c.args.env.now.kind c.args.env.now.font.now in

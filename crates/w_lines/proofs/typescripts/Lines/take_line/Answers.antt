@@ -14,5 +14,5 @@ invariant_of-self-2 c =
       within = c.without_stale-self-inside.ensures.within;
       few = c.without_stale-self-inside.ensures.few;
       lines = rw (c.without_stale-self-inside.ensures.lines, more)
-          (lines_contents (drop at xs) (Line line) c.self.invariant.lines c.bytes-bytes.ensures.invariant);
+          (lines_contents (drop at xs) (Line line) c.self.invariant.lines c.invariant.ensures);
     }
