@@ -14,7 +14,6 @@ pub fn shifted(region: &Region, delta: Point) -> Result<Region, NoMemory>
     requires delta { IsDistance delta }
     ensures { IfOk result (λ r. (p : Point) → holds r p ≡ holds region.now (before_shift p delta)) }
 {
-    // Tells the prover that the list of rectangles is canonical.
-    let _rects = region.rects();
+    region.invariant();
     region.shift(delta)
 }
