@@ -92,6 +92,13 @@ impl Forest {
         refusal(&self.family, edit)
     }
 
+    /// Tells the invariant of forests. Nothing runs.
+    pub fn invariant(&self)
+        ensures { IsForest self.now }
+    {
+        let _count = self.count();
+    }
+
     /// The number of nodes.
     pub fn count(&self) -> usize
         ensures count { result ≡ length self.now.entries }

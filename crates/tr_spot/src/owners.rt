@@ -19,7 +19,7 @@ pub fn levels_suffice(tree: &Tree)
         followed n (λ c. owner tree.now c p)
         (find (λ c. has_point (domain tree.now c) p) (node tree.now.nodes n).children) }
 {
-    let _ = tree.count();
+    tree.invariant();
 }
 
 /// The first child of a node whose domain has the point.

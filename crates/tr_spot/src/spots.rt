@@ -16,8 +16,7 @@ pub fn spot_at(tree: &Tree, p: Point) -> Spot
     ensures spot { result ≡ spot tree.now p }
     ensures leaf { IsLeafBelow (leaf_count tree.now.nodes) result }
 {
-    // Tells the prover that the nodes are a forest, and the screen has a size.
-    let _ = tree.count();
+    tree.invariant();
     if !whole(tree.size()).has(p) {
         return Spot::Off;
     }

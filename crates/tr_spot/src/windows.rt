@@ -21,8 +21,7 @@ pub fn visible(alloc: Global, tree: &Tree, leaf: LeafId) -> Result<Region, NoMem
     requires { leaf.0 < leaf_count tree.now.nodes }
     ensures points { IfOk result (λ r. (p : Point) → holds r p ≡ is_in_leaf leaf (spot tree.now p)) }
 {
-    // Tells the prover that the nodes are a forest.
-    let _ = tree.count();
+    tree.invariant();
     owned(alloc, tree, tree.node_of(leaf))
 }
 
@@ -31,8 +30,7 @@ pub fn frame(alloc: Global, tree: &Tree, n: NodeId) -> Result<Region, NoMemory>
     requires { IsNode tree.now.nodes n }
     ensures points { IfOk result (λ r. (p : Point) → holds r p ≡ is_on_frame n (spot tree.now p)) }
 {
-    // Tells the prover that the nodes are a forest.
-    let _ = tree.count();
+    tree.invariant();
     if let NodeKind::Leaf { .. } = tree.kind_of(n) {
         return Ok(Region::empty(alloc));
     }
@@ -46,8 +44,7 @@ pub fn own_points(alloc: Global, tree: &Tree, n: NodeId, part: Region) -> Result
     ensures { IfOk result (λ r. (p : Point) →
         holds r p ≡ holds part p && is_spot_of tree.now n (spot tree.now p)) }
 {
-    // Tells the prover that the nodes are a forest.
-    let _ = tree.count();
+    tree.invariant();
     owned_in(alloc, tree, n, part)
 }
 
@@ -56,8 +53,7 @@ pub fn reached(alloc: Global, tree: &Tree, n: NodeId) -> Result<Region, NoMemory
     requires { IsNode tree.now.nodes n }
     ensures { IfOk result (λ r. (p : Point) → holds r p ≡ comes_to tree.now p n) }
 {
-    // Tells the prover that the nodes are a forest.
-    let _ = tree.count();
+    tree.invariant();
     let screen = Region::of_rect(alloc, whole(tree.size()))?;
     reached_in(alloc, tree, n, screen)
 }

@@ -85,8 +85,7 @@ impl Layout {
         requires others { HasOtherDomains forest.now size child self.old }
         ensures { IsLaidOut forest.now size self.new }
     {
-        // Tells the prover that the nodes are a forest.
-        let _ = forest.count();
+        forest.invariant();
         let Some(parent) = forest.parent(child) else {
             self.place(forest, size);
             return;

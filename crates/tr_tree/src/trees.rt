@@ -99,8 +99,7 @@ impl Tree {
             refusal self.old.nodes edit.now ≡ None → IsOk result }
         ensures err { OnErr result (self.new ≡ self.old) }
     {
-        // Tells the prover that the nodes are a forest.
-        let _ = self.forest.count();
+        self.forest.invariant();
         self.forest.edit(edit)?;
         self.size = size_after(edit, self.size);
         self.kind = kind_after(edit, self.kind);
@@ -136,6 +135,14 @@ impl Tree {
         ensures { result ≡ refusal self.now.nodes edit.now }
     {
         self.forest.refusal(edit)
+    }
+
+    /// Tells the invariant of trees. Nothing runs.
+    pub fn invariant(&self)
+        ensures forest { IsForest self.now.nodes }
+        ensures screen { IsScreenSize self.now.size }
+    {
+        let _count = self.count();
     }
 
     /// The number of nodes.
@@ -298,7 +305,7 @@ impl Tree {
     pub fn domains_are_small(&self)
         ensures { (n : NodeId) → IsDomain (domain self.now n) }
     {
-        let _count = self.forest.count();
+        self.forest.invariant();
     }
 
     /// Sixteen levels are enough, so shapes and domains are those of trees of any depth. The call does
@@ -310,7 +317,7 @@ impl Tree {
             domain t n ≡ (if is_root t.nodes n then whole_of t.size
             else place_below t.nodes n (node t.nodes n).parent (domain t)) }
     {
-        let _count = self.forest.count();
+        self.forest.invariant();
     }
 }
 

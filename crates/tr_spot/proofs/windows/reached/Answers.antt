@@ -12,4 +12,4 @@ returns c = holds_as c.reached_in.result
     (λ p. comes_to c.args.tree.now p c.args.n)
     (λ p. ap (λ b. b && comes_to c.args.tree.now p c.args.n)
     (c.in_ok-screen.ensures.points p ∙ ap (λ (e : Edges). has_point e p) (c.whole.ensures.edges ∙ ap whole_of c.size.ensures))
-    ∙ comes_on c.args.tree.now c.count.ensures.invariant c.args.n p) c.reached_in.ensures
+    ∙ comes_on c.args.tree.now c.invariant.ensures.forest c.args.n p) c.reached_in.ensures

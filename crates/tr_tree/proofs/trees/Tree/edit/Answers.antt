@@ -26,7 +26,7 @@ place-requires-clause-places c =
 
 pub place-requires-clause-shapes : goal.place-requires-clause-shapes
 place-requires-clause-shapes c =
-    shapes_kept c.self.inside.forest c.edit.new.self c.args.edit.now c.self.inside.layout c.count.ensures.invariant
+    shapes_kept c.self.inside.forest c.edit.new.self c.args.edit.now c.self.inside.layout c.invariant.ensures
     (subst (λ (t : Seen). IsEdit t.nodes c.args.edit.now) (sym c.self.view_is) c.requires) c.in_ok-edit.ensures.allowed
     (sym c.keeps_shapes.ensures ∙ c.if-keeps_shapes.true) c.in_ok-edit.ensures.ok c.self.invariant.shapes
 
@@ -50,20 +50,20 @@ invariant_of-self-in-Lift c =
     let fits = subst (λ (t : Seen). IsEdit t.nodes c.args.edit.now) (sym c.self.view_is) c.requires in
     laid_out_lifted t c.edit.new.self c.args.edit.now c.in-Lift.child
     c.self.inside.size c.size_after-self-inside.result c.self.inside.layout
-    c.in-Lift.is c.count.ensures.invariant fits c.in_ok-edit.ensures.allowed c.in_ok-edit.ensures.ok c.size_after-self-inside.ensures
-    (shapes_kept t c.edit.new.self c.args.edit.now c.self.inside.layout c.count.ensures.invariant fits c.in_ok-edit.ensures.allowed
+    c.in-Lift.is c.invariant.ensures fits c.in_ok-edit.ensures.allowed c.in_ok-edit.ensures.ok c.size_after-self-inside.ensures
+    (shapes_kept t c.edit.new.self c.args.edit.now c.self.inside.layout c.invariant.ensures fits c.in_ok-edit.ensures.allowed
     (ap keeps_shapes c.in-Lift.is) c.in_ok-edit.ensures.ok c.self.invariant.shapes)
     c.self.invariant
 
 pub place_moved-requires-clause-shapes : goal.place_moved-requires-clause-shapes
 place_moved-requires-clause-shapes c =
-    shapes_kept c.self.inside.forest c.edit.new.self c.args.edit.now c.self.inside.layout c.count.ensures.invariant
+    shapes_kept c.self.inside.forest c.edit.new.self c.args.edit.now c.self.inside.layout c.invariant.ensures
     (subst (λ (t : Seen). IsEdit t.nodes c.args.edit.now) (sym c.self.view_is) c.requires) c.in_ok-edit.ensures.allowed
     (ap keeps_shapes c.in-Move.is) c.in_ok-edit.ensures.ok c.self.invariant.shapes
 
 pub place_moved-requires-clause-placed : goal.place_moved-requires-clause-placed
 place_moved-requires-clause-placed c =
-    moved_placed c.self.inside.forest c.edit.new.self c.args.edit.now c.in-Move.child c.in-Move.at c.in-Move.is c.count.ensures.invariant
+    moved_placed c.self.inside.forest c.edit.new.self c.args.edit.now c.in-Move.child c.in-Move.at c.in-Move.is c.invariant.ensures
     (subst (λ (t : Seen). IsEdit t.nodes c.args.edit.now) (sym c.self.view_is) c.requires) c.in_ok-edit.ensures.allowed c.in_ok-edit.ensures.ok
 
 pub place_moved-requires-clause-others : goal.place_moved-requires-clause-others
@@ -72,8 +72,8 @@ place_moved-requires-clause-others c =
     let fits = subst (λ (t : Seen). IsEdit t.nodes c.args.edit.now) (sym c.self.view_is) c.requires in
     moved_others t c.edit.new.self c.args.edit.now c.in-Move.child c.in-Move.at
     c.self.inside.size c.size_after-self-inside.result c.self.inside.layout
-    c.in-Move.is c.count.ensures.invariant fits c.in_ok-edit.ensures.allowed c.in_ok-edit.ensures.ok c.size_after-self-inside.ensures
-    (shapes_kept t c.edit.new.self c.args.edit.now c.self.inside.layout c.count.ensures.invariant fits c.in_ok-edit.ensures.allowed
+    c.in-Move.is c.invariant.ensures fits c.in_ok-edit.ensures.allowed c.in_ok-edit.ensures.ok c.size_after-self-inside.ensures
+    (shapes_kept t c.edit.new.self c.args.edit.now c.self.inside.layout c.invariant.ensures fits c.in_ok-edit.ensures.allowed
     (ap keeps_shapes c.in-Move.is) c.in_ok-edit.ensures.ok c.self.invariant.shapes)
     c.self.invariant
 
@@ -83,9 +83,9 @@ invariant_of-self-then-children-lt1 c =
     let fits = subst (λ (t : Seen). IsEdit t.nodes c.args.edit.now) (sym c.self.view_is) c.requires in
     offset_laid t c.edit.new.self c.args.edit.now c.in-Offset.node c.in-Offset.by c.children.result.now
     c.self.inside.size c.size_after-self-inside.result c.self.inside.layout
-    c.in-Offset.is c.count.ensures.invariant fits c.in_ok-edit.ensures.allowed c.in_ok-edit.ensures.ok c.size_after-self-inside.ensures
+    c.in-Offset.is c.invariant.ensures fits c.in_ok-edit.ensures.allowed c.in_ok-edit.ensures.ok c.size_after-self-inside.ensures
     c.children.ensures (omega (arith, c.in_default-children.len_below))
-    (shapes_kept t c.edit.new.self c.args.edit.now c.self.inside.layout c.count.ensures.invariant fits c.in_ok-edit.ensures.allowed
+    (shapes_kept t c.edit.new.self c.args.edit.now c.self.inside.layout c.invariant.ensures fits c.in_ok-edit.ensures.allowed
     (ap keeps_shapes c.in-Offset.is) c.in_ok-edit.ensures.ok c.self.invariant.shapes)
     c.self.invariant
 
@@ -93,7 +93,7 @@ pub place_moved-requires-in-len1-up-clause-shapes : goal.place_moved-requires-in
 place_moved-requires-in-len1-up-clause-shapes c =
     let t = c.self.inside.forest in
     let fits = subst (λ (t : Seen). IsEdit t.nodes c.args.edit.now) (sym c.self.view_is) c.requires in
-    shapes_kept t c.edit.new.self c.args.edit.now c.self.inside.layout c.count.ensures.invariant fits c.in_ok-edit.ensures.allowed
+    shapes_kept t c.edit.new.self c.args.edit.now c.self.inside.layout c.invariant.ensures fits c.in_ok-edit.ensures.allowed
     (ap keeps_shapes c.in-Offset.is) c.in_ok-edit.ensures.ok c.self.invariant.shapes
 
 pub place_moved-requires-in-len1-up-clause-child : goal.place_moved-requires-in-len1-up-clause-child
@@ -101,14 +101,14 @@ place_moved-requires-in-len1-up-clause-child c =
     let t = c.self.inside.forest in
     let fits = subst (λ (t : Seen). IsEdit t.nodes c.args.edit.now) (sym c.self.view_is) c.requires in
     offset_child t c.edit.new.self c.args.edit.now c.children.result.now (record { 0 = 0 }) c.in-Offset.node
-    c.count.ensures.invariant fits c.in_ok-edit.ensures.allowed c.in_ok-edit.ensures.ok c.children.ensures (omega (arith, c.in-len1-up.len_at_least))
+    c.invariant.ensures fits c.in_ok-edit.ensures.allowed c.in_ok-edit.ensures.ok c.children.ensures (omega (arith, c.in-len1-up.len_at_least))
 
 pub place_moved-requires-in-len1-up-clause-placed : goal.place_moved-requires-in-len1-up-clause-placed
 place_moved-requires-in-len1-up-clause-placed c =
     let t = c.self.inside.forest in
     let fits = subst (λ (t : Seen). IsEdit t.nodes c.args.edit.now) (sym c.self.view_is) c.requires in
     offset_placed t c.edit.new.self c.args.edit.now c.in-Offset.node c.in-Offset.by c.children.result.now (record { 0 = 0 })
-    c.in-Offset.is c.count.ensures.invariant fits c.in_ok-edit.ensures.allowed c.in_ok-edit.ensures.ok
+    c.in-Offset.is c.invariant.ensures fits c.in_ok-edit.ensures.allowed c.in_ok-edit.ensures.ok
     c.children.ensures (omega (arith, c.in-len1-up.len_at_least))
 
 pub place_moved-requires-in-len1-up-clause-others : goal.place_moved-requires-in-len1-up-clause-others
@@ -117,8 +117,8 @@ place_moved-requires-in-len1-up-clause-others c =
     let fits = subst (λ (t : Seen). IsEdit t.nodes c.args.edit.now) (sym c.self.view_is) c.requires in
     offset_others t c.edit.new.self c.args.edit.now c.in-Offset.node c.in-Offset.by c.children.result.now (record { 0 = 0 })
     c.self.inside.size c.size_after-self-inside.result c.self.inside.layout
-    c.in-Offset.is c.count.ensures.invariant fits c.in_ok-edit.ensures.allowed c.in_ok-edit.ensures.ok c.size_after-self-inside.ensures
+    c.in-Offset.is c.invariant.ensures fits c.in_ok-edit.ensures.allowed c.in_ok-edit.ensures.ok c.size_after-self-inside.ensures
     c.children.ensures (omega (arith, c.in-len1-up.len_at_least))
-    (shapes_kept t c.edit.new.self c.args.edit.now c.self.inside.layout c.count.ensures.invariant fits c.in_ok-edit.ensures.allowed
+    (shapes_kept t c.edit.new.self c.args.edit.now c.self.inside.layout c.invariant.ensures fits c.in_ok-edit.ensures.allowed
     (ap keeps_shapes c.in-Offset.is) c.in_ok-edit.ensures.ok c.self.invariant.shapes)
     c.self.invariant
