@@ -47,8 +47,7 @@ impl Surface {
         ensures cause { IfErr result (λ e. IsCause (refusal self.old.tree.nodes edit.now) e) }
         ensures err { OnErr result (self.new ≡ self.old) }
     {
-        // Tells the prover that the nodes are a forest.
-        let _ = self.tree.count();
+        self.tree.invariant();
         let is = edited(&self.tree, &mut self.former, edit)?;
         let Ok(known) = self.known(&is, edit, keeper) else {
             drop(is);
@@ -85,8 +84,7 @@ impl Surface {
         ensures follows { let c = spec.change_to self.now is.now (spec_moved self.now.tree edit.now) in
             IfOk result (λ r. (p : Point) → holds r.follows p ≡ spec.follows_by (K.keeping keeper.now) c p) }
     {
-        // Tells the prover that the nodes are a forest.
-        let _ = self.tree.count();
+        self.tree.invariant();
         let count = is.count();
         if self.is_lost(is) {
             let good = empty_regions(self.alloc, count)?;
@@ -188,8 +186,7 @@ fn cover_of(change: &TreeChange<'_>, edit: &Edit) -> Result<Option<Cover>, NoMem
     ensures { let s = change.now in
         IfOk result (λ o. IfSome o (IsCover s.was.now s.is.now s.moved)) }
 {
-    // Tells the prover that the nodes are a forest.
-    let _ = change.was.count();
+    change.was.invariant();
     let same_size = change.was.size() == change.is.size();
     if is_hanging(edit) || !same_size {
         return Ok(None);
@@ -234,8 +231,7 @@ fn fit_screen(screen: &mut Screen, tree: &Tree) -> Result<(), NoMemory>
     ensures ok { OnOk result (spec.IsFitted tree.now screen.old screen.new) }
     ensures err { OnErr result (screen.new ≡ screen.old) }
 {
-    // Tells the prover that the size is a screen's.
-    let _ = tree.count();
+    tree.invariant();
     let (size, kind) = (tree.size(), tree.kind());
     if screen.size() == size && screen.kind() == kind {
         return Ok(());
@@ -278,8 +274,7 @@ fn first_child(tree: &Tree, n: NodeId) -> Option<NodeId>
     ensures value { result ≡ first_node (node tree.now.nodes n).children }
     ensures node { IfSome result (IsNode tree.now.nodes) }
 {
-    // Tells the prover that the nodes are a forest.
-    let _ = tree.count();
+    tree.invariant();
     match tree.children(n) {
         [child, ..] => Some(*child),
         [] => None,

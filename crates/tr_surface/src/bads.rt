@@ -21,13 +21,11 @@ impl Surface {
     pub fn bad_count(&self) -> u32
         ensures { result ≡ count_on self.now.tree.size (is_bad self.now) }
     {
-        // Tells the prover that the nodes are a forest, and the screen has a size.
-        let _ = self.tree.count();
+        self.tree.invariant();
         let size = self.tree.size();
         let mut count = u32::from(size.wide) * u32::from(size.high);
         for region in &self.good {
-            // Tells the prover that the list of a region is canonical.
-            let _ = region.rects();
+            region.invariant();
             count -= region.count() as u32;
         }
         count
@@ -79,15 +77,13 @@ impl Surface {
         ensures least { IfOk result (λ r. (outer : Edges) →
             HasBadPoints self.now leaf outer → IsPartOf r outer) }
     {
-        // These calls tell the prover that bad points lie on the screen, that it has a size, and
-        // that the list of a region is canonical.
-        let _ = self.tree().count();
+        self.tree.invariant();
         let origin = origin_of(&self.tree, leaf);
         let here = self.bad_of(leaf)?;
         let bad = shifted(&here, opposite(origin));
         drop(here);
         let bad = bad?;
-        let _ = bad.rects();
+        bad.invariant();
         let extents = bad.extents();
         drop(bad);
         Ok(extents)
@@ -109,8 +105,7 @@ fn holds_some(region: Region) -> bool
     ensures some { IsTrue result → (p : Point) × (holds region p ≡ true) }
     ensures none { IsTrue (not result) → (p : Point) → holds region p ≡ false }
 {
-    // Tells the prover that the list is canonical.
-    let _ = region.rects();
+    region.invariant();
     !region.is_empty()
 }
 

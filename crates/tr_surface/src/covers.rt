@@ -52,9 +52,8 @@ impl TreeChange<'_> {
         ensures { let s = self.now in
             IfOk result (λ o. IfSome o (IsCover s.was.now s.is.now s.moved)) }
     {
-        // These calls tell the prover that the nodes are forests.
-        let _ = self.was.count();
-        let _ = self.is.count();
+        self.was.invariant();
+        self.is.invariant();
         if !self.moves_all() {
             return Ok(None);
         }

@@ -51,8 +51,7 @@ impl Surface {
         ensures tree { self.new.tree ≡ self.old.tree }
         ensures err { OnErr result (self.new ≡ self.old) }
     {
-        // Tells the prover that the nodes are a forest.
-        let _ = self.tree.count();
+        self.tree.invariant();
         let kind = self.tree.kind();
         let env = Env { kind, font };
         let origin = origin_of(&self.tree, leaf);
@@ -81,7 +80,6 @@ pub(crate) fn origin_of(tree: &Tree, leaf: LeafId) -> Point
     ensures origin { IsOrigin result }
 {
     let domain = tree.domain(tree.node_of(leaf));
-    // Tells the prover that the edges are those of a rectangle.
-    let _ = domain.is_empty();
+    domain.invariant();
     domain.corner()
 }

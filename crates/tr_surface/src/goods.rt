@@ -90,8 +90,7 @@ impl TreeChange<'_> {
         ensures { let s = self.now in IfOk result (λ r. (p : Point) → holds r p
             ≡ good_at (K.keeping keeper.now) s.was.now s.is.now s.moved s.good.now n p) }
     {
-        // Tells the prover that the nodes are a forest.
-        let _ = self.was.count();
+        self.was.invariant();
         if self.good_before(n).is_empty() {
             return Ok(Region::empty(self.alloc));
         }
@@ -173,8 +172,7 @@ impl TreeChange<'_> {
         ensures { IfOk result (λ r. (p : Point) →
             holds r p ≡ holds (region_of self.now.good.now n) (before_shift p by)) }
     {
-        // Tells the prover that the nodes are a forest, and how large the screen is.
-        let _ = self.was.count();
+        self.was.invariant();
         let good = self.good_before(n);
         if is_nowhere(by) {
             let same = good.copy()?;
@@ -338,8 +336,7 @@ fn leaf_in(tree: &Tree, n: NodeId) -> Option<LeafId>
     ensures value { result ≡ leaf_of (node tree.now.nodes n).kind }
     ensures leaf { IfSome result (λ leaf. leaf.0 < leaf_count tree.now.nodes) }
 {
-    // Tells the prover that the nodes are a forest.
-    let _ = tree.count();
+    tree.invariant();
     match tree.kind_of(n) {
         NodeKind::Leaf { leaf, .. } => Some(leaf),
         _ => None,

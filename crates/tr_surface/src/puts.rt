@@ -37,8 +37,7 @@ impl Surface {
         ensures tree { self.new.tree ≡ self.old.tree }
         ensures err { OnErr result (self.new ≡ self.old) }
     {
-        // Tells the prover that the nodes are a forest.
-        let _ = self.tree.count();
+        self.tree.invariant();
         let n = self.tree.node_of(leaf);
         let more = self.good[usize::from(n.0)].union(part)?;
         put_pixels(&mut self.screen, part, pixels);
@@ -62,10 +61,8 @@ impl Surface {
         ensures bad { (p : Point) → is_bad self.new p ≡ is_bad self.old p }
         ensures tree { self.new.tree ≡ self.old.tree }
     {
-        // Both calls tell the prover that the nodes are a forest, and that the edges
-        // are those of a rectangle.
-        let _ = self.tree.count();
-        let _ = clip.is_empty();
+        self.tree.invariant();
+        clip.invariant();
         let n = self.tree.node_of(leaf);
         let origin = origin_of(&self.tree, leaf);
         let area = clip.shift(origin);

@@ -69,6 +69,13 @@ impl Surface {
         })
     }
 
+    /// Tells the invariant of surfaces. Nothing runs.
+    pub fn invariant(&self)
+        ensures { IsShown self.now }
+    {
+        let _tree = self.tree();
+    }
+
     /// The tree of windows.
     pub fn tree(&self) -> &Tree
         ensures value { result.now ≡ self.now.tree }
@@ -98,8 +105,7 @@ impl Surface {
         ensures { (p : Point) →
             holds result.now p ≡ is_in_leaf leaf (spot self.now.tree p) && not (is_bad self.now p) }
     {
-        // Tells the prover that the nodes are a forest.
-        let _ = self.tree.count();
+        self.tree.invariant();
         self.good(self.tree.node_of(leaf))
     }
 

@@ -26,7 +26,7 @@ way_of_moved-way-requires-clause-is g c =
     let is : c.in_ok-is.is' ≡ edited_tree t edit = c.in_ok-is.ensures.tree ∙ ap (λ (u : Seen). edited_tree u edit) at in
     let allowed : refusal t.nodes edit ≡ None =
     ap (λ (u : Seen). refusal u.nodes edit) (sym at) ∙ c.in_ok-is.ensures.allowed in
-    let forest : IsForest t.nodes = subst (λ (u : Seen). IsForest u.nodes) at c.count.ensures.invariant in
+    let forest : IsForest t.nodes = subst (λ (u : Seen). IsForest u.nodes) at c.invariant.ensures.forest in
     let like : IsLike t c.in_ok-is.is' = subst (λ (u : Seen). IsLike t u) (sym is) (like_edited t edit forest c.requires.edit allowed) in
     nodes_still c.self.inside.tree c.in_ok-is.is' (subst (λ (u : Seen). IsLike u c.in_ok-is.is') (sym at) like)
     c.moved_child.result c.moved_child.ensures.node
@@ -42,7 +42,7 @@ move_pixels-requires g c =
     let is : new ≡ edited_tree t edit = c.in_ok-is.ensures.tree ∙ ap (λ (u : Seen). edited_tree u edit) at in
     let allowed : refusal t.nodes edit ≡ None =
     ap (λ (u : Seen). refusal u.nodes edit) (sym at) ∙ c.in_ok-is.ensures.allowed in
-    let forest : IsForest t.nodes = subst (λ (u : Seen). IsForest u.nodes) at c.count.ensures.invariant in
+    let forest : IsForest t.nodes = subst (λ (u : Seen). IsForest u.nodes) at c.invariant.ensures.forest in
     let root : HasRoot t = subst (λ (u : Seen). HasRoot u) at c.self.invariant.0.root in
     let m : c.moved_child.result ≡ moved_child t edit = c.moved_child.ensures.child ∙ ap (λ (u : Seen). moved_child u edit) at in
     let move : IsMove t new (moved_child t edit) =
@@ -67,7 +67,7 @@ invariant_of-self-3 g c =
     let is : c.in_ok-is.is' ≡ edited_tree t edit = c.in_ok-is.ensures.tree ∙ ap (λ (u : Seen). edited_tree u edit) at in
     let allowed : refusal t.nodes edit ≡ None =
     ap (λ (u : Seen). refusal u.nodes edit) (sym at) ∙ c.in_ok-is.ensures.allowed in
-    let forest : IsForest t.nodes = subst (λ (u : Seen). IsForest u.nodes) at c.count.ensures.invariant in
+    let forest : IsForest t.nodes = subst (λ (u : Seen). IsForest u.nodes) at c.invariant.ensures.forest in
     let root : HasRoot t = subst (λ (u : Seen). HasRoot u) at c.self.invariant.0.root in
     let like : IsLike t c.in_ok-is.is' = subst (λ (u : Seen). IsLike t u) (sym is) (like_edited t edit forest c.requires.edit allowed) in
     let shown : IsShown (record { tree = c.in_ok-is.is'; screen = c.move_pixels.new.screen; good = c.in-Ok.known.good.items }) = record {
@@ -110,7 +110,7 @@ returns-clause-pixels g c =
     let is : new ≡ edited_tree t edit = c.in_ok-is.ensures.tree ∙ ap (λ (u : Seen). edited_tree u edit) at in
     let allowed : refusal t.nodes edit ≡ None =
     ap (λ (u : Seen). refusal u.nodes edit) (sym at) ∙ c.in_ok-is.ensures.allowed in
-    let forest : IsForest t.nodes = subst (λ (u : Seen). IsForest u.nodes) at c.count.ensures.invariant in
+    let forest : IsForest t.nodes = subst (λ (u : Seen). IsForest u.nodes) at c.invariant.ensures.forest in
     let root : HasRoot t = subst (λ (u : Seen). HasRoot u) at c.self.invariant.0.root in
     let m : c.moved_child.result ≡ moved_child t edit = c.moved_child.ensures.child ∙ ap (λ (u : Seen). moved_child u edit) at in
     let move : IsMove t new (moved_child t edit) =

@@ -19,29 +19,29 @@ loop-region-init c =
     ∙ mul_comm s.tree.size.wide s.tree.size.high
     ∙ sym (count_none s.tree c.deref-region-items.result.now)
 
-pub count-requires-in-loop-region : goal.count-requires-in-loop-region
-count-requires-in-loop-region c =
-    let size = c.count.ensures.size in
+pub count-requires : goal.count-requires
+count-requires c =
+    let size = c.invariant.ensures.screen in
     let items = c.deref-region-items.result.now in
     let own : AreOwn c.self.inside.tree items =
     subst (λ (g : List (List Edges)). AreOwn c.self.inside.tree g) (sym c.deref-region-items.ensures.value) c.self.invariant.0.own in
-    in_square c.region-item.result c.rects.ensures.invariant
+    in_square c.region-item.result c.invariant-in-loop-region.ensures
     (on_greatest c.self.inside.tree.size c.region-item.result
     (record { some_wide = size.some_wide; wide = size.wide; some_high = size.some_high; high = size.high })
-    (item_on c.self.inside.tree c.count.ensures.invariant items own c.loop-region.region-index c.region-item.result c.loop-region-test.true c.region-item.is))
+    (item_on c.self.inside.tree c.invariant.ensures.forest items own c.loop-region.region-index c.region-item.result c.loop-region-test.true c.region-item.is))
 
 few : (n : ℕ) (region : List Edges) → n ≡ count_in_square 1024 region → n ≤ 1048576
 few n region e = subst (λ (m : ℕ). m ≤ 1048576) (sym e) (square_count region)
 
 pub overflow_cast-count : goal.overflow_cast-count
 overflow_cast-count c =
-    let least : c.count-in-loop-region.result ≤ 1048576 = few c.count-in-loop-region.result c.region-item.result c.count-in-loop-region.ensures in
+    let least : c.count.result ≤ 1048576 = few c.count.result c.region-item.result c.count.ensures in
     omega (arith, least)
 
 -- one region's points less
-taken : (c : goal.After-count-in-loop-region) → c.loop-region.count
+taken : (c : goal.After-count) → c.loop-region.count
     ≡ count_on c.args.self.now.tree.size (left_after c.args.self.now.tree c.deref-region-items.result.now (c.loop-region.region-index + 1))
-    + c.count-in-loop-region.result
+    + c.count.result
 taken c =
     let s = c.args.self.now in
     let items = c.deref-region-items.result.now in
@@ -50,10 +50,10 @@ taken c =
     let own : AreOwn s.tree items = subst (λ (g : List (List Edges)). AreOwn s.tree g) (sym same) shown.own in
     c.loop-region.invariant
     ∙ count_more s.tree shown.forest
-    (subst (λ (w : Shown). w.tree.size.wide ≤ 1024) c.self.view_is c.count.ensures.size.wide)
-    (subst (λ (w : Shown). w.tree.size.high ≤ 1024) c.self.view_is c.count.ensures.size.high)
+    (subst (λ (w : Shown). w.tree.size.wide ≤ 1024) c.self.view_is c.invariant.ensures.screen.wide)
+    (subst (λ (w : Shown). w.tree.size.high ≤ 1024) c.self.view_is c.invariant.ensures.screen.high)
     items own c.loop-region.region-index c.region-item.result c.loop-region-test.true c.region-item.is
-    ∙ ap (λ n. count_on s.tree.size (left_after s.tree items (c.loop-region.region-index + 1)) + n) (sym c.count-in-loop-region.ensures)
+    ∙ ap (λ n. count_on s.tree.size (left_after s.tree items (c.loop-region.region-index + 1)) + n) (sym c.count.ensures)
 
 pub overflow_sub-count : goal.overflow_sub-count
 overflow_sub-count c = let all = taken c in omega (arith, all)

@@ -1,9 +1,9 @@
-use Rattle.std.proofs.Common.{◌≡◌, ℤ, ◌-ℤ◌, true, refl, sym, ap, ◌∙◌, arith}
+use Rattle.std.proofs.Common.{◌≡◌, ℤ, ◌-ℤ◌, true, refl, sym, ap, subst, ◌∙◌, arith}
 use Rattle.std.proofs.lemmas.Int.{ints}
 use Rattle.std.specs.Prelude.{neg_ℤ}
 use Rattle.std.proofs.lemmas.Bool.{and_parts}
 use Rattle.tr_base.specs.declared.Point.{Point}
-use Rattle.tr_base.specs.Rects.{before_shift, has_point}
+use Rattle.tr_base.specs.Rects.{IsScreenSize, before_shift, has_point}
 use Rattle.tr_region.specs.Points.{holds}
 use Rattle.tr_region.proofs.ExtentsLemmas.{extents_least}
 use Rattle.tr_region.proofs.OrderLemmas.{AreInOrder-canonical}
@@ -32,8 +32,7 @@ pub shifted-bad-requires-clause-points : goal.shifted-bad-requires-clause-points
 shifted-bad-requires-clause-points c p h =
     let t = c.args.self.now.tree in
     let bad = (and_parts (is_bad c.args.self.now p) (is_in_leaf c.args.leaf (spot t p)) (sym (c.in_ok-here.ensures p) ∙ h)).0 in
-    let is = c.count.ensures.size in
-    let size = rw c.tree.ensures.value at is in
+    let size = subst (λ (s : Shown). IsScreenSize s.tree.size) c.self.view_is c.invariant.ensures.screen in
     around_whole t.size (omega (arith, size.wide)) (omega (arith, size.high)) p (bad_on c.args.self.now p bad)
 
 pub returns-clause-all : goal.returns-clause-all
@@ -60,4 +59,4 @@ returns-clause-least c outer all =
     (sym (c.in_ok-here.ensures p) ∙ sym (c.in_ok-bad.ensures q) ∙ h) in
     let back : before_shift p corner ≡ q = ap (λ (d : Point). before_shift (before_shift q d) corner) way ∙ back_and_there q corner in
     sym (ap (has_point outer) back) ∙ all p both.1 both.0 in
-    rw c.extents-extents.ensures.value (extents_least bad (AreInOrder-canonical bad c.rects.ensures.invariant) outer within)
+    rw c.extents-extents.ensures.value (extents_least bad (AreInOrder-canonical bad c.invariant-2.ensures) outer within)

@@ -32,7 +32,7 @@ pub is_lost-requires : goal.is_lost-requires
 is_lost-requires g c =
     let s = c.args.self.now in
     let at : c.self.inside.tree ≡ s.tree = ap (λ (w : Shown). w.tree) c.self.view_is in
-    let forest : IsForest s.tree.nodes = subst (λ (u : Seen). IsForest u.nodes) at c.count.ensures.invariant in
+    let forest : IsForest s.tree.nodes = subst (λ (u : Seen). IsForest u.nodes) at c.invariant.ensures.forest in
     let like : IsLike s.tree c.args.is.now =
     subst (λ (u : Seen). IsLike s.tree u) (sym c.requires.is) (like_edited s.tree c.args.edit.now forest c.requires.edit c.requires.allowed) in
     rooted s.tree c.args.is.now like (subst (λ (u : Seen). HasRoot u) at c.self.invariant.0.root)
@@ -64,7 +64,7 @@ invariant_of-change g c =
     let is = c.args.is.now in
     let edit = c.args.edit.now in
     let at : c.self.inside.tree ≡ s.tree = ap (λ (w : Shown). w.tree) c.self.view_is in
-    let forest : IsForest s.tree.nodes = subst (λ (u : Seen). IsForest u.nodes) at c.count.ensures.invariant in
+    let forest : IsForest s.tree.nodes = subst (λ (u : Seen). IsForest u.nodes) at c.invariant.ensures.forest in
     let like : IsLike c.self.inside.tree is = subst (λ (u : Seen). IsLike u is) (sym at)
     (subst (λ (u : Seen). IsLike s.tree u) (sym c.requires.is) (like_edited s.tree edit forest c.requires.edit c.requires.allowed)) in
     let kind : is.kind ≡ c.self.inside.tree.kind = c.is_lost.ensures.kind c.if-is_lost.false ∙ sym (ap (λ (u : Seen). u.kind) at) in
@@ -85,12 +85,12 @@ returns-clause-good g c =
     let good = c.in_ok-known.known.good.items in
     let in_it : Shown = record { tree = c.self.inside.tree; screen = c.self.inside.screen; good = c.self.inside.good.items } in
     let at : c.self.inside.tree ≡ s.tree = ap (λ (w : Shown). w.tree) c.self.view_is in
-    let forest : IsForest s.tree.nodes = subst (λ (u : Seen). IsForest u.nodes) at c.count.ensures.invariant in
+    let forest : IsForest s.tree.nodes = subst (λ (u : Seen). IsForest u.nodes) at c.invariant.ensures.forest in
     let like : IsLike c.self.inside.tree is = subst (λ (u : Seen). IsLike u is) (sym at)
     (subst (λ (u : Seen). IsLike s.tree u) (sym c.requires.is) (like_edited s.tree edit forest c.requires.edit c.requires.allowed)) in
     let kind : is.kind ≡ c.self.inside.tree.kind = c.is_lost.ensures.kind c.if-is_lost.false ∙ sym (ap (λ (u : Seen). u.kind) at) in
     let kin : AreKin c.self.inside.tree is =
-    record { forests = record { before = c.count.ensures.invariant; after = c.count-count.ensures.invariant }; like = like; kind = kind } in
+    record { forests = record { before = c.invariant.ensures.forest; after = c.count-count.ensures.invariant }; like = like; kind = kind } in
     let found : AreFound k in_it is moved good = record {
       count = c.in_ok-known.ensures.count;
       each = λ n p inside. c.in_ok-known.ensures.good n p inside
@@ -111,12 +111,12 @@ returns-clause-follows g c = λ p.
     let good = c.in_ok-known.known.good.items in
     let in_it : Shown = record { tree = c.self.inside.tree; screen = c.self.inside.screen; good = c.self.inside.good.items } in
     let at : c.self.inside.tree ≡ s.tree = ap (λ (w : Shown). w.tree) c.self.view_is in
-    let forest : IsForest s.tree.nodes = subst (λ (u : Seen). IsForest u.nodes) at c.count.ensures.invariant in
+    let forest : IsForest s.tree.nodes = subst (λ (u : Seen). IsForest u.nodes) at c.invariant.ensures.forest in
     let like : IsLike c.self.inside.tree is = subst (λ (u : Seen). IsLike u is) (sym at)
     (subst (λ (u : Seen). IsLike s.tree u) (sym c.requires.is) (like_edited s.tree edit forest c.requires.edit c.requires.allowed)) in
     let kind : is.kind ≡ c.self.inside.tree.kind = c.is_lost.ensures.kind c.if-is_lost.false ∙ sym (ap (λ (u : Seen). u.kind) at) in
     let kin : AreKin c.self.inside.tree is =
-    record { forests = record { before = c.count.ensures.invariant; after = c.count-count.ensures.invariant }; like = like; kind = kind } in
+    record { forests = record { before = c.invariant.ensures.forest; after = c.count-count.ensures.invariant }; like = like; kind = kind } in
     let found : AreFound k in_it is moved good = record {
       count = c.in_ok-known.ensures.count;
       each = λ n q inside. c.in_ok-known.ensures.good n q inside

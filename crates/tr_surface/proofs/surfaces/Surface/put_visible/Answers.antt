@@ -24,7 +24,7 @@ invariant_of-paint_within c =
     record {
       many = c.requires.many
           ∙ sym (ap (λ (e : Edges). area_of e) c.shift-area.ensures.edges
-          ∙ area-shifted c.origin_of-origin.result c.args.clip.now c.is_empty.ensures.invariant);
+          ∙ area-shifted c.origin_of-origin.result c.args.clip.now c.invariant-2.ensures);
     }
 
 pub paint_within-requires : goal.paint_within-requires
@@ -70,7 +70,7 @@ returns-clause-pixels c =
     (subst (λ (d : Point). Repaints (λ p. is_in_leaf leaf (spot t p) && has_point clip (before_shift p d))
     (λ p. slice_index pixels (place_within clip (before_shift p d))) c.self.inside.screen c.paint_within.new.screen) c.origin_of-origin.ensures.value
     (put_moved c.index.result.now clip c.shift-area.result c.origin_of-origin.result pixels (λ p. is_in_leaf leaf (spot t p))
-    c.self.inside.screen c.paint_within.new.screen c.is_empty.ensures.invariant c.shift-area.ensures.edges c.shift-area.ensures.points
+    c.self.inside.screen c.paint_within.new.screen c.invariant-2.ensures c.shift-area.ensures.edges c.shift-area.ensures.points
     seen c.paint_within.ensures))
 
 pub returns-clause-bad : goal.returns-clause-bad

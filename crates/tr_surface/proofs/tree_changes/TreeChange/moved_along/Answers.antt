@@ -20,8 +20,8 @@ pub shifted-requires-clause-points : goal.shifted-requires-clause-points
 shifted-requires-clause-points c = λ p h.
     let s = c.args.self.now in
     let held : holds (region_of s.good.now c.args.n) p ≡ true = sym (ap (λ (r : List Edges). holds r p) c.good_before-good.ensures) ∙ h in
-    around_whole s.was.now.size (omega (arith, c.count.ensures.size.wide)) (omega (arith, c.count.ensures.size.high)) p
-    (owns_point s.was.now c.count.ensures.invariant c.args.n p
+    around_whole s.was.now.size (omega (arith, c.invariant.ensures.screen.wide)) (omega (arith, c.invariant.ensures.screen.high)) p
+    (owns_point s.was.now c.invariant.ensures.forest c.args.n p
     (s.sides.own.points c.args.n p (record { within = omega (arith, c.requires.node.within, s.sides.count) }) held)).on
 
 pub returns : goal.returns
