@@ -162,6 +162,13 @@ impl<C: Client> Book<C> {
         self.handed += number;
     }
 
+    /// Tells the invariant of books. Nothing runs.
+    pub fn invariant(&self)
+        ensures { HaveLevels self.now.prepared.commands self.now.levels }
+    {
+        let _count = self.waiting();
+    }
+
     /// The number of commands that wait.
     pub fn waiting(&self) -> usize
         ensures waiting { result ≡ length self.now.prepared.commands }

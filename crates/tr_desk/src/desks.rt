@@ -266,6 +266,13 @@ impl Desk {
         state.last
     }
 
+    /// Tells the invariant of desks. Nothing runs.
+    pub fn invariant(&self)
+        ensures { spec.IsDesk self.now }
+    {
+        let _leaves = self.leaves();
+    }
+
     /// The number of its leaves.
     pub fn leaves(&self) -> usize
         ensures count { result ≡ length self.now.leaves }

@@ -141,6 +141,13 @@ impl<M: Drop> Journal<M> {
         self.push(entry, &[]).unwrap()
     }
 
+    /// Tells the invariant of journals. Nothing runs.
+    pub fn invariant(&self)
+        ensures { All IsCounted self.now.lines }
+    {
+        let _count = self.len();
+    }
+
     /// The number of entries.
     pub fn len(&self) -> usize
         ensures count { result ≡ length self.now.lines }

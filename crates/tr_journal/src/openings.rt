@@ -162,7 +162,7 @@ impl<C: Client> Opening<C> {
         ensures value { result.now ≡ tree_of self.now }
         ensures invariant { IsOpened C.Client self.now }
     {
-        let _count = self.tree.count();
+        self.tree.invariant();
         &self.tree
     }
 

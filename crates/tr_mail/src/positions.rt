@@ -71,8 +71,7 @@ impl Mail {
         ensures sent { record { mail = self.new; sent = out.new } ≡ spec.tree_edited was.now is.now self.old }
         ensures few { length out.new ≤ length self.old.inboxes + length self.old.inboxes }
     {
-        // Tells the prover that there are at most 32 leaves.
-        let _ = self.leaves();
+        self.invariant();
         out.clear();
         self.reshape_all(was, is, out);
         self.tell_all(is, out);
@@ -91,9 +90,8 @@ impl Mail {
             spec.tree_edited was.now tree.now self.old }
         ensures few { length out.new ≤ length self.old.inboxes + length self.old.inboxes }
     {
-        // They tell the prover that the nodes are a forest, with at most 32 leaves.
-        let _ = was.count();
-        let _ = self.leaves();
+        was.invariant();
+        self.invariant();
         if keeps_sizes(was, edit) {
             out.clear();
             self.tell_all(tree, out);

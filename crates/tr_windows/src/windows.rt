@@ -242,8 +242,7 @@ fn idle_windows<C: Client>(alloc: Global, opening: &Opening<C>) -> Result<Vec<Wi
     ensures invariant { IfOk result (λ ws. AreWindows C.Client ws.items) }
 {
     let tree = opening.tree();
-    // Tells the prover that there are at most 32 leaves.
-    let _ = tree.count();
+    tree.invariant();
     let mut windows = Vec::with_capacity(alloc, usize::from(tree.leaves()))?;
     for n in 0..tree.leaves() {
         let Ok(content) = opening.content(LeafId(n)).copy(alloc) else {

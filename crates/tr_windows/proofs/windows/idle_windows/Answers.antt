@@ -19,7 +19,7 @@ returns-clause-invariant g c =
     let same : leaf_count c.tree-tree.result.now.nodes ≡ leaf_count (tree_of c.args.opening.now).nodes =
     ap (λ (t : Seen). leaf_count t.nodes) c.tree-tree.ensures.value in
     let leaves : length contents ≡ leaf_count (tree_of c.args.opening.now).nodes = opened.leaves in
-    let most : leaf_count c.tree-tree.result.now.nodes ≤ 32 = c.count.ensures.invariant.leaf_numbers in
+    let most : leaf_count c.tree-tree.result.now.nodes ≤ 32 = c.invariant.ensures.forest.leaf_numbers in
     let few : length contents ≤ 32 = omega arith in
     let ended : length contents ≤ c.loop-n.n = omega (arith, c.leaves-n-end.ensures) in
     rw (c.loop-n.invariant ∙ ap (λ xs. map with_empty_batch xs) (take_all c.loop-n.n contents ended)) (held_idle g.C.Client contents few opened.contents)

@@ -13,7 +13,7 @@ returns-then-keeps_sizes-clause-sent c =
     let is = c.args.tree.now in
     let kept : (leaf : LeafId) → leaf.0 < length c.args.self.now.inboxes → is_reshaped was is leaf ≡ false = λ leaf lt.
     ap (λ (t : Seen). is_reshaped was t leaf) c.requires.is
-    ∙ sizes_kept was c.args.edit.now c.count.ensures.invariant c.requires.edit c.requires.allowed (sym c.keeps_sizes.ensures ∙ c.if-keeps_sizes.true) leaf
+    ∙ sizes_kept was c.args.edit.now c.invariant.ensures.forest c.requires.edit c.requires.allowed (sym c.keeps_sizes.ensures ∙ c.if-keeps_sizes.true) leaf
     (omega (arith, lt, c.requires.before)) in
     c.tell_all.ensures.sent
     ∙ ap (λ (out : List Delivery). told is (record { mail = c.args.self.now; sent = out })) c.clear.ensures
