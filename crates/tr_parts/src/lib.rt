@@ -4,4 +4,4 @@
 
 mod parts;
 
-pub use parts::{begin_part, finish, stands};
+pub use parts::{begin_part, finish};

@@ -4,9 +4,6 @@ ghost use Rattle.tr_journal.specs.declared.Actor.TheVariants.{Player};
 ghost use Rattle.tr_journal.specs.declared.Step.TheVariants.{Sync};
 ghost use Rattle.tr_journal.specs.Openings.{tree_of};
 ghost use Rattle.tr_journal.specs.Steps.{IsQuery};
-ghost use Rattle.tr_machine.specs.Replays.{IsLegal};
-ghost use Rattle.tr_stage.specs.Stages.{IsOf, state};
-ghost use Rattle.tr_stage.specs.Standings.{Stands};
 ghost use Rattle.tr_run.specs.Runs.{makes, reporting};
 ghost use Rattle.tr_run.specs.Views.{Does, DoesSome};
 ghost use Rattle.tr_parts.specs.Plays.{played_threads};
@@ -16,7 +13,6 @@ use tr_base::NoMemory;
 use tr_client::Client;
 use tr_journal::{Actor, NameOf, Query, Step};
 use tr_run::{Finished, Run};
-use tr_stage::Stage;
 
 /// The player begins a part, a later one with a sync, and makes its reports. For want of memory only the
 /// first of these are made: the text of the next one may be added, and before a dump the painter may have
@@ -69,7 +65,7 @@ fn report<C: Client, N: NameOf>(run: &mut Run<C, N>, query: Query) -> Result<(),
     ensures did { OnOk result (Does C.Client C.Cmd.words run.old run.new (reporting query)) }
     ensures err { OnErr result (DoesSome C.Client C.Cmd.words run.old run.new (reporting query)) }
 {
-    stands(run.stage());
+    run.stage().invariant();
     run.report(query)
 }
 
@@ -82,15 +78,4 @@ pub fn finish<C: Client, N: NameOf>(run: Run<'_, C, N>) -> Result<Finished<C>, N
     let mut end = run.finish();
     end.text.append_bytes(b"played threads\n")?;
     Ok(end)
-}
-
-/// The properties of each stage, for the prover. It does nothing.
-pub fn stands<C: Client>(stage: &Stage<C>)
-    ensures stands { Stands C.Client stage.now }
-    ensures like { IsOf stage.now.opening (state C.Client stage.now) }
-    ensures legal { IsLegal C.Client stage.now.opening stage.now.journal }
-{
-    stage.stands();
-    let _tree = stage.tree();
-    let _journal = stage.journal();
 }

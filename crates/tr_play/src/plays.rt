@@ -15,7 +15,7 @@ use std::sync::Wait;
 use std::thread::Threads;
 use tr_client::Client;
 use tr_journal::NameOf;
-use tr_parts::{begin_part, finish, stands};
+use tr_parts::{begin_part, finish};
 use tr_reader::Part;
 use tr_run::{Finished, Run};
 use tr_server::CloseRefused;
@@ -42,7 +42,7 @@ pub fn play<'a, C: Client<Cmd = WidgetCmd>, N: NameOf, R: Threads + Wait + Sync,
         DiffersInPart C.Client run.entry.stage.opening (parts_of parts.now) d)) }
 {
     let run = play_parts(workers, run, parts)?;
-    stands(run.stage());
+    run.stage().invariant();
     match finish(run) {
         Ok(end) => Ok(end),
         Err(_) => Err(CloseRefused::NoMemory),
@@ -90,11 +90,11 @@ fn play_part<'a, C: Client<Cmd = WidgetCmd>, N: NameOf, R: Threads + Wait + Sync
         drop(run);
         return Err(CloseRefused::NoMemory);
     };
-    stands(run.stage());
+    run.stage().invariant();
     let (stage, paused) = run.pause();
     match make_side_by_side(workers, stage, &part.steps) {
         Ok(stage) => {
-            stands(&stage);
+            stage.invariant();
             Ok(paused.resume(stage))
         }
         Err(refused) => {

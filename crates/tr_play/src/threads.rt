@@ -16,7 +16,6 @@ use std::sync::ledger::Blank;
 use std::thread::Threads;
 use tr_client::Client;
 use tr_journal::{Actor, Step};
-use tr_parts::stands;
 use tr_server::CloseRefused;
 use tr_stage::Stage;
 
@@ -57,11 +56,10 @@ pub(crate) fn make_side_by_side<C: Client, R: Threads + Wait + Sync, G: Gate + S
         return Err(CloseRefused::NoMemory);
     };
     let blank = Blank::new(2 * u64::from(leaves) + 3);
-    // Tells the prover, before and after, the laws of the stage.
-    stands(&stage);
+    stage.invariant();
     match session::<C, Brand, R, G>(workers, blank, stage, &lists, steps.len()) {
         Ok(stage) => {
-            stands(&stage);
+            stage.invariant();
             Ok(stage)
         }
         Err(refused) => Err(refused),

@@ -92,8 +92,7 @@ pub(crate) fn append_lag<C: Client>(
         lag_line C.Client (length stage.now.journal) (state C.Client stage.now)) }
     ensures err { OnErr result (out.new ≡ out.old) }
 {
-    // Called for its clause: each stale point waits to be painted.
-    stage.stands();
+    stage.invariant();
     let number = stage.journal().len();
     let peek = stage.peek()?;
     let (bad, stale) = (peek.bad, peek.stale);

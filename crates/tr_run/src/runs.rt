@@ -236,9 +236,7 @@ impl<'a, C: Client, N: NameOf> Run<'a, C, N> {
         ensures text { self.new.text ≡ self.old.text }
         ensures sum { self.new.sum ≡ self.old.sum }
     {
-        // Called for their clauses, on the stage and its tree.
-        self.stage.stands();
-        let _tree = self.stage.tree();
+        self.stage.invariant();
         let level = stated(&step);
         self.stage.step(Attempt { actor, level, step })?;
         Ok(())
@@ -280,11 +278,10 @@ impl<'a, C: Client, N: NameOf> Run<'a, C, N> {
         ensures err { OnErr result ((line : JournalLine C.Cmd) → AddsSome C.Client C.Cmd.words
             self.old self.new (settling_lines C.Client (state C.Client self.old.stage) ++ line ∷ [])) }
     {
-        // Called, before and after, for its clauses.
-        self.stage.stands();
+        self.stage.invariant();
         let steps = self.stage.steps_to_settle()?;
         self.paint_all(steps)?;
-        self.stage.stands();
+        self.stage.invariant();
         Ok(())
     }
 

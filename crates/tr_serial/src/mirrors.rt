@@ -145,10 +145,9 @@ fn mirror_dump<C: Client, N: NameOf>(
         (Mirrors C.Client C.Cmd.words run.old run.new (reporting Dump) stream.old stream.new) }
     ensures count { OnOk result (stream.new.writer.cuts ≤ stream.old.writer.cuts + 1) }
 {
-    // Called, before and after, for its clauses; so are the values of the pixels.
-    run.stage().stands();
+    run.stage().invariant();
     run.report(Query::Dump)?;
-    run.stage().stands();
+    run.stage().invariant();
     has_values(run.stage());
     stream.append(run.stage().screen())
 }

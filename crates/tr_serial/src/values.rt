@@ -17,8 +17,7 @@ use tr_stage::Stage;
 pub fn has_values<C: Client>(stage: &Stage<C>)
     ensures { HasItsPixels (render C.Client (state C.Client stage.now)) }
 {
-    stage.stands();
-    let _tree = stage.tree();
+    stage.invariant();
     have_contents(stage);
     have_tints(stage);
 }

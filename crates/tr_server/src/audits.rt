@@ -63,8 +63,7 @@ fn add_first<M: Command>(
     requires empty { part.old.lines ≡ [] }
     ensures { OnOk result (part.new.lines ≡ take count journal.now.lines) }
 {
-    // Tells the prover that each entry has the number of deliveries that it counts.
-    let _ = journal.len();
+    journal.invariant();
     for k in 0..count {
         part.push(journal.get(k).copy(alloc)?, journal.sent(k))?;
     }

@@ -51,6 +51,13 @@ impl<C: Client, L: Session<C::Cmd>> Basket<C, L> {
         self.drawn = drawn_of(self.book.prepared());
     }
 
+    /// Tells the invariant of baskets. Nothing runs.
+    pub(crate) fn invariant(&self)
+        ensures { HaveLevels self.now.prepared.commands self.now.levels }
+    {
+        let _count = self.waiting();
+    }
+
     /// The number of waiting commands.
     pub(crate) fn waiting(&self) -> usize
         ensures waiting { result ≡ length self.now.prepared.commands }

@@ -7,6 +7,7 @@ ghost use Rattle.tr_journal.specs.Steps.{IsFor, IsOwn};
 ghost use Rattle.tr_machine.specs.States.{content_of};
 ghost use Rattle.tr_stage.specs.Making.{Makes};
 ghost use Rattle.tr_stage.specs.Sketching.{IsSketchOf};
+ghost use Rattle.tr_stage.specs.Standings.{Stands};
 ghost use Rattle.tr_stage.specs.Stages.{KeepsOthers, line, paints, state};
 ghost use Rattle.tr_server.specs.Handing.{with_acts};
 ghost use Rattle.tr_server.specs.Passes.{CountsClientStep, CountsStep, both_locks};
@@ -63,6 +64,17 @@ impl<C: Client, L: Session<C::Cmd>> Locked<C, L> {
             stage,
             counted,
         }
+    }
+
+    /// Tells the invariant of locked stages. Nothing runs.
+    pub(crate) fn invariant(&self)
+        ensures ids { HasIds L.nodes L.leaves self.now.opening }
+        ensures stands { Stands C.Client self.now }
+        ensures leaves { length (state C.Client self.now).windows
+            ≡ leaf_count (tree_of self.now.opening).nodes }
+    {
+        let _stage = self.stage();
+        self.stage.invariant();
     }
 
     /// The stage.
@@ -371,8 +383,7 @@ impl<C: Client, L: Session<C::Cmd>> Locked<C, L> {
             ⊎ ((self.new.journal ≡ (with_acts C.Client self.old leaf cmds levels).journal)
             × (basket.new.prepared.commands ≡ []) × (basket.new.levels ≡ []))) }
     {
-        // Tells the prover that each waiting command has a level.
-        let _ = basket.waiting();
+        basket.invariant();
         let Ok(sketch) = self.hand_over_drawn(leaf, basket) else {
             drop(step);
             return Err(NoMemory);

@@ -1,4 +1,4 @@
-ghost use Rattle.std.specs.Prelude.{◌≡◌, ◌<◌, ◌∷◌, [], false, length, All, IfOk, OnOk, OnErr};
+ghost use Rattle.std.specs.Prelude.{◌≡◌, ◌<◌, ◌∷◌, [], false, All, IfOk, OnOk, OnErr};
 ghost use Rattle.tr_base.specs.declared.LeafId.{LeafId};
 ghost use Rattle.tr_base.specs.declared.Point.{Point};
 ghost use Rattle.tr_forest.specs.Nodes.{leaf_count};
@@ -13,7 +13,6 @@ ghost use Rattle.tr_machine.specs.Settling.{frame_steps};
 ghost use Rattle.tr_machine.specs.Sharing.{IsPaintedOf, all_bad_leaves, at_shares, flushing, sharing};
 ghost use Rattle.tr_stage.specs.Making.{MakesWithoutReply};
 ghost use Rattle.tr_stage.specs.Sharing.{ArePainted};
-ghost use Rattle.tr_stage.specs.Standings.{Stands};
 ghost use Rattle.tr_stage.specs.Stages.{IsPainters, KeepsOthers, state};
 ghost use Rattle.tr_server.specs.Passes.{CountsStep};
 ghost use Rattle.tr_server.specs.Shares as spec;
@@ -78,16 +77,6 @@ impl<C: Client, L: Session<C::Cmd>> Locked<C, L> {
         }
     }
 
-    /// Tells the prover the laws of the stage. It does nothing.
-    fn stands(&self)
-        ensures invariant { Stands C.Client self.now }
-        ensures leaves { length (state C.Client self.now).windows
-            ≡ leaf_count (tree_of self.now.opening).nodes }
-    {
-        self.stage.stands();
-        let _ = self.stage.tree();
-    }
-
     /// Makes steps of the painter, one after another, under the tree's lock. If memory runs out, the steps
     /// made so far remain.
     fn make_all(&mut self, pass: &mut Pass<C, L>, steps: Vec<Step<C::Cmd>>) -> Result<(), NoMemory>
@@ -118,8 +107,7 @@ impl<C: Client, L: Session<C::Cmd>> Locked<C, L> {
         ensures err { OnErr result (HasBegun C.Client self.old self.new pass.old pass.new
             (at_shares (all_bad_leaves (state C.Client self.old)))) }
     {
-        // Tells the prover that the state has the opening's leaves.
-        self.stands();
+        self.invariant();
         for painted in all {
             self.put_painted(pass, painted)?;
         }
@@ -205,12 +193,11 @@ impl<C: Client, L: Session<C::Cmd>> Locked<C, L> {
         ensures screen { OnOk result (self.new.screen ≡ render C.Client (state C.Client self.new)) }
     {
         self.flush_all(pass)?;
-        // Tells the prover, here and below, the laws of the stage.
-        self.stands();
+        self.invariant();
         self.paint_shares(rt, pass)?;
-        self.stands();
+        self.invariant();
         self.paint_frames(pass)?;
-        self.stands();
+        self.invariant();
         Ok(())
     }
 }

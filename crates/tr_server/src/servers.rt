@@ -108,9 +108,8 @@ impl<C: Client, L: Session<C::Cmd>> Server<C, L> {
     {
         ladder.end();
         let guard = self.taken(rt);
-        // Tells the prover the numbers of nodes and leaves of the server and the stage.
-        let _ = self.opening();
-        let _ = guard.stage();
+        self.invariant();
+        guard.invariant();
         self.is_taken.store(true, Ordering::SeqCst);
         Mu {
             guard,
@@ -152,6 +151,14 @@ impl<C: Client, L: Session<C::Cmd>> Server<C, L> {
         ensures { result.now ≡ leaf }
     {
         &self.windows[usize::from(leaf.0)]
+    }
+
+    /// Tells the invariant of servers. Nothing runs.
+    pub fn invariant(&self)
+        ensures ids { HasIds L.nodes L.leaves self.now.opening }
+        ensures entries { length self.now.kept ≡ L.entries }
+    {
+        let _opening = self.opening();
     }
 
     /// The opening with which it began.

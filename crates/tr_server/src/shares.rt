@@ -127,9 +127,7 @@ pub(crate) fn shares_of<C: Client>(
 ) -> Result<Vec<Share<'_, C>>, NoMemory>
     ensures { IfOk result (λ shares. shares.items ≡ spec.shares_of C.Client stage.now) }
 {
-    // These calls tell the prover that the state has the opening's leaves.
-    stage.stands();
-    let _ = stage.tree();
+    stage.invariant();
     let mut shares = Vec::new(alloc);
     for n in 0..stage.opening().tree().leaves() {
         let leaf = LeafId(n);

@@ -38,6 +38,13 @@ impl<'a, C: Client, L: Session<C::Cmd>> Model for Mu<'a, C, L> {
 }
 
 impl<C: Client, L: Session<C::Cmd>> Mu<'_, C, L> {
+    /// Tells the invariant of a server's stage. Nothing runs.
+    pub fn invariant(&self)
+        ensures { HasIds L.nodes L.leaves self.now.opening }
+    {
+        let _stage = self.stage();
+    }
+
     /// The stage.
     pub fn stage(&self) -> &Stage<C>
         ensures value { result.now ≡ self.now }
@@ -71,13 +78,11 @@ impl<C: Client, L: Session<C::Cmd>> Mu<'_, C, L> {
         ensures err { OnErr result (self.new.journal ≡ self.old.journal) }
     {
         let locked = &mut *self.guard;
-        // These calls, here and below, tell the prover that the window's leaf is one of the stage's,
-        // and that each waiting command has a level.
-        let _ = locked.stage();
+        locked.invariant();
         let leaf = window.leaf();
         let mut guard = window.basket.lock(rt);
         let basket = &mut *guard;
-        let _ = basket.waiting();
+        basket.invariant();
         locked.hand_over(leaf, basket)
     }
 
@@ -104,11 +109,11 @@ impl<C: Client, L: Session<C::Cmd>> Mu<'_, C, L> {
         ensures err_screen { OnErr result (self.new.screen ≡ self.old.screen) }
     {
         let locked = &mut *self.guard;
-        let _ = locked.stage();
+        locked.invariant();
         let leaf = window.leaf();
         let mut guard = window.basket.lock(rt);
         let basket = &mut *guard;
-        let _ = basket.waiting();
+        basket.invariant();
         locked.client_step(leaf, basket, pass, step)
     }
 

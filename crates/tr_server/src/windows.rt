@@ -105,9 +105,8 @@ impl<C: Client, L: Session<C::Cmd>> Window<C, L> {
         ensures screen { OnOk result (mu.new.screen ≡ mu.old.screen) }
         ensures err_screen { OnErr result (mu.new.screen ≡ mu.old.screen) }
     {
-        // These calls tell the prover that the leaf is one of the stage's.
         let leaf = self.leaf();
-        let _ = mu.stage();
+        mu.invariant();
         mu.client_step(rt, self, pass, Step::Act { leaf, cmd })?;
         Ok(())
     }

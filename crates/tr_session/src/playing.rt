@@ -72,8 +72,7 @@ impl Played {
         drop(parts);
         let run = Run::start(alloc, opening, &names, Mode::Serial)?;
         let Finished { stage, .. } = run.finish();
-        // Called for its clauses, here and below.
-        stage.stands();
+        stage.invariant();
         Ok(Played { names, stage })
     }
 
@@ -99,7 +98,7 @@ impl Played {
         let mut run = Run::over(alloc, stage, &names, Mode::Serial);
         let result = follow(&mut run, said, needs_sync, out);
         let Finished { stage, text, .. } = run.finish();
-        stage.stands();
+        stage.invariant();
         let followed = Followed { result, text };
         (Played { names, stage }, followed)
     }

@@ -105,8 +105,7 @@ impl<C: Client> Stage<C> {
         ensures screen { self.new.screen ≡ self.old.screen }
     {
         self.journal.reserve(1)?;
-        // Called for its clause: the nodes are a forest.
-        let _ = self.surface.tree();
+        self.surface.invariant();
         let answer = self.value_of(selection)?;
         let told = answer.copy()?;
         let entry = by.entry(Step::Read { leaf, selection }, answer, 0);
@@ -118,8 +117,7 @@ impl<C: Client> Stage<C> {
         ensures { let m = state C.Client self.now in
             IfOk result (λ answer. answer ≡ machine.read C.Client (selection_owner m.mail.desk selection) m) }
     {
-        // Called for its clause: a selection's owner is a leaf.
-        let _ = self.mail.leaves();
+        self.mail.invariant();
         match self.mail.desk().owner(selection) {
             None => Ok(Answer::Desk(DeskFault::Unowned)),
             Some(owner) => Ok(Answer::Value(self.windows.content(owner).value(self.alloc)?)),
@@ -134,8 +132,7 @@ impl<C: Client> Stage<C> {
         ensures screen { self.new.screen ≡ self.old.screen }
     {
         self.journal.reserve(1)?;
-        // Called for its clause: the nodes are a forest.
-        let _ = self.surface.tree();
+        self.surface.invariant();
         let entry = by.entry(step, Answer::Done, 0);
         Ok(write(&mut self.journal, entry, Answer::Done, &[]))
     }

@@ -23,10 +23,8 @@ impl<C: Client> Stage<C> {
         ensures screen { let made = Step.Alter edit in
             IfOk result (λ r. paints {M = C.Cmd} made r.answer ≡ false → self.new.screen ≡ self.old.screen) }
     {
-        // Called for their clauses: the screen is the tree's, there are at most 32 leaves, and the windows'
-        // contents keep the law of keeping.
-        let _ = self.surface.tree();
-        let _ = self.mail.leaves();
+        self.surface.invariant();
+        self.mail.invariant();
         self.windows.obeys_keeping();
         // An edit may send two deliveries to each leaf instead of one.
         self.journal.reserve(2)?;

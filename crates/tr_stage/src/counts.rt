@@ -48,8 +48,7 @@ fn columns_of(rect: &Rect, wide: u16) -> (usize, usize)
     ensures columns { (x : ℕ) → x < wide →
         between (pos result.0) (pos result.1) (pos x) ≡ between rect.now.west rect.now.east (pos x) }
 {
-    // Called for its clause: the edges are those of a rectangle.
-    let _ = rect.is_empty();
+    rect.invariant();
     let from = nearest_row(rect.west(), 0, wide);
     let to = nearest_row(rect.east(), 0, wide);
     (usize::from(from), usize::from(to))

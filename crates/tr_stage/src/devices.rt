@@ -55,8 +55,7 @@ impl<C: Client> Stage<C> {
         ensures screen { self.new.screen ≡ self.old.screen }
         ensures spare { self.old.spare ≤ self.new.spare + 1 }
     {
-        // Called for its clause: the nodes of the tree are a forest.
-        let _ = self.surface.tree();
+        self.surface.invariant();
         let told = self.mail.key(time, code, &mut self.sent);
         let step = Step::Key { time, code };
         write_told(&mut self.journal, by, step, told, &self.sent)
@@ -93,8 +92,7 @@ impl<C: Client> Stage<C> {
             (Step.Own leaf selection time) result }
         ensures screen { self.new.screen ≡ self.old.screen }
     {
-        // Called for its clause: the nodes of the tree are a forest.
-        let _ = self.surface.tree();
+        self.surface.invariant();
         self.journal.reserve(1)?;
         let told = self.mail.own(leaf, selection, time, &mut self.sent);
         let step = Step::Own {
@@ -118,8 +116,7 @@ impl<C: Client> Stage<C> {
             (Step.Disown leaf selection) result }
         ensures screen { self.new.screen ≡ self.old.screen }
     {
-        // Called for its clause: the nodes of the tree are a forest.
-        let _ = self.surface.tree();
+        self.surface.invariant();
         self.journal.reserve(1)?;
         let told = self.mail.disown(leaf, selection, &mut self.sent);
         let step = Step::Disown { leaf, selection };

@@ -39,8 +39,7 @@ impl<C: Client> Stage<C> {
         ensures err_journal { OnErr result (self.new.journal ≡ self.old.journal) }
         ensures screen { self.new.screen ≡ self.old.screen }
     {
-        // Called for its clause: the nodes are a forest.
-        let _ = self.surface.tree();
+        self.surface.invariant();
         let entries = entries_of(self.alloc, leaf, &prepared.commands, levels)?;
         // Takes room first, so that nothing can fail after the window has changed.
         let Ok(()) = self.journal.reserve_silent(entries.len()) else {
@@ -114,8 +113,8 @@ impl<C: Client> Stage<C> {
         ensures err_prepared { IfErr result (λ p. p ≡ prepared) }
         ensures screen { self.new.screen ≡ self.old.screen }
     {
-        // Called for their clauses: the nodes are a forest, and the content after the commands is valid.
-        let _ = self.surface.tree();
+        self.surface.invariant();
+        // Called for its clause: the content after the commands is valid.
         let _kept = prepared.to.keeps(prepared.size, prepared.size);
         // Takes room first, so that nothing can fail after the window has changed.
         let Ok(room) = Vec::with_capacity(self.alloc, prepared.commands.len()) else {

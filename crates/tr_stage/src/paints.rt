@@ -37,15 +37,14 @@ impl<C: Client> Stage<C> {
             OnOk result (KeepsOthers {M = C.Cmd} t (Step.Flush leaf) self.old.screen self.new.screen) }
     {
         self.journal.reserve(1)?;
-        // Called, here and below, for its clause: the surface is one.
-        let _ = self.surface.tree();
+        self.surface.invariant();
         let font = self.opening.font();
         let painting = flushing(&self.surface, &self.windows, font, leaf)?;
         let batch = either(&painting, self.windows.batch(leaf));
         let executed = self.surface.execute(font, leaf, batch);
         drop(painting);
         executed?;
-        let _ = self.surface.tree();
+        self.surface.invariant();
         self.windows.clear(leaf);
         let entry = by.entry(Step::Flush { leaf }, Answer::Done, 0);
         Ok(write(&mut self.journal, entry, Answer::Done, &[]))
@@ -72,8 +71,7 @@ impl<C: Client> Stage<C> {
         let executed = self.surface.execute(env.font, leaf, batch);
         drop(painting);
         executed?;
-        // Called for its clause: the surface is still one.
-        let _ = self.surface.tree();
+        self.surface.invariant();
         self.windows.clear(leaf);
         let entry = by.entry(Step::Repaint { leaf }, Answer::Done, 0);
         Ok(write(&mut self.journal, entry, Answer::Done, &[]))
@@ -89,10 +87,9 @@ impl<C: Client> Stage<C> {
             OnOk result (KeepsOthers {M = C.Cmd} t Step.PaintFrame self.old.screen self.new.screen) }
     {
         self.journal.reserve(1)?;
-        // Called, before and after, for its clause: the surface is one.
-        let _ = self.surface.tree();
+        self.surface.invariant();
         self.surface.paint_frame()?;
-        let _ = self.surface.tree();
+        self.surface.invariant();
         let entry = by.entry(Step::PaintFrame, Answer::Done, 0);
         Ok(write(&mut self.journal, entry, Answer::Done, &[]))
     }
@@ -160,8 +157,7 @@ fn is_whole(tree: &Tree, leaf: LeafId, visible: &Region) -> bool
         holds visible.now (screen_point (leaf_corner tree.now leaf) q) ≡ true }
 {
     let domain = tree.domain(tree.node_of(leaf));
-    // Called for its clause: the edges are those of a rectangle.
-    let _ = domain.is_empty();
+    domain.invariant();
     let rects = visible.rects();
     rects.len() == 1 && rects[0] == domain
 }

@@ -29,8 +29,7 @@ impl<C: Client> Stage<C> {
         ensures stale { IfOk result (λ peek.
             peek.stale ≡ spec.stale_count C.Client (state C.Client self.now)) }
     {
-        // Called for its clauses: the screen has a size, and agrees with the state.
-        self.stands();
+        self.invariant();
         let stale = self.stale_count()?;
         Ok(Peek3 {
             bad: self.bad_count(),
@@ -43,8 +42,7 @@ impl<C: Client> Stage<C> {
     pub fn bad_count(&self) -> u32
         ensures { result ≡ spec.bad_count (state C.Client self.now) }
     {
-        // Called for its clauses: the screen has a size, and agrees with the state.
-        self.stands();
+        self.invariant();
         self.surface.bad_count()
     }
 
@@ -53,8 +51,7 @@ impl<C: Client> Stage<C> {
     fn stale_count(&self) -> Result<u32, NoMemory>
         ensures { IfOk result (λ n. n ≡ spec.stale_count C.Client (state C.Client self.now)) }
     {
-        // Called for its clauses: the state is sound, and the screen agrees with it.
-        self.stands();
+        self.invariant();
         if self.windows.waiting() == 0 {
             return Ok(0);
         }
@@ -77,8 +74,7 @@ impl<C: Client> Stage<C> {
         ensures size { wanted.new.size ≡ wanted.old.size }
         ensures kind { wanted.new.kind ≡ wanted.old.kind }
     {
-        // Called for its clauses: the state is sound, and the screen agrees with it.
-        self.stands();
+        self.invariant();
         if self.windows.batch(leaf).is_empty() {
             return Ok(0);
         }

@@ -12,6 +12,7 @@ ghost use Rattle.tr_machine.specs.States.{leaf_batch, content_of};
 ghost use Rattle.tr_machine.specs.Promises.{Agrees, Fits, IsSound, Lags};
 ghost use Rattle.tr_machine.specs.Replays.{IsLegal};
 ghost use Rattle.tr_stage.specs.Stages.{IsOf, state};
+ghost use Rattle.tr_stage.specs.Standings.{Stands};
 
 use crate::stages::Stage;
 use tr_base::{Font, LeafId, NoMemory, Size};
@@ -26,6 +27,18 @@ use tr_spot::leaf_size;
 use tr_tree::Tree;
 
 impl<C: Client> Stage<C> {
+    /// Tells the invariant of stages. Nothing runs.
+    pub fn invariant(&self)
+        ensures stands { Stands C.Client self.now }
+        ensures like { IsOf self.now.opening (state C.Client self.now) }
+        ensures legal { IsLegal C.Client self.now.opening self.now.journal }
+    {
+        self.surface.invariant();
+        let _size = self.surface.screen().size();
+        let _tree = self.tree();
+        let _journal = self.journal();
+    }
+
     /// The pixels of the screen. A pixel with a wrong colour is bad, or a waiting command touches it.
     pub fn screen(&self) -> &Screen
         ensures value { result.now ≡ self.now.screen }
@@ -34,8 +47,7 @@ impl<C: Client> Stage<C> {
         ensures lags { Lags C.Client (state C.Client self.now) self.now.screen }
         ensures sound { IsSound C.Client (state C.Client self.now) }
     {
-        // Called for its clause: the nodes are a forest.
-        let _ = self.surface.tree();
+        self.surface.invariant();
         self.surface.screen()
     }
 

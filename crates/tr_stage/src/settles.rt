@@ -10,7 +10,6 @@ ghost use Rattle.tr_machine.specs.Pictures.{render};
 ghost use Rattle.tr_machine.specs.Replays.{lines_of_steps};
 ghost use Rattle.tr_machine.specs.Settling.{is_unsettled, settling, settling_lines};
 ghost use Rattle.tr_stage.specs.Stages.{IsPainters, state};
-ghost use Rattle.tr_stage.specs.Standings.{Stands};
 
 use crate::stages::Stage;
 use tr_base::{LeafId, NoMemory};
@@ -37,20 +36,11 @@ impl<C: Client> Stage<C> {
         ensures err { OnErr result ((n : ℕ) × (self.new.journal ≡
             self.old.journal ++ take n (settling_lines C.Client (state C.Client self.old)))) }
     {
-        // Called, before and after, for its clauses.
-        self.stands();
+        self.invariant();
         let steps = self.steps_to_settle()?;
         self.paint_all(steps)?;
-        self.stands();
+        self.invariant();
         Ok(())
-    }
-
-    /// The properties of each stage, for the prover. It does nothing.
-    pub fn stands(&self)
-        ensures invariant { Stands C.Client self.now }
-    {
-        let _tree = self.surface.tree();
-        let _size = self.surface.screen().size();
     }
 
     /// The steps that `settle` makes, for a caller that makes them one by one: the painter's, under the

@@ -70,9 +70,8 @@ impl<C: Client> Stage<C> {
             IfOk result (λ v. (p : Point) → holds part.now p ≡ true →
             slice_index v.items (place_in part.now p) ≡ want C.Client m p) }
     {
-        // Called for their clauses: the screen has a size, and the part's list is canonical.
-        self.stands();
-        let _ = part.rects();
+        self.invariant();
+        part.invariant();
         if part.is_empty() {
             return Ok(Vec::new(self.alloc));
         }
@@ -114,8 +113,7 @@ impl<C: Client> Stage<C> {
         ensures size { wanted.new.size ≡ wanted.old.size }
         ensures kind { wanted.new.kind ≡ wanted.old.kind }
     {
-        // Called for its clause: the screen has the tree's size and kind.
-        self.stands();
+        self.invariant();
         let corner = corner_of(self.surface.tree(), leaf);
         self.paint_window(leaf, corner, part, wanted)
     }
@@ -140,8 +138,7 @@ impl<C: Client> Stage<C> {
         ensures size { wanted.new.size ≡ wanted.old.size }
         ensures kind { wanted.new.kind ≡ wanted.old.kind }
     {
-        // Called for its clause: the screen has the tree's kind.
-        self.stands();
+        self.invariant();
         let tree = self.surface.tree();
         let env = Env {
             kind: tree.kind(),
@@ -204,10 +201,9 @@ impl<C: Client> Stage<C> {
             OnOk result (KeepsOthers {M = C.Cmd} t (Step.Repaint leaf) self.old.screen self.new.screen) }
     {
         self.journal.reserve(1)?;
-        // Called, here and below, for its clause: the surface is one.
-        let _ = self.surface.tree();
+        self.surface.invariant();
         self.surface.put(leaf, part, pixels)?;
-        let _ = self.surface.tree();
+        self.surface.invariant();
         self.windows.clear(leaf);
         let entry = by.entry(Step::Repaint { leaf }, Answer::Done, 0);
         Ok(write(&mut self.journal, entry, Answer::Done, &[]))
@@ -223,7 +219,6 @@ fn corner_of(tree: &Tree, leaf: LeafId) -> Point
     ensures rect { IsRect (leaf_domain tree.now leaf) }
 {
     let domain = tree.domain(tree.node_of(leaf));
-    // Called for its clause: the edges are those of a rectangle.
-    let _ = domain.is_empty();
+    domain.invariant();
     domain.corner()
 }

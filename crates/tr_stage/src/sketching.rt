@@ -65,8 +65,7 @@ impl<C: Client> Stage<C> {
         ensures { IfOk result (λ b. IsTrue b →
             MayBePut C.Client (state C.Client self.now) leaf clip.now) }
     {
-        // Called for its clause: the surface is one.
-        let _ = self.surface.tree();
+        self.surface.invariant();
         let exposure = exposure_of(&self.surface, leaf)?;
         Ok(self.windows.is_covered(leaf, &exposure, clip))
     }
@@ -83,11 +82,10 @@ impl<C: Client> Stage<C> {
             OnOk result (KeepsOthers {M = C.Cmd} t (Step.Flush leaf) self.old.screen self.new.screen) }
     {
         self.journal.reserve(1)?;
-        // Called, here and below, for its clause: the surface is one.
-        let _ = self.surface.tree();
+        self.surface.invariant();
         let clip = sketch.clip();
         self.surface.put_visible(leaf, &clip, sketch.pixels());
-        let _ = self.surface.tree();
+        self.surface.invariant();
         self.windows.clear(leaf);
         let entry = by.entry(Step::Flush { leaf }, Answer::Done, 0);
         Ok(write(&mut self.journal, entry, Answer::Done, &[]))

@@ -83,8 +83,7 @@ impl<C: Client> Stage<C> {
             drop((surface, windows, mail));
             return Err(opening);
         };
-        // Called for its clause: the surface is one.
-        let _ = surface.tree();
+        surface.invariant();
         let journal = Journal::new(alloc);
         Ok(Stage {
             alloc,

@@ -135,8 +135,7 @@ pub fn hand_over<C: Client>(
         Book::fresh(rt.alloc(), content, stage.font(), size, kind),
     );
     made(rt, book.post(Held::none().with(Level::Mu), cmd));
-    // Called for what it tells the prover: that each command has a level.
-    let _ = book.waiting();
+    book.invariant();
     made(rt, stage.take_over(leaf, book.prepared(), book.levels()));
 }
 

@@ -10,7 +10,6 @@ use std::sync::Wait;
 use std::thread::Threads;
 use tr_base::NoMemory;
 use tr_output::Output;
-use tr_parts::stands;
 use tr_play::{Gate, Workers, play};
 use tr_reader::Script;
 use tr_run::{Finished, Mode, Run};
@@ -43,7 +42,6 @@ pub fn threads<R: Threads + Wait + Sync, G: Gate + Sync>(
 {
     match play_side_by_side(workers, &script) {
         Ok(end) => {
-            // Explicit, here and below: at an implicit drop the prover takes the value apart.
             drop(script);
             Ok(by_threads(end))
         }
@@ -161,7 +159,6 @@ fn last_lines(
     requires differs { HasDifferedIn script.now differs.now }
     ensures { IfOk result (λ text. text.items ≡ again_text script.now differs.now) }
 {
-    // Called for its clause: the journal that was found is one of the machine.
-    stands(differs.stage());
+    differs.stage().invariant();
     again_lines(alloc, &script.names, differs.difference())
 }

@@ -9,4 +9,4 @@ pub returns-clause-ok : goal.returns-clause-ok
 returns-clause-ok g c =
     on_ok_weaker c.report.result
     (λ did. has_reported g.C.Client g.C.Cmd.Command.words c.args.run.now c.report.new.self c.args.query
-    (subst (λ (s : StageView _ _). Stands g.C.Client s) c.stage.ensures c.stands.ensures.stands) did) c.report.ensures.ok
+    (subst (λ (s : StageView _ _). Stands g.C.Client s) c.stage.ensures c.invariant.ensures.stands) did) c.report.ensures.ok

@@ -14,7 +14,7 @@ pub returns-in-Ok-clause-journal : goal.returns-in-Ok-clause-journal
 returns-in-Ok-clause-journal g c =
     let parts = parts_of c.args.parts.now in
     let b = c.in_ok-run.run' in
-    let legal = subst (λ (s : StageView _ _). IsLegal g.C.Client s.opening s.journal) c.stage.ensures c.stands.ensures.legal in
+    let legal = subst (λ (s : StageView _ _). IsLegal g.C.Client s.opening s.journal) c.stage.ensures c.invariant.ensures.legal in
     let some = subst (λ (n : ℕ). 0 < n) (sym (length-map c.args.parts.now part_of)) c.requires.some in
     let end = all_played g.C.Client widget_words c.args.run b parts c.requires.begun some c.in_ok-run.ensures.ok legal in
     subst (λ (s : StageView _ _). HasInterleaved g.C.Client c.args.run.stage.opening parts s) (sym c.in-Ok.ensures.stage) end.stage
@@ -23,7 +23,7 @@ pub returns-in-Ok-clause-text : goal.returns-in-Ok-clause-text
 returns-in-Ok-clause-text g c =
     let parts = parts_of c.args.parts.now in
     let b = c.in_ok-run.run' in
-    let legal = subst (λ (s : StageView _ _). IsLegal g.C.Client s.opening s.journal) c.stage.ensures c.stands.ensures.legal in
+    let legal = subst (λ (s : StageView _ _). IsLegal g.C.Client s.opening s.journal) c.stage.ensures c.invariant.ensures.legal in
     let some = subst (λ (n : ℕ). 0 < n) (sym (length-map c.args.parts.now part_of)) c.requires.some in
     let end = all_played g.C.Client widget_words c.args.run b parts c.requires.begun some c.in_ok-run.ensures.ok legal in
     c.in-Ok.ensures.text
@@ -35,7 +35,7 @@ pub returns-in-Ok-clause-sum : goal.returns-in-Ok-clause-sum
 returns-in-Ok-clause-sum g c =
     let parts = parts_of c.args.parts.now in
     let b = c.in_ok-run.run' in
-    let legal = subst (λ (s : StageView _ _). IsLegal g.C.Client s.opening s.journal) c.stage.ensures c.stands.ensures.legal in
+    let legal = subst (λ (s : StageView _ _). IsLegal g.C.Client s.opening s.journal) c.stage.ensures c.invariant.ensures.legal in
     let some = subst (λ (n : ℕ). 0 < n) (sym (length-map c.args.parts.now part_of)) c.requires.some in
     c.in-Ok.ensures.sum ∙ (all_played g.C.Client widget_words c.args.run b parts c.requires.begun some c.in_ok-run.ensures.ok legal).sum
 

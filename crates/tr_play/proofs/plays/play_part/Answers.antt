@@ -38,14 +38,14 @@ resume-requires-clause-named g c κs within =
     let same : c.deref-2.result.now ≡ c.args.part.now.steps = search rules in
     let b = c.begin_part.new.run in
     let n = c.in-Ok-make_side_by_side.stage in
-    let stands = subst (λ (s : StageView _ _). Stands g.C.Client s) c.stage.ensures c.stands.ensures.stands in
-    let like = subst (λ (s : StageView _ _). IsOf s.opening (state g.C.Client s)) c.stage.ensures c.stands.ensures.like in
+    let stands = subst (λ (s : StageView _ _). Stands g.C.Client s) c.stage.ensures c.invariant.ensures.stands in
+    let like = subst (λ (s : StageView _ _). IsOf s.opening (state g.C.Client s)) c.stage.ensures c.invariant.ensures.like in
     let ran =
     subst (λ (s : StageView _ _). HasRun s n c.args.part.now.steps) c.pause-stage.ensures.stage
     (subst (λ (steps : List (Actor × Step _)). HasRun c.pause-stage.result.0 n steps) same c.in-Ok-make_side_by_side.ensures.ok) in
     subst (λ (names : Names). IsNamed g.C.Client names n) (sym c.pause-stage.ensures.names)
     (run_named g.C.Client b.names b.stage n c.args.part.now.steps c.pause-stage.ensures.invariant stands like
-    c.stands-in-Ok-make_side_by_side.ensures.legal ran)
+    c.invariant-in-Ok-make_side_by_side.ensures.legal ran)
 
 pub returns-in-Ok-make_side_by_side-clause-ok : goal.returns-in-Ok-make_side_by_side-clause-ok
 returns-in-Ok-make_side_by_side-clause-ok g c =
@@ -68,5 +68,5 @@ returns-in-Ok-make_side_by_side-clause-ok g c =
       sum = c.resume.ensures.sum ∙ c.pause-stage.ensures.sum;
       ran = subst (λ (s : StageView _ _). HasRun b.stage s c.args.part.now.steps) (sym c.resume.ensures.stage) ran;
       legal = subst (λ (s : StageView _ _). IsLegal g.C.Client s.opening s.journal) (sym c.resume.ensures.stage)
-          c.stands-in-Ok-make_side_by_side.ensures.legal;
+          c.invariant-in-Ok-make_side_by_side.ensures.legal;
     })

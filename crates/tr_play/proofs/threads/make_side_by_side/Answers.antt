@@ -35,8 +35,8 @@ returns-in-Ok-session-clause-ok g c =
     let count : c.leaves-leaves.result ≡ leaf_count (tree_of c.args.stage.opening).nodes = search rules in
     has_run g.C.Client c.args.stage c.in-Ok-session.stage c.args.steps.now c.in-Ok.lists
     (record {
-      before = c.stands.ensures.legal;
-      after = c.stands-in-Ok-session.ensures.legal;
+      before = c.invariant.ensures.legal;
+      after = c.invariant-in-Ok-session.ensures.legal;
       matches = c.in-Ok-session.ensures.ok;
       are_listed = subst (λ (n : ℕ). AreListed n c.args.steps.now c.in-Ok.lists) count c.in-Ok.ensures;
       player = c.in-Ok.ensures.steps Player tt ∙ no_player (tree_of c.args.stage.opening).nodes c.args.steps.now c.requires;

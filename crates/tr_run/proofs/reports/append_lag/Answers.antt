@@ -18,5 +18,5 @@ returns-clause-ok g c =
     ∙ ap (λ (n : ℕ). lag_text_of n c.in_ok-peek.peek.bad c.in_ok-peek.peek.stale 0) number
     ∙ ap (λ (n : ℕ). lag_text_of (length s.journal) n c.in_ok-peek.peek.stale 0) c.in_ok-peek.ensures.bad
     ∙ ap (λ (n : ℕ). lag_text_of (length s.journal) (bad_count (state g.C.Client s)) n 0) c.in_ok-peek.ensures.stale
-    ∙ sym (lag_line-stage g.C.Client s (length s.journal) c.stands.ensures.invariant) in
+    ∙ sym (lag_line-stage g.C.Client s (length s.journal) c.invariant.ensures.stands) in
     subst (λ (t : List ℕ). OnOk c.append_bytes.result (c.append_bytes.new.self ≡ c.args.out.now ++ t)) line c.append_bytes.ensures.ok

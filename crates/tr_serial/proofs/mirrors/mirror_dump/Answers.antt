@@ -12,8 +12,8 @@ use Rattle.tr_serial.proofs.mirrors.mirror_dump.Goals as goal
 pub append-requires-clause-pixels : goal.append-requires-clause-pixels
 append-requires-clause-pixels g c =
     let client = g.C.Client in
-    let stood = subst (λ (s : StageView _ _). Stands client s) c.stage.ensures c.stands.ensures.invariant in
-    let stands = subst (λ (s : StageView _ _). Stands client s) c.stage-2.ensures c.stands-2.ensures.invariant in
+    let stood = subst (λ (s : StageView _ _). Stands client s) c.stage.ensures c.invariant.ensures.stands in
+    let stands = subst (λ (s : StageView _ _). Stands client s) c.stage-2.ensures c.invariant-2.ensures.stands in
     let values = subst (λ (s : StageView _ _). HasItsPixels (render client (state client s))) c.stage-3.ensures c.has_values.ensures in
     let screen = c.screen.ensures.value ∙ ap (λ (s : StageView _ _). s.screen) c.stage-4.ensures in
     let is = dumped_screen client g.C.Cmd.Command.words c.args.run.now c.report.new.self c.in_ok-report.ensures.ok stood stands in
@@ -22,8 +22,8 @@ append-requires-clause-pixels g c =
 pub returns-clause-mirrors : goal.returns-clause-mirrors
 returns-clause-mirrors g c =
     let client = g.C.Client in
-    let stood = subst (λ (s : StageView _ _). Stands client s) c.stage.ensures c.stands.ensures.invariant in
-    let stands = subst (λ (s : StageView _ _). Stands client s) c.stage-2.ensures c.stands-2.ensures.invariant in
+    let stood = subst (λ (s : StageView _ _). Stands client s) c.stage.ensures c.invariant.ensures.stands in
+    let stands = subst (λ (s : StageView _ _). Stands client s) c.stage-2.ensures c.invariant-2.ensures.stands in
     let screen = c.screen.ensures.value ∙ ap (λ (s : StageView _ _). s.screen) c.stage-4.ensures in
     on_ok_weaker c.append.result
     (λ appended. mirrors_dump client g.C.Cmd.Command.words c.args.run.now c.report.new.self c.in_ok-report.ensures.ok c.args.stream.now c.append.new.self

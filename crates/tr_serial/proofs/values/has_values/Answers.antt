@@ -7,8 +7,8 @@ pub returns : goal.returns
 returns g c =
     let laws = g.met.C.Client g.world.𝓛 g.world.𝓜 g.world.𝓡 ((λ s x. x), (λ x. x), (λ x. x), (λ x. x)) in
     render_values g.C.Client laws.kinds _ (state g.C.Client c.args.stage.now) (record {
-      forest = c.stands.ensures.invariant.forest;
-      windows = c.stands.ensures.invariant.sound.windows ∙ c.tree-tree.ensures.like.leaves;
+      forest = c.invariant.ensures.stands.forest;
+      windows = c.invariant.ensures.stands.sound.windows ∙ c.invariant.ensures.like.leaves;
       leaves = c.have_contents.ensures;
       tints = c.have_tints.ensures;
     })

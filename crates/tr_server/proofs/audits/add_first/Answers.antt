@@ -9,7 +9,7 @@ push-requires g c =
     let line : JournalLine _ = record { entry = c.in_ok-copy.field-0; sent = c.sent.result.now } in
     let at = line_at lines c.loop-k.k line
     (c.get.ensures ∙ ap (λ e. Some e) (sym c.in_ok-copy.ensures)) c.sent.ensures in
-    record { counted = (counted_at lines c.loop-k.k line at c.len.ensures.invariant).count }
+    record { counted = (counted_at lines c.loop-k.k line at c.invariant.ensures).count }
 
 pub loop-k-preserved : goal.loop-k-preserved
 loop-k-preserved g c =

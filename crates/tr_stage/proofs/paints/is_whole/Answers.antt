@@ -14,7 +14,7 @@ returns-then-rects-eq1 c = λ same q has.
     let d = c.domain-domain.result in
     let p : Point = screen_point (leaf_corner c.args.tree.now c.args.leaf) q in
     let domain : c.domain-domain.result ≡ leaf_domain c.args.tree.now c.args.leaf = rw c.node_of.ensures.is at c.domain-domain.ensures.domain in
-    let inside = in_domain d q c.is_empty.ensures.invariant (ap (λ (e : Edges). has_point (whole_of (size_of e)) q) domain ∙ has) in
+    let inside = in_domain d q c.invariant.ensures (ap (λ (e : Edges). has_point (whole_of (size_of e)) q) domain ∙ has) in
     let there : has_point d p ≡ true =
     ap (λ (e : Edges). has_point d (screen_point (record { h = e.west; v = e.north }) q)) (sym domain) ∙ inside in
     let equal = (same_edges c.index-rects-0.result d).0 (sym c.eq.ensures ∙ same) in

@@ -18,7 +18,7 @@ again_lines-requires-after_bounds c κs =
     subst (λ (d : Difference WidgetCmd). IsNamedDifference c.script.inside.names d) (sym c.difference.ensures.value)
     (subst (λ (ns : Names). IsNamedDifference ns c.args.differs.now.difference) (sym (ap (λ (x : Script). x.names) c.script.view_is))
     (differed_named s c.requires.playable c.args.differs.now c.requires.differs
-    (subst (λ (v : StageView Widget WidgetCmd). IsLegal widgets v.opening v.journal) c.stage.ensures c.stands.ensures.legal)))
+    (subst (λ (v : StageView Widget WidgetCmd). IsLegal widgets v.opening v.journal) c.stage.ensures c.invariant.ensures.legal)))
 
 pub returns : goal.returns
 returns c =

@@ -13,8 +13,8 @@ pub invariant_of-self-2 : goal.invariant_of-self-2
 invariant_of-self-2 g c =
     let s = c.self.inside.stage in
     named_next g.C.Client (names_of g.N.NameOf c.self.inside.names.now) s c.step.new.self c.args.actor c.args.step c.self.invariant (record {
-      stands = c.stands.ensures.invariant;
-      like = c.tree-tree.ensures.like;
+      stands = c.invariant.ensures.stands;
+      like = c.invariant.ensures.like;
       own = subst (λ (v : RunView _ _). IsOwn (tree_of v.stage.opening).nodes c.args.actor c.args.step) (sym c.self.view_is) c.requires.own;
       opening = c.step.ensures.made.opening;
       journal = c.in_ok-step.ensures.made.ok

@@ -14,8 +14,8 @@ pub returns-clause-screen : goal.returns-clause-screen
 returns-clause-screen g c =
     let s = c.args.self.now.stage in
     let n = c.paint_all.new.self.stage in
-    let stood = subst (λ (v : RunView _ _). Stands g.C.Client v.stage) c.self.view_is c.stands.ensures.invariant in
-    let stands = subst (λ (v : RunView _ _). Stands g.C.Client v.stage) c.self-2.view_is c.stands-2.ensures.invariant in
+    let stood = subst (λ (v : RunView _ _). Stands g.C.Client v.stage) c.self.view_is c.invariant.ensures.stands in
+    let stands = subst (λ (v : RunView _ _). Stands g.C.Client v.stage) c.self-2.view_is c.invariant-2.ensures.stands in
     let steps = subst (λ (v : RunView _ _). c.in_ok-steps.steps.items ≡ settling g.C.Client (state g.C.Client v.stage)) c.self.view_is
     c.in_ok-steps.ensures.steps in
     settled_screen g.C.Client s n stands

@@ -22,7 +22,7 @@ put_painted-requires-clause-leaf g c κs within =
     c.in-Some.painted c.in-Some.is c.next.ensures.steps in
     let m = state g.C.Client c.args.self.now in
     let low = put_within g.C.Client m (length m.windows) c.args.all.items (length c.loop-painted.yielded) c.in-Some.painted c.requires.all turn in
-    rw c.loop-painted.invariant.opening (omega (arith, low, c.stands.ensures.leaves))
+    rw c.loop-painted.invariant.opening (omega (arith, low, c.invariant.ensures.leaves))
 
 pub put_painted-requires-clause-idle : goal.put_painted-requires-clause-idle
 put_painted-requires-clause-idle g c κs within =

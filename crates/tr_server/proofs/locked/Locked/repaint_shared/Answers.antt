@@ -8,16 +8,16 @@ use Rattle.tr_stage.proofs.SharedLemmas.{AreShared, shared_good, shared_idle, sh
 use Rattle.tr_server.proofs.MadeLemmas.{begun_more, made_actor}
 use Rattle.tr_server.proofs.ShareLemmas.{are_shared, begun_frames, begun_shares, flushed_none, made_sharing}
 use Rattle.tr_server.proofs.locked.Locked.repaint_shared.Given.{Over}
-use Rattle.tr_server.proofs.locked.Locked.repaint_shared.Goals.{After-stands-3}
+use Rattle.tr_server.proofs.locked.Locked.repaint_shared.Goals.{After-invariant-3}
 use Rattle.tr_server.proofs.locked.Locked.repaint_shared.Goals as goal
 
-shared : (g : Over) (c : After-stands-3 g) → AreShared g.C.Client c.args.self.now c.flush_all.new.self c.paint_shares.new.self c.paint_frames.new.self
+shared : (g : Over) (c : After-invariant-3 g) → AreShared g.C.Client c.args.self.now c.flush_all.new.self c.paint_shares.new.self c.paint_frames.new.self
 shared g c =
     are_shared g.C.Client c.args.self.now c.flush_all.new.self c.paint_shares.new.self c.paint_frames.new.self
     c.args.pass.now c.flush_all.new.pass c.paint_shares.new.pass c.paint_frames.new.pass (record {
-      stands1 = c.stands.ensures.invariant;
-      stands2 = c.stands-2.ensures.invariant;
-      stands3 = c.stands-3.ensures.invariant;
+      stands1 = c.invariant.ensures.stands;
+      stands2 = c.invariant-2.ensures.stands;
+      stands3 = c.invariant-3.ensures.stands;
       flushes = c.in_ok-flush_all.ensures.ok;
       shares = c.in_ok-paint_shares.ensures.ok;
       frames = c.in_ok-paint_frames.ensures.ok;

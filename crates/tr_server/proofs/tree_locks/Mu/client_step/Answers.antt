@@ -11,7 +11,7 @@ returns-clause-ok g c =
     let same : c.deref_mut-locked.result.now ≡ c.args.self.now = search rules in
     IfOk-weaker c.client_step.result _ _
     (λ r h. handed_and_stepped g.C.Client c.args.window.now c.leaf-leaf.result c.args.self.now c.deref_mut-locked.result.now c.client_step.new.self
-    c.deref_mut-basket.result.now c.leaf-leaf.ensures.value same c.waiting.ensures.invariant c.args.step r h.0 h.1)
+    c.deref_mut-basket.result.now c.leaf-leaf.ensures.value same c.invariant-2.ensures c.args.step r h.0 h.1)
     (both_ok _ _ c.client_step.result c.client_step.ensures.ok c.client_step.ensures.reply)
 
 pub returns-clause-err : goal.returns-clause-err
@@ -20,7 +20,7 @@ returns-clause-err g c =
     on_err_weaker c.client_step.result
     (either_way (λ h. h.0 ∙ ap (λ (s : StageView _ _). s.journal) same)
     (λ h. handed_over g.C.Client c.args.window.now c.leaf-leaf.result c.args.self.now c.deref_mut-locked.result.now c.client_step.new.self
-    c.deref_mut-basket.result.now c.leaf-leaf.ensures.value same c.waiting.ensures.invariant h.0))
+    c.deref_mut-basket.result.now c.leaf-leaf.ensures.value same c.invariant-2.ensures h.0))
     c.client_step.ensures.err
 
 pub returns-clause-others : goal.returns-clause-others

@@ -17,6 +17,6 @@ returns c =
           ∙ ap (λ (s : Script). s.opening) c.opening-2.view_is ∙ ap (λ (s : Script). s.opening) read;
       names = ap (λ (s : Script). s.names) c.opening-2.view_is ∙ ap (λ (s : Script). s.names) read;
       journal = ap (λ (g : StageView Widget WidgetCmd). g.journal) stage ∙ c.in_ok-run.ensures.journal;
-      picture = c.stands.ensures.invariant.picture;
-      shows = c.stands.ensures.invariant.agrees;
+      picture = c.invariant.ensures.stands.picture;
+      shows = c.invariant.ensures.stands.agrees;
     }

@@ -20,14 +20,14 @@ refit-requires-clause-before g c κs within =
 pub refit-requires-clause-leaves : goal.refit-requires-clause-leaves
 refit-requires-clause-leaves g c κs within =
     let made = seen_for (sym c.self.view_is) c.requires.allowed in
-    leaves_after g.C.Client c.args.edit c.self.invariant c.tree.ensures.invariant.forest made.own.values c.in-Ok.ensures.allowed
+    leaves_after g.C.Client c.args.edit c.self.invariant c.invariant.ensures.forest made.own.values c.in-Ok.ensures.allowed
     (c.tree-is.ensures.value ∙ c.in-Ok.ensures.tree)
     ∙ sym (windows_count g.C.Client c.self.invariant)
 
 pub edited_by-requires-clause-leaves : goal.edited_by-requires-clause-leaves
 edited_by-requires-clause-leaves g c =
     let made = seen_for (sym c.self.view_is) c.requires.allowed in
-    leaves_after g.C.Client c.args.edit c.self.invariant c.tree.ensures.invariant.forest made.own.values c.in-Ok.ensures.allowed
+    leaves_after g.C.Client c.args.edit c.self.invariant c.invariant.ensures.forest made.own.values c.in-Ok.ensures.allowed
     (c.tree-is.ensures.value ∙ c.in-Ok.ensures.tree)
     ∙ sym (inboxes_count g.C.Client c.self.invariant)
 
@@ -58,7 +58,7 @@ invariant_of-self-in-Ok g c =
     let old : Parts g.row.C.Denot = record { surface = s.surface; windows = s.windows; mail = s.mail } in
     let new : Parts g.row.C.Denot = record { surface = c.alter.new.self; windows = c.refit.new.self; mail = c.edited_by.new.self } in
     let e : IsEdited g.C.Client (replay g.C.Client s.opening s.journal.lines) c.args.edit old new = record {
-      was = c.tree.ensures.invariant;
+      was = c.invariant.ensures;
       is = c.tree-is.ensures.invariant;
       keeps = c.obeys_keeping.ensures;
       allowed = c.in-Ok.ensures.allowed;
@@ -86,5 +86,5 @@ invariant_of-self-in-Err-Fault g c =
     let refused : refusal c.self.inside.surface.tree.nodes c.args.edit ≡ Some c.in-Err-Fault.fault =
     subst (λ (r : EditRefused). IsCause (refusal c.self.inside.surface.tree.nodes c.args.edit) r) c.in-Err-Fault.field-0-is why in
     rw (c.write-in-Err-Fault.ensures.lines, c.in_ok-reserve.ensures.lines, c.entry-entry-in-Err-Fault.ensures, c.in-Err-Fault.ensures.err)
-    (altered_stage g.C.Client c.self.invariant made (refused_next g.C.Client c.args.edit c.self.invariant refused c.tree.ensures.invariant)
+    (altered_stage g.C.Client c.self.invariant made (refused_next g.C.Client c.args.edit c.self.invariant refused c.invariant.ensures)
     (refused_line g.C.Client c.args.edit c.self.invariant refused c.args.by.now.actor c.args.by.now.level))

@@ -17,14 +17,14 @@ invariant_of-self-2 g c =
     } in
     let m : IsMaking g.C.Client b (Disown c.args.leaf c.args.selection) = record {
       is = c.self.invariant;
-      shown = c.tree.ensures.invariant;
+      shown = c.invariant.ensures;
       view = c.args.self.now;
       same = ap (λ v. v.opening) c.self.view_is;
       allowed = c.requires.allowed;
     } in
     let after : Sending = record { mail = c.disown-told.new.self; sent = c.disown-told.new.out } in
-    let told : IsTold b.parts (disowning c.args.leaf c.args.selection) c.tree.result.now after c.disown-told.result = record {
-      same = c.tree.ensures.value;
+    let told : IsTold b.parts (disowning c.args.leaf c.args.selection) s.surface.tree after c.disown-told.result = record {
+      same = refl;
       ok = c.disown-told.ensures.ok;
       allowed = c.disown-told.ensures.allowed;
       fault = c.disown-told.ensures.fault;
@@ -32,7 +32,7 @@ invariant_of-self-2 g c =
     } in
     rw (c.write_told.ensures.lines, c.in_ok-reserve.ensures.lines)
     (device_told g.C.Client b (Disown c.args.leaf c.args.selection) (disowning c.args.leaf c.args.selection)
-    c.tree.result.now after c.disown-told.result m
+    s.surface.tree after c.disown-told.result m
     (is_disowning g.C.Client c.args.leaf c.args.selection) told)
 
 pub returns-clause-made : goal.returns-clause-made
@@ -47,14 +47,14 @@ returns-clause-made g c =
     } in
     let m : IsMaking g.C.Client b (Disown c.args.leaf c.args.selection) = record {
       is = c.self.invariant;
-      shown = c.tree.ensures.invariant;
+      shown = c.invariant.ensures;
       view = c.args.self.now;
       same = ap (λ v. v.opening) c.self.view_is;
       allowed = c.requires.allowed;
     } in
     let after : Sending = record { mail = c.disown-told.new.self; sent = c.disown-told.new.out } in
-    let told : IsTold b.parts (disowning c.args.leaf c.args.selection) c.tree.result.now after c.disown-told.result = record {
-      same = c.tree.ensures.value;
+    let told : IsTold b.parts (disowning c.args.leaf c.args.selection) s.surface.tree after c.disown-told.result = record {
+      same = refl;
       ok = c.disown-told.ensures.ok;
       allowed = c.disown-told.ensures.allowed;
       fault = c.disown-told.ensures.fault;
@@ -62,6 +62,6 @@ returns-clause-made g c =
     } in
     makes_line g.C.Client (line_told b.actor b.held (Disown c.args.leaf c.args.selection) c.disown-told.result c.disown-told.new.out) c.self.view_is
     (device_line g.C.Client b (Disown c.args.leaf c.args.selection) (disowning c.args.leaf c.args.selection)
-    c.tree.result.now after c.disown-told.result m
+    s.surface.tree after c.disown-told.result m
     (is_disowning g.C.Client c.args.leaf c.args.selection) told)
     refl (rw c.in_ok-reserve.ensures.lines at c.write_told.ensures.lines) c.write_told.ensures.reply

@@ -54,7 +54,7 @@ invariant_of-self-2 g c =
     } in
     let m : IsMaking g.C.Client b (Flush c.args.leaf) = record {
       is = c.self.invariant;
-      shown = c.tree.ensures.invariant;
+      shown = c.invariant.ensures;
       view = c.args.self.now;
       same = ap (λ v. v.opening) c.self.view_is;
       allowed = c.requires.allowed;
@@ -63,7 +63,7 @@ invariant_of-self-2 g c =
     let done = c.in_ok-executed.ensures in
     rw (c.write.ensures.lines, c.entry-entry.ensures, c.reserve.ensures.lines)
     (flush_made g.C.Client b c.args.leaf new m (record {
-      shown = c.tree-2.ensures.invariant;
+      shown = c.invariant-2.ensures;
       tree = c.execute-executed.ensures.tree;
       font = c.font-font.result.now;
       font_is = c.font-font.ensures;

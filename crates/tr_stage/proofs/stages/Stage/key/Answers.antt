@@ -17,21 +17,21 @@ invariant_of-self g c =
     } in
     let m : IsMaking g.C.Client b (Key c.args.time c.args.code) = record {
       is = c.self.invariant;
-      shown = c.tree.ensures.invariant;
+      shown = c.invariant.ensures;
       view = c.args.self.now;
       same = ap (λ v. v.opening) c.self.view_is;
       allowed = c.requires.allowed;
     } in
     let after : Sending = record { mail = c.key-told.new.self; sent = c.key-told.new.out } in
-    let told : IsTold b.parts (key c.args.time c.args.code) c.tree.result.now after c.key-told.result = record {
-      same = c.tree.ensures.value;
+    let told : IsTold b.parts (key c.args.time c.args.code) s.surface.tree after c.key-told.result = record {
+      same = refl;
       ok = c.key-told.ensures.ok;
       allowed = c.key-told.ensures.allowed;
       fault = c.key-told.ensures.fault;
       err = c.key-told.ensures.err;
     } in
     rw (c.write_told.ensures.lines)
-    (device_told g.C.Client b (Key c.args.time c.args.code) (key c.args.time c.args.code) c.tree.result.now after c.key-told.result m
+    (device_told g.C.Client b (Key c.args.time c.args.code) (key c.args.time c.args.code) s.surface.tree after c.key-told.result m
     (is_key g.C.Client c.args.time c.args.code) told)
 
 pub returns-clause-made : goal.returns-clause-made
@@ -46,20 +46,20 @@ returns-clause-made g c =
     } in
     let m : IsMaking g.C.Client b (Key c.args.time c.args.code) = record {
       is = c.self.invariant;
-      shown = c.tree.ensures.invariant;
+      shown = c.invariant.ensures;
       view = c.args.self.now;
       same = ap (λ v. v.opening) c.self.view_is;
       allowed = c.requires.allowed;
     } in
     let after : Sending = record { mail = c.key-told.new.self; sent = c.key-told.new.out } in
-    let told : IsTold b.parts (key c.args.time c.args.code) c.tree.result.now after c.key-told.result = record {
-      same = c.tree.ensures.value;
+    let told : IsTold b.parts (key c.args.time c.args.code) s.surface.tree after c.key-told.result = record {
+      same = refl;
       ok = c.key-told.ensures.ok;
       allowed = c.key-told.ensures.allowed;
       fault = c.key-told.ensures.fault;
       err = c.key-told.ensures.err;
     } in
     makes_line g.C.Client (line_told b.actor b.held (Key c.args.time c.args.code) c.key-told.result c.key-told.new.out) c.self.view_is
-    (device_line g.C.Client b (Key c.args.time c.args.code) (key c.args.time c.args.code) c.tree.result.now after c.key-told.result m
+    (device_line g.C.Client b (Key c.args.time c.args.code) (key c.args.time c.args.code) s.surface.tree after c.key-told.result m
     (is_key g.C.Client c.args.time c.args.code) told)
     refl c.write_told.ensures.lines c.write_told.ensures.reply

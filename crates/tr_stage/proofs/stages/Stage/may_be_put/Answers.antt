@@ -19,7 +19,7 @@ returns g c = λ covers.
     subst (λ (v : StageView _ _). MayBePut g.C.Client (state g.C.Client v) c.args.leaf c.args.clip.now) c.self.view_is
     (may_be_put g.C.Client s.opening s.journal.lines parts c.args.leaf c.args.clip.now (record {
       is = c.self.invariant;
-      shown = c.tree.ensures.invariant;
+      shown = c.invariant.ensures;
       within = subst (λ (v : StageView _ _). c.args.leaf.0 < leaf_count (tree_of v.opening).nodes) (sym c.self.view_is) c.requires;
       exposure = c.in_ok-exposure.exposure;
       stands = c.in_ok-exposure.ensures.stands;

@@ -7,4 +7,4 @@ pub invariant_of-self-2 : goal.invariant_of-self-2
 invariant_of-self-2 g c =
     let made = seen_for (sym c.self.view_is) c.requires.allowed in
     rw (c.write.ensures.lines, c.in_ok-reserve.ensures.lines, c.entry-entry.ensures)
-    (notes g.C.Client c.self.invariant made c.tree.ensures.invariant.forest c.requires.note)
+    (notes g.C.Client c.self.invariant made c.invariant.ensures.forest c.requires.note)

@@ -17,14 +17,14 @@ invariant_of-self-2 g c =
     } in
     let m : IsMaking g.C.Client b (Own c.args.leaf c.args.selection c.args.time) = record {
       is = c.self.invariant;
-      shown = c.tree.ensures.invariant;
+      shown = c.invariant.ensures;
       view = c.args.self.now;
       same = ap (λ v. v.opening) c.self.view_is;
       allowed = c.requires.allowed;
     } in
     let after : Sending = record { mail = c.own-told.new.self; sent = c.own-told.new.out } in
-    let told : IsTold b.parts (owning c.args.leaf c.args.selection c.args.time) c.tree.result.now after c.own-told.result = record {
-      same = c.tree.ensures.value;
+    let told : IsTold b.parts (owning c.args.leaf c.args.selection c.args.time) s.surface.tree after c.own-told.result = record {
+      same = refl;
       ok = c.own-told.ensures.ok;
       allowed = c.own-told.ensures.allowed;
       fault = c.own-told.ensures.fault;
@@ -32,7 +32,7 @@ invariant_of-self-2 g c =
     } in
     rw (c.write_told.ensures.lines, c.in_ok-reserve.ensures.lines)
     (device_told g.C.Client b (Own c.args.leaf c.args.selection c.args.time) (owning c.args.leaf c.args.selection c.args.time)
-    c.tree.result.now after c.own-told.result m
+    s.surface.tree after c.own-told.result m
     (is_owning g.C.Client c.args.leaf c.args.selection c.args.time) told)
 
 pub returns-clause-made : goal.returns-clause-made
@@ -47,14 +47,14 @@ returns-clause-made g c =
     } in
     let m : IsMaking g.C.Client b (Own c.args.leaf c.args.selection c.args.time) = record {
       is = c.self.invariant;
-      shown = c.tree.ensures.invariant;
+      shown = c.invariant.ensures;
       view = c.args.self.now;
       same = ap (λ v. v.opening) c.self.view_is;
       allowed = c.requires.allowed;
     } in
     let after : Sending = record { mail = c.own-told.new.self; sent = c.own-told.new.out } in
-    let told : IsTold b.parts (owning c.args.leaf c.args.selection c.args.time) c.tree.result.now after c.own-told.result = record {
-      same = c.tree.ensures.value;
+    let told : IsTold b.parts (owning c.args.leaf c.args.selection c.args.time) s.surface.tree after c.own-told.result = record {
+      same = refl;
       ok = c.own-told.ensures.ok;
       allowed = c.own-told.ensures.allowed;
       fault = c.own-told.ensures.fault;
@@ -62,6 +62,6 @@ returns-clause-made g c =
     } in
     makes_line g.C.Client (line_told b.actor b.held (Own c.args.leaf c.args.selection c.args.time) c.own-told.result c.own-told.new.out) c.self.view_is
     (device_line g.C.Client b (Own c.args.leaf c.args.selection c.args.time) (owning c.args.leaf c.args.selection c.args.time)
-    c.tree.result.now after c.own-told.result m
+    s.surface.tree after c.own-told.result m
     (is_owning g.C.Client c.args.leaf c.args.selection c.args.time) told)
     refl (rw c.in_ok-reserve.ensures.lines at c.write_told.ensures.lines) c.write_told.ensures.reply

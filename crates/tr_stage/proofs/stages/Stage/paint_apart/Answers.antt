@@ -20,9 +20,9 @@ use Rattle.tr_stage.proofs.stages.Stage.paint_apart.Goals as goal
 pub shift-requires : goal.shift-requires
 shift-requires g c =
     let are : AreSeen g.C.Client c.args.self.now c.tree-tree.result.now c.args.leaf c.args.part.now = record {
-      stands = c.stands.ensures.invariant;
+      stands = c.invariant.ensures.stands;
       tree = c.tree-tree.ensures.value ∙ c.self.invariant.kept.tree ∙ ap (λ v. (state g.C.Client v).tree) c.self.view_is;
-      list = c.rects.ensures.invariant;
+      list = c.invariant-2.ensures;
       visible = c.requires.part;
     } in
     let area = c.extents-area.result in
@@ -30,14 +30,14 @@ shift-requires g c =
     let is : IsPlaced area domain = seen_placed g.C.Client are c.corner_of-corner.ensures.rect
     (λ e. false-true (sym c.if-is_empty.false ∙ c.is_empty.ensures.list.1 e)) c.extents-area.ensures.value in
     subst (λ (d : Point). AllByRecursion (λ r. AreInReach (shifted r d)) c.args.part.now) (sym c.from_corner-by.ensures)
-    (region_in_reach c.args.part.now (from_corner area zero_point) c.rects.ensures.invariant (seen_on g.C.Client are) (placed_near area domain is))
+    (region_in_reach c.args.part.now (from_corner area zero_point) c.invariant-2.ensures (seen_on g.C.Client are) (placed_near area domain is))
 
 pub size_of-requires : goal.size_of-requires
 size_of-requires g c =
     let are : AreSeen g.C.Client c.args.self.now c.tree-tree.result.now c.args.leaf c.args.part.now = record {
-      stands = c.stands.ensures.invariant;
+      stands = c.invariant.ensures.stands;
       tree = c.tree-tree.ensures.value ∙ c.self.invariant.kept.tree ∙ ap (λ v. (state g.C.Client v).tree) c.self.view_is;
-      list = c.rects.ensures.invariant;
+      list = c.invariant-2.ensures;
       visible = c.requires.part;
     } in
     let area = c.extents-area.result in
@@ -49,9 +49,9 @@ size_of-requires g c =
 pub blank-requires : goal.blank-requires
 blank-requires g c =
     let are : AreSeen g.C.Client c.args.self.now c.tree-tree.result.now c.args.leaf c.args.part.now = record {
-      stands = c.stands.ensures.invariant;
+      stands = c.invariant.ensures.stands;
       tree = c.tree-tree.ensures.value ∙ c.self.invariant.kept.tree ∙ ap (λ v. (state g.C.Client v).tree) c.self.view_is;
-      list = c.rects.ensures.invariant;
+      list = c.invariant-2.ensures;
       visible = c.requires.part;
     } in
     let area = c.extents-area.result in
@@ -63,9 +63,9 @@ blank-requires g c =
 pub paint_window-requires-clause-origin : goal.paint_window-requires-clause-origin
 paint_window-requires-clause-origin g c κs within =
     let are : AreSeen g.C.Client c.args.self.now c.tree-tree.result.now c.args.leaf c.args.part.now = record {
-      stands = c.stands.ensures.invariant;
+      stands = c.invariant.ensures.stands;
       tree = c.tree-tree.ensures.value ∙ c.self.invariant.kept.tree ∙ ap (λ v. (state g.C.Client v).tree) c.self.view_is;
-      list = c.rects.ensures.invariant;
+      list = c.invariant-2.ensures;
       visible = c.requires.part;
     } in
     let area = c.extents-area.result in
@@ -78,9 +78,9 @@ paint_window-requires-clause-origin g c κs within =
 pub paint_window-requires-clause-part : goal.paint_window-requires-clause-part
 paint_window-requires-clause-part g c κs within =
     let are : AreSeen g.C.Client c.args.self.now c.tree-tree.result.now c.args.leaf c.args.part.now = record {
-      stands = c.stands.ensures.invariant;
+      stands = c.invariant.ensures.stands;
       tree = c.tree-tree.ensures.value ∙ c.self.invariant.kept.tree ∙ ap (λ v. (state g.C.Client v).tree) c.self.view_is;
-      list = c.rects.ensures.invariant;
+      list = c.invariant-2.ensures;
       visible = c.requires.part;
     } in
     let area = c.extents-area.result in
@@ -98,9 +98,9 @@ paint_window-requires-clause-part g c κs within =
 pub pixels_at-pixels-requires : goal.pixels_at-pixels-requires
 pixels_at-pixels-requires g c =
     let are : AreSeen g.C.Client c.args.self.now c.tree-tree.result.now c.args.leaf c.args.part.now = record {
-      stands = c.stands.ensures.invariant;
+      stands = c.invariant.ensures.stands;
       tree = c.tree-tree.ensures.value ∙ c.self.invariant.kept.tree ∙ ap (λ v. (state g.C.Client v).tree) c.self.view_is;
-      list = c.rects.ensures.invariant;
+      list = c.invariant-2.ensures;
       visible = c.requires.part;
     } in
     let area = c.extents-area.result in
@@ -122,7 +122,7 @@ pub returns-clause-many : goal.returns-clause-many
 returns-clause-many g c =
     subst (λ n. IfOk c.pixels_at-pixels.result (λ v. length v.items ≡ n))
     (ap total_area c.in_ok-here.ensures.rects
-    ∙ total_area-moved c.from_corner-by.result c.args.part.now (AreInOrder-canonical c.args.part.now c.rects.ensures.invariant))
+    ∙ total_area-moved c.from_corner-by.result c.args.part.now (AreInOrder-canonical c.args.part.now c.invariant-2.ensures))
     c.pixels_at-pixels.ensures.many
 
 pub returns-clause-colours : goal.returns-clause-colours
@@ -143,7 +143,7 @@ returns-clause-colours g c =
     ∙ placed_back area (leaf_corner m.tree leaf) p in
     let place : (p : Point) → place_in c.in_ok-here.here (there p) ≡ place_in part p = λ p.
     ap (λ rs. place_in rs (there p)) c.in_ok-here.ensures.rects
-    ∙ place_in-moved by part (there p) (AreInOrder-canonical part c.rects.ensures.invariant)
+    ∙ place_in-moved by part (there p) (AreInOrder-canonical part c.invariant-2.ensures)
     ∙ ap (place_in part) (back p) in
     let lies : (p : Point) → holds part p ≡ true → holds c.in_ok-here.here (there p) ≡ true = λ p held.
     c.in_ok-here.ensures.points (there p) ∙ ap (holds part) (back p) ∙ held in

@@ -21,7 +21,7 @@ invariant_of-self-2 g c =
     } in
     let m : IsMaking g.C.Client b PaintFrame = record {
       is = c.self.invariant;
-      shown = c.tree.ensures.invariant;
+      shown = c.invariant.ensures;
       view = c.args.self.now;
       same = ap (λ v. v.opening) c.self.view_is;
       allowed = c.requires.allowed;
@@ -30,7 +30,7 @@ invariant_of-self-2 g c =
     let done = c.in_ok-paint_frame.ensures in
     rw (c.write.ensures.lines, c.entry-entry.ensures, c.reserve.ensures.lines)
     (frame_made g.C.Client b new m (record {
-      shown = c.tree-2.ensures.invariant;
+      shown = c.invariant-2.ensures;
       tree = c.paint_frame.ensures.tree;
       repaired = record { bad_is = done.bad; painted = done.painted; others = done.others };
       windows = refl;

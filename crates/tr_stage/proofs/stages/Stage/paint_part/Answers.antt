@@ -13,7 +13,7 @@ use Rattle.tr_stage.proofs.stages.Stage.paint_part.Goals as goal
 pub paint_window-requires-clause-part : goal.paint_window-requires-clause-part
 paint_window-requires-clause-part g c κs within =
     part_on g.C.Client (state g.C.Client c.args.self.now) c.args.leaf c.args.part.now c.args.wanted.now.size
-    (c.requires.size ∙ c.stands.ensures.invariant.agrees.size) c.requires.part
+    (c.requires.size ∙ c.invariant.ensures.stands.agrees.size) c.requires.part
 
 pub returns-clause-painted : goal.returns-clause-painted
 returns-clause-painted g c =

@@ -37,7 +37,7 @@ invariant_of-self-2 g c =
     } in
     let m : IsMaking g.C.Client b (Repaint c.args.leaf) = record {
       is = c.self.invariant;
-      shown = c.tree.ensures.invariant;
+      shown = c.invariant.ensures;
       view = c.args.self.now;
       same = ap (λ v. v.opening) c.self.view_is;
       allowed = c.requires.allowed;
@@ -47,7 +47,7 @@ invariant_of-self-2 g c =
     let back = sym c.self.view_is in
     rw (c.write.ensures.lines, c.entry-entry.ensures, c.reserve.ensures.lines)
     (put_made g.C.Client b c.args.leaf new m (record {
-      shown = c.tree-2.ensures.invariant;
+      shown = c.invariant-2.ensures;
       tree = c.put.ensures.tree;
       idle = subst (λ (v : StageView _ _). leaf_batch g.C.Client (state g.C.Client v) c.args.leaf ≡ []) back c.requires.idle;
       part = c.args.part.now;

@@ -33,7 +33,7 @@ invariant_of-self-2 g c =
     } in
     let m : IsMaking g.C.Client b (Flush c.args.leaf) = record {
       is = c.self.invariant;
-      shown = c.tree.ensures.invariant;
+      shown = c.invariant.ensures;
       view = c.args.self.now;
       same = ap (λ v. v.opening) c.self.view_is;
       allowed = c.requires.allowed;
@@ -42,7 +42,7 @@ invariant_of-self-2 g c =
     let back = sym c.self.view_is in
     rw (c.write.ensures.lines, c.entry-entry.ensures, c.reserve.ensures.lines)
     (sketch_made g.C.Client b c.args.leaf new m (record {
-      shown = c.tree-2.ensures.invariant;
+      shown = c.invariant-2.ensures;
       tree = c.put_visible.ensures.tree;
       sketch = c.args.sketch.now;
       is = c.clip-clip.ensures.invariant;

@@ -63,7 +63,7 @@ invariant_of-self-2 g c =
     let done = c.in_ok-executed.ensures in
     rw (c.write.ensures.lines, c.entry-entry.ensures, c.reserve.ensures.lines)
     (repaint_made g.C.Client b c.args.leaf new m (record {
-      shown = c.tree-2.ensures.invariant;
+      shown = c.invariant.ensures;
       tree = c.execute-executed.ensures.tree;
       font = c.font.result.now;
       font_is = c.font.ensures;

@@ -16,7 +16,7 @@ counted g c =
 
 pub returns-then-waiting-eq0 : goal.returns-then-waiting-eq0
 returns-then-waiting-eq0 g c =
-    quiet_stage g.C.Client c.args.self.now c.stands.ensures.invariant
+    quiet_stage g.C.Client c.args.self.now c.invariant.ensures.stands
     (λ leaf. sym (batch_seen g.C.Client c.args.self.now leaf c.self.invariant (record { spare = c.self.inside.journal.spare; is = c.self.view_is }))
     ∙ no_batches c.self.inside.windows leaf (sym c.waiting.ensures ∙ c.if-waiting-eq0.true))
 
@@ -37,7 +37,7 @@ stale_in-requires-clause-leaf g c κs within =
     )
 
 pub overflow_add-count : goal.overflow_add-count
-overflow_add-count g c = omega (arith, counted g c, few_stale g.C.Client c.args.self.now (c.loop-n.n + 1) c.stands.ensures.invariant)
+overflow_add-count g c = omega (arith, counted g c, few_stale g.C.Client c.args.self.now (c.loop-n.n + 1) c.invariant.ensures.stands)
 
 pub loop-n-preserved : goal.loop-n-preserved
 loop-n-preserved g c = record {
@@ -50,5 +50,5 @@ pub returns : goal.returns
 returns g c =
     let all : c.loop-n.n ≡ length c.self.inside.windows = omega (arith, c.count-n-end.ensures.count, c.loop-n-test.false, c.loop-n.auto.n-end) in
     c.loop-n.invariant.count
-    ∙ stale_counted g.C.Client c.args.self.now c.loop-n.n c.stands.ensures.invariant
+    ∙ stale_counted g.C.Client c.args.self.now c.loop-n.n c.invariant.ensures.stands
     (all ∙ windows_seen g.C.Client c.args.self.now c.self.invariant (record { spare = c.self.inside.journal.spare; is = c.self.view_is }))

@@ -11,7 +11,7 @@ batch-requires-after_bounds g c κs within =
 
 pub returns-then-is_empty-clause-count : goal.returns-then-is_empty-clause-count
 returns-then-is_empty-clause-count g c =
-    quiet_leaf g.C.Client c.args.self.now c.args.leaf c.stands.ensures.invariant
+    quiet_leaf g.C.Client c.args.self.now c.args.leaf c.invariant.ensures.stands
     (sym (batch_seen g.C.Client c.args.self.now c.args.leaf c.self.invariant (record { spare = c.self.inside.journal.spare; is = c.self.view_is }))
     ∙ empty_batch c.is_empty.result _ _ c.is_empty.ensures c.batch.ensures c.if-is_empty.true)
 
@@ -21,4 +21,4 @@ returns-clause-count g c =
     let screen : c.screen.result.now ≡ c.args.self.now.screen = c.screen.ensures ∙ ap (λ v. v.screen) c.self.view_is in
     c.count_apart.ensures
     ∙ stale_apart g.C.Client m c.args.leaf c.in_ok-good.good c.screen.result.now c.paint_wanted.new.wanted
-    (subst (λ s. Agrees g.C.Client m s) (sym screen) c.stands.ensures.invariant.agrees) c.in_ok-good.ensures.good c.in_ok-good.ensures.painted
+    (subst (λ s. Agrees g.C.Client m s) (sym screen) c.invariant.ensures.stands.agrees) c.in_ok-good.ensures.good c.in_ok-good.ensures.painted

@@ -9,5 +9,5 @@ pub invariant_of-result : goal.invariant_of-result
 invariant_of-result g c =
     rw c.new-journal.ensures
     (starts g.C.Client c.tree.ensures.invariant
-    (record { shown = c.tree-2.ensures.invariant; tree = c.in-Ok.ensures.tree; bad = c.in-Ok.ensures.bad })
+    (record { shown = c.invariant.ensures; tree = c.in-Ok.ensures.tree; bad = c.in-Ok.ensures.bad })
     c.in-Ok-new.ensures (c.in-Ok-new-2.ensures ∙ ap no_mail (c.leaves.ensures ∙ ap (λ (t : Seen). leaf_count t.nodes) c.tree.ensures.value)))

@@ -9,7 +9,7 @@ use Rattle.tr_stage.proofs.stages.Stage.value_of.Goals as goal
 
 pub content-requires-after_bounds : goal.content-requires-after_bounds
 content-requires-after_bounds g c κs within =
-    known_window g.C.Client c.self.invariant c.leaves.ensures.invariant c.desk.ensures c.in-Some.ensures.known
+    known_window g.C.Client c.self.invariant c.invariant.ensures.mail c.desk.ensures c.in-Some.ensures.known
 
 pub returns-in_ok-value-in-Some : goal.returns-in_ok-value-in-Some
 returns-in_ok-value-in-Some g c =
