@@ -56,7 +56,6 @@ impl Outcome {
             stage,
             differs,
         } = self;
-        // Explicit, here and below: at an implicit drop the prover takes the value apart.
         drop((stage, differs));
         status
     }

@@ -34,7 +34,6 @@ impl<'a> Reader<'a> {
         ensures { IfOk result (λ found. Finishes self.entry found) }
     {
         if !self.has_ended() {
-            // Written out, here and below, since the prover takes apart a value that is dropped implicitly.
             drop(self);
             return Ok(None);
         }

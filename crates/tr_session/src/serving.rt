@@ -40,7 +40,6 @@ pub fn serve<S: Source, K: Sink>(alloc: Global, source: &mut S, sink: &mut K) ->
                 source,
                 sink,
             );
-            // Written out, since the prover takes apart a value that is dropped implicitly.
             drop(session);
             served
         }

@@ -97,6 +97,7 @@ fn after_name(alloc: Global, all: Args) -> Result<Vec<String>, AllocError>
     ensures { IfOk result (λ v. v.items ≡ drop 1 (into_iter_items all)) }
 {
     let mut rest = all;
+    // The program's name.
     let _ = rest.next();
     let mut arguments = Vec::new(alloc);
     while let Some(argument) = rest.next() {
