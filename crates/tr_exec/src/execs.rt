@@ -66,8 +66,7 @@ pub fn execute(
     ensures err_screen { OnErr result (screen.new ≡ screen.old) }
     ensures err_bad { OnErr result (bad.new ≡ bad.old) }
 {
-    // Tells the prover that the screen is no larger than the greatest one.
-    let _ = screen.size();
+    screen.invariant();
     let site = Site {
         alloc,
         origin,
@@ -119,8 +118,7 @@ pub fn execute_known(
     ensures kind { screen.new.kind ≡ screen.old.kind }
     ensures err { OnErr result (screen.new ≡ screen.old) }
 {
-    // Tells the prover that the screen is no larger than the greatest one.
-    let _ = screen.size();
+    screen.invariant();
     let site = Site {
         alloc,
         origin,

@@ -94,8 +94,7 @@ impl Site<'_> {
         requires region { RegionLiesOn greatest_screen region.now }
         ensures { IfOk result (λ r. (p : Point) → holds r p ≡ holds region.now (before_shift p delta)) }
     {
-        // Tells the prover that the list of a region is canonical.
-        let _ = region.rects();
+        region.invariant();
         region.shift(delta)
     }
 }

@@ -101,8 +101,7 @@ pub(crate) fn text_run(mask: &Mask, glyphs: &GlyphRows<'_>, at: Point, pixels: &
 {
     let h = at.h.unsigned_abs() as usize;
     let row = LINE * at.v.unsigned_abs() as usize;
-    // Tells the prover that the text isn't longer than a row.
-    let _ = glyphs.text.bytes();
+    glyphs.text.invariant();
     mask.cells(pixels, &glyphs.bits[row + h / 8..row + LINE], (h % 8) as u8);
 }
 

@@ -97,7 +97,6 @@ fn copy_of(screen: &Screen) -> Result<Screen, NoMemory>
     ensures { IfOk result (λ copy. copy ≡ screen.now) }
 {
     let copy = screen.resized(screen.size(), screen.kind())?;
-    // Called for its clause: the copy is a picture.
-    let _ = copy.size();
+    copy.invariant();
     Ok(copy)
 }

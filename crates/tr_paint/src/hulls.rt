@@ -29,9 +29,8 @@ fn least_round(a: &Rect, b: &Rect) -> Rect
     ensures least { (e : Edges) → HasAll e (has_point a.now) → HasAll e (has_point b.now) →
         HasAll e (has_point result) }
 {
-    // These calls tell the prover that the edges are those of rectangles.
-    let _ = a.is_empty();
-    let _ = b.is_empty();
+    a.invariant();
+    b.invariant();
     Rect::edges(
         lesser(a.west(), b.west()),
         greater(a.east(), b.east()),

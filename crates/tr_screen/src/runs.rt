@@ -82,8 +82,7 @@ pub fn row_in(rect: &Rect, n: u32) -> Run
     requires { n < (sides_of rect.now).1 }
     ensures { result ≡ row_in rect.now n }
 {
-    // Tells the prover that the edges are those of a rectangle.
-    let _ = rect.is_empty();
+    rect.invariant();
     Run {
         v: rect.north() + n as i32,
         west: rect.west(),

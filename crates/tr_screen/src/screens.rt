@@ -60,6 +60,13 @@ impl Screen {
         self.pixels.fill(pixel);
     }
 
+    /// Tells the invariant of screens. Nothing runs.
+    pub fn invariant(&self)
+        ensures { IsPicture self.now }
+    {
+        let _size = self.size();
+    }
+
     /// The number of pixels from west to east, and from north to south.
     pub fn size(&self) -> Size
         ensures value { result ≡ self.now.size }
@@ -150,8 +157,7 @@ impl Screen {
         ensures { OnOk result (pixels.new.items ≡
             pixels.old.items ++ rect_by (pixel_of self.now) rect.now) }
     {
-        // Tells the prover that the edges are those of a rectangle.
-        let _ = rect.is_empty();
+        rect.invariant();
         let (_, high) = rect.size();
         for n in 0..high {
             pixels.extend_from_slice(self.run(row_in(rect, n)))?;

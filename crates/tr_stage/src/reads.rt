@@ -34,7 +34,7 @@ impl<C: Client> Stage<C> {
         ensures legal { IsLegal C.Client self.now.opening self.now.journal }
     {
         self.surface.invariant();
-        let _size = self.surface.screen().size();
+        self.surface.screen().invariant();
         let _tree = self.tree();
         let _journal = self.journal();
     }

@@ -7,7 +7,7 @@ use Rattle.tr_exec.proofs.SiteLemmas.{on_greatest}
 use Rattle.tr_exec.proofs.execs.execute.Goals as goal
 
 pub plan-requires-clause-visible : goal.plan-requires-clause-visible
-plan-requires-clause-visible c = on_greatest c.args.screen.now.size c.args.visible.now c.size.ensures.invariant.size c.requires.visible
+plan-requires-clause-visible c = on_greatest c.args.screen.now.size c.args.visible.now c.invariant.ensures.size c.requires.visible
 
 pub returns-clause-known : goal.returns-clause-known
 returns-clause-known c = λ p x seen is. (c.paint_all.ensures c.args.bad.now).shown p x seen is

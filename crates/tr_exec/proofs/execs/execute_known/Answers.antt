@@ -8,7 +8,7 @@ use Rattle.tr_exec.proofs.SiteLemmas.{on_greatest}
 use Rattle.tr_exec.proofs.execs.execute_known.Goals as goal
 
 pub plan-plan-requires-clause-visible : goal.plan-plan-requires-clause-visible
-plan-plan-requires-clause-visible c = on_greatest c.args.screen.now.size c.args.visible.now c.size.ensures.invariant.size c.requires.visible
+plan-plan-requires-clause-visible c = on_greatest c.args.screen.now.size c.args.visible.now c.invariant.ensures.size c.requires.visible
 
 pub returns-clause-known : goal.returns-clause-known
 returns-clause-known c = λ p x seen is.

@@ -19,6 +19,6 @@ returns c = λ k lt.
     let bits =
     bit_of_text glyphs.font.now glyphs.text.now glyphs.bits
     (take (80 * row + 80 - from) (drop from glyphs.bits)) first row (length c.args.pixels.now)
-    glyphs.rows (omega (arith, within)) c.bytes.ensures.invariant.short refl
+    glyphs.rows (omega (arith, within)) c.invariant.ensures.short refl
     (columns_fit c.args.at.h (length c.args.pixels.now) _ c.requires.west c.requires.east) k lt in
     rw (h, v) at (c.cells.ensures.each k lt) ∙ ap (λ b. painted c.args.mask.now b (slice_index c.args.pixels.now k)) bits

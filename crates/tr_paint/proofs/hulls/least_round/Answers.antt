@@ -57,5 +57,5 @@ returns-clause-least c = λ e first second q h.
     ) at (c.edges.ensures.points q) in
     let a = c.args.a.now in
     let b = c.args.b.now in
-    round-least a b e (lies a c.is_empty.ensures.invariant c.requires.one) (lies b c.is_empty-2.ensures.invariant c.requires.other)
+    round-least a b e (lies a c.invariant.ensures c.requires.one) (lies b c.invariant-2.ensures c.requires.other)
     first second q (sym points ∙ h)

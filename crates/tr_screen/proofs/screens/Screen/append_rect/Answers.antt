@@ -9,7 +9,7 @@ use Rattle.tr_screen.proofs.screens.Screen.append_rect.Goals as goal
 pub run-requires : goal.run-requires
 run-requires c =
     let row : c.loop-n.n < (sides_of c.args.rect.now).1 = search rules in
-    rw c.row_in.ensures (rect_row c.args.self.now.size c.args.rect.now c.loop-n.n c.is_empty.ensures.invariant row c.requires)
+    rw c.row_in.ensures (rect_row c.args.self.now.size c.args.rect.now c.loop-n.n c.invariant.ensures row c.requires)
 
 pub loop-n-preserved : goal.loop-n-preserved
 loop-n-preserved c =

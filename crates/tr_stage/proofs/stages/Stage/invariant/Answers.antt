@@ -6,5 +6,5 @@ use Rattle.tr_stage.proofs.stages.Stage.invariant.Goals as goal
 pub returns-clause-stands : goal.returns-clause-stands
 returns-clause-stands g c =
     stands_is g.C.Client c.args.self.now c.self.invariant c.invariant.ensures
-    (subst (λ picture. IsPicture picture) c.screen.ensures c.size-size.ensures.invariant)
+    (subst (λ picture. IsPicture picture) c.screen.ensures c.invariant-2.ensures)
     (record { spare = c.self.inside.journal.spare; is = c.self.view_is })
