@@ -6,6 +6,7 @@ journals with the same entries, with their answers and with what they sent. By r
 painter's entries, which hang on when the painter comes, and so the numbers of all entries; and the levels of the clients'
 steps, of which it is known which they are."""
 
+import itertools
 import re
 from typing import Callable, Dict, Iterator, List, NamedTuple, Optional, Tuple
 
@@ -21,6 +22,10 @@ ENTRY = re.compile(rb"\d+ (\S+) (\S+) (.*)")
 PAINTED = re.compile(rb"mu (?:flush|repaint) (\S+) = ok|share:(\S+) repaint \2 = ok|mu frame = ok")
 # The steps of a client that are no commands of its widget.
 OWN_STEPS = (b"mark", b"flush", b"force", b"take", b"cage", b"free", b"own", b"disown", b"read")
+# Of so many steps or fewer threads play a part also where one actor has all.
+FEW_STEPS = 1000
+# Those of them that have the tree's lock alone, where no other actor has steps.
+PAINTING_STEPS = (b"flush", b"force")
 # So many commands of a client wait at most before one is made under the tree's lock.
 MOST_POSTED = 64
 
@@ -152,18 +157,40 @@ def without(entry: Entry) -> Entry:
 
 def wrong_levels(entries: List[Entry]) -> Optional[str]:
     """An entry whose levels are wrong, if one is. A command waits at its window's lock, but each 65th one that a client posts
-    without another step in between is made under the tree's lock, as are all other steps of a client."""
+    without another step in between is made under the tree's lock, as are all other steps of a client. In a part in which one
+    actor has all steps, and many, they have the levels that `serial` gives."""
     posted: Dict[bytes, int] = {}
+    alone = is_alone(entries)
     for number, entry in enumerate(entries, 1):
-        if entry.actor == b"player" and entry.rest.startswith(b"sync "):
-            posted = {}
+        if is_sync(entry):
+            posted, alone = {}, is_alone(entries[number:])
         if entry.actor == b"painter":
             if not PAINTED.fullmatch(entry.levels + b" " + entry.rest):
                 return f"entry {number} is none of the painter's: {entry}"
             continue
-        if entry.levels != levels_of(entry, posted):
+        if entry.levels != (levels_alone(entry) if alone else levels_of(entry, posted)):
             return f"entry {number} has other levels: {entry}"
     return None
+
+
+def is_sync(entry: Entry) -> bool:
+    """Whether it ends a part."""
+    return entry.actor == b"player" and entry.rest.startswith(b"sync ")
+
+
+def is_alone(entries: List[Entry]) -> bool:
+    """Whether one actor has all steps up to the next sync, and many."""
+    actors = [entry.actor for entry in itertools.takewhile(lambda entry: not is_sync(entry), entries)]
+    makers = [actor for actor in actors if actor not in (b"player", b"painter")]
+    return len(makers) > FEW_STEPS and len(set(makers)) == 1
+
+
+def levels_alone(entry: Entry) -> bytes:
+    """The levels of an entry that isn't the painter's, in such a part."""
+    if not entry.actor.startswith(b"leaf:") or entry.rest.split(b" ", 1)[0] in PAINTING_STEPS:
+        return b"mu"
+    window = b"win:" + entry.actor[5:]
+    return window if is_command(entry) else b"mu," + window
 
 
 def levels_of(entry: Entry, posted: Dict[bytes, int]) -> bytes:

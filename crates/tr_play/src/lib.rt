@@ -7,6 +7,7 @@ mod contexts;
 mod counters;
 mod gates;
 mod lists;
+mod orders;
 mod painters;
 mod places;
 mod plays;
