@@ -1,11 +1,12 @@
-//! Parts of a script that threads play: one thread for each leaf's client and one for the desk, if they have
-//! steps in the part, and one for the painter, if the part is long: it brings the screen up to date
-//! meanwhile.
+//! Parts of a script that threads play: each leaf's client and the desk work side by side, if they have steps
+//! in the part, on about as many threads as there are processors, and the painter has a thread, if the part is
+//! long: it brings the screen up to date meanwhile.
 #![tactic(auto)]
 
 mod contexts;
 mod counters;
 mod gates;
+mod lanes;
 mod lists;
 mod orders;
 mod painters;

@@ -35,9 +35,9 @@ impl<'a, M: Command> Model for PartLists<'a, M> {
 }
 
 impl<'a, M: Command> PartLists<'a, M> {
-    /// Whether an actor has work: it has steps in the part, or is the painter.
-    pub(crate) fn has_work(&self, actor: Actor) -> bool {
-        self.places.has_work(actor)
+    /// The number of an actor's steps.
+    pub(crate) fn count(&self, actor: Actor) -> usize {
+        self.places.count(actor)
     }
 
     /// The steps of an actor.

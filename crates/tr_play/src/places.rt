@@ -50,16 +50,16 @@ impl Places {
         }
     }
 
-    /// Whether an actor has a step, or is the painter.
-    pub(crate) fn has_work(&self, actor: Actor) -> bool {
+    /// The number of an actor's steps.
+    pub(crate) fn count(&self, actor: Actor) -> usize {
         match actor {
             Actor::Leaf(leaf) => match self.leaves.get(usize::from(leaf.0)) {
-                Some(row) => !row.places().is_empty(),
-                None => false,
+                Some(row) => row.places().len(),
+                None => 0,
             },
-            Actor::Desk => !self.desk.places().is_empty(),
-            Actor::Player => !self.player.places().is_empty(),
-            Actor::Painter => true,
+            Actor::Desk => self.desk.places().len(),
+            Actor::Player => self.player.places().len(),
+            Actor::Painter => 0,
         }
     }
 

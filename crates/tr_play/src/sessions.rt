@@ -10,8 +10,9 @@ ghost use Rattle.tr_play.specs.Workers.{AreReady, CanWork, HasTaken, HaveTaken, 
 use crate::contexts::Context;
 use crate::counters::Counter;
 use crate::gates::Gate;
+use crate::lanes::halves_of;
 use crate::lists::PartLists;
-use crate::threads::{STEPS_A_REPAINT, Workers};
+use crate::threads::Workers;
 use std::sync::Wait;
 use std::sync::ledger::Blank;
 use std::thread;
@@ -22,6 +23,9 @@ use tr_journal::Actor;
 use tr_levels::Ladder;
 use tr_server::{CloseRefused, Pass, Server, Session};
 use tr_stage::Stage;
+
+/// Two workers with steps of one part get a thread each, however few processors there are.
+const LEAST_LANES: usize = 2;
 
 /// A session on a stage: threads make the steps of the actors' lists, `steps` in all, and the painter repaints
 /// the screen meanwhile.
@@ -59,6 +63,7 @@ pub(crate) fn session<C: Client, L: Session<C::Cmd>, R: Threads + Wait + Sync, G
     let is_whole = are_whole(&passes.workers, lists);
     let closed = server.close(workers.rt, passes);
     if !is_whole {
+        // Written out, since the prover takes apart a value that is dropped implicitly.
         drop(closed);
         return Err(CloseRefused::NoMemory);
     }
@@ -80,16 +85,33 @@ fn all_at_work<C: Client, L: Session<C::Cmd>, R: Threads + Wait + Sync, G: Gate 
     ensures taken { (i : ℕ) (d : _) → i < vec_len workers.old →
         HasTaken lists.now (slice_index_or workers.old.items i d) (slice_index_or workers.new.items i d) }
 {
-    all_work(context, lists, steps, workers.as_mut_slice());
+    let lanes = lanes_of(context);
+    all_work(context, lists, steps, lanes, workers.as_mut_slice());
 }
 
-/// All workers do their work: two halves of them side by side if both have work and the part has several
-/// steps, and else one half after the other.
+/// The number of threads for all workers but the painter. Behind a gate that isn't open each of them has its
+/// own, since one may wait there for another. More threads than processors only take the lock from each
+/// other; but two of the workers never share the only thread.
+fn lanes_of<C: Client, L: Session<C::Cmd>, R: Threads + Wait, G: Gate>(
+    context: &Context<'_, C, L, R, G>,
+) -> usize {
+    if !context.gate.is_open() {
+        return usize::MAX;
+    }
+    match thread::available_parallelism(context.rt) {
+        Ok(processors) => processors.get().max(LEAST_LANES),
+        Err(_) => LEAST_LANES,
+    }
+}
+
+/// All workers do their work: two halves of them side by side if both have work and there are threads for
+/// both, and else one half after the other. The painter is a half by itself.
 #[cycle(workers)]
 fn all_work<C: Client, L: Session<C::Cmd>, R: Threads + Wait + Sync, G: Gate + Sync>(
     context: &Context<'_, C, L, R, G>,
     lists: &PartLists<'_, C::Cmd>,
     steps: usize,
+    lanes: usize,
     workers: &mut [Pass<C, L>],
 )
     requires { CanWork (tree_of context.now.server.now.opening).nodes lists.now workers.old }
@@ -99,9 +121,17 @@ fn all_work<C: Client, L: Session<C::Cmd>, R: Threads + Wait + Sync, G: Gate + S
         do_own(context, &mut workers[0], lists, steps);
         return;
     }
-    let (front, back) = workers.split_at_mut(workers.len() / 2);
-    let is_apart = has_work(lists, steps, front) && has_work(lists, steps, back);
-    both_halves(context, lists, steps, is_apart, front, back);
+    let halves = halves_of(lists, steps, lanes, workers);
+    let (front, back) = workers.split_at_mut(halves.cut);
+    both_halves(
+        context,
+        lists,
+        steps,
+        halves.is_apart,
+        halves.lanes,
+        front,
+        back,
+    );
 }
 
 /// Two halves of the workers do their work, side by side or one after the other. It is a function of its own,
@@ -112,6 +142,7 @@ fn both_halves<C: Client, L: Session<C::Cmd>, R: Threads + Wait + Sync, G: Gate 
     lists: &PartLists<'_, C::Cmd>,
     steps: usize,
     is_apart: bool,
+    lanes: usize,
     front: &mut [Pass<C, L>],
     back: &mut [Pass<C, L>],
 )
@@ -121,46 +152,23 @@ fn both_halves<C: Client, L: Session<C::Cmd>, R: Threads + Wait + Sync, G: Gate 
     ensures back { HaveTaken lists.now back.old back.new }
 {
     if !is_apart {
-        all_work(context, lists, steps, front);
-        all_work(context, lists, steps, back);
+        all_work(context, lists, steps, lanes, front);
+        all_work(context, lists, steps, lanes, back);
         return;
     }
     let mut first = ||
         requires { IsSync R.row × IsSync G.row
             × CanWork (tree_of context.now.server.now.opening).nodes lists.now front.now }
         ensures { HaveTaken lists.entry.now front.entry.now front.exit.now }
-    { all_work(context, lists, steps, front) };
+    { all_work(context, lists, steps, lanes, front) };
     let mut second = ||
         requires { IsSync R.row × IsSync G.row
             × CanWork (tree_of context.now.server.now.opening).nodes lists.now back.now }
         ensures { HaveTaken lists.entry.now back.entry.now back.exit.now }
-    { all_work(context, lists, steps, back) };
-    // The back half has the painter, which waits for the others' steps: if no thread can be started, the
+    { all_work(context, lists, steps, lanes, back) };
+    // The back half may be the painter, which waits for the others' steps: if no thread can be started, the
     // first closure runs last.
     thread::join_mut(context.rt, &mut second, &mut first);
-}
-
-/// Whether one of these workers has work for a thread. The painter has some if it may repaint more than once:
-/// else it waits for all steps, and works when the others have ended.
-fn has_work<C: Client, L: Session<C::Cmd>>(
-    lists: &PartLists<'_, C::Cmd>,
-    steps: usize,
-    workers: &[Pass<C, L>],
-) -> bool {
-    for pass in workers {
-        if is_busy(lists, steps, pass.actor()) {
-            return true;
-        }
-    }
-    false
-}
-
-/// Whether an actor has work for a thread.
-fn is_busy<M: Command>(lists: &PartLists<'_, M>, steps: usize, actor: Actor) -> bool {
-    match actor {
-        Actor::Painter => steps > STEPS_A_REPAINT,
-        actor => lists.has_work(actor),
-    }
 }
 
 /// A worker does its own work: the painter repaints the screen, and each other actor makes the steps of
