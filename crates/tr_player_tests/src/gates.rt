@@ -104,12 +104,14 @@ struct Meeting {
     second: Progress,
     /// So often it was asked, but for where a client waited in vain or a step hadn't the next number.
     asked: AtomicU32,
+    /// Whether it is open, as the program's is: it is asked before commands then.
+    is_open: bool,
 }
 
 impl Meeting {
     /// A gate that nobody has reached. The first step of each client waits until the other one has begun so
     /// many.
-    fn new(awaits: (u32, u32)) -> Meeting {
+    fn new(awaits: (u32, u32), is_open: bool) -> Meeting {
         Meeting {
             first: Progress {
                 begun: AtomicU32::new(0),
@@ -120,6 +122,7 @@ impl Meeting {
                 awaits: awaits.1,
             },
             asked: AtomicU32::new(0),
+            is_open,
         }
     }
 }
@@ -135,21 +138,9 @@ impl Gate for Meeting {
             self.asked.fetch_add(1, Ordering::SeqCst);
         }
     }
-}
-
-/// The same gate, but open, as the program's is: it is asked before commands.
-#[derive(Drop)]
-struct OpenMeeting {
-    gate: Meeting,
-}
-
-impl Gate for OpenMeeting {
-    fn turn<R: Wait>(&self, rt: &R, actor: Actor, k: u32) {
-        self.gate.turn(rt, actor, k);
-    }
 
     fn is_open(&self) -> bool {
-        true
+        self.is_open
     }
 }
 
@@ -218,7 +209,7 @@ fn order_of(is_told: bool, stage: Option<Stage<Widget>>) -> Order {
 #[test]
 fn the_gate_is_asked_before_each_step(rt: HostRuntime) {
     for (first, second) in MEETINGS {
-        let gate = Meeting::new((first, second));
+        let gate = Meeting::new((first, second), false);
         let played = played(&rt, MARKS, &gate);
         let is_due = played == Order::SecondFirst || first != 2 && played != Order::Untold;
         assert!(rt;
@@ -231,12 +222,10 @@ fn the_gate_is_asked_before_each_step(rt: HostRuntime) {
 #[test]
 fn an_open_gate_is_asked_before_each_command(rt: HostRuntime) {
     for (first, second) in MEETINGS {
-        let open = OpenMeeting {
-            gate: Meeting::new((first, second)),
-        };
+        let open = Meeting::new((first, second), true);
         let is_told = played(&rt, TINTS, &open) != Order::Untold;
         assert!(rt;
-            is_told && open.gate.asked.load(Ordering::SeqCst) == 3,
+            is_told && open.asked.load(Ordering::SeqCst) == 3,
             "{first} {second}"
         );
     }

@@ -2,8 +2,6 @@
 #![tactic(auto)]
 
 mod runs;
-#[cfg(test)]
-mod tests;
 
 use crate::runs::run;
 use std::env;
