@@ -14,7 +14,7 @@ use crate::threads::Workers;
 use std::sync::Wait;
 use tr_base::{Command, NoMemory};
 use tr_client::Client;
-use tr_journal::{Actor, Step, stated};
+use tr_journal::{Actor, Attempt, Step, stated};
 use tr_server::CloseRefused;
 use tr_stage::Stage;
 
@@ -79,6 +79,6 @@ fn make<C: Client>(stage: &mut Stage<C>, actor: Actor, step: Step<C::Cmd>) -> Re
         line_of_step C.Client (state C.Client stage.old) actor (stated step) step ∷ []) }
 {
     let level = stated(&step);
-    stage.step(actor, level, step)?;
+    stage.step(Attempt { actor, level, step })?;
     Ok(())
 }
