@@ -16,6 +16,7 @@ use Rattle.tr_base.specs.Ops.{eff, IsPixel}
 use Rattle.tr_base.proofs.OpLemmas.{pixel-bit, pixel-resolved}
 use Rattle.tr_base.specs.Rects.{Edges, between, has_point, rect_of, whole_of}
 use Rattle.tr_base.proofs.RectLemmas.{has_point-meet_of, has_point-rect_of}
+use Rattle.tr_base.proofs.BoolLemmas.{and_true}
 use Rattle.tr_paint.specs.declared.Paint.{Paint}
 use Rattle.tr_paint.specs.declared.Paint.TheVariants.{Tint}
 use Rattle.tr_paint.specs.Traces.{Look, Keep, Value, deed}
@@ -31,13 +32,9 @@ use Rattle.tr_client.proofs.FlatLemmas.{flat-whole, meet-nothing}
 use Rattle.ex_counter.specs.declared.counters.Counter.{Counter}
 use Rattle.ex_counter.specs.declared.counters.CounterCmd.{CounterCmd}
 use Rattle.ex_counter.specs.declared.counters.CounterCmd.TheVariants.{Add}
-use Rattle.ex_counter.specs.Counters.{IsCounter, IsCounterCmd, greatest, counter_next, counter_pic, columns_of, counter_paints, counter_patch, counter_keeps, plus, key_answer, click_answer, counter_answer}
+use Rattle.ex_counter.specs.Counters.{IsCounter, IsCounterCmd, greatest, counter_next, counter_pic, columns_of, counter_paints, counter_patch, counter_keeps, plus, added_by_key, added_by_click, counter_answer}
 
 -- ---- columns
-
-and_true : (b : Bool) → b && true ≡ b
-and_true true = refl
-and_true false = refl
 
 -- a point of a part lies in some columns of the part, by the point's column alone
 columns-have : (part : Edges) (from to : ℕ) (q : Point) → has_point part q ≡ true →
@@ -62,10 +59,10 @@ grown-beside low high h order beside = grind (arith, ints)
 -- ---- the painting of a part
 
 -- the bar over the background, by whether a point lies in the bar
-bar-makes : (look : Look) (tint : ℕ) (bar : Bool) →
+bar_on_background-makes : (look : Look) (tint : ℕ) (bar : Bool) →
     Makes look.kind (cond bar (Value (eff look.kind (Set tint) 0)) Keep) 0 (eff look.kind (cond bar (Set tint) Bg) 0)
-bar-makes look tint true = refl
-bar-makes look tint false = refl
+bar_on_background-makes look tint true = refl
+bar_on_background-makes look tint false = refl
 
 pub counter_painting : (look : Look) (size : Size) (part : Edges) (x : Counter) →
     IsPainting look part (counter_paints part x) (counter_pic look size x)
@@ -79,19 +76,19 @@ counter_painting look size part x =
     bar = Tint (columns_of part 0 x.count) (Set x.tint)
 
     makes : (q : Point) → has_point part q ≡ true → Makes look.kind (deed look bar q) 0 (counter_pic look size x q)
-    makes q here = rw (columns-have part 0 x.count q here) (bar-makes look x.tint (between (pos 0) (pos x.count) q.h))
+    makes q here = rw (columns-have part 0 x.count q here) (bar_on_background-makes look x.tint (between (pos 0) (pos x.count) q.h))
 
 -- ---- the laws
 
 pub counter_contents : (x : Counter) (cmd : CounterCmd) → IsCounter x → IsCounterCmd cmd → IsCounter (counter_next x cmd)
 counter_contents x (Add n) valid known = record { count = omega arith; tint = valid.tint }
 
-click_answers : (click : Click) → IfSome (click_answer click) (λ cmd. IsCounterCmd cmd)
-click_answers FirstDown = omega arith
-click_answers click = tt
+added_by_click-valid : (click : Click) → IfSome (added_by_click click) (λ cmd. IsCounterCmd cmd)
+added_by_click-valid FirstDown = omega arith
+added_by_click-valid click = tt
 
-key_answers : (code : ℕ) → IfSome (key_answer code) (λ cmd. IsCounterCmd cmd)
-key_answers code = by_test (code == plus)
+added_by_key-valid : (code : ℕ) → IfSome (added_by_key code) (λ cmd. IsCounterCmd cmd)
+added_by_key-valid code = by_test (code == plus)
   where
     by_test : (b : Bool) → IfSome (cond b (Some (Add 1)) None) (λ cmd. IsCounterCmd cmd)
     by_test true = omega arith
@@ -99,8 +96,8 @@ key_answers code = by_test (code == plus)
 
 pub counter_answers : (x : Counter) (event : Event) → IsCounter x → IsEvent event →
     IfSome (counter_answer x event) (λ cmd. IsCounterCmd cmd)
-counter_answers x (Mouse time click button at) valid known = click_answers click
-counter_answers x (Key time code) valid known = key_answers code
+counter_answers x (Mouse time click button at) valid known = added_by_click-valid click
+counter_answers x (Key time code) valid known = added_by_key-valid code
 counter_answers x event valid known = tt
 
 -- the painted columns have the tint in the longer bar, and the others didn't change

@@ -73,18 +73,18 @@ abbrev pub plus : ℕ
 plus = 43
 
 -- the key adds 1
-abbrev pub key_answer : ℕ → Option CounterCmd
-key_answer code = if code == plus then Some (Add 1) else None
+abbrev pub added_by_key : ℕ → Option CounterCmd
+added_by_key code = if code == plus then Some (Add 1) else None
 
 -- the first button that goes down adds 10
-abbrev pub click_answer : Click → Option CounterCmd
-click_answer FirstDown = Some (Add 10)
-click_answer click = None
+abbrev pub added_by_click : Click → Option CounterCmd
+added_by_click FirstDown = Some (Add 10)
+added_by_click click = None
 
 -- the command for an event
 abbrev pub counter_answer : Counter → Event → Option CounterCmd
-counter_answer x (Mouse time click button at) = click_answer click
-counter_answer x (Key time code) = key_answer code
+counter_answer x (Mouse time click button at) = added_by_click click
+counter_answer x (Key time code) = added_by_key code
 counter_answer x event = None
 
 -- the number in decimal

@@ -121,7 +121,7 @@ fn amount_of(cmd: &CounterCmd) -> u8
 /// The command for a key.
 fn asked_by_key(code: u8) -> Option<CounterCmd>
     ensures command { IfSome result (λ cmd. spec.IsCounterCmd cmd) }
-    ensures answer { result ≡ spec.key_answer code }
+    ensures answer { result ≡ spec.added_by_key code }
 {
     if code == PLUS {
         Some(CounterCmd::Add(1))
@@ -133,7 +133,7 @@ fn asked_by_key(code: u8) -> Option<CounterCmd>
 /// The command for a button.
 fn asked_by_click(click: Click) -> Option<CounterCmd>
     ensures command { IfSome result (λ cmd. spec.IsCounterCmd cmd) }
-    ensures answer { result ≡ spec.click_answer click }
+    ensures answer { result ≡ spec.added_by_click click }
 {
     match click {
         Click::FirstDown => Some(CounterCmd::Add(10)),

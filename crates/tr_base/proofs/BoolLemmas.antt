@@ -1,5 +1,5 @@
 -- Facts of tests that std has under a condition only, for the crates above.
-use Rattle.std.proofs.Common.{◌≡◌, Bool, true, false, not, ◌&&◌, ◌||◌, ℕ, ◌==◌, refl, arith}
+use Rattle.std.proofs.Common.{◌≡◌, Bool, true, false, not, ◌&&◌, ◌||◌, ℕ, ◌==◌, refl, arith, zero, suc, ◌<◌}
 use Rattle.std.proofs.lemmas.Bool.Decides.{nat_tests}
 
 pub and_false : (b : Bool) → (b && false) ≡ false
@@ -33,3 +33,16 @@ same_number n = grind (arith, nat_tests)
 
 pub from_false-true : {X : Type 0} → false ≡ true → X
 from_false-true h = absurd cc
+
+pub from_or_false : (b : Bool) → (b || false) ≡ true → b ≡ true
+from_or_false true h = refl
+from_or_false false h = h
+
+-- a number, by the test whether it isn't 0
+pub zero_by_test : (n : ℕ) → not (n == 0) ≡ false → n ≡ 0
+zero_by_test zero h = refl
+zero_by_test (suc n) h = grind (arith, nat_tests, h)
+
+pub some_by_test : (n : ℕ) → not (n == 0) ≡ true → 0 < n
+some_by_test zero h = grind (arith, nat_tests, h)
+some_by_test (suc n) h = omega arith

@@ -1,5 +1,5 @@
 -- Pixels that lie row after row: where the pixel of a point lies among them.
-use Rattle.std.proofs.Common.{◌≡◌, ℕ, ◌+◌, ◌*◌, ◌<◌, ◌≤◌, ℤ, pos, true, IsTrue, arith}
+use Rattle.std.proofs.Common.{◌≡◌, ℕ, ◌+◌, ◌*◌, ◌<◌, ◌≤◌, ℤ, pos, true, IsTrue, arith, refl, ◌∙◌}
 use Rattle.std.specs.Prelude.{negsuc, unsigned_abs}
 use Rattle.std.proofs.lemmas.Nat.{rows}
 use Rattle.std.proofs.lemmas.Int.{ints}
@@ -31,3 +31,12 @@ place_fits size p on =
     let below : unsigned_abs p.v < size.high = at.0 in
     let within : unsigned_abs p.h < size.wide = at.1 in
     omega (arith, row_fits size.wide size.high (unsigned_abs p.v) below)
+
+-- a row and a column of a window make a point of it
+pub whole_has : (size : Size) (h v : ℕ) → h < size.wide → v < size.high → has_point (whole_of size) (record { h = pos h; v = pos v }) ≡ true
+whole_has size h v left above =
+    has_point-rect_of (pos 0) (pos size.wide) (pos 0) (pos size.high) (record { h = pos h; v = pos v })
+    ∙ rw (within h size.wide left, within v size.high above) refl
+  where
+    within : (x n : ℕ) → x < n → between (pos 0) (pos n) (pos x) ≡ true
+    within x n lt = grind (arith, ints)

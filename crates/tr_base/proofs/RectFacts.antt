@@ -1,11 +1,12 @@
 -- Facts of rectangles and of what lies between edges, for the crates above.
-use Rattle.std.proofs.Common.{◌≡◌, ℤ, ◌≤ℤ◌, ◌<ℤ◌, true, false, ◌&&◌, w32, to_z, of_z, SFits, refl, sym, ap, ◌∙◌, arith}
-use Rattle.std.specs.Prelude.{int_lt}
+use Rattle.std.proofs.Common.{◌≡◌, ℤ, ◌≤ℤ◌, ◌<ℤ◌, true, false, ◌&&◌, w32, to_z, of_z, SFits, refl, sym, ap, ◌∙◌, arith, Bool, cond, pos}
+use Rattle.std.specs.Prelude.{int_lt, unsigned_abs}
 use Rattle.std.specs.Bool.{Decides}
 use Rattle.std.specs.Ordering.{int_eq}
-use Rattle.std.proofs.lemmas.Int.{ints, to_z-of_z}
+use Rattle.std.proofs.lemmas.Int.{clamps, ints, to_z-of_z}
 use Rattle.std.proofs.lemmas.Bool.Decides.{Decides-and, Decides-int_eq, Decides-like}
-use Rattle.tr_base.specs.Rects.{Edges, InReach, between, rect_of}
+use Rattle.std.specs.Int.{int_min, int_max}
+use Rattle.tr_base.specs.Rects.{AreInReach, Edges, InReach, between, empty_rect, rect_of}
 use Rattle.tr_base.proofs.RectLemmas.{cast-in_reach}
 
 pub between-within : (low high x : ℤ) → low ≤ℤ x → x <ℤ high → between low high x ≡ true
@@ -51,3 +52,32 @@ same_edges a b = Decides-like _ joined parted
 
 pub between_parts : (low high x : ℤ) → between low high x ≡ true → (low ≤ℤ x) × (x <ℤ high)
 between_parts low high x h = (grind (arith, ints), grind (arith, ints))
+
+-- what lies between the edges of one of two intervals lies between the outer edges
+pub between-hull_left : (a b c d x : ℤ) → between a c x ≡ true → between (int_min a b) (int_max c d) x ≡ true
+between-hull_left a b c d x h = grind (arith, ints, clamps)
+
+pub between-hull_right : (a b c d x : ℤ) → between b d x ≡ true → between (int_min a b) (int_max c d) x ≡ true
+between-hull_right a b c d x h = grind (arith, ints, clamps)
+
+-- the lesser and the greater of two coordinates, in either order
+pub int_min_comm : (a b : ℤ) → int_min a b ≡ int_min b a
+int_min_comm a b = grind (arith, ints, clamps)
+
+pub int_max_comm : (a b : ℤ) → int_max a b ≡ int_max b a
+int_max_comm a b = grind (arith, ints, clamps)
+
+-- a number that isn't negative
+pub abs_is : (z : ℤ) → pos 0 ≤ℤ z → pos (unsigned_abs z) ≡ z
+abs_is z h = grind (arith, ints)
+
+-- the rectangle of edges within reach is within reach
+pub rect_of-in_reach : (w e n s : ℤ) → InReach w → InReach e → InReach n → InReach s → AreInReach (rect_of w e n s)
+rect_of-in_reach w e n s hw he hn hs = by_test (int_lt w e && int_lt n s)
+  where
+    none : InReach (pos 0)
+    none = record { low = omega (arith, ints); high = omega (arith, ints) }
+
+    by_test : (b : Bool) → AreInReach (cond b (record { west = w; east = e; north = n; south = s }) empty_rect)
+    by_test true = record { west = hw; east = he; north = hn; south = hs }
+    by_test false = record { west = none; east = none; north = none; south = none }

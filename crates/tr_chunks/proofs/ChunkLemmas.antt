@@ -2,18 +2,20 @@
 use Rattle.std.proofs.Common.{◌≡◌, ℕ, ◌+◌, ◌-◌, ◌*◌, ◌/◌, ◌%◌, ◌<◌, ◌≤◌, ◌⊎◌, zero, suc, min, true, Option, Some, List, map, All, [], ◌∷◌, ◌++◌, length, get_or, take, drop, refl, sym, ap, subst, ◌∙◌, arith, ⊎_elim, div-add-mod', mod-lt, eq-zero-or-pos, add-mul, one-mul, mul_assoc, mul-le-mul_right, zero-mul, add-zero, suc-mul, drop-drop, drop-cons, length-drop, append_assoc, append-nil, length-append, ap₂, length-take-le, take-suc, take-add, take_all, take-append-drop, take-take, length-take}
 use Rattle.std.proofs.Math.Seq.{get_or-append_seam}
 use Rattle.std.proofs.lemmas.List.Elements.{All-nil, All-append, All-from_get_or, All-head, All-rest, All-same}
-use Rattle.std.proofs.lemmas.List.{length-map, flat_map_more, get_or_append_left, drop-take}
+use Rattle.std.proofs.lemmas.List.{length-map, get_or_append_left, drop-take}
 use Rattle.std.specs.Borrow.{Bor}
 use Rattle.std.specs.Fork.{slice_chunk}
+use Rattle.tr_base.specs.Lists.{joined}
 use Rattle.tr_grammar.specs.States.{SoFar}
 use Rattle.tr_grammar.specs.Faults.{nodes_so_far}
 use Rattle.tr_grammar.specs.Texts.{lines_of}
 use Rattle.tr_grammar.specs.Scripts.{Refusal, after_line, first_bad_line, after_all_lines, IsPlayable}
+use Rattle.tr_grammar.proofs.ScriptLemmas.{after_all_lines-append}
 use Rattle.tr_words.specs.Answers.{texts}
 use Rattle.tr_reader.specs.Adding.{is_at_steps, with_steps}
 use Rattle.tr_script.specs.Apart.{TakesStep}
 use Rattle.tr_script.proofs.LineLemmas.{IsReadTo}
-use Rattle.tr_chunks.specs.Chunks.{Made, AreChunks, AreMarks, IsBehind, IsChunk, MakeSteps, TakesLines, joined, lines_from}
+use Rattle.tr_chunks.specs.Chunks.{Made, AreChunks, AreMarks, IsBehind, IsChunk, MakeSteps, TakesLines, lines_from}
 
 -- so many chunks have all lines, and begin within them
 spans : (count long size : ℕ) → 0 < size → count ≡ long / size + min 1 (long % size) → (long ≤ count * size) × (count * size < long + size)
@@ -62,11 +64,6 @@ texts_more (q ∷ ps) p = ap (λ (ts : List (List ℕ)). q.now ∷ ts) (texts_mo
 with_nothing : (c : SoFar) → with_steps c [] ≡ c
 with_nothing c = rw (append-nil c.part.steps) refl
 
--- lines behind lines
-after_lines : (c : SoFar) (lines more : List (List ℕ)) → after_all_lines c (lines ++ more) ≡ after_all_lines (after_all_lines c lines) more
-after_lines c [] more = refl
-after_lines c (line ∷ lines) more = after_lines (after_line c line) lines more
-
 -- no line makes no step
 pub none_made : (c : SoFar) (n : ℕ) → MakeSteps c n [] []
 none_made c n = record {
@@ -93,7 +90,7 @@ module _ (c : SoFar) where
             ap (fault_from before n) (append_assoc lines (line ∷ []) later) ∙ made.fault before (line ∷ later)
             ∙ ap (λ m. fault_from (before ++ old) m (line ∷ later)) (sym at) ∙ one ∙ ap (λ m. fault_from (before ++ new) m later) end;
         script = λ before.
-            after_lines (with_steps c before) lines (line ∷ []) ∙ ap (λ (s : SoFar). after_line s line) (made.script before) ∙ step.script before;
+            after_all_lines-append (with_steps c before) lines (line ∷ []) ∙ ap (λ (s : SoFar). after_line s line) (made.script before) ∙ step.script before;
         playable = step.playable made.playable;
       }
 
@@ -109,14 +106,15 @@ module _ (c : SoFar) where
             ∙ ap (λ m. fault_from (before ++ made) m (more ++ later)) (sym at) ∙ b.fault (before ++ made) later
             ∙ ap₂ (λ s m. fault_from s m later) (append_assoc before made then) end;
         script = λ before.
-            after_lines (with_steps c before) lines more ∙ ap (λ (s : SoFar). after_all_lines s more) (a.script before)
+            after_all_lines-append (with_steps c before) lines more ∙ ap (λ (s : SoFar). after_all_lines s more) (a.script before)
             ∙ b.script (before ++ made) ∙ ap (λ (xs : Made). with_steps c xs) (append_assoc before made then);
         playable = All-append (IsPlayable (nodes_so_far c)) made then a.playable b.playable;
       }
 
 -- lists, and one more of them
 joined_more : {A : Type 0} (lists : List (List A)) (xs : List A) → joined (lists ++ xs ∷ []) ≡ joined lists ++ xs
-joined_more lists xs = sym (flat_map_more (λ ys. ys) [] lists xs)
+joined_more [] xs = append-nil xs
+joined_more (list ∷ lists) xs = ap (λ rest. list ++ rest) (joined_more lists xs) ∙ sym (append_assoc list (joined lists) xs)
 
 -- chunks of this length, each of which makes the steps of its place
 module _ (c : SoFar) (n size : ℕ) (lines : List (List ℕ)) (chunks : List Made)
@@ -440,7 +438,7 @@ lines_read bytes rest behind number count lines c new read is within same taken 
       fault = read.fault ∙ ap₂ (λ (s : SoFar) (ts : List (List ℕ)). first_bad_line s number ts) none cut ∙ taken.make.fault [] (lines_of behind)
           ∙ ap (λ (n : ℕ). first_bad_line (with_steps c taken.made) (number + n) (lines_of behind)) long;
       script = read.script ∙ ap₂ (λ (s : SoFar) (ts : List (List ℕ)). after_all_lines s ts) none cut
-          ∙ after_lines (with_steps c []) lines (lines_of behind)
+          ∙ after_all_lines-append (with_steps c []) lines (lines_of behind)
           ∙ ap (λ (s : SoFar). after_all_lines s (lines_of behind)) (taken.make.script []);
       few = omega (arith, read.few, is.shorter);
     }

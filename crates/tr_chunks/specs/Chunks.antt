@@ -1,7 +1,6 @@
 -- Private contracts alone cite this file.
 -- Chunks: lines of a part that are read separately from the lines before them.
 use Rattle.std.specs.Prelude.{◌≡◌, ℕ, ◌+◌, ◌*◌, ◌<◌, ◌≤◌, ⊤, Bool, true, false, Option, Some, None, List, [], ◌∷◌, All, ◌++◌, length, drop, slice_index_or}
-use Rattle.std.specs.List.{flat_map}
 use Rattle.std.specs.Fork.{slice_chunk}
 use Rattle.tr_journal.specs.declared.Actor.{Actor}
 use Rattle.tr_journal.specs.declared.Step.{Step}
@@ -35,10 +34,6 @@ pub record AreChunks (c : SoFar) (n size : ℕ) (lines : List (List ℕ)) (chunk
   pub last : length chunks * size < length lines + size
   pub each : (k : ℕ) (d : Option Made) → k < length chunks →
       IsChunk c (n + k * size) (slice_chunk lines size k) (slice_index_or chunks k d)
-
--- all of these lists, one after another
-abbrev pub joined : {A : Type 0} → List (List A) → List A
-joined lists = flat_map (λ xs. xs) lists
 
 -- the lines from the first of these marks on
 abbrev pub lines_from : List (List ℕ) → List (List ℕ)

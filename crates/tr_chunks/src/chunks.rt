@@ -1,11 +1,12 @@
 //! Chunks: lines that make steps, cut into stretches, which are read side by side.
 ghost use Rattle.std.specs.Prelude.{◌≡◌, ◌+◌, ◌-◌, ◌*◌, ◌^◌, ◌<◌, min, true, map, take, All, Some, IfSome, IfOk, OnOk, length};
+ghost use Rattle.tr_base.specs.Lists.{joined};
 ghost use Rattle.tr_grammar.specs.Faults.{nodes_so_far};
 ghost use Rattle.tr_grammar.specs.Texts.{lines_of};
 ghost use Rattle.tr_grammar.specs.Scripts.{IsPlayable};
 ghost use Rattle.tr_words.specs.Answers.{texts};
 ghost use Rattle.tr_reader.specs.Adding.{is_at_steps, with_steps};
-ghost use Rattle.tr_chunks.specs.Chunks.{AreChunks, AreMarks, IsChunk, TakesAllOrNone, joined, lines_from};
+ghost use Rattle.tr_chunks.specs.Chunks.{AreChunks, AreMarks, IsChunk, TakesAllOrNone, lines_from};
 
 use std::alloc::Global;
 use std::thread;

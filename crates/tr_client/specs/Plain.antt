@@ -1,6 +1,5 @@
 -- Pictures of two colours.
-use Rattle.std.specs.Prelude.{ℕ, pos, Bool, if◌then◌else◌}
-use Rattle.tr_base.specs.declared.Point.{Point}
+use Rattle.std.specs.Prelude.{ℕ, Bool, if◌then◌else◌}
 use Rattle.tr_base.specs.declared.Pair.{Pair}
 use Rattle.tr_base.specs.declared.Op.TheVariants.{Bg, Fg}
 
@@ -11,7 +10,3 @@ plain = record { zero = Bg; one = Fg }
 -- the colour of a bit in such a picture
 abbrev pub colour_of : Bool → ℕ
 colour_of bit = if bit then 1 else 0
-
--- the north-west corner of a window
-abbrev pub origin : Point
-origin = record { h = pos 0; v = pos 0 }

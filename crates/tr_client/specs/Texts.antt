@@ -15,6 +15,10 @@ use Rattle.tr_client.specs.Plain.{colour_of}
 abbrev pub text_colour : Look → Point → List ℕ → Point → ℕ
 text_colour look at text q = if has_point (cells_of at (length text)) q then colour_of (text_bit look.font at text q) else 0
 
+-- the most lines that a typescript or an editor keeps
+abbrev pub most_lines : ℕ
+most_lines = 200
+
 -- the number of strips of a window, each with room for a line
 abbrev pub room : Size → ℕ
 room size = size.high / 8

@@ -14,7 +14,8 @@ mod texts;
 pub use areas::{PLAIN, keeps_nothing, kept_part, part_of_window, window};
 pub use clients::Client;
 pub use lines::{
-    append_lines, area_of, begin_of, cleared, downwards, paint_lines, room, same_lines, upwards,
+    MOST_LINES, append_lines, area_of, begin_of, cleared, downwards, paint_lines, room, same_lines,
+    upwards,
 };
 pub use prepared::Prepared;
 pub use texts::{append_all, append_with_text, decimal_line, line_in_a_row};

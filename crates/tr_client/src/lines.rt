@@ -12,6 +12,9 @@ use std::alloc::Global;
 use tr_base::{Line, NoMemory, Op, Point, Rect, Size};
 use tr_paint::{Batch, Paint};
 
+/// The most lines that a typescript or an editor keeps.
+pub const MOST_LINES: usize = 200;
+
 /// The number of lines that fit into a window, each in a strip that is eight points high.
 pub fn room(size: Size) -> usize
     ensures { result ≡ spec.room size }

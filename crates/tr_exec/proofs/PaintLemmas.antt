@@ -6,10 +6,12 @@ use Rattle.std.specs.Int.{int_min, int_max}
 use Rattle.std.proofs.lemmas.Int.{ints, clamps}
 use Rattle.std.proofs.lemmas.Bool.{and_parts, and_from, and_left, and_right}
 use Rattle.std.proofs.lemmas.Bool.Decides.{Decides-int_eq}
+use Rattle.std.proofs.Math.Bool.{and_assoc}
 use Rattle.tr_base.specs.declared.Point.{Point}
 use Rattle.tr_base.specs.declared.Size.{Size}
 use Rattle.tr_base.specs.Rects.{Edges, between, has_point}
 use Rattle.tr_base.proofs.RectLemmas.{between-meet}
+use Rattle.tr_base.proofs.RectFacts.{between-within}
 use Rattle.tr_region.specs.Bands.{AreApart, in_spans, spans_of}
 use Rattle.tr_region.specs.Points.{holds}
 use Rattle.tr_region.specs.Rows.{IsNearest, in_band}
@@ -22,10 +24,6 @@ use Rattle.tr_screen.proofs.RunLemmas.{abs_is, there, tests_of_run}
 use Rattle.tr_repair.specs.Walks.{in_columns, in_part, in_row, run_of}
 use Rattle.tr_repair.proofs.WalkLemmas.{or_and, part_more, part_of_row, band_of_row, band_from, row_more, row_of_run, run_on}
 use Rattle.tr_exec.specs.Walks.{AreOn, HasColumns, HasRow, Meets, in_area, in_columns_of}
-
-pub and_assoc : (a b c : Bool) → (a && b) && c ≡ a && (b && c)
-and_assoc true b c = refl
-and_assoc false b c = refl
 
 -- a rectangle's run, cut to the columns of an area that has the row, holds the points of the run that lie in the area
 pub run_cut : (area r : Edges) (v : ℕ) → HasRow area v → (p : Point) → in_run (run_of v (in_columns_of area r)) p ≡ in_area (in_run (run_of v r)) area p
@@ -195,9 +193,6 @@ rows_had area high n s across north south v from to = (first, last (int_cases ar
 rows_tests : (n s : ℕ) (p : Point) → in_rows n s p ≡ true → (pos n ≤ℤ p.v) × (p.v <ℤ pos s)
 rows_tests n s p t = (grind (arith, ints), grind (arith, ints))
 
-lies_between : (a b x : ℤ) → a ≤ℤ x → x <ℤ b → between a b x ≡ true
-lies_between a b x low high = grind (arith, ints)
-
 -- where the area and the one rectangle of a band have all columns of a screen, the band's points in the area are its rows
 pub whole_rows : (size : Size) (rects : List Edges) (area r : Edges) (n s : ℕ) → HasColumns size.wide area → HasColumns size.wide r →
     ((x : ℤ) → area.west ≤ℤ x → x <ℤ area.east → in_spans (spans_of (r ∷ [])) x ≡ in_spans (spans_of rects) x) →
@@ -212,7 +207,7 @@ whole_rows size rects area r n s wide all columns rows p on = by_rows (in_rows n
         let east : p.h <ℤ area.east = omega (arith, ints, wide.1, at.east) in
         let first : r.west ≤ℤ p.h = omega (arith, ints, all.0, at.west) in
         let last : p.h <ℤ r.east = omega (arith, ints, all.1, at.east) in
-        sym (columns p.h west east) ∙ rw (lies_between r.west r.east p.h first last) refl
+        sym (columns p.h west east) ∙ rw (between-within r.west r.east p.h first last) refl
 
     has : in_rows n s p ≡ true → has_point area p ≡ true
     has t =
@@ -227,7 +222,7 @@ whole_rows size rects area r n s wide all columns rows p on = by_rows (in_rows n
         let north : area.north ≤ℤ p.v = omega (arith, ints, v, row.0) in
         let south : p.v <ℤ area.south = omega (arith, ints, v, row.1) in
         and_from (between area.west area.east p.h) (between area.north area.south p.v)
-        (lies_between area.west area.east p.h west east) (lies_between area.north area.south p.v north south)
+        (between-within area.west area.east p.h west east) (between-within area.north area.south p.v north south)
 
     by_rows : (t : Bool) → in_rows n s p ≡ t → in_area (in_band n s rects) area p ≡ t
     by_rows false e = and_left (in_band n s rects p) (has_point area p) (and_left (in_rows n s p) (in_columns rects p) e)

@@ -7,11 +7,11 @@ use Rattle.tr_base.specs.Rects.{Edges, InReach, AreInReach, between, has_point, 
 use Rattle.tr_base.proofs.RectLemmas.{has_point-rect_of}
 use Rattle.tr_base.specs.declared.Size.{Size}
 use Rattle.std.proofs.lemmas.Bool.{and_parts}
+use Rattle.tr_base.proofs.RectFacts.{rect_of-in_reach}
 use Rattle.tr_region.specs.Points.{holds}
 use Rattle.tr_region.specs.Bands.{IsCanonical}
 use Rattle.tr_region.proofs.OrderLemmas.{IsFull, AreInOrder, AreInOrder-canonical}
 use Rattle.tr_paint.specs.Paints.{IsNearZero, IsNearPoint, IsNearRect}
-use Rattle.tr_paint.proofs.NearLemmas.{rect_of-in_reach}
 use Rattle.tr_exec.specs.Executions.{IsOrigin, RegionLiesOn, greatest_screen}
 
 -- an edge of an area, moved to where the window lies

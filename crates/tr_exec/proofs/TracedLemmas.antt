@@ -1,17 +1,17 @@
 -- Only tests cite this file. The last command of a batch, at one visible point.
-use Rattle.std.proofs.Common.{◌≡◌, ℕ, ◌*◌, ℤ, pos, ◌+ℤ◌, ◌-ℤ◌, ◌≤ℤ◌, ◌<ℤ◌, Bool, true, false, ◌&&◌, cond, List, [], ◌∷◌, ◌++◌, None, sym, ap, subst, ◌∙◌, arith}
-use Rattle.std.specs.Prelude.{int_lt}
+use Rattle.std.proofs.Common.{◌≡◌, ℕ, ◌*◌, ℤ, pos, ◌+ℤ◌, ◌-ℤ◌, ◌≤ℤ◌, ◌<ℤ◌, true, false, cond, List, [], ◌∷◌, ◌++◌, None, sym, ap, subst, ◌∙◌, arith}
 use Rattle.std.proofs.lemmas.Int.{ints}
 use Rattle.std.proofs.lemmas.Bool.{and_parts}
 use Rattle.tr_base.specs.declared.Point.{Point}
 use Rattle.tr_base.specs.declared.Size.{Size}
-use Rattle.tr_base.specs.Rects.{Edges, InReach, between, before_shift, empty_rect, has_point, meet_of, rect_of, shifted, whole_of}
+use Rattle.tr_base.specs.Rects.{Edges, InReach, between, before_shift, has_point, meet_of, shifted, whole_of}
 use Rattle.tr_base.proofs.RectLemmas.{has_point-meet_of, has_point-rect_of, has_point-shifted}
 use Rattle.tr_paint.specs.declared.Paint.{Paint}
 use Rattle.tr_paint.specs.Paints.{IsNearZero, IsNearPoint, IsNearRect, area, cells_of}
 use Rattle.tr_paint.specs.Batches.{IsKept, IsBatch}
 use Rattle.tr_paint.specs.Traces.{Look, Base, after, Keep, deed, deed_within, after_deed}
 use Rattle.tr_paint.proofs.TraceLemmas.{after-last, trace-unseen}
+use Rattle.tr_paint.proofs.NearLemmas.{rect_of-near}
 use Rattle.tr_exec.specs.Executions.{IsOrigin}
 use Rattle.tr_exec.specs.Strokes.{IsInCells}
 use Rattle.tr_exec.proofs.PaintingLemmas.{between_from}
@@ -28,17 +28,6 @@ near-origin p near = record {
   north = omega (arith, ints, near.v.low);
   south = omega (arith, ints, near.v.high);
 }
-
--- the rectangle of near edges is near
-pub rect_near : (w e n s : ℤ) → IsNearZero w → IsNearZero e → IsNearZero n → IsNearZero s → IsNearRect (rect_of w e n s)
-rect_near w e n s hw he hn hs = by_test (int_lt w e && int_lt n s)
-  where
-    none : IsNearZero (pos 0)
-    none = record { low = omega (arith, ints); high = omega (arith, ints) }
-
-    by_test : (b : Bool) → IsNearRect (cond b (record { west = w; east = e; north = n; south = s }) empty_rect)
-    by_test true = record { west = hw; east = he; north = hn; south = hs }
-    by_test false = record { west = none; east = none; north = none; south = none }
 
 -- a point of a near rectangle is near
 pub near_point : (e : Edges) (q : Point) → IsNearRect e → has_point e q ≡ true → IsNearZero q.h × IsNearZero q.v

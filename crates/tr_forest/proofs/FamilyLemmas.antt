@@ -276,3 +276,20 @@ pub under_split : (t : Nodes) (n m : NodeId) → IsForest t → is_under t n m �
 under_split t n m f h = by_id m n (λ e. inl e) (λ ne.
     let found : IsBelowChild 15 t n m = under_child 15 t n m f h ne in
     inr (record { child = found.child; among = found.among; under = under_less 15 t found.child m found.under }))
+
+-- what lies below a node lies no higher
+pub under_deeper : (f : ℕ) (t : Nodes) → IsForest t → (top n : NodeId) → is_under_within f t top n ≡ true → depth t top ≤ depth t n
+under_deeper zero t forest top n h =
+    let same : n ≡ top = tested_same n top (sym (under_zero t top n) ∙ h) in omega (arith, ap (depth t) same)
+under_deeper (suc f) t forest top n h = by_id n top
+    (λ same. omega (arith, ap (depth t) same))
+    (λ other. by_parent (node t n).parent refl (λ p k. under_deeper f t forest top p k)
+    (sym (under_suc f t top n ∙ ap (λ b. b || of_parent (node t n).parent (is_under_within f t top)) other) ∙ h))
+  where
+    by_parent : (o : Option NodeId) → (node t n).parent ≡ o → ((p : NodeId) → is_under_within f t top p ≡ true → depth t top ≤ depth t p) →
+        of_parent o (is_under_within f t top) ≡ true → depth t top ≤ depth t n
+    by_parent None e above k = absurd cc
+    by_parent (Some p) e above k =
+        let up : depth t top ≤ depth t p = above p k in
+        let deep : depth t n ≡ depth t p + 1 = depth_child t p n forest (forest.parents n p e) in
+        omega arith

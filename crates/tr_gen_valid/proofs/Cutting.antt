@@ -6,6 +6,7 @@ use Rattle.std.proofs.lemmas.Bool.{and_parts, and_from}
 use Rattle.std.proofs.lemmas.List.Folds.{list_all-append}
 use Rattle.std.proofs.lemmas.List.Sums.{AllPass-from_list_all}
 use Rattle.std.proofs.lemmas.List.Splits.{slice_split_none, slice_split_at}
+use Rattle.std.proofs.Math.Seq.{take-append_seam}
 use Rattle.tr_base.specs.Lines.{is_printable}
 use Rattle.tr_gen.specs.Scripts.{text_of_lines}
 use Rattle.tr_grammar.specs.Texts.{is_plain, lines_of, is_empty_piece, ends_empty, without_empty_end}
@@ -41,10 +42,6 @@ slice_get_last : (xs : List (List ℕ)) (x : List ℕ) → slice_get (xs ++ x �
 slice_get_last [] x = refl
 slice_get_last (y ∷ ys) x = slice_get_last ys x
 
-take_before_last : (xs : List (List ℕ)) (x : List ℕ) → take (length xs) (xs ++ x ∷ []) ≡ xs
-take_before_last [] x = refl
-take_before_last (y ∷ ys) x = ap (λ rest. y ∷ rest) (take_before_last ys x)
-
 -- that empty piece is no line
 empty_end_left_out : (ts : List (List ℕ)) → without_empty_end (ts ++ [] ∷ []) ≡ ts
 empty_end_left_out ts =
@@ -53,7 +50,7 @@ empty_end_left_out ts =
     let ends : ends_empty pieces ≡ true = ap (λ i. is_empty_piece (slice_get pieces i)) last ∙ ap is_empty_piece (slice_get_last ts []) in
     ap (λ (b : Bool). cond b (take (length pieces - 1) pieces) pieces) ends
     ∙ ap (λ i. take i pieces) last
-    ∙ take_before_last ts []
+    ∙ take-append_seam ts ([] ∷ [])
 
 pub lines_of-text_of : (ts : List (List ℕ)) → list_all is_plain ts ≡ true → lines_of (text_of_lines ts) ≡ ts
 unfolding lines_of

@@ -5,6 +5,6 @@ mod Playing
 mod Opening
 mod StepLines
 mod RoundLines
-mod Rounds
+pub mod Rounds
 mod Ending
 pub mod DrawnLemmas

@@ -3,20 +3,21 @@ use Rattle.std.proofs.Common.{◌≡◌, ℕ, ◌+◌, ◌≤◌, Bool, true, fa
 use Rattle.std.specs.List.{AllByRecursion, list_all, list_any}
 use Rattle.std.proofs.lemmas.Bool.{and_from, or_from, lt-leb}
 use Rattle.std.proofs.lemmas.List.Folds.{list_all-append}
+use Rattle.tr_base.specs.Lists.{first_true}
 use Rattle.tr_grammar.specs.declared.Code.{Code}
 use Rattle.tr_grammar.specs.Texts.{is_plain, is_silent}
 use Rattle.tr_grammar.specs.Words.{words_of, word_at}
 use Rattle.tr_grammar.specs.Forms.{Form, fields, field_words, form_of}
 use Rattle.tr_grammar.specs.Meanings.{meaning_of}
 use Rattle.tr_grammar.specs.States.{SoFar}
-use Rattle.tr_grammar.specs.Faults.{has_ended, first_of, is_misplaced, is_misspelled, is_declared_again, is_undeclared, is_foreign, is_refused, is_one_too_many, word_faults, line_faults, fault_as, fault_of}
+use Rattle.tr_grammar.specs.Faults.{has_ended, is_misplaced, is_misspelled, is_declared_again, is_undeclared, is_foreign, is_refused, is_one_too_many, word_faults, line_faults, fault_as, fault_of}
 use Rattle.tr_grammar.specs.Scripts.{after_meaning, after_as, after_line, or_later, first_bad_line}
 
 -- ---- one line
 
-none_is_first : (faults : List (Code × Bool)) → AllByRecursion (λ fault. fault.1 ≡ false) faults → first_of faults ≡ None
+none_is_first : (faults : List (Code × Bool)) → AllByRecursion (λ fault. fault.1 ≡ false) faults → first_true faults ≡ None
 none_is_first [] none = refl
-none_is_first (fault ∷ faults) none = ap (λ b. cond b (Some fault.0) (first_of faults)) none.0 ∙ none_is_first faults none.1
+none_is_first (fault ∷ faults) none = ap (λ b. cond b (Some fault.0) (first_true faults)) none.0 ∙ none_is_first faults none.1
 
 -- a line that means something, before the end, has this form and these words
 pub record IsOfForm (c : SoFar) (t : List ℕ) (f : Form) (ws : List (List ℕ)) : Type 0 where

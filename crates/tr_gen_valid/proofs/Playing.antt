@@ -14,7 +14,8 @@ use Rattle.tr_widget.specs.declared.WidgetCmd.{WidgetCmd}
 use Rattle.tr_grammar.specs.declared.places.Place.{Place}
 use Rattle.tr_grammar.specs.declared.places.Place.TheVariants as places
 use Rattle.tr_journal.specs.Names.{Names}
-use Rattle.tr_grammar.specs.States.{Part, SoFar, empty_part}
+use Rattle.tr_journal.specs.Parts.{Part}
+use Rattle.tr_grammar.specs.States.{SoFar, empty_part}
 use Rattle.tr_grammar.specs.Faults.{step_line, allows, has_ended, reports_so_far}
 
 -- ---- what the opening says
@@ -59,8 +60,8 @@ opening_items =
 -- where the next line stands, the parts that a sync has ended, and the one that goes on
 pub record Playing : Type 0 where
   pub place : Place
-  pub ended : List Part
-  pub part : Part
+  pub ended : List (Part WidgetCmd)
+  pub part : Part WidgetCmd
 
 -- the whole script so far
 abbrev pub state : Playing → SoFar

@@ -4,12 +4,13 @@ use Rattle.std.specs.Prelude.{codes, ◌==◌}
 use Rattle.std.proofs.lemmas.Bool.{lt-leb}
 use Rattle.std.proofs.lemmas.Bool.Decides.{nat_tests}
 use Rattle.std.proofs.lemmas.List.Sums.{sum_by-append}
+use Rattle.tr_widget.specs.declared.WidgetCmd.{WidgetCmd}
+use Rattle.tr_journal.specs.Parts.{Part}
 use Rattle.tr_gen.specs.Lines.{round_line}
 use Rattle.tr_gen.specs.Scripts.{round_lines, rounds_lines}
 use Rattle.tr_grammar.specs.declared.places.Place.TheVariants as places
 use Rattle.tr_grammar.specs.Texts.{is_plain}
 use Rattle.tr_grammar.specs.Forms.{Sync}
-use Rattle.tr_grammar.specs.States.{Part}
 use Rattle.tr_grammar.specs.Faults.{reports_so_far}
 use Rattle.tr_gen_valid.proofs.Passing.{IsOfForm, HaveNoFault, Pass, none_pass, one_passes, both_pass}
 use Rattle.tr_gen_valid.proofs.Playing.{Playing, state, at_begin, synced, IsPlaying}
@@ -24,7 +25,7 @@ record IsNextRound (rounds : ℕ) (x : Playing) (n : ℕ) : Type 0 where
   among : rounds < 2000
   early : n ≤ 99999
 
-sync_plain : is_plain (codes "sync") ≡ true
+pub sync_plain : is_plain (codes "sync") ≡ true
 unfolding is_plain
 sync_plain = refl
 
@@ -47,7 +48,7 @@ sync_passes rounds x n h hundredth =
     } in
     let syncs : 100 * length (x.ended ++ x.part ∷ []) ≤ rounds + 1 = omega (arith, length-append x.ended (x.part ∷ []), playing.syncs) in
     let reports : reports_so_far (state (synced x)) ≡ 0 =
-    omega (arith, sum_by-append (λ (p : Part). length p.reports) x.ended (x.part ∷ []), playing.reports)
+    omega (arith, sum_by-append (λ (p : Part WidgetCmd). length p.reports) x.ended (x.part ∷ []), playing.reports)
     in
     (record { placed = refl; early = refl; syncs = syncs; reports = reports }, one_passes (n + 1) line right (omega (arith, h.early)))
 

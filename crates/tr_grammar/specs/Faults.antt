@@ -1,6 +1,7 @@
 -- The faults of a line: a test for each code, in the order in which they are named.
 use Rattle.std.specs.Prelude.{ℕ, ◌+◌, nat_le, ◌==◌, Bool, true, false, not, ◌&&◌, ◌||◌, List, [], ◌∷◌, ◌++◌, length, drop, slice_get, sum_by, Option, Some, None, is_some, is_none, if◌then◌else◌}
 use Rattle.std.specs.List.{list_any, join_with_byte}
+use Rattle.tr_base.specs.Lists.{first_true}
 use Rattle.tr_forest.specs.declared.Edit.TheVariants as edits
 use Rattle.tr_forest.specs.Nodes.{Nodes}
 use Rattle.tr_forest.specs.Edits.{refusal}
@@ -110,11 +111,6 @@ abbrev pub suits_leaf : WidgetCmd → Option Widget → Bool
 suits_leaf cmd None = false
 suits_leaf cmd (Some x) = suits cmd x
 
--- the first fault whose test is true
-abbrev pub first_of : List (Code × Bool) → Option Code
-first_of [] = None
-first_of (fault ∷ faults) = if fault.1 then Some fault.0 else first_of faults
-
 -- after the lines so far
 module _ (c : SoFar) where
   -- a line of this form may not come here
@@ -182,7 +178,7 @@ module _ (c : SoFar) where
   -- the first fault of line n, if it has this form and these words
   abbrev pub fault_as : ℕ → Option Form → List (List ℕ) → Option Code
   fault_as n None ws = Some B1
-  fault_as n (Some f) ws = first_of (word_faults f ws ++ line_faults n (meaning_of c.names ws f))
+  fault_as n (Some f) ws = first_true (word_faults f ws ++ line_faults n (meaning_of c.names ws f))
 
   -- the first fault of line n, if it has one
   unfoldable pub fault_of : ℕ → List ℕ → Option Code

@@ -1,5 +1,5 @@
 -- The meaning of a line of each form, from its words, which are counted from 0.
-use Rattle.std.specs.Prelude.{ℕ, ◌+◌, pos, not, Bool, List, [], None, if◌then◌else◌, bytes_eq, codes, drop, replicate}
+use Rattle.std.specs.Prelude.{ℕ, ◌+◌, not, Bool, List, [], None, if◌then◌else◌, bytes_eq, codes, drop, replicate}
 use Rattle.tr_base.specs.declared.Point.{Point}
 use Rattle.tr_base.specs.declared.Size.{Size}
 use Rattle.tr_base.specs.declared.Shapes.{Shapes as Lengthwise}
@@ -10,7 +10,7 @@ use Rattle.tr_base.specs.declared.Kind.{Kind}
 use Rattle.tr_base.specs.declared.Kind.TheVariants as kinds
 use Rattle.tr_base.specs.declared.Selection.{Selection}
 use Rattle.tr_base.specs.declared.Selection.TheVariants as selections
-use Rattle.tr_base.specs.Rects.{Edges, rect_of}
+use Rattle.tr_base.specs.Rects.{Edges, origin, rect_of}
 use Rattle.tr_base.specs.Shapes.{Lengths}
 use Rattle.tr_cage.specs.declared.Cage.TheVariants as cages
 use Rattle.tr_forest.specs.declared.NodeKind.{NodeKind}
@@ -51,10 +51,6 @@ nat ws i = nat_of (word_at ws i)
 -- a point
 abbrev pub point : List (List ℕ) → ℕ → Point
 point ws i = record { h = int_of (word_at ws i); v = int_of (word_at ws (i + 1)) }
-
--- the place of a child without a point
-abbrev pub origin : Point
-origin = record { h = pos 0; v = pos 0 }
 
 -- a width and a height
 abbrev pub size : List (List ℕ) → ℕ → Size

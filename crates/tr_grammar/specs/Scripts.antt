@@ -22,9 +22,10 @@ use Rattle.tr_grammar.specs.declared.meanings.Meaning.TheVariants as meanings
 use Rattle.tr_grammar.specs.Texts.{is_silent, lines_of}
 use Rattle.tr_grammar.specs.Words.{words_of, word_at}
 use Rattle.tr_journal.specs.Names.{Names}
+use Rattle.tr_journal.specs.Parts.{Part}
 use Rattle.tr_grammar.specs.Forms.{Form, form_of}
 use Rattle.tr_grammar.specs.Meanings.{meaning_of}
-use Rattle.tr_grammar.specs.States.{Part, SoFar, empty_part, nothing_yet}
+use Rattle.tr_grammar.specs.States.{SoFar, empty_part, nothing_yet}
 use Rattle.tr_grammar.specs.Faults.{has_ended, fault_of}
 
 -- ---- the additions of a line
@@ -110,7 +111,7 @@ refusal_of bytes =
 pub record Script : Type 0 where
   pub opening : List (Item Widget)
   pub names : Names
-  pub parts : List Part
+  pub parts : List (Part WidgetCmd)
 
 -- the script so far as a whole one: its last part ends here
 abbrev pub whole : SoFar → Script
@@ -127,7 +128,7 @@ pub record IsPlayable (t : Nodes) (made : Actor × Step WidgetCmd) : Type 0 wher
   pub other : is_report made.1 ≡ false
 
 -- all of a part can be reported and played
-pub record IsPlayablePart (t : Nodes) (part : Part) : Type 0 where
+pub record IsPlayablePart (t : Nodes) (part : Part WidgetCmd) : Type 0 where
   pub reports : All (IsQuery t) part.reports
   pub steps : All (IsPlayable t) part.steps
 

@@ -1,20 +1,13 @@
 -- The meaning of the lines so far: the script up to the next line.
 use Rattle.std.specs.Prelude.{ℕ, List, []}
 use Rattle.tr_journal.specs.declared.Item.{Item}
-use Rattle.tr_journal.specs.declared.Actor.{Actor}
-use Rattle.tr_journal.specs.declared.Step.{Step}
-use Rattle.tr_journal.specs.declared.Query.{Query}
 use Rattle.tr_widget.specs.declared.Widget.{Widget}
 use Rattle.tr_widget.specs.declared.WidgetCmd.{WidgetCmd}
 use Rattle.tr_grammar.specs.declared.places.Place.{Place}
 use Rattle.tr_grammar.specs.declared.places.Place.TheVariants.{Start}
 use Rattle.tr_journal.specs.Names.{Names}
+use Rattle.tr_journal.specs.Parts.{Part}
 use Rattle.tr_grammar.specs.Names.{no_names}
-
--- the model of a part of a script: its reports, then its steps, each with its actor
-pub record Part : Type 0 where
-  pub reports : List Query
-  pub steps : List (Actor × Step WidgetCmd)
 
 -- the script so far: its version (0 before the version line), the place of its next line, the names, the items of the opening,
 -- the glyphs that were set, the parts that a sync has ended, and the current part
@@ -24,11 +17,11 @@ pub record SoFar : Type 0 where
   pub names : Names
   pub items : List (Item Widget)
   pub glyphs : List ℕ
-  pub ended : List Part
-  pub part : Part
+  pub ended : List (Part WidgetCmd)
+  pub part : Part WidgetCmd
 
 -- a part without a line
-abbrev pub empty_part : Part
+abbrev pub empty_part : Part WidgetCmd
 empty_part = record { reports = []; steps = [] }
 
 -- before the first line

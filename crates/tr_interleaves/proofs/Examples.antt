@@ -9,7 +9,8 @@ use Rattle.tr_journal.specs.declared.steps.Step.{Step}
 use Rattle.tr_journal.specs.declared.steps.Step.TheVariants as steps
 use Rattle.tr_journal.specs.Actors.{is_maker, made_in, steps_of}
 use Rattle.tr_journal.specs.Journals.{JournalLine}
-use Rattle.tr_interleaves.specs.Interleaves.{Part, AreStretches, IsPlayerFirst, IsStretch, steps_in, stretches}
+use Rattle.tr_journal.specs.Parts.{Part}
+use Rattle.tr_interleaves.specs.Interleaves.{AreStretches, IsPlayerFirst, IsStretch, steps_in, stretches}
 use Rattle.tr_interleaves.proofs.StretchLemmas.{no_steps}
 
 -- a line of a journal, as far as an interleaving looks at it

@@ -1,9 +1,10 @@
 -- Legal journals: their entries determine their lines, and only leaves that there are make steps in them.
-use Rattle.std.proofs.Common.{◌≡◌, ℕ, ◌<◌, Bool, true, false, ◌||◌, ◌==◌, cond, List, [], ◌∷◌, ◌++◌, map, refl, sym, ap, subst, ◌∙◌}
+use Rattle.std.proofs.Common.{◌≡◌, ℕ, ◌<◌, Bool, true, false, ◌==◌, cond, List, [], ◌∷◌, ◌++◌, map, refl, sym, ap, subst, ◌∙◌}
 use Rattle.std.specs.Prelude.{⊤}
 use Rattle.std.proofs.lemmas.Bool.{eqb-true}
 use Rattle.tr_base.specs.declared.LeafId.{LeafId}
 use Rattle.tr_base.proofs.RectLemmas.{false-true}
+use Rattle.tr_base.proofs.BoolLemmas.{from_or_false}
 use Rattle.tr_client.specs.declared.clients.Client.{Ghosts}
 use Rattle.tr_forest.specs.Nodes.{Nodes, leaf_count}
 use Rattle.tr_journal.specs.declared.entries.Entry.{Entry}
@@ -39,11 +40,6 @@ some (x ∷ xs) = true
 same_leaf : (t : Nodes) (a b : LeafId) → (b.0 == a.0) ≡ true → IsLeaf t a → IsLeaf t b
 same_leaf t a b is in_tree = record { within = subst (λ (n : ℕ). n < leaf_count t) (sym (eqb-true b.0 a.0 is)) in_tree.within }
 
--- where it isn't the painter's, it is the leaf's
-no_painter : (b : Bool) → (b || false) ≡ true → b ≡ true
-no_painter true is = refl
-no_painter false is = is
-
 -- a leaf's actor makes steps of that leaf, so there is such a leaf
 pub leaf_acts : {M : Type 0} (t : Nodes) (leaf : LeafId) (step : Step M) → may (Leaf leaf) step ≡ true → IsStep t step → IsLeaf t leaf
 leaf_acts t leaf (steps.Act of cmd) may is = same_leaf t of leaf may is
@@ -53,8 +49,8 @@ leaf_acts t leaf (steps.SetCage of cage) may is = same_leaf t of leaf may is.0
 leaf_acts t leaf (steps.Own of selection time) may is = same_leaf t of leaf may is.0
 leaf_acts t leaf (steps.Disown of selection) may is = same_leaf t of leaf may is
 leaf_acts t leaf (steps.Read of selection) may is = same_leaf t of leaf may is
-leaf_acts t leaf (steps.Flush of) may is = same_leaf t of leaf (no_painter (leaf.0 == of.0) may) is
-leaf_acts t leaf (steps.Repaint of) may is = same_leaf t of leaf (no_painter (leaf.0 == of.0) may) is
+leaf_acts t leaf (steps.Flush of) may is = same_leaf t of leaf (from_or_false (leaf.0 == of.0) may) is
+leaf_acts t leaf (steps.Repaint of) may is = same_leaf t of leaf (from_or_false (leaf.0 == of.0) may) is
 leaf_acts t leaf step may is = absurd (false-true may)
 
 -- steps that are each its actor's own

@@ -15,10 +15,11 @@ use Rattle.tr_journal.specs.declared.steps.Step.TheVariants as steps
 use Rattle.tr_journal.specs.Actors.{entries_of, is_by, is_maker, steps_by, steps_of}
 use Rattle.tr_journal.specs.Journals.{JournalLine}
 use Rattle.tr_journal.specs.Steps.{is_player, may}
+use Rattle.tr_journal.specs.Parts.{Part}
 use Rattle.tr_journal.proofs.ActorLemmas.{steps_by-append}
 use Rattle.tr_machine.specs.States.{State}
 use Rattle.tr_machine.specs.Replays.{IsLegalFrom, next, replay_from}
-use Rattle.tr_interleaves.specs.Interleaves.{Part, steps_in, is_sync, stretches_from, stretches, IsPlayerFirst, IsStretch, AreStretches, AreDumpsSettled}
+use Rattle.tr_interleaves.specs.Interleaves.{steps_in, is_sync, stretches_from, stretches, IsPlayerFirst, IsStretch, AreStretches, AreDumpsSettled}
 use Rattle.tr_interleaves.specs.Stretches.{HasNoMaker, HasNoSync, AreReports, IsPart, AreParts}
 
 -- ---- the steps of an actor

@@ -6,19 +6,14 @@ use Rattle.tr_client.specs.declared.clients.Client.{Ghosts}
 use Rattle.tr_journal.specs.declared.items.Item.{Item}
 use Rattle.tr_journal.specs.declared.steps.Actor.{Actor}
 use Rattle.tr_journal.specs.declared.steps.Actor.TheVariants as actors
-use Rattle.tr_journal.specs.declared.steps.Query.{Query}
 use Rattle.tr_journal.specs.declared.steps.Query.TheVariants.{Dump}
 use Rattle.tr_journal.specs.declared.steps.Step.{Step}
 use Rattle.tr_journal.specs.declared.steps.Step.TheVariants.{Sync, Report}
 use Rattle.tr_journal.specs.Actors.{entries_of, is_maker, steps_by, steps_of}
 use Rattle.tr_journal.specs.Journals.{JournalLine}
+use Rattle.tr_journal.specs.Parts.{Part}
 use Rattle.tr_machine.specs.States.{State, leaf_batch, start}
 use Rattle.tr_machine.specs.Replays.{next}
-
--- a part of a script: its reports, and then its steps, each with its actor
-pub record Part (M : Type 0) : Type 0 where
-  pub reports : List Query
-  pub steps : List (Actor × Step M)
 
 -- the steps that an actor made in some lines of a journal, in their order
 abbrev pub steps_in : {M : Type 0} → Actor → List (JournalLine M) → List (Step M)

@@ -6,8 +6,9 @@ use Rattle.tr_journal.specs.declared.steps.Query.{Query}
 use Rattle.tr_journal.specs.declared.steps.Step.TheVariants.{Report}
 use Rattle.tr_journal.specs.Actors.{is_maker}
 use Rattle.tr_journal.specs.Journals.{JournalLine}
+use Rattle.tr_journal.specs.Parts.{Part}
 use Rattle.tr_machine.specs.States.{State}
-use Rattle.tr_interleaves.specs.Interleaves.{Part, steps_in, is_sync, stretches, IsStretch, AreStretches, AreDumpsSettled}
+use Rattle.tr_interleaves.specs.Interleaves.{steps_in, is_sync, stretches, IsStretch, AreStretches, AreDumpsSettled}
 
 -- no line is a leaf's or the desk's
 abbrev pub HasNoMaker : {M : Type 0} → List (JournalLine M) → Type 0

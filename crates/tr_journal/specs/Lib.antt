@@ -7,3 +7,4 @@ pub mod Kept
 pub mod Actors
 pub mod Lists
 pub mod Differences
+pub mod Parts

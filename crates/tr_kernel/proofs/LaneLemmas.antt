@@ -4,6 +4,7 @@ use Rattle.std.specs.List.{range_with_len}
 use Rattle.std.proofs.lemmas.List.FromFn.{length-range_with_len, length-map-range_with_len, get_or-map-range_with_len, fill_by_all}
 use Rattle.std.proofs.lemmas.Simd.{tops_compared, zip2_of_maps, splat_is_map, map-map}
 use Rattle.std.proofs.Math.Bool.{not-not}
+use Rattle.tr_base.proofs.LaneLemmas.{either_lane}
 use lib.Lanes.{zip2, sel_l, top}
 use Rattle.tr_kernel.specs.declared.lanes.Steps.{Steps}
 use Rattle.tr_kernel.specs.Steps.{flipped, stepped_by}
@@ -40,12 +41,6 @@ equal_lanes f g xs ys e h = tops_compared w8 eqb xs ys ∙ zip2_of_maps eqb f g 
 pub splat_made : (n : ℕ) → replicate 16 n ≡ map (λ _. n) sixteen
 splat_made n = splat_is_map sixteen 16 n (length-range_with_len 0 16)
 
-hit : (s t : Bool) → top 7 (bit_or (cond s 255 0) (cond t 255 0)) ≡ (s || t)
-hit true true = refl
-hit true false = refl
-hit false true = refl
-hit false false = refl
-
 abbrev pub same_lanes : List ℕ → List ℕ → List ℕ
 same_lanes = zip2 (λ a b. cond (eqb a b) 255 0)
 
@@ -68,7 +63,7 @@ flips_made old x y long_old long_x long_y =
     let at_y = zip2_of_maps (λ (a b : ℕ). cond (eqb a b) 255 0) o q sixteen old_is y_is in
     let both = zip2_of_maps bit_or (λ k. cond (eqb (o k) (p k)) 255 0) (λ k. cond (eqb (o k) (q k)) 255 0) sixteen at_x at_y in
     let tops = ap (map (top 7)) both ∙ map-map (top 7) (λ k. bit_or (cond (eqb (o k) (p k)) 255 0) (cond (eqb (o k) (q k)) 255 0)) sixteen in
-    let hits = tops ∙ (λ i. map (λ k. hit (eqb (o k) (p k)) (eqb (o k) (q k)) i) sixteen) in
+    let hits = tops ∙ (λ i. map (λ k. either_lane (eqb (o k) (p k)) (eqb (o k) (q k)) i) sixteen) in
     let bits = zip2_of_maps bit_xor p q sixteen x_is y_is in
     let chosen = sel_of_maps (λ k. eqb (o k) (p k) || eqb (o k) (q k)) (λ k. bit_xor (p k) (q k)) (λ _. 0) sixteen hits bits (splat_made 0) in
     zip2_of_maps bit_xor o (λ k. cond (eqb (o k) (p k) || eqb (o k) (q k)) (bit_xor (p k) (q k)) 0) sixteen old_is chosen

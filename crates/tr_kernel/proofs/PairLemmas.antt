@@ -1,11 +1,11 @@
 -- The pairs of two rows, and the numbers whose bits say which of 64 pairs differ.
-use Rattle.std.proofs.Common.{◌≡◌, ℕ, zero, suc, ◌+◌, ◌%◌, ◌^◌, ◌==◌, ◌<◌, ◌≤◌, not, true, false, eqb, eq-eqb, ne_eqb, eqb-true, Bool, cond, List, [], ◌∷◌, map, length, take, drop, get_or, zip, count_by, count_ones, take-add, w8, refl, sym, ap, ap₂, ◌∙◌, arith}
-use Rattle.std.proofs.lemmas.Bool.Decides.{nat_tests}
+use Rattle.std.proofs.Common.{◌≡◌, ℕ, zero, suc, ◌+◌, ◌%◌, ◌^◌, ◌<◌, ◌≤◌, not, true, false, eqb, eq-eqb, ne_eqb, eqb-true, Bool, cond, List, [], ◌∷◌, map, length, take, drop, get_or, zip, count_by, count_ones, take-add, w8, refl, sym, ap, ap₂, ◌∙◌, arith}
 use Rattle.std.specs.Int.{bit_at}
 use Rattle.std.proofs.lemmas.List.{length-map, get_or-map}
 use Rattle.std.proofs.lemmas.Simd.{tops_compared, mask_l-mod, mask_l-lt, bit_mask_l, ones-mask_l, length-chunk, get_or-chunk}
 use Rattle.std.proofs.lemmas.List.Sums.{sum_by-append}
 use Rattle.std.proofs.lemmas.Slice.Zip.{length-zip, get_or-zip}
+use Rattle.tr_base.proofs.BoolLemmas.{zero_by_test, some_by_test}
 use lib.Lanes.{zip2, chunk, mask_l, top}
 use Rattle.tr_kernel.specs.Differences.{differ}
 
@@ -109,12 +109,3 @@ module _ (a b : List ℕ) (same : length a ≡ length b) (at : ℕ) (room : at +
       → count ≡ count_by differ (take (at + 64) (zip a b))
   no_further count so_far none =
       let next = count_further count 0 so_far (no_ones ∙ ap count_ones (sym none)) in omega (arith, next)
-
--- what a test tells of the number of differences
-pub none_differs : (n : ℕ) → not (n == 0) ≡ false → n ≡ 0
-none_differs zero h = refl
-none_differs (suc n) h = grind (arith, nat_tests, h)
-
-pub some_differs : (n : ℕ) → not (n == 0) ≡ true → 0 < n
-some_differs zero h = grind (arith, nat_tests, h)
-some_differs (suc n) h = omega arith

@@ -33,12 +33,12 @@ use Rattle.tr_spot.proofs.LeafLemmas.{IsPartOf, part_of}
 use Rattle.tr_spot.proofs.WayLemmas.{and_left, and_right, equal_numbers, equal_test}
 use Rattle.tr_spot.proofs.SpotLemmas.{leaf_by_number}
 use Rattle.tr_surface.specs.Surfaces.{Shown, IsShown, is_on, is_bad}
-use Rattle.tr_surface.specs.TreeSteps.{Keeping, bad_after_edit, good_after, is_kept, moved_child, same_point, source, survives}
+use Rattle.tr_surface.specs.TreeSteps.{WindowFacts, bad_after_edit, good_after, is_kept, moved_child, same_point, source, survives}
 use Rattle.tr_surface.proofs.KnownLemmas.{IsGood, good_parts}
 use Rattle.tr_mail.specs.Deliveries.{is_reshaped}
 use Rattle.tr_machine.specs.Windows.{Window, content, updated}
 use Rattle.tr_machine.specs.States.{State, leaf_batch, content_of, look, window_of}
-use Rattle.tr_machine.specs.Edits.{altered, keeping, keeps_in, refitted}
+use Rattle.tr_machine.specs.Edits.{altered, points_kept, refitted, window_facts}
 use Rattle.tr_machine.specs.Paintings.{is_visible}
 use Rattle.tr_machine.specs.Pictures.{colour_by, content_colour, shown, shown_of}
 use Rattle.tr_machine.specs.Promises.{Fits}
@@ -66,7 +66,7 @@ window_size t small leaf = let d : IsDomain (domain t (node_of t.nodes leaf)) = 
 -- ---- spots that survive
 
 -- a point of a leaf lasts from one tree to the next: it keeps its place in the window, whose size stays, or which keeps the point
-record IsLasting (k : Keeping) (was is : Seen) (leaf : LeafId) (from to : Point) : Type 0 where
+record IsLasting (k : WindowFacts) (was is : Seen) (leaf : LeafId) (from to : Point) : Type 0 where
   point : in_leaf was leaf from ≡ in_leaf is leaf to
   kind : same_kind was.kind is.kind ≡ true
   size : (same_size (leaf_size was leaf) (leaf_size is leaf) ≡ true)
@@ -78,7 +78,7 @@ abbrev part : Seen → LeafId → Point → Spot
 part t leaf p = spots.Leaf leaf (in_leaf t leaf p) (leaf_size t leaf) t.kind
 
 -- points of two leaves survive only if these are one leaf
-one_leaf : (k : Keeping) (was is : Seen) (a b : LeafId) (from to : Point) → survives k (part was a from) (part is b to) ≡ true → a ≡ b
+one_leaf : (k : WindowFacts) (was is : Seen) (a b : LeafId) (from to : Point) → survives k (part was a from) (part is b to) ≡ true → a ≡ b
 one_leaf k was is a b from to h =
     by_test (a.0 == b.0) (same_point (in_leaf was a from) (in_leaf is b to)) (same_size (leaf_size was a) (leaf_size is b)) (same_kind was.kind is.kind) refl h
   where
@@ -88,7 +88,7 @@ one_leaf k was is a b from to h =
     by_test false e z w other g = absurd (false-true g)
 
 -- a point of one leaf that survives lasts
-lasting : (k : Keeping) (was is : Seen) (leaf : LeafId) (from to : Point) → survives k (part was leaf from) (part is leaf to) ≡ true →
+lasting : (k : WindowFacts) (was is : Seen) (leaf : LeafId) (from to : Point) → survives k (part was leaf from) (part is leaf to) ≡ true →
     IsLasting k was is leaf from to
 lasting k was is leaf from to h =
     by_tests (leaf.0 == leaf.0) (same_point (in_leaf was leaf from) (in_leaf is leaf to)) (same_size (leaf_size was leaf) (leaf_size is leaf))
@@ -136,8 +136,8 @@ module _ {C M : Type 0} (client : Ghosts C M) where
     pub fits : Fits client m
     pub keeps : KeepsColours m
     pub tree : n.tree ≡ edited_tree s.tree edit
-    pub kept : Keeping
-    pub kept_is : kept ≡ keeping client m
+    pub kept : WindowFacts
+    pub kept_is : kept ≡ window_facts client m
     pub bad : (p : Point) → is_bad n p ≡ bad_after_edit kept s.tree n.tree edit (is_bad s) p
     pub pixels : (p : Point) → good_after kept s.tree n.tree edit (is_bad s) p ≡ true →
         pixel_of n.screen p ≡ pixel_of s.screen (source s.tree n.tree edit p)
@@ -196,12 +196,12 @@ module _ {C M : Type 0} (client : Ghosts C M) where
         by_window (Some w) = ap (λ b. Some ((cond b (updated client w) w).shown)) changes
 
     -- a point that a window keeps has its content's colour at both sizes
-    kept_colour : (leaf : LeafId) (q : Point) → has_point (keeps_in client (window_of m leaf) (leaf_size m.tree leaf) (leaf_size is leaf)) q ≡ true →
+    kept_colour : (leaf : LeafId) (q : Point) → has_point (points_kept client (window_of m leaf) (leaf_size m.tree leaf) (leaf_size is leaf)) q ≡ true →
         content_colour client m (leaf_size m.tree leaf) q (content_of client m leaf) ≡ content_colour client m (leaf_size is leaf) q (content_of client m leaf)
     kept_colour leaf q has = by_window (window_of m leaf) refl has
       where
         by_window : (o : Option (Window C M)) → window_of m leaf ≡ o →
-            has_point (keeps_in client o (leaf_size m.tree leaf) (leaf_size is leaf)) q ≡ true →
+            has_point (points_kept client o (leaf_size m.tree leaf) (leaf_size is leaf)) q ≡ true →
             content_colour client m (leaf_size m.tree leaf) q (option_map (content client) o)
             ≡ content_colour client m (leaf_size is leaf) q (option_map (content client) o)
         by_window None e h = refl
@@ -210,7 +210,7 @@ module _ {C M : Type 0} (client : Ghosts C M) where
 
     -- a good point of a leaf that lasts has its colour still
     leaf_lasts : (leaf : LeafId) (from to : Point) → is_visible m leaf from ≡ true → m.bad from ≡ false →
-        IsLasting (keeping client m) m.tree is leaf from to →
+        IsLasting (window_facts client m) m.tree is leaf from to →
         content_colour client m (leaf_size m.tree leaf) (in_leaf m.tree leaf from) (shown_of m leaf)
         ≡ content_colour client next (leaf_size is leaf) (in_leaf is leaf to) (shown_of next leaf)
     leaf_lasts leaf from to seen good last = by_size last.size ∙ sym (colour_look client m next (leaf_size is leaf) r (shown_of next leaf) same_look)
@@ -230,7 +230,7 @@ module _ {C M : Type 0} (client : Ghosts C M) where
 
         by_size : (same_size (leaf_size m.tree leaf) (leaf_size is leaf) ≡ true)
             ⊎ ((same_size (leaf_size m.tree leaf) (leaf_size is leaf) ≡ false)
-            × (is_kept (keeping client m) leaf (leaf_size m.tree leaf) (leaf_size is leaf) r ≡ true)) →
+            × (is_kept (window_facts client m) leaf (leaf_size m.tree leaf) (leaf_size is leaf) r ≡ true)) →
             content_colour client m (leaf_size m.tree leaf) q (shown_of m leaf) ≡ content_colour client m (leaf_size is leaf) r (shown_of next leaf)
         by_size (inl same) =
             let stays : is_reshaped m.tree is leaf ≡ false = ap (λ b. not (b && same_kind m.tree.kind is.kind)) same ∙ ap not last.kind in
@@ -239,22 +239,22 @@ module _ {C M : Type 0} (client : Ghosts C M) where
             ∙ ap (λ (o : Option C). content_colour client m (leaf_size is leaf) r o) (sym (shown_still leaf stays))
         by_size (inr both) =
             let changes : is_reshaped m.tree is leaf ≡ true = ap (λ b. not (b && same_kind m.tree.kind is.kind)) both.0 in
-            let held : Bool = has_point (keeps_in client (window_of m leaf) (leaf_size m.tree leaf) (leaf_size is leaf)) q in
+            let held : Bool = has_point (points_kept client (window_of m leaf) (leaf_size m.tree leaf) (leaf_size is leaf)) q in
             let alone : Bool = not (touches (leaf_batch client m leaf) q) in
             let kept : (held && alone) ≡ true =
-            ap (λ (x : Point). is_kept (keeping client m) leaf (leaf_size m.tree leaf) (leaf_size is leaf) x) last.point ∙ both.1 in
+            ap (λ (x : Point). is_kept (window_facts client m) leaf (leaf_size m.tree leaf) (leaf_size is leaf) x) last.point ∙ both.1 in
             untouched_colour client m leaf from a.fits seen good (untrue (touches (leaf_batch client m leaf) q) (and_right held alone kept))
             ∙ kept_colour leaf q (and_left held alone kept)
             ∙ ap (λ (x : Point). content_colour client m (leaf_size is leaf) x (content_of client m leaf)) last.point
             ∙ ap (λ (o : Option C). content_colour client m (leaf_size is leaf) r o) (sym (shown_anew leaf changes))
 
     -- a good point that survives has its colour still
-    spot_lasts : (from to : Point) → m.bad from ≡ false → survives (keeping client m) (spot m.tree from) (spot is to) ≡ true →
+    spot_lasts : (from to : Point) → m.bad from ≡ false → survives (window_facts client m) (spot m.tree from) (spot is to) ≡ true →
         shown client m from ≡ shown client next to
     spot_lasts from to good lasts = by_spots (spot m.tree from) (spot is to) refl refl lasts
       where
-        k : Keeping
-        k = keeping client m
+        k : WindowFacts
+        k = window_facts client m
 
         old_colour : (x : Spot) → spot m.tree from ≡ x → shown client m from ≡ colour_by client (shown_of m) m x
         old_colour x e = ap (λ (s : Spot). colour_by client (shown_of m) m s) e
@@ -286,17 +286,17 @@ module _ {C M : Type 0} (client : Ghosts C M) where
     -- ---- the surface after the edit
 
     -- the kept points, the trees and the bad points are the state's
-    by_state : {X : Type 0} (f : Keeping → Seen → Seen → (Point → Bool) → X) →
-        f a.kept s.tree n.tree (is_bad s) ≡ f (keeping client m) m.tree is m.bad
+    by_state : {X : Type 0} (f : WindowFacts → Seen → Seen → (Point → Bool) → X) →
+        f a.kept s.tree n.tree (is_bad s) ≡ f (window_facts client m) m.tree is m.bad
     by_state f =
-        ap (λ (k : Keeping). f k s.tree n.tree (is_bad s)) a.kept_is
-        ∙ ap (λ (t : Seen). f (keeping client m) t n.tree (is_bad s)) a.showing.tree
-        ∙ ap (λ (t : Seen). f (keeping client m) m.tree t (is_bad s)) same_tree
-        ∙ ap (λ (b : Point → Bool). f (keeping client m) m.tree is b) (fun_ext a.showing.bad)
+        ap (λ (k : WindowFacts). f k s.tree n.tree (is_bad s)) a.kept_is
+        ∙ ap (λ (t : Seen). f (window_facts client m) t n.tree (is_bad s)) a.showing.tree
+        ∙ ap (λ (t : Seen). f (window_facts client m) m.tree t (is_bad s)) same_tree
+        ∙ ap (λ (b : Point → Bool). f (window_facts client m) m.tree is b) (fun_ext a.showing.bad)
 
     -- a point of the screen that isn't bad is good
-    is_good : (p : Point) → is_on is p ≡ true → next.bad p ≡ false → good_after (keeping client m) m.tree is edit m.bad p ≡ true
-    is_good p on fine = by_tests (is_on is p) (good_after (keeping client m) m.tree is edit m.bad p) on fine
+    is_good : (p : Point) → is_on is p ≡ true → next.bad p ≡ false → good_after (window_facts client m) m.tree is edit m.bad p ≡ true
+    is_good p on fine = by_tests (is_on is p) (good_after (window_facts client m) m.tree is edit m.bad p) on fine
       where
         by_tests : (b c : Bool) → b ≡ true → (b && not c) ≡ false → c ≡ true
         by_tests true true h k = refl
@@ -306,9 +306,9 @@ module _ {C M : Type 0} (client : Ghosts C M) where
     -- it has the pixel of the point that it comes from, and that point's colour
     altered_good : (p : Point) → is_on is p ≡ true → next.bad p ≡ false → pixel_of n.screen p ≡ shown client next p
     altered_good p on fine =
-        let good : good_after (keeping client m) m.tree is edit m.bad p ≡ true = is_good p on fine in
-        let g : IsGood (keeping client m) m.tree is (moved_child m.tree edit) m.bad p =
-        good_parts (keeping client m) m.tree is (moved_child m.tree edit) m.bad p good in
+        let good : good_after (window_facts client m) m.tree is edit m.bad p ≡ true = is_good p on fine in
+        let g : IsGood (window_facts client m) m.tree is (moved_child m.tree edit) m.bad p =
+        good_parts (window_facts client m) m.tree is (moved_child m.tree edit) m.bad p good in
         a.pixels p (by_state (λ k was now bad. good_after k was now edit bad p) ∙ good)
         ∙ ap (λ (x : Point). pixel_of s.screen x) (by_state (λ k was now bad. source was now edit p))
         ∙ a.showing.agrees.good (source m.tree is edit p) g.was_on g.was_good

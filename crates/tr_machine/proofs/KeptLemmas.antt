@@ -26,7 +26,7 @@ use Rattle.tr_journal.specs.Steps.{AreAsMany, IsLeaf, IsQuery, IsStep}
 use Rattle.tr_machine.specs.Windows.{Window, Command, Mark, updated, with_change}
 use Rattle.tr_machine.specs.States.{State, content_of, with_window}
 use Rattle.tr_machine.specs.Paintings.{acted, flushed, repainted, framed}
-use Rattle.tr_machine.specs.Machines.{edit_step, obeyed, asked_of, taken, unless}
+use Rattle.tr_machine.specs.Machines.{edit_step, obeyed, asked_of, taken, delivered_or_refused}
 use Rattle.tr_machine.specs.Replays.{next}
 use Rattle.tr_machine.proofs.ListLemmas.{refitted_from-length, with_window-length}
 
@@ -59,7 +59,7 @@ module _ {C M : Type 0} (client : Ghosts C M) where
   kept_window m leaf change bad forest = kept_but m bad m.mail (with_window leaf change m).windows forest (with_window-length leaf change m)
 
   -- a step that the desk refuses, or not
-  kept_unless : (o : Option DeskFault) (m : State C M) (s : Sending) → IsForest m.tree.nodes → IsKept m (unless o m s).state
+  kept_unless : (o : Option DeskFault) (m : State C M) (s : Sending) → IsForest m.tree.nodes → IsKept m (delivered_or_refused o m s).state
   kept_unless None m s forest = kept_mail m s.mail forest
   kept_unless (Some fault) m s forest = kept_itself m forest
 

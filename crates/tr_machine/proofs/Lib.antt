@@ -2,7 +2,7 @@ pub mod AlterLemmas
 pub mod BaseLemmas
 pub mod FlushLemmas
 pub mod FrameLemmas
-pub mod HandingLemmas
+pub mod CommandStepLemmas
 pub mod JournalLemmas
 pub mod KeptLemmas
 pub mod LagLemmas
@@ -12,7 +12,7 @@ pub mod PointLemmas
 pub mod RenderLemmas
 pub mod RepaintLemmas
 pub mod SettleLemmas
-pub mod SharingLemmas
+pub mod SharedRepaintLemmas
 pub mod ShownLemmas
 pub mod SoundLemmas
 pub mod StillLemmas

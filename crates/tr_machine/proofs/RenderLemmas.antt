@@ -7,13 +7,13 @@ use Rattle.tr_base.specs.declared.Kind.{Kind}
 use Rattle.tr_base.specs.declared.LeafId.{LeafId}
 use Rattle.tr_base.specs.Rects.{has_point, whole_of}
 use Rattle.tr_base.proofs.RectLemmas.{false-true}
+use Rattle.tr_base.proofs.PlaceLemmas.{whole_has}
 use Rattle.tr_screen.specs.Pictures.{Picture, IsPicture, picture_by, pixel_of, row_by}
 use Rattle.tr_paint.specs.Batches.{touches}
 use Rattle.tr_client.specs.declared.clients.Client.{Ghosts}
 use Rattle.tr_forest.specs.Forests.{IsForest}
 use Rattle.tr_spot.specs.Leaves.{in_leaf}
 use Rattle.tr_surface.specs.Surfaces.{is_on}
-use Rattle.tr_surface.proofs.CountLemmas.{on_screen}
 use Rattle.tr_machine.specs.States.{State, leaf_batch}
 use Rattle.tr_machine.specs.Pictures.{render, shown, want}
 use Rattle.tr_machine.specs.Promises.{Agrees, Fits, IsAwaited}
@@ -30,7 +30,7 @@ picture_is picture pixel is same =
     each_row v down =
         fill_by_all (λ h. pixel (record { h = pos h; v = pos v })) (get_or picture.rows v []) picture.size.wide 0
         (is.wide v [] (omega (arith, is.high, down)))
-        (λ h across. same (record { h = pos h; v = pos v }) (on_screen picture.size h v across down))
+        (λ h across. same (record { h = pos h; v = pos v }) (whole_has picture.size h v across down))
 
 module _ {C M : Type 0} (client : Ghosts C M) where
   -- no point of the screen is bad, and no command waits

@@ -13,6 +13,7 @@ use Rattle.tr_paint.specs.declared.Paint.{Paint}
 use Rattle.tr_paint.specs.Batches.{touches}
 use Rattle.tr_paint.specs.Paintings.{IsPainting}
 use Rattle.tr_paint.specs.Traces.{after}
+use Rattle.tr_paint.proofs.TraceLemmas.{after-untouched}
 use Rattle.tr_exec.specs.Executions.{screen_point}
 use Rattle.tr_client.specs.declared.clients.Client.{Ghosts}
 use Rattle.tr_spot.specs.Leaves.{leaf_corner, leaf_size, in_leaf}
@@ -25,7 +26,7 @@ use Rattle.tr_machine.specs.Paintings.{is_visible, repainted}
 use Rattle.tr_machine.specs.Pictures.{content_colour, shown_of}
 use Rattle.tr_machine.specs.Promises.{Fits}
 use Rattle.tr_machine.proofs.BaseLemmas.{base-lies, in_leaf-placed}
-use Rattle.tr_machine.proofs.ShownLemmas.{IsShowing, after-untouched, base_good, base_sees, untouched_colour}
+use Rattle.tr_machine.proofs.ShownLemmas.{IsShowing, base_good, base_sees, untouched_colour}
 use Rattle.tr_machine.proofs.FlushLemmas.{brought_shows, by_state, forest_of}
 
 -- a test that would give what is false fails

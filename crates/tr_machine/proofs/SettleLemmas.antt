@@ -38,7 +38,7 @@ use Rattle.tr_machine.specs.Paintings.{repainted, is_visible}
 use Rattle.tr_machine.specs.Pictures.{content_colour, colour_by, shown, shown_of, want}
 use Rattle.tr_machine.specs.Promises.{IsSound}
 use Rattle.tr_machine.specs.Replays.{IsLegalFrom, after_steps}
-use Rattle.tr_machine.specs.Settling.{frame_steps, is_frame_bad, is_unsettled, repaint_steps, repaints_below, settling, settling_lines}
+use Rattle.tr_machine.specs.SettleSteps.{frame_steps, is_frame_bad, is_unsettled, repaint_steps, repaints_below, settling, settling_lines}
 use Rattle.tr_machine.proofs.ListLemmas.{changed_at-here, changed_at-there}
 use Rattle.tr_machine.proofs.LeadLemmas.{same_pictures}
 use Rattle.tr_machine.proofs.PointLemmas.{covered, none_on}

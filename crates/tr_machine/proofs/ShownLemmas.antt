@@ -1,5 +1,5 @@
 -- What a screen shows that agrees with a state, and what a leaf's base has of it.
-use Rattle.std.proofs.Common.{◌≡◌, ℕ, Bool, true, false, cond, ◌||◌, List, [], ◌∷◌, Option, Some, None, refl, sym, ap, subst, ◌∙◌}
+use Rattle.std.proofs.Common.{◌≡◌, ℕ, Bool, true, false, cond, List, [], Option, Some, None, refl, sym, ap, subst, ◌∙◌}
 use Rattle.std.specs.Prelude.{IfSome}
 use Rattle.std.specs.Option.{option_map}
 use Rattle.tr_base.specs.declared.Point.{Point}
@@ -7,14 +7,12 @@ use Rattle.tr_base.specs.declared.Size.{Size}
 use Rattle.tr_base.specs.declared.LeafId.{LeafId}
 use Rattle.tr_base.specs.declared.Spot.{Spot}
 use Rattle.tr_base.specs.declared.Spot.TheVariants as spots
-use Rattle.tr_base.specs.Rects.{has_point}
 use Rattle.tr_base.proofs.RectLemmas.{false-true}
 use Rattle.tr_screen.specs.Pictures.{pixel_of}
 use Rattle.tr_paint.specs.declared.Paint.{Paint}
-use Rattle.tr_paint.specs.Paints.{area}
 use Rattle.tr_paint.specs.Batches.{touches}
-use Rattle.tr_paint.specs.Traces.{Look, Base, after, left_by}
-use Rattle.tr_paint.proofs.TraceLemmas.{after-first}
+use Rattle.tr_paint.specs.Traces.{Look, after}
+use Rattle.tr_paint.proofs.TraceLemmas.{after-untouched}
 use Rattle.tr_exec.specs.Executions.{screen_point}
 use Rattle.tr_client.specs.declared.clients.Client.{Ghosts}
 use Rattle.tr_forest.specs.Forests.{IsForest}
@@ -30,30 +28,6 @@ use Rattle.tr_machine.specs.Paintings.{is_visible}
 use Rattle.tr_machine.specs.Pictures.{colour_by, content_colour, shown, shown_of}
 use Rattle.tr_machine.specs.Promises.{Agrees, Fits}
 use Rattle.tr_machine.proofs.BaseLemmas.{after-alike, base-visible, in_leaf-placed, placed-in_leaf}
-
--- ---- batches that leave a point alone
-
--- where neither of two tests passes, the first one fails
-or_left : (a b : Bool) → (a || b) ≡ false → a ≡ false
-or_left false b h = refl
-or_left true b h = h
-
--- and the second one
-or_right : (a b : Bool) → (a || b) ≡ false → b ≡ false
-or_right false b h = h
-or_right true b h = absurd (false-true (sym h))
-
--- of a visible point that no command touches the same is known after the commands
-pub after-untouched : (look : Look) (base : Base) (batch : List Paint) (q : Point) → base.visible q ≡ true → touches batch q ≡ false →
-    after look base batch q ≡ base.known q
-after-untouched look base [] q seen none = rw seen refl
-after-untouched look base (c ∷ cs) q seen none =
-    after-first look base c cs q
-    ∙ after-untouched look (left_by look base (c ∷ [])) cs q seen (or_right (has_point (area c) q) (touches cs q) none)
-    ∙ one (or_left (has_point (area c) q) (touches cs q) none)
-  where
-    one : has_point (area c) q ≡ false → after look base (c ∷ []) q ≡ base.known q
-    one outside = rw (seen, outside, seen) refl
 
 module _ {C M : Type 0} (client : Ghosts C M) where
   -- ---- the colours of spots

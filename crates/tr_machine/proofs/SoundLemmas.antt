@@ -43,8 +43,8 @@ use Rattle.tr_journal.specs.Steps.{IsStep}
 use Rattle.tr_machine.specs.Windows.{Window, Command, Mark, content, fresh, updated, with_change}
 use Rattle.tr_machine.specs.States.{State, base, batch_in, leaf_batch, content_of, look, start, window_of, with_window}
 use Rattle.tr_machine.specs.Paintings.{acted, marked, flushed, repainted, framed, is_visible}
-use Rattle.tr_machine.specs.Edits.{altered, keeping, refitted}
-use Rattle.tr_machine.specs.Machines.{edit_step, obeyed, asked_of, taken, unless}
+use Rattle.tr_machine.specs.Edits.{altered, refitted, window_facts}
+use Rattle.tr_machine.specs.Machines.{edit_step, obeyed, asked_of, taken, delivered_or_refused}
 use Rattle.tr_machine.specs.Pictures.{content_colour}
 use Rattle.tr_machine.specs.Replays.{next}
 use Rattle.tr_machine.specs.Promises.{Fits, IsSound, Leads}
@@ -157,7 +157,7 @@ module _ {C M : Type 0} (client : Ghosts C M) where
     leads = λ leaf w at.
         refits leaf w
         (mapped (refitted client m.tree is leaf) (window_of m leaf) w (sym (refitted_window client m.tree is m.windows leaf) ∙ at));
-    bad = λ p h. and_left (is_on is p) (not (good_after (keeping client m) m.tree is edit m.bad p)) h;
+    bad = λ p h. and_left (is_on is p) (not (good_after (window_facts client m) m.tree is edit m.bad p)) h;
   }
     where
       is : Seen
@@ -214,7 +214,7 @@ module _ {C M : Type 0} (client : Ghosts C M) where
   IsObedient m step = ⊤
 
   -- a step that the desk refuses, or not
-  sound_unless : (o : Option DeskFault) (m : State C M) (s : Sending) → IsSound client m → IsSound client (unless o m s).state
+  sound_unless : (o : Option DeskFault) (m : State C M) (s : Sending) → IsSound client m → IsSound client (delivered_or_refused o m s).state
   sound_unless None m s sound = sound_mail m s.mail sound
   sound_unless (Some fault) m s sound = sound
 

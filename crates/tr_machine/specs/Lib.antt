@@ -5,7 +5,7 @@ pub mod Edits
 pub mod Machines
 pub mod Replays
 pub mod Pictures
-pub mod Settling
-pub mod Handing
-pub mod Sharing
+pub mod SettleSteps
+pub mod CommandSteps
+pub mod SharedRepaints
 pub mod Promises

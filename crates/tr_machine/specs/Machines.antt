@@ -41,9 +41,9 @@ abbrev pub delivered : {C M : Type 0} → State C M → Sending → Outcome C M
 delivered m s = record { state = record m { mail = s.mail }; answer = answers.Done; sent = s.sent }
 
 -- the desk refuses a step, or lets it be done
-abbrev pub unless : {C M : Type 0} → Option DeskFault → State C M → Sending → Outcome C M
-unless None m s = delivered m s
-unless (Some fault) m s = answered (answers.Desk fault) m
+abbrev pub delivered_or_refused : {C M : Type 0} → Option DeskFault → State C M → Sending → Outcome C M
+delivered_or_refused None m s = delivered m s
+delivered_or_refused (Some fault) m s = answered (answers.Desk fault) m
 
 module _ {C M : Type 0} (client : Ghosts C M) where
   -- a leaf obeys the command that an event asks for, if it asks for one
@@ -89,14 +89,14 @@ module _ {C M : Type 0} (client : Ghosts C M) where
   step m (steps.Take leaf) = taken leaf (mail.front_of m.mail leaf) m
   step m (steps.SetCage leaf cage) = delivered m (mail.caged m.tree leaf cage m.mail)
   step m (steps.Own leaf selection time) =
-      unless (own_fault m.mail.desk leaf time) m (mail.owned leaf selection m.mail)
+      delivered_or_refused (own_fault m.mail.desk leaf time) m (mail.owned leaf selection m.mail)
   step m (steps.Disown leaf selection) =
-      unless (disown_fault m.mail.desk leaf selection) m (mail.disowned selection m.mail)
+      delivered_or_refused (disown_fault m.mail.desk leaf selection) m (mail.disowned selection m.mail)
   step m (steps.Read leaf selection) = answered (read (selection_owner m.mail.desk selection) m) m
   step m (steps.Mouse time button down) =
-      unless (mouse_fault m.mail.desk time button down) m (mail.moused m.tree time button down m.mail)
-  step m (steps.Motion time at) = unless (time_fault m.mail.desk time) m (mail.cursor_moved m.tree time at m.mail)
-  step m (steps.Key time code) = unless (time_fault m.mail.desk time) m (mail.keyed time code m.mail)
+      delivered_or_refused (mouse_fault m.mail.desk time button down) m (mail.moused m.tree time button down m.mail)
+  step m (steps.Motion time at) = delivered_or_refused (time_fault m.mail.desk time) m (mail.cursor_moved m.tree time at m.mail)
+  step m (steps.Key time code) = delivered_or_refused (time_fault m.mail.desk time) m (mail.keyed time code m.mail)
   step m (steps.Alter edit) = edit_step (refusal m.tree.nodes edit) edit m
   step m (steps.Flush leaf) = done (flushed client leaf m)
   step m (steps.Repaint leaf) = done (repainted client leaf m)

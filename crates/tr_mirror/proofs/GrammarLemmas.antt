@@ -6,6 +6,7 @@ use Rattle.std.proofs.lemmas.Option.{same_Some}
 use Rattle.std.specs.List.{flat_map, list_all}
 use Rattle.tr_base.specs.declared.sizes.Size.{Size}
 use Rattle.tr_base.specs.Rects.{IsScreenSize}
+use Rattle.tr_base.specs.Lists.{first_true}
 use Rattle.tr_screen.specs.Pictures.{Picture, blank_of}
 use Rattle.tr_mirror.specs.declared.faults.MirrorFault.{MirrorFault}
 use Rattle.tr_mirror.specs.declared.faults.StreamFault.TheVariants.{OutOfRange, Unfinished, TooMany}
@@ -13,7 +14,7 @@ use Rattle.tr_mirror.specs.declared.headers.Segment.{Segment}
 use Rattle.tr_mirror.specs.declared.headers.Header.{Header}
 use Rattle.tr_mirror.specs.declared.headers.Header.TheVariants.{Screen, Run, Fill, Cut}
 use Rattle.tr_mirror.specs.Headers.{header_bytes, pixel_count}
-use Rattle.tr_mirror.specs.Standings.{Standing, stream_start, after_record, with_pixels, cut_off, pixels_written, kind_of, kind_code, has_pixel, have_pixels, first_of, is_too_late, is_segment_on, most_groups, header_fault, pixel_fault}
+use Rattle.tr_mirror.specs.Standings.{Standing, stream_start, after_record, with_pixels, cut_off, pixels_written, kind_of, kind_code, has_pixel, have_pixels, is_too_late, is_segment_on, most_groups, header_fault, pixel_fault}
 use Rattle.tr_mirror.specs.Records.{Record, IsBytes, record_bytes, spelled, after_records, records_of, rest_of, fault_in}
 use Rattle.tr_mirror.specs.Readings.{Reading, reading_of, is_between, longest_stream, fault_at_end, IsStream, cut_between, list_of_option, screens_by, screens_shown}
 use Rattle.tr_mirror.specs.Streams.{screen_record, cut_record}
@@ -94,7 +95,7 @@ have_all : (s : Standing) (pixels : List ℕ) (p : Picture) → pixel_fault s pi
 unfolding pixel_fault
 have_all s pixels p none is = sym (ap (λ o. have_pixels o pixels) is) ∙ by_test (have_pixels s.screen pixels) none
   where
-    by_test : (b : Bool) → first_of ((OutOfRange, not b) ∷ []) ≡ None → b ≡ true
+    by_test : (b : Bool) → first_true ((OutOfRange, not b) ∷ []) ≡ None → b ≡ true
     by_test true h = refl
     by_test false h = absurd (cc)
 

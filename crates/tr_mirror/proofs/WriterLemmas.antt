@@ -1,13 +1,12 @@
 -- What a writer keeps and sends.
 use Rattle.std.proofs.Common.{◌≡◌, ℕ, ◌+◌, ◌<◌, pos, true, List, [], ◌∷◌, ◌++◌, length, get_or, Some, None, refl, sym, ap, subst, ◌∙◌, arith, length-append}
-use Rattle.std.proofs.lemmas.Int.{ints}
 use Rattle.std.proofs.lemmas.List.{ext_get_or}
 use Rattle.tr_base.specs.declared.points.Point.{Point}
 use Rattle.tr_base.specs.declared.sizes.Size.{Size}
 use Rattle.tr_base.specs.declared.ops.Kind.{Kind}
-use Rattle.tr_base.specs.Rects.{between, has_point, whole_of}
+use Rattle.tr_base.specs.Rects.{has_point, whole_of}
 use Rattle.tr_base.proofs.KindLemmas.{same_kind_itself}
-use Rattle.tr_base.proofs.RectLemmas.{has_point-rect_of}
+use Rattle.tr_base.proofs.PlaceLemmas.{whole_has}
 use Rattle.tr_screen.specs.Pictures.{Picture, IsPicture, pixel_of, row_of}
 use Rattle.tr_screen.specs.Resizing.{kept_pixel}
 use Rattle.tr_screen.specs.Runs.{IsOn}
@@ -18,14 +17,6 @@ use Rattle.tr_mirror.proofs.PixelLemmas.{same_picture}
 use Rattle.tr_mirror.proofs.ShownLemmas.{last_of-push}
 
 -- ---- the screen that is kept
-
-on_whole : (size : Size) (h v : ℕ) → h < size.wide → v < size.high → has_point (whole_of size) (record { h = pos h; v = pos v }) ≡ true
-on_whole size h v left above =
-    has_point-rect_of (pos 0) (pos size.wide) (pos 0) (pos size.high) (record { h = pos h; v = pos v })
-    ∙ rw (within h size.wide left, within v size.high above) refl
-  where
-    within : (x n : ℕ) → x < n → between (pos 0) (pos n) (pos x) ≡ true
-    within x n lt = grind (arith, ints)
 
 -- a screen that is made again in its own size and kind is the same
 pub made_again : (old new : Picture) (size : Size) (kind : Kind) → IsPicture old → IsPicture new → size ≡ old.size → kind ≡ old.kind → new.size ≡ size →
@@ -42,7 +33,7 @@ made_again old new size kind was is old_size old_kind new_size new_kind points =
     pixel : (h v : ℕ) → h < old.size.wide → v < old.size.high → get_or (row_of new v) h 0 ≡ get_or (row_of old v) h 0
     pixel h v left above =
         let p : Point = record { h = pos h; v = pos v } in
-        let on : has_point (whole_of old.size) p ≡ true = on_whole old.size h v left above in
+        let on : has_point (whole_of old.size) p ≡ true = whole_has old.size h v left above in
         let on_size : has_point (whole_of size) p ≡ true = subst (λ (s : Size). has_point (whole_of s) p ≡ true) (sym old_size) on in
         points p on_size ∙ ap (λ (k : Kind). kept_pixel old k p) old_kind ∙ rw (same_kind_itself old.kind, on) refl
 

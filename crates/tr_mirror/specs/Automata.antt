@@ -7,7 +7,7 @@ use Rattle.tr_mirror.specs.declared.faults.StreamFault.{StreamFault}
 use Rattle.tr_mirror.specs.declared.faults.StreamFault.TheVariants.{Unknown}
 use Rattle.tr_mirror.specs.declared.changes.Change.{Change}
 use Rattle.tr_mirror.specs.declared.changes.Change.TheVariants.{Nothing}
-use Rattle.tr_mirror.specs.Headers.{header_len, header_of, record_len}
+use Rattle.tr_mirror.specs.Headers.{header_len, header_of, longest_record, record_len}
 use Rattle.tr_mirror.specs.Standings.{Standing, most_groups, stream_start, after_record, header_fault, pixel_fault}
 use Rattle.tr_mirror.specs.Records.{is_unknown}
 use Rattle.tr_mirror.specs.Readings.{Reading, cut_between}
@@ -80,7 +80,7 @@ try_len bytes =
 
 -- the most bytes of whole records, by the state after them: a group has at most 1,055,755
 abbrev pub spent : Standing → ℕ
-spent s = 1055755 * s.cuts + (if s.within then 6 + 1031 * s.south else 0)
+spent s = 1055755 * s.cuts + (if s.within then 6 + longest_record * s.south else 0)
 
 -- bounds of whole records: they have no more bytes than 64 groups can have, and a screen has a possible size
 pub record IsBounded (s : Standing) (fed : ℕ) : Type 0 where

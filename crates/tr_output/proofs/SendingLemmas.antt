@@ -8,11 +8,6 @@ use Rattle.tr_io.specs.Faults.{HasFault}
 use Rattle.tr_io.specs.Streams.{Grew, GrewByPrefix}
 use Rattle.tr_output.specs.Sending.{Sends, HasStopped}
 
--- what holds holds where an error was answered
-pub on_err : {T E P : Type 0} (r : Result T E) → P → OnErr r P
-on_err (Ok x) p = tt
-on_err (Err e) p = p
-
 -- what follows from two facts, where both are told of one answer
 pub on_ok_both : {T E P Q R : Type 0} (r : Result T E) → (P → Q → R) → OnOk r P → OnOk r Q → OnOk r R
 on_ok_both (Ok x) f p q = f p q

@@ -11,10 +11,11 @@ use Rattle.tr_base.specs.declared.points.Point.{Point}
 use Rattle.tr_base.specs.declared.shapes.Shapes.{Shapes}
 use Rattle.tr_base.specs.Rects.{Edges, IsRect, has_point, between, empty_rect, meet_of, sides_of}
 use Rattle.tr_base.specs.Layouts.{greatest_by, turned, placed, IsPartOf, ShareNoPoint}
+use Rattle.tr_base.specs.Lists.{joined}
 use Rattle.tr_base.proofs.RectLemmas.{has_point-rect_of, has_point-meet_of}
 use Rattle.tr_base.proofs.LayoutLemmas.{ordered, turned_is_rect, turned_apart, turned-meet_of, part-meet_of, part_of_empty, all_pairs_cons, all_pairs_append}
 use Rattle.tr_base.proofs.RectFacts.{between_parts}
-use Rattle.tr_pack.specs.Cuts.{Extent, extents, joined, cut}
+use Rattle.tr_pack.specs.Cuts.{Extent, extents, cut}
 use Rattle.tr_pack.specs.Packs.{PlaceOf, room_of, pack_places, depth_of, start_of_row, start_in_row, place_in_row_across, place_in_row, row_places, all_places}
 use Rattle.tr_pack.proofs.PackLemmas.{length-extents}
 use Rattle.tr_pack.proofs.CutLemmas.{cut_is_right}

@@ -5,7 +5,8 @@ use Rattle.std.proofs.lemmas.Bool.Decides.{nat_tests}
 use Rattle.std.proofs.lemmas.List.{append_assoc, append_cancel_left, take-append-le, take_at, length-take}
 use Rattle.std.proofs.lemmas.List.Sums.{sum_by-take-le}
 use Rattle.std.proofs.Math.Nat.{mul-le-mul_left}
-use Rattle.tr_pack.specs.Cuts.{Extent, row_length, IsRow, IsFull, AreRows, joined, IsRowCut, cut_from, cut}
+use Rattle.tr_base.specs.Lists.{joined}
+use Rattle.tr_pack.specs.Cuts.{Extent, row_length, IsRow, IsFull, AreRows, IsRowCut, cut_from, cut}
 
 -- ---- the cut is right
 

@@ -2,6 +2,7 @@
 use Rattle.std.specs.Prelude.{◌≡◌, ℕ, ◌+◌, ◌-◌, ◌*◌, ◌<◌, ◌≤◌, min, Bool, not, List, [], ◌∷◌, ◌++◌, map, take, length, sum_by, nat_le, if◌then◌else◌}
 use Rattle.tr_base.specs.declared.shapes.Shapes.{Shapes}
 use Rattle.tr_base.specs.Layouts.{along}
+use Rattle.tr_base.specs.Lists.{joined}
 
 -- the length of a child along its row, and its depth across the row
 pub record Extent : Type 0 where
@@ -34,11 +35,6 @@ IsFull room gap row (next ∷ rows) = room < row_length gap (row ++ take 1 next)
 abbrev pub AreRows : ℕ → ℕ → List (List Extent) → Type 0
 AreRows room gap [] = Unit {0}
 AreRows room gap (row ∷ rows) = IsRow room gap row × IsFull room gap row rows × AreRows room gap rows
-
--- the children of all rows, one row after another
-abbrev pub joined : List (List Extent) → List Extent
-joined [] = []
-joined (row ∷ rows) = row ++ joined rows
 
 -- the rows are the right cut of the children
 pub record IsRowCut (room gap : ℕ) (children : List Extent) (rows : List (List Extent)) : Type 0 where

@@ -6,13 +6,8 @@ use Rattle.std.proofs.lemmas.Int.{ints, clamps}
 use Rattle.std.proofs.lemmas.Bool.{and_parts, and_from}
 use Rattle.tr_base.specs.declared.Point.{Point}
 use Rattle.tr_base.specs.Rects.{Edges, IsRect, between, empty_rect, has_point}
+use Rattle.tr_base.proofs.RectFacts.{between-hull_left, between-hull_right}
 use Rattle.tr_paint.specs.Hulls.{HasAll}
-
-between-first : (a b c d x : ℤ) → between a c x ≡ true → between (int_min a b) (int_max c d) x ≡ true
-between-first a b c d x h = grind (arith, ints, clamps)
-
-between-second : (a b c d x : ℤ) → between b d x ≡ true → between (int_min a b) (int_max c d) x ≡ true
-between-second a b c d x h = grind (arith, ints, clamps)
 
 -- edges that lie as far out as those of two rectangles
 abbrev pub is_round : Edges → Edges → Point → Bool
@@ -23,13 +18,13 @@ is_round a b q =
 pub round-first : (a b : Edges) (q : Point) → has_point a q ≡ true → is_round a b q ≡ true
 round-first a b q h =
     let both = and_parts (between a.west a.east q.h) (between a.north a.south q.v) h in
-    and_from _ _ (between-first a.west b.west a.east b.east q.h both.0) (between-first a.north b.north a.south b.south q.v both.1)
+    and_from _ _ (between-hull_left a.west b.west a.east b.east q.h both.0) (between-hull_left a.north b.north a.south b.south q.v both.1)
 
 -- and so do those of the second
 pub round-second : (a b : Edges) (q : Point) → has_point b q ≡ true → is_round a b q ≡ true
 round-second a b q h =
     let both = and_parts (between b.west b.east q.h) (between b.north b.south q.v) h in
-    and_from _ _ (between-second a.west b.west a.east b.east q.h both.0) (between-second a.north b.north a.south b.south q.v both.1)
+    and_from _ _ (between-hull_right a.west b.west a.east b.east q.h both.0) (between-hull_right a.north b.north a.south b.south q.v both.1)
 
 -- an interval with a coordinate has its first one and its last one
 between-low : (low high : ℤ) → int_lt low high ≡ true → between low high low ≡ true

@@ -6,18 +6,8 @@ use Rattle.std.proofs.lemmas.Int.{ints, clamps}
 use Rattle.tr_base.specs.declared.Point.{Point}
 use Rattle.tr_base.specs.declared.Size.{Size}
 use Rattle.tr_base.specs.Rects.{Edges, InReach, AreInReach, rect_of, meet_of, shifted, whole_of, empty_rect}
+use Rattle.tr_base.proofs.RectFacts.{rect_of-in_reach}
 use Rattle.tr_paint.specs.Paints.{IsNearZero, IsNearPoint, IsNearRect}
-
--- the rectangle of edges within reach is within reach
-pub rect_of-in_reach : (w e n s : ℤ) → InReach w → InReach e → InReach n → InReach s → AreInReach (rect_of w e n s)
-rect_of-in_reach w e n s hw he hn hs = by_test (int_lt w e && int_lt n s)
-  where
-    none : InReach (pos 0)
-    none = record { low = omega (arith, ints); high = omega (arith, ints) }
-
-    by_test : (b : Bool) → AreInReach (cond b (record { west = w; east = e; north = n; south = s }) empty_rect)
-    by_test true = record { west = hw; east = he; north = hn; south = hs }
-    by_test false = record { west = none; east = none; north = none; south = none }
 
 -- an edge of a window, moved by a near coordinate
 pub near_moved : (n : ℕ) (d : ℤ) → n < 65536 → IsNearZero d → InReach (pos n +ℤ d)
@@ -86,3 +76,14 @@ near-meet a b near = by_tests (int_lt west east) (int_lt north south) refl refl
         record { west = across.0; east = across.1; north = down.0; south = down.1 }
     by_tests true false h k = empty
     by_tests false q h k = empty
+
+-- the rectangle of near edges is near
+pub rect_of-near : (w e n s : ℤ) → IsNearZero w → IsNearZero e → IsNearZero n → IsNearZero s → IsNearRect (rect_of w e n s)
+rect_of-near w e n s hw he hn hs = by_test (int_lt w e && int_lt n s)
+  where
+    none : IsNearZero (pos 0)
+    none = record { low = omega (arith, ints); high = omega (arith, ints) }
+
+    by_test : (b : Bool) → IsNearRect (cond b (record { west = w; east = e; north = n; south = s }) empty_rect)
+    by_test true = record { west = hw; east = he; north = hn; south = hs }
+    by_test false = record { west = none; east = none; north = none; south = none }

@@ -1,13 +1,17 @@
 -- What commands in a row make of a base.
-use Rattle.std.proofs.Common.{◌≡◌, ℕ, Bool, true, false, cond, List, [], ◌∷◌, ◌++◌, Option, None, refl, ap, ◌∙◌}
+use Rattle.std.proofs.Common.{◌≡◌, ℕ, Bool, true, false, cond, List, [], ◌∷◌, ◌++◌, Option, None, refl, ap, ◌∙◌, sym}
 use Rattle.std.specs.Option.{option_map}
 use Rattle.std.proofs.lemmas.List.{reverse-append}
+use Rattle.std.proofs.lemmas.Bool.{or_parts}
 use mathlib.Core.List.{reverse}
 use Rattle.tr_base.specs.declared.Point.{Point}
 use Rattle.tr_base.specs.declared.Kind.{Kind}
 use Rattle.tr_base.specs.Ops.{eff}
+use Rattle.tr_base.specs.Rects.{has_point}
 use Rattle.tr_paint.specs.declared.paints.Paint.{Paint}
 use Rattle.tr_paint.specs.Traces.{Look, Deed, Keep, Lose, From, Value, Change, deed, Base, after_deed, trace, after, left_by}
+use Rattle.tr_paint.specs.Batches.{touches}
+use Rattle.tr_paint.specs.Paints.{area}
 
 -- a deed depends on the colours before it alone
 pub done-same : (kind : Kind) (d : Deed) (f g : Point → Option ℕ) (q : Point) → ((r : Point) → f r ≡ g r) → after_deed kind d f q ≡ after_deed kind d g q
@@ -51,3 +55,13 @@ after-first look base c cs q = after-append look base (c ∷ []) cs q
 pub after-last : (look : Look) (base : Base) (cs : List Paint) (c : Paint) (q : Point) →
     after look base (cs ++ c ∷ []) q ≡ cond (base.visible q) (after_deed look.kind (deed look c q) (λ r. after look base cs r) q) None
 after-last look base cs c q = ap (λ (l : List Paint). trace look base l q) (reverse-append cs (c ∷ []))
+
+-- a batch doesn't change a point outside the areas of its commands
+pub after-untouched : (look : Look) (base : Base) (batch : List Paint) (q : Point) → base.visible q ≡ true → touches batch q ≡ false →
+    after look base batch q ≡ base.known q
+after-untouched look base [] q seen none = rw seen refl
+after-untouched look base (c ∷ cs) q seen none =
+    let apart = or_parts (has_point (area c) q) (touches cs q) none in
+    after-first look base c cs q
+    ∙ after-untouched look (left_by look base (c ∷ [])) cs q seen apart.1
+    ∙ rw (apart.0, seen) refl

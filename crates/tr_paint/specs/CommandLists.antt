@@ -8,13 +8,13 @@ use Rattle.tr_paint.specs.declared.places.TextAt.{TextAt}
 use Rattle.tr_paint.specs.declared.places.Places.{Places}
 
 -- a command with these bytes at this point, if it is a text
-abbrev pub with_text : Paint → TextAt → Paint
-with_text (Text ops clip at text) placed = Text ops clip placed.at placed.text
-with_text c placed = c
+abbrev pub with_text_at : Paint → TextAt → Paint
+with_text_at (Text ops clip at text) placed = Text ops clip placed.at placed.text
+with_text_at c placed = c
 
 -- two commands differ at most in the bytes and the point of a text
-abbrev pub IsLike : Paint → Paint → Type 0
-IsLike d c = (placed : TextAt) × (d ≡ with_text c placed)
+abbrev pub DiffersInTextAlone : Paint → Paint → Type 0
+DiffersInTextAlone d c = (placed : TextAt) × (d ≡ with_text_at c placed)
 
 -- a text without a byte
 abbrev pub no_text : TextAt
@@ -28,8 +28,8 @@ abbrev pub text_at : List TextAt → ℕ → TextAt
 text_at texts k = slice_index_or texts k no_text
 
 -- the command with these places: the stored one, with its own bytes and point if it is a text
-abbrev pub command_of : List Paint → List TextAt → Places → Paint
-command_of stored texts own = with_text (stored_at stored own.command) (text_at texts own.text)
+abbrev pub command_at_places : List Paint → List TextAt → Places → Paint
+command_at_places stored texts own = with_text_at (stored_at stored own.command) (text_at texts own.text)
 
 -- a text's place is below n
 abbrev pub HasText : Paint → ℕ → ℕ → Type 0
@@ -42,20 +42,20 @@ IsNoText (Text ops clip at text) = ⊥
 IsNoText c = ⊤
 
 -- the places of a command are within the lists
-pub record HasParts (stored : List Paint) (texts : List TextAt) (own : Places) : Type 0 where
+pub record HasPlacesWithin (stored : List Paint) (texts : List TextAt) (own : Places) : Type 0 where
   pub command : own.command < length stored
   pub text : HasText (stored_at stored own.command) own.text (length texts)
 
 -- so are those of each command
 abbrev pub HaveParts : List Paint → List TextAt → List Places → Type 0
-HaveParts stored texts places = All (HasParts stored texts) places
+HaveParts stored texts places = All (HasPlacesWithin stored texts) places
 
 -- the new list begins with the old one
-abbrev pub Grew : {X : Type 0} → List X → List X → Type 0
-Grew {X} old new = (more : List X) × (new ≡ old ++ more)
+abbrev pub ListGrew : {X : Type 0} → List X → List X → Type 0
+ListGrew {X} old new = (more : List X) × (new ≡ old ++ more)
 
 -- the new stored commands begin with the old ones, and the one at a place is like this command
-pub record IsStored (old new : List Paint) (c : Paint) (k : ℕ) : Type 0 where
-  pub grew : Grew old new
+pub record IsStoredAt (old new : List Paint) (c : Paint) (k : ℕ) : Type 0 where
+  pub grew : ListGrew old new
   pub within : k < length new
-  pub like : IsLike (stored_at new k) c
+  pub like : DiffersInTextAlone (stored_at new k) c

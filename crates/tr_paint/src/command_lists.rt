@@ -32,11 +32,11 @@ pub(crate) struct CommandList {
 impl Model for CommandList {
     ghost use Rattle.std.specs.Prelude.{List, map};
     ghost use Rattle.tr_paint.specs.declared.paints.Paint.{Paint};
-    ghost use Rattle.tr_paint.specs.CommandLists.{HaveParts, command_of};
+    ghost use Rattle.tr_paint.specs.CommandLists.{HaveParts, command_at_places};
 
     ghost Value = { List Paint };
 
-    ghost view = { λ p. map (command_of p.stored.items p.texts.items) p.places.items };
+    ghost view = { λ p. map (command_at_places p.stored.items p.texts.items) p.places.items };
 
     ghost invariant = { λ p. HaveParts p.stored.items p.texts.items p.places.items };
 }

@@ -39,7 +39,7 @@ pub(crate) fn place_of_tint(
     clip: Rect,
     op: Op,
 ) -> Result<u32, NoMemory>
-    ensures ok { IfOk result (λ k. spec.IsStored stored.old.items stored.new.items (Paint.Tint clip op) k) }
+    ensures ok { IfOk result (λ k. spec.IsStoredAt stored.old.items stored.new.items (Paint.Tint clip op) k) }
     ensures err { OnErr result (stored.new.items ≡ stored.old.items) }
 {
     if is_tint_at(stored, hint, &clip, op) {
@@ -50,7 +50,7 @@ pub(crate) fn place_of_tint(
 
 /// Whether the command at a place is this tint.
 fn is_tint_at(stored: &[Paint], k: u32, clip: &Rect, op: Op) -> bool
-    ensures { IsTrue result → spec.IsStored stored.now stored.now (Paint.Tint clip.now op) k }
+    ensures { IsTrue result → spec.IsStoredAt stored.now stored.now (Paint.Tint clip.now op) k }
 {
     let k = k as usize;
     if k >= stored.len() {
@@ -77,7 +77,7 @@ pub(crate) fn place_of_scroll(
     delta: Point,
 ) -> Result<u32, NoMemory>
     ensures ok { IfOk result (λ k.
-        spec.IsStored stored.old.items stored.new.items (Paint.Scroll clip delta) k) }
+        spec.IsStoredAt stored.old.items stored.new.items (Paint.Scroll clip delta) k) }
     ensures err { OnErr result (stored.new.items ≡ stored.old.items) }
 {
     if is_scroll_at(stored, hint, &clip, delta) {
@@ -88,7 +88,7 @@ pub(crate) fn place_of_scroll(
 
 /// Whether the command at a place is this scroll.
 fn is_scroll_at(stored: &[Paint], k: u32, clip: &Rect, delta: Point) -> bool
-    ensures { IsTrue result → spec.IsStored stored.now stored.now (Paint.Scroll clip.now delta) k }
+    ensures { IsTrue result → spec.IsStoredAt stored.now stored.now (Paint.Scroll clip.now delta) k }
 {
     let k = k as usize;
     if k >= stored.len() {
@@ -118,7 +118,7 @@ pub(crate) fn place_of_text(
     text: &Line,
 ) -> Result<u32, NoMemory>
     ensures ok { IfOk result (λ k.
-        spec.IsStored stored.old.items stored.new.items (Paint.Text ops clip at text.now) k) }
+        spec.IsStoredAt stored.old.items stored.new.items (Paint.Text ops clip at text.now) k) }
     ensures err { OnErr result (stored.new.items ≡ stored.old.items) }
 {
     if is_text_at(stored, hint, ops, &clip) {
@@ -139,7 +139,7 @@ pub(crate) fn place_of_text(
 /// Whether the command at a place is a text with these operations and this clip.
 fn is_text_at(stored: &[Paint], k: u32, ops: Pair, clip: &Rect) -> bool
     ensures { (at : Point) (text : List ℕ) → IsTrue result →
-        spec.IsStored stored.now stored.now (Paint.Text ops clip.now at text) k }
+        spec.IsStoredAt stored.now stored.now (Paint.Text ops clip.now at text) k }
 {
     let k = k as usize;
     if k >= stored.len() {
@@ -151,7 +151,7 @@ fn is_text_at(stored: &[Paint], k: u32, ops: Pair, clip: &Rect) -> bool
 /// Whether a command is a text with these operations and this clip.
 fn is_text(paint: &Paint, ops: Pair, clip: &Rect) -> bool
     ensures { (at : Point) (text : List ℕ) → IsTrue result →
-        spec.IsLike paint.now (Paint.Text ops clip.now at text) }
+        spec.DiffersInTextAlone paint.now (Paint.Text ops clip.now at text) }
 {
     match paint {
         Paint::Text {
@@ -181,7 +181,7 @@ fn is_same_rect(a: &Rect, b: &Rect) -> bool
 
 /// Adds a command to the stored ones, and answers its place.
 pub(crate) fn store(stored: &mut Vec<Paint>, command: Paint) -> Result<u32, NoMemory>
-    ensures ok { IfOk result (λ k. spec.IsStored stored.old.items stored.new.items command k) }
+    ensures ok { IfOk result (λ k. spec.IsStoredAt stored.old.items stored.new.items command k) }
     ensures err { OnErr result (stored.new.items ≡ stored.old.items) }
 {
     let place = stored.len();
@@ -196,7 +196,7 @@ pub(crate) fn store(stored: &mut Vec<Paint>, command: Paint) -> Result<u32, NoMe
 #[inline(always)]
 pub(crate) fn view_of<'a>(stored: &'a Paint, texts: &'a [TextAt], k: u32) -> PaintView<'a>
     requires { spec.HasText stored.now k (length texts.now) }
-    ensures { viewed result ≡ spec.with_text stored.now (spec.text_at texts.now k) }
+    ensures { viewed result ≡ spec.with_text_at stored.now (spec.text_at texts.now k) }
 {
     match stored {
         Paint::Text { ops, clip, .. } => {

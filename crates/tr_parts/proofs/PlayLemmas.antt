@@ -16,9 +16,10 @@ use Rattle.tr_journal.specs.Journals.{JournalLine}
 use Rattle.tr_journal.specs.Names.{Names}
 use Rattle.tr_journal.specs.Openings.{tree_of}
 use Rattle.tr_journal.specs.Steps.{is_player, may, stated}
+use Rattle.tr_journal.specs.Parts.{Part}
 use Rattle.tr_machine.specs.States.{State, start}
 use Rattle.tr_machine.specs.Replays.{IsLegal, IsLegalFrom, line_of_step, next, replay}
-use Rattle.tr_interleaves.specs.Interleaves.{AreDumpsSettled, AreStretches, Part, steps_in, stretches}
+use Rattle.tr_interleaves.specs.Interleaves.{AreDumpsSettled, AreStretches, steps_in, stretches}
 use Rattle.tr_interleaves.specs.Stretches.{AreReports, IsPart}
 use Rattle.tr_interleaves.proofs.StretchLemmas.{first_part, later_part, no_steps, part_is, reports-append, reports-none}
 use Rattle.tr_stage.specs.Stages.{IsOf, StageView, state}

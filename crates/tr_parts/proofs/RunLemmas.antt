@@ -16,7 +16,7 @@ use Rattle.tr_journal.specs.Journals.{JournalLine}
 use Rattle.tr_journal.specs.Steps.{stated}
 use Rattle.tr_machine.specs.States.{State}
 use Rattle.tr_machine.specs.Replays.{line_of_step, lines_of_steps, next, replay_from}
-use Rattle.tr_machine.specs.Settling.{settling, settling_lines}
+use Rattle.tr_machine.specs.SettleSteps.{settling, settling_lines}
 use Rattle.tr_machine.proofs.JournalLemmas.{replay_from-lines_of}
 use Rattle.tr_machine.proofs.SettleLemmas.{settles, legal_settling}
 use Rattle.tr_machine.proofs.SettleLemmas as below

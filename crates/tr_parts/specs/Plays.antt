@@ -4,9 +4,10 @@ use Rattle.tr_client.specs.declared.clients.Client.{Ghosts}
 use Rattle.tr_journal.specs.declared.items.Item.{Item}
 use Rattle.tr_journal.specs.Journals.{JournalLine}
 use Rattle.tr_journal.specs.Names.{Names}
+use Rattle.tr_journal.specs.Parts.{Part}
 use Rattle.tr_machine.specs.States.{start}
 use Rattle.tr_machine.specs.Replays.{IsLegal}
-use Rattle.tr_interleaves.specs.Interleaves.{Part, Interleaves}
+use Rattle.tr_interleaves.specs.Interleaves.{Interleaves}
 use Rattle.tr_stage.specs.Stages.{StageView}
 use Rattle.tr_run.specs.declared.modes.Mode.TheVariants.{Serial}
 use Rattle.tr_run.specs.Texts.{texts_from}

@@ -5,7 +5,7 @@ use Rattle.tr_journal.specs.declared.steps.Actor.TheVariants.{Player}
 use Rattle.tr_journal.specs.declared.steps.Query.{Query}
 use Rattle.tr_journal.specs.declared.steps.Step.TheVariants.{Sync}
 use Rattle.tr_journal.specs.Journals.{JournalLine}
-use Rattle.tr_interleaves.specs.Interleaves.{Part}
+use Rattle.tr_journal.specs.Parts.{Part}
 use Rattle.tr_interleaves.specs.Stretches.{AreReports, AreParts, IsPart}
 use Rattle.tr_stage.specs.Stages.{state}
 use Rattle.tr_run.specs.declared.modes.Mode.TheVariants.{Serial}

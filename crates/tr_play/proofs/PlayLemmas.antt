@@ -1,16 +1,15 @@
 -- Parts of a script that threads play.
 use Rattle.std.proofs.Common.{◌≡◌, ℕ, ◌+◌, ◌<◌, Bool, List, [], ◌∷◌, ◌++◌, length, take, drop, get_or, refl, sym, ap, ◌∙◌, arith, append_assoc, length-append, take-append-drop}
 use Rattle.std.specs.Prelude.{All}
-use Rattle.std.proofs.lemmas.List.{map-append, map_more}
 use Rattle.std.proofs.lemmas.List.Elements.{All-weaker}
+use Rattle.std.proofs.lemmas.List.{take_more}
 use Rattle.tr_client.specs.declared.clients.Client.{Ghosts}
 use Rattle.tr_forest.specs.Nodes.{Nodes}
 use Rattle.tr_machine.specs.Replays.{IsLegal}
 use Rattle.tr_widget.specs.declared.WidgetCmd.{WidgetCmd}
 use Rattle.tr_widget.specs.Widgets.{widget_words}
-use Rattle.tr_grammar.specs.States.{Part as Seen}
+use Rattle.tr_journal.specs.Parts.{Part}
 use Rattle.tr_grammar.specs.Scripts.{IsPlayable, IsPlayablePart}
-use Rattle.tr_interleaves.specs.Interleaves.{Part}
 use Rattle.tr_run.specs.declared.modes.Mode.TheVariants.{Serial}
 use Rattle.tr_run.specs.Views.{RunView}
 use Rattle.tr_parts.specs.Runs.{IsNewRun, HasPlayedParts}
@@ -20,28 +19,27 @@ use Rattle.tr_server.specs.declared.closing.CloseRefused.{CloseRefused}
 use Rattle.tr_server.specs.declared.closing.CloseRefused.TheVariants as refused
 use Rattle.tr_server.specs.Closing.{IfDiffers}
 use Rattle.tr_play.specs.Begun.{DiffersAmong, DiffersNext}
-use Rattle.tr_play.specs.Plays.{DiffersInPart, begun_part, part_of, parts_of}
+use Rattle.tr_play.specs.Plays.{DiffersInPart, begun_part}
 use Rattle.tr_play.proofs.WorkerLemmas.{ran_nothing}
 
 -- the steps of a part that can be played can be made
-pub steps_made : (t : Nodes) (part : Seen) → IsPlayablePart t part → All (IsPartStep t) part.steps
+pub steps_made : (t : Nodes) (part : Part WidgetCmd) → IsPlayablePart t part → All (IsPartStep t) part.steps
 steps_made t part is =
     All-weaker (IsPlayable t) (IsPartStep t) (λ made one. record { maker = one.maker; own = one.own }) part.steps is.steps
 
 -- the parts so far, and one more
-pub parts_next : (parts : List Seen) (k : ℕ) (part : Seen) → (k < length parts) × (part ≡ get_or parts k part) →
-    parts_of (take k parts) ++ part_of part ∷ [] ≡ parts_of (take (k + 1) parts)
+pub parts_next : (parts : List (Part WidgetCmd)) (k : ℕ) (part : Part WidgetCmd) → (k < length parts) × (part ≡ get_or parts k part) →
+    take k parts ++ part ∷ [] ≡ take (k + 1) parts
 parts_next parts k part at =
-    ap (λ (p : Seen). parts_of (take k parts) ++ part_of p ∷ []) at.1 ∙ sym (map_more part_of parts k part at.0)
+    ap (λ (p : Part WidgetCmd). take k parts ++ p ∷ []) at.1 ∙ sym (take_more parts k part at.0)
 
 -- the parts of a script are those before one of them, that one, and the later ones
-parts_around : (parts : List Seen) (k : ℕ) (part : Seen) → (k < length parts) × (part ≡ get_or parts k part) →
-    parts_of parts ≡ parts_of (take k parts) ++ part_of part ∷ parts_of (drop (k + 1) parts)
+parts_around : (parts : List (Part WidgetCmd)) (k : ℕ) (part : Part WidgetCmd) → (k < length parts) × (part ≡ get_or parts k part) →
+    parts ≡ take k parts ++ part ∷ drop (k + 1) parts
 parts_around parts k part at =
-    ap parts_of (sym (take-append-drop (k + 1) parts))
-    ∙ map-append part_of (take (k + 1) parts) (drop (k + 1) parts)
-    ∙ ap (λ (ps : List (Part WidgetCmd)). ps ++ parts_of (drop (k + 1) parts)) (sym (parts_next parts k part at))
-    ∙ append_assoc (parts_of (take k parts)) (part_of part ∷ []) (parts_of (drop (k + 1) parts))
+    sym (take-append-drop (k + 1) parts)
+    ∙ ap (λ (ps : List (Part WidgetCmd)). ps ++ (drop (k + 1) parts)) (sym (parts_next parts k part at))
+    ∙ append_assoc (take k parts) (part ∷ []) (drop (k + 1) parts)
 
 module _ {C : Type 0} (client : Ghosts C WidgetCmd) where
   -- a run in which a part was begun, where no step follows
@@ -58,22 +56,23 @@ module _ {C : Type 0} (client : Ghosts C WidgetCmd) where
   }
 
   -- the session of the next part differed: it is the one of a part behind those so far
-  pub part_differed : (a now : RunView C WidgetCmd) (parts : List Seen) (k : ℕ) (part : Seen) (is_later : Bool) (e : CloseRefused C WidgetCmd) →
-      (k < length parts) × (part ≡ get_or parts k part) → is_later ≡ has_any (parts_of (take k parts)) → now.mode ≡ Serial →
-      HasPlayedParts client widget_words a now (parts_of (take k parts)) →
-      IfDiffers e (λ d. DiffersNext client widget_words now is_later (part_of part) d) →
-      IfDiffers e (λ d. DiffersAmong client widget_words a (parts_of parts) d)
+  pub part_differed : (a now : RunView C WidgetCmd) (parts : List (Part WidgetCmd)) (k : ℕ) (part : Part WidgetCmd) (is_later : Bool)
+      (e : CloseRefused C WidgetCmd) →
+      (k < length parts) × (part ≡ get_or parts k part) → is_later ≡ has_any (take k parts) → now.mode ≡ Serial →
+      HasPlayedParts client widget_words a now (take k parts) →
+      IfDiffers e (λ d. DiffersNext client widget_words now is_later part d) →
+      IfDiffers e (λ d. DiffersAmong client widget_words a parts d)
   part_differed a now parts k part is_later refused.NoMemory at later mode played next = tt
   part_differed a now parts k part is_later (refused.Differs d) at later mode played next =
-      let begun = begun_part (part_of part) in
+      let begun = begun_part part in
       let mode_now : next.run.mode ≡ Serial = next.begun.reported.adds.mode ∙ next.begun.sync.mode ∙ mode in
       record {
-        before = parts_of (take k parts);
-        part = part_of part;
-        later = parts_of (drop (k + 1) parts);
+        before = take k parts;
+        part = part;
+        later = drop (k + 1) parts;
         are = parts_around parts k part at;
         run = next.run;
-        played = parts_more client widget_words a now next.run (parts_of (take k parts)) is_later begun later played
+        played = parts_more client widget_words a now next.run (take k parts) is_later begun later played
             (next_played client widget_words now next.run next.run is_later begun next.begun (no_steps next.run mode_now next.legal));
         legal = next.legal;
         left = next.left;

@@ -2,7 +2,7 @@
 -- Sessions that found a difference, in a run that plays parts.
 use Rattle.std.specs.Prelude.{◌≡◌, ℕ, Bool, List, [], ◌∷◌, ◌++◌}
 use Rattle.tr_client.specs.declared.clients.Client.{Ghosts}
-use Rattle.tr_interleaves.specs.Interleaves.{Part}
+use Rattle.tr_journal.specs.Parts.{Part}
 use Rattle.tr_machine.specs.Replays.{IsLegal}
 use Rattle.tr_run.specs.Views.{RunView}
 use Rattle.tr_parts.specs.Runs.{HasBegunPart, HasPlayedParts}

@@ -1,26 +1,16 @@
 -- The results of the parts of a script that threads play.
-use Rattle.std.specs.Prelude.{◌≡◌, List, [], ◌∷◌, ◌++◌, map}
+use Rattle.std.specs.Prelude.{◌≡◌, List, [], ◌∷◌, ◌++◌}
 use Rattle.tr_client.specs.declared.clients.Client.{Ghosts}
 use Rattle.tr_forest.specs.Nodes.{leaf_count}
 use Rattle.tr_journal.specs.declared.items.Item.{Item}
 use Rattle.tr_journal.specs.declared.steps.Actor.{Actor}
 use Rattle.tr_journal.specs.declared.steps.Step.{Step}
 use Rattle.tr_journal.specs.Openings.{tree_of}
-use Rattle.tr_widget.specs.declared.WidgetCmd.{WidgetCmd}
-use Rattle.tr_grammar.specs.States.{Part as Seen}
-use Rattle.tr_interleaves.specs.Interleaves.{Part}
+use Rattle.tr_journal.specs.Parts.{Part}
 use Rattle.tr_stage.specs.Stages.{StageView}
 use Rattle.tr_parts.specs.Plays.{HasInterleaved}
 use Rattle.tr_server.specs.Differing.{DiffersView, IsDifference}
 use Rattle.tr_play.specs.Lists.{AreListed}
-
--- a part of a script in the form that `Interleaves` takes, with the type of commands as a parameter
-abbrev pub part_of : Seen → Part WidgetCmd
-part_of part = record { reports = part.reports; steps = part.steps }
-
--- all parts
-abbrev pub parts_of : List Seen → List (Part WidgetCmd)
-parts_of parts = map part_of parts
 
 -- a part reduced to its reports, without its steps
 abbrev pub begun_part : {M : Type 0} → Part M → Part M

@@ -7,8 +7,8 @@ use tr_client::Client;
 use tr_journal::Actor;
 use tr_server::{Pass, Session};
 
-/// How some workers are cut into two halves: at which place, whether they work side by side, and the number of
-/// threads for each half.
+/// How some workers are cut into two halves: at which place, whether they work side by side, and the number
+/// of threads for each half.
 #[derive(Clone, Copy)]
 pub(crate) struct Halves {
     pub(crate) cut: usize,

@@ -1,6 +1,6 @@
-//! Parts of a script that threads play: each leaf's client and the desk work side by side, if they have steps
-//! in the part, on about as many threads as there are processors, and the painter has a thread, if the part is
-//! long: it brings the screen up to date meanwhile.
+//! Parts of a script that threads play. Each leaf's client and the desk work side by side, if they have
+//! steps in the part, on about as many threads as there are processors. The painter has a thread if the
+//! part is long: it brings the screen up to date meanwhile.
 #![tactic(auto)]
 
 mod contexts;

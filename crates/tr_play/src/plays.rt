@@ -7,7 +7,7 @@ ghost use Rattle.tr_parts.specs.Plays.{HasInterleaved, journal_texts, played_thr
 ghost use Rattle.tr_parts.specs.Runs.{IsNewRun, HasPlayedNext, HasPlayedParts};
 ghost use Rattle.tr_server.specs.Closing.{IfDiffers};
 ghost use Rattle.tr_play.specs.Begun.{DiffersAmong, DiffersNext};
-ghost use Rattle.tr_play.specs.Plays.{DiffersInPart, part_of, parts_of};
+ghost use Rattle.tr_play.specs.Plays.{DiffersInPart};
 
 use crate::gates::Gate;
 use crate::threads::{Workers, make_side_by_side};
@@ -34,12 +34,12 @@ pub fn play<'a, C: Client<Cmd = WidgetCmd>, N: NameOf, R: Threads + Wait + Sync,
     requires some { 0 < length parts.now }
     requires playable { All (IsPlayablePart (tree_of run.stage.opening).nodes) parts.now }
     ensures journal { IfOk result (λ end.
-        HasInterleaved C.Client run.entry.stage.opening (parts_of parts.now) end.stage) }
+        HasInterleaved C.Client run.entry.stage.opening parts.now end.stage) }
     ensures text { IfOk result (λ end. end.text ≡ journal_texts C.Client widget_words
         run.entry.names run.entry.stage.opening end.stage.journal ++ played_threads) }
     ensures sum { IfOk result (λ end. end.sum ≡ run.entry.sum) }
     ensures differs { IfErr result (λ e. IfDiffers e (λ d.
-        DiffersInPart C.Client run.entry.stage.opening (parts_of parts.now) d)) }
+        DiffersInPart C.Client run.entry.stage.opening parts.now d)) }
 {
     let run = play_parts(workers, run, parts)?;
     run.stage().invariant();
@@ -58,9 +58,9 @@ fn play_parts<'a, C: Client<Cmd = WidgetCmd>, N: NameOf, R: Threads + Wait + Syn
     requires mode { run.mode ≡ Serial }
     requires playable { All (IsPlayablePart (tree_of run.stage.opening).nodes) parts.now }
     ensures ok { IfOk result (λ new.
-        HasPlayedParts C.Client widget_words run.entry new (parts_of parts.now)) }
+        HasPlayedParts C.Client widget_words run.entry new parts.now) }
     ensures differs { IfErr result (λ e. IfDiffers e (λ d.
-        DiffersAmong C.Client widget_words run.entry (parts_of parts.now) d)) }
+        DiffersAmong C.Client widget_words run.entry parts.now d)) }
 {
     let mut run = run;
     let mut is_later = false;
@@ -81,9 +81,9 @@ fn play_part<'a, C: Client<Cmd = WidgetCmd>, N: NameOf, R: Threads + Wait + Sync
     requires mode { run.mode ≡ Serial }
     requires playable { IsPlayablePart (tree_of run.stage.opening).nodes part.now }
     ensures ok { IfOk result (λ new.
-        HasPlayedNext C.Client widget_words run.entry new is_later (part_of part.now)) }
+        HasPlayedNext C.Client widget_words run.entry new is_later part.now) }
     ensures differs { IfErr result (λ e. IfDiffers e (λ d.
-        DiffersNext C.Client widget_words run.entry is_later (part_of part.now) d)) }
+        DiffersNext C.Client widget_words run.entry is_later part.now d)) }
 {
     let mut run = run;
     let Ok(()) = begin_part(&mut run, is_later, &part.reports) else {

@@ -17,7 +17,6 @@ use std::sync::Wait;
 use std::sync::ledger::Blank;
 use std::thread;
 use std::thread::Threads;
-use tr_base::Command;
 use tr_client::Client;
 use tr_journal::Actor;
 use tr_levels::Ladder;
@@ -27,8 +26,8 @@ use tr_stage::Stage;
 /// Two workers with steps of one part get a thread each, however few processors there are.
 const LEAST_LANES: usize = 2;
 
-/// A session on a stage: threads make the steps of the actors' lists, `steps` in all, and the painter repaints
-/// the screen meanwhile.
+/// A session on a stage: threads make the steps of the actors' lists, `steps` in all, and the painter
+/// repaints the screen meanwhile.
 pub(crate) fn session<C: Client, L: Session<C::Cmd>, R: Threads + Wait + Sync, G: Gate + Sync>(
     workers: &Workers<'_, R, G>,
     blank: Blank,

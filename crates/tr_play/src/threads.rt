@@ -1,6 +1,6 @@
 ghost use Rattle.std.specs.Prelude.{◌≡◌, [], All, IfErr, IfOk, IsTrue};
 ghost use Rattle.tr_journal.specs.Openings.{tree_of};
-ghost use Rattle.tr_machine.specs.Settling.{settling};
+ghost use Rattle.tr_machine.specs.SettleSteps.{settling};
 ghost use Rattle.tr_stage.specs.Stages.{state};
 ghost use Rattle.tr_parts.specs.Turns.{HasRun, IsPartStep};
 ghost use Rattle.tr_server.specs.Closing.{IfDiffers};

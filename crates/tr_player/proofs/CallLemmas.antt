@@ -18,7 +18,6 @@ use Rattle.tr_mirror.specs.Readings.{fault_at_end, first_fault, longest_stream, 
 use Rattle.tr_show.specs.Shows.{shown_text}
 use Rattle.tr_serial.specs.Outputs.{gen_text, drawn, out_text, widgets}
 use Rattle.tr_parts.specs.Plays.{HasInterleaved}
-use Rattle.tr_play.specs.Plays.{parts_of}
 use Rattle.tr_server.specs.Differing.{DiffersView}
 use Rattle.tr_stage.specs.Stages.{StageView}
 use Rattle.tr_widget.specs.declared.Widget.{Widget}
@@ -510,7 +509,7 @@ module _ (asked : Option Command) (from : SourceChange) (out : Outcome) (to : Si
   -- what a script came to that threads played, by what is handed out and written of it
   abbrev HasInterleavedHere : Script → StageView Widget WidgetCmd → Type 0
   HasInterleavedHere s stage =
-      HasInterleaved widgets s.opening (parts_of s.parts) stage × Grew to.written to.written_new (threads_text s stage)
+      HasInterleaved widgets s.opening s.parts stage × Grew to.written to.written_new (threads_text s stage)
 
   abbrev HasPlayedAgain : Script → Option (StageView Widget WidgetCmd) → DiffersView Widget WidgetCmd → Type 0
   HasPlayedAgain s stage d =

@@ -23,7 +23,7 @@ use Rattle.tr_player.specs.Checks.{check_refusal}
 use Rattle.tr_threads.specs.declared.plays.Threaded.{Threaded}
 use Rattle.tr_player.specs.declared.responses.Response.{Response}
 use Rattle.tr_player.specs.declared.responses.Response.TheVariants as responses
-use Rattle.tr_player.specs.Responses.{IsDueOfShow, IsDueOfText, IsResponse, due_of_script, refused_or, text_of}
+use Rattle.tr_player.specs.Responses.{IsDueOfShow, IsDueOfText, IsResponse, due_of_script, refused_or, response_text}
 use Rattle.tr_player.specs.Answers.{SourceChange, Due, usage, read_fault, refused, faulty, played, threaded, shown, IsUnread, IsDue, IsReadBack, refused_text, faulty_text, due_text}
 
 -- ---- by the words
@@ -126,7 +126,7 @@ fault_text f = sym (regroup (codes "refused: byte ") (decimal f.place) (codes " 
 -- ---- the text of a response
 
 -- it is the one that is due
-pub text_due : (due : Due) (response : Response) → IsResponse due response → text_of response ≡ due_text due
+pub text_due : (due : Due) (response : Response) → IsResponse due response → response_text response ≡ due_text due
 text_due usage responses.Usage is = refl
 text_due read_fault responses.ReadFault is = refl
 text_due (refused r) (responses.Refused text) is = is
@@ -138,12 +138,12 @@ text_due due response is = absurd is
 
 module _ {K : Type 0} (sink : Ghosts K) (before after : K) where
   -- so what a sink took of it is what it took of the text that is due
-  pub due_grew : (due : Due) (response : Response) → IsResponse due response → Grew (sink.written before) (sink.written after) (text_of response) →
+  pub due_grew : (due : Due) (response : Response) → IsResponse due response → Grew (sink.written before) (sink.written after) (response_text response) →
       Grew (sink.written before) (sink.written after) (due_text due)
   due_grew due response is grew = subst (λ (t : List ℕ). Grew (sink.written before) (sink.written after) t) (text_due due response is) grew
 
   pub due_prefix : (due : Due) (response : Response) → IsResponse due response →
-      GrewByPrefix (sink.written before) (sink.written after) (text_of response) →
+      GrewByPrefix (sink.written before) (sink.written after) (response_text response) →
       GrewByPrefix (sink.written before) (sink.written after) (due_text due)
   due_prefix due response is grew =
       subst (λ (t : List ℕ). GrewByPrefix (sink.written before) (sink.written after) t) (text_due due response is) grew

@@ -9,8 +9,8 @@ use Rattle.tr_journal.specs.Openings.{tree_of}
 use Rattle.tr_journal.specs.declared.Step.{Step}
 use Rattle.tr_journal.specs.declared.Step.TheVariants as steps
 use Rattle.tr_widget.specs.declared.WidgetCmd.{WidgetCmd}
+use Rattle.tr_journal.specs.Parts.{Part}
 use Rattle.tr_grammar.specs.declared.Code.TheVariants.{B7}
-use Rattle.tr_grammar.specs.States.{Part}
 use Rattle.tr_grammar.specs.Scripts.{Refusal, Script, refused_at}
 
 -- a screen of at most 65,536 pixels
@@ -28,11 +28,11 @@ is_small_step (actor, steps.Alter edit) = is_small_edit edit
 is_small_step made = true
 
 -- a part of such steps
-abbrev pub is_small_part : Part → Bool
+abbrev pub is_small_part : Part WidgetCmd → Bool
 is_small_part part = list_all is_small_step part.steps
 
 -- the number of steps
-abbrev pub step_count : List Part → ℕ
+abbrev pub step_count : List (Part WidgetCmd) → ℕ
 step_count parts = sum_by (λ part. length part.steps) parts
 
 -- at most 2,000 steps, and no screen of more than 65,536 pixels

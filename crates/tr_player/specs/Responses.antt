@@ -40,13 +40,13 @@ due_of_script commands.Mirror s = played s (mirror_bytes s)
 due_of_script command s = played s (out_text s)
 
 -- the text of a response
-abbrev pub text_of : Response → List ℕ
-text_of responses.Usage = usage_text
-text_of responses.ReadFault = read_fault_text
-text_of (responses.Refused text) = text.items
-text_of (responses.Played p) = p.text
-text_of (responses.Threaded made) = made.text
-text_of (responses.Shown out) = out
+abbrev pub response_text : Response → List ℕ
+response_text responses.Usage = usage_text
+response_text responses.ReadFault = read_fault_text
+response_text (responses.Refused text) = text.items
+response_text (responses.Played p) = p.text
+response_text (responses.Threaded made) = made.text
+response_text (responses.Shown out) = out
 
 -- a response is this answer: its text is the answer's, and a script's stage has played it
 abbrev pub IsResponse : Due → Response → Type 0

@@ -9,7 +9,6 @@ ghost use Rattle.tr_arguments.specs.declared.Command.{Command};
 ghost use Rattle.tr_arguments.specs.Commands.{command_of, texts_of};
 ghost use Rattle.tr_serial.specs.Outputs.{drawn, gen_text, out_text, widgets};
 ghost use Rattle.tr_parts.specs.Plays.{HasInterleaved};
-ghost use Rattle.tr_play.specs.Plays.{parts_of};
 ghost use Rattle.tr_threads.specs.Threads.{HasDifferedIn, again_text, threads_text};
 ghost use Rattle.tr_player.specs.Statuses.{code};
 ghost use Rattle.tr_player.specs.Answers.{Due, HasPlayed, IsAllowed, IsAnswered, IsDelivered, IsDue};
@@ -289,7 +288,7 @@ pub fn trestle_call<R: Threads + Wait + Sync, S: Source, K: Sink, G: Gate + Sync
     ensures threads { result.status ≡ code Status.Done → IsNone result.differs →
         OfThreads (command_of (texts_of words.now)) (S.left source.old) (λ bytes.
         IsSomeAnd result.stage (λ stage.
-        HasInterleaved widgets (script_of bytes).opening (parts_of (script_of bytes).parts) stage
+        HasInterleaved widgets (script_of bytes).opening (script_of bytes).parts stage
         × Grew (K.written sink.old) (K.written sink.new) (threads_text (script_of bytes) stage))) }
 
     // If a session found a stage that differs from its passes, the outcome has the difference, and all was

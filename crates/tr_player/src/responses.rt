@@ -8,7 +8,7 @@ ghost use Rattle.tr_serial.specs.Screens.{report_count};
 ghost use Rattle.tr_player.specs.Answers as spec;
 ghost use Rattle.tr_player.specs.Answers.{Due, IsDifferenceOf, IsDue, IsDueOfBytes, IsDueOfStream, IsReadBack, IsStageOf};
 ghost use Rattle.tr_player.specs.Answers.{ReadsNone, faulty, of_one_thread, refused, source_change, status_of};
-ghost use Rattle.tr_player.specs.Responses.{IsDueOfShow, IsDueOfText, IsResponse, due_of_script, text_of};
+ghost use Rattle.tr_player.specs.Responses.{IsDueOfShow, IsDueOfText, IsResponse, due_of_script, response_text};
 
 use crate::checks::is_checkable;
 use crate::errors::ReadError;
@@ -72,11 +72,11 @@ impl Response {
 
     /// Writes the text. For want of memory nothing is written.
     pub fn write_to<K: Sink>(&self, sink: &mut K) -> Result<(), WriteRefused>
-        ensures ok { OnOk result (Grew (K.written sink.old) (K.written sink.new) (text_of self.now)) }
+        ensures ok { OnOk result (Grew (K.written sink.old) (K.written sink.new) (response_text self.now)) }
         ensures no_memory { result ≡ Err WriteRefused.NoMemory → K.written sink.new ≡ K.written sink.old }
         ensures failed { result ≡ Err WriteRefused.Failed →
             HasFault (K.faults sink.old) (K.faults sink.new)
-            × GrewByPrefix (K.written sink.old) (K.written sink.new) (text_of self.now) }
+            × GrewByPrefix (K.written sink.old) (K.written sink.new) (response_text self.now) }
         ensures rising { K.faults sink.old ≤ K.faults sink.new }
     {
         match self {
@@ -215,11 +215,7 @@ fn most_read(command: Command) -> usize
 }
 
 /// The response to the bytes of a script.
-fn response_to_bytes(
-    alloc: Global,
-    command: Command,
-    bytes: Vec<u8>,
-) -> Result<Response, NoMemory>
+fn response_to_bytes(alloc: Global, command: Command, bytes: Vec<u8>) -> Result<Response, NoMemory>
     requires { command ≢ Play }
     ensures { IfOk result (λ response.
         (due : Due) × IsResponse due response × IsDueOfText command bytes.items due) }

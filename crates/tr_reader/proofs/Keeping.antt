@@ -25,8 +25,9 @@ use Rattle.tr_grammar.specs.declared.Place.TheVariants as places
 use Rattle.tr_grammar.specs.declared.Meaning.{Meaning}
 use Rattle.tr_grammar.specs.declared.Meaning.TheVariants as meanings
 use Rattle.tr_journal.specs.Names.{Names}
+use Rattle.tr_journal.specs.Parts.{Part}
 use Rattle.tr_grammar.specs.Names.{number_of}
-use Rattle.tr_grammar.specs.States.{SoFar, Part, empty_part, nothing_yet}
+use Rattle.tr_grammar.specs.States.{SoFar, empty_part, nothing_yet}
 use Rattle.tr_grammar.specs.Faults.{version_line, screen_line, opening_line, step_line, report_line, allows, is_refused, nodes_so_far, reports_so_far, has_ended}
 use Rattle.tr_grammar.specs.Scripts.{after_meaning, with_name, with_glyph, whole, IsPlayable, IsPlayablePart, IsPlayableScript}
 use Rattle.tr_reader.proofs.NameLemmas.{none_before, none_after}
@@ -214,10 +215,10 @@ reports_in m = 0
 one_report : (sum : ℕ) (qs : List Query) (query : Query) → sum + length (qs ++ query ∷ []) ≡ sum + length qs + 1
 one_report sum qs query = let more = length-append qs (query ∷ []) in omega arith
 
-ended_reports : (ended : List Part) (part : Part) →
+ended_reports : (ended : List (Part WidgetCmd)) (part : Part WidgetCmd) →
     sum_by (λ p. length p.reports) (ended ++ part ∷ []) + 0 ≡ sum_by (λ p. length p.reports) ended + length part.reports + 0
 ended_reports ended part =
-    let both = sum_by-append (λ (p : Part). length p.reports) ended (part ∷ []) in
+    let both = sum_by-append (λ (p : Part WidgetCmd). length p.reports) ended (part ∷ []) in
     omega arith
 
 more_reports : (c : SoFar) (w : List ℕ) (m : Meaning) → reports_so_far (after_meaning c w m) ≡ reports_so_far c + reports_in m

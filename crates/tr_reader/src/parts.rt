@@ -15,9 +15,10 @@ pub struct Part {
 }
 
 impl Model for Part {
-    ghost use Rattle.tr_grammar.specs.States.{Part as Seen};
+    ghost use Rattle.tr_journal.specs.Parts.{Part as Seen};
+    ghost use Rattle.tr_widget.specs.declared.WidgetCmd.{WidgetCmd};
 
-    ghost Value = { Seen };
+    ghost Value = { Seen WidgetCmd };
 
     ghost view = { λ p. record { reports = p.reports.items; steps = p.steps.items } };
 }

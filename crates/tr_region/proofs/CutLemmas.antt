@@ -9,6 +9,7 @@ use Rattle.std.proofs.lemmas.Int.{ints, clamps, by_lt_z}
 use Rattle.std.proofs.lemmas.List.{length-append, get_or-map, get_or_append_left, get_or-append_right}
 use Rattle.std.proofs.Math.Seq.{take-append-add, drop-append-add}
 use Rattle.tr_base.specs.Rects.{Edges, AreInReach, between, empty_rect}
+use Rattle.tr_base.proofs.BoolLemmas.{and_false}
 use Rattle.tr_region.specs.declared.operations.Operation.{Operation}
 use Rattle.tr_region.specs.declared.operations.Operation.TheVariants.{Union, Meet, Minus}
 use Rattle.tr_region.specs.Operations.{keeps}
@@ -277,16 +278,11 @@ last_at rects r z n h some is e fits parted = by_bands (bands_of rects) refl
 
 -- ---- a sweep behind the front of a list
 
--- what is in two parts of the one list, and what in the other
-and_none : (a : Bool) → a && false ≡ false
-and_none true = refl
-and_none false = refl
-
 first_kept : (operation : Operation) (a b s : Bool) → a && s ≡ false →
     cond (keeps operation true false) a false || keeps operation b s ≡ keeps operation (a || b) s
 first_kept Union true b s e = refl
 first_kept Union false b s e = refl
-first_kept Meet true b s e = rw e (and_none b)
+first_kept Meet true b s e = rw e (and_false b)
 first_kept Meet false b s e = refl
 first_kept Minus true b s e = rw e refl
 first_kept Minus false b s e = refl
@@ -313,7 +309,7 @@ apart : (front bands : List Band) (y x : ℤ) → AreBands bands → EndBy (nort
 apart front bands y x h ends = by_lt_z y (north_of bands) above below
   where
     above : y <ℤ north_of bands → in_spans (spans_at front y) x && in_spans (spans_at bands y) x ≡ false
-    above lt = rw (spans_at-below bands y h lt) (and_none (in_spans (spans_at front y) x))
+    above lt = rw (spans_at-below bands y h lt) (and_false (in_spans (spans_at front y) x))
 
     below : north_of bands ≤ℤ y → in_spans (spans_at front y) x && in_spans (spans_at bands y) x ≡ false
     below le = rw (spans_at-beyond front (north_of bands) y ends le) refl

@@ -5,6 +5,7 @@ use Rattle.std.proofs.lemmas.Int.{ints}
 use Rattle.std.proofs.lemmas.List.Concat.{flat_map-append}
 use Rattle.tr_base.specs.Rects.{Edges, InReach, AreInReach, between}
 use Rattle.tr_base.proofs.RectFacts.{between-within}
+use Rattle.tr_base.proofs.BoolLemmas.{or_false}
 use Rattle.tr_region.specs.declared.operations.Operation.{Operation}
 use Rattle.tr_region.specs.declared.operations.Operation.TheVariants.{Union, Meet, Minus}
 use Rattle.tr_region.specs.declared.strips.Strip.{Strip}
@@ -12,7 +13,7 @@ use Rattle.tr_region.specs.Operations.{keeps}
 use Rattle.tr_region.specs.Bands.{Span, Band, IsCanonical, IsBand, AreBands, bands_of, rects_of, rects_in, in_spans, spans_at}
 use Rattle.tr_region.specs.Sweeps.{north_of, south_of, begun_at, first_count, IsInFirst, IsFirst, EndBy, count_before_last, Continues, IsMade, AddsRows}
 use Rattle.tr_region.proofs.ListLemmas.{AllByRecursion-append, AllByRecursion-drop}
-use Rattle.tr_region.proofs.BandLemmas.{FollowsFirst, AreBands-parts, rects_of-bands_of, bands_of-rects_of, or-false}
+use Rattle.tr_region.proofs.BandLemmas.{FollowsFirst, AreBands-parts, rects_of-bands_of, bands_of-rects_of}
 use Rattle.tr_region.proofs.SweepLemmas.{bands_of-drop_first, north_of-tail, spans_at-below}
 use Rattle.tr_region.proofs.JoinLemmas.{spans_at-beyond}
 use Rattle.tr_region.proofs.Unique.{same_spans, AreApart-spans_at}
@@ -76,7 +77,7 @@ ended_by made all b bands top spans rest h is follows are reach south tail withi
     }
   where
     plain : (x : ℤ) → in_spans spans x ≡ in_spans b.spans x
-    plain x = points x ∙ or-false (in_spans b.spans x)
+    plain x = points x ∙ or_false (in_spans b.spans x)
 
     last_row : spans_at (bands_of all) (b.south -ℤ pos 1) ≡ spans
     last_row =
@@ -108,7 +109,7 @@ ended_by made all b bands top spans rest h is follows are reach south tail withi
         let high : y <ℤ b.south = grind (arith, ints) in
         let none : spans_at (bands_of made) y ≡ [] = spans_at-beyond (bands_of made) top y made_ends low in
         let past : spans_at bands y ≡ [] = spans_at-below bands y are (omega (arith, ints)) in
-        rw (none, past) (or-false (in_spans spans x) ∙ plain x)
+        rw (none, past) (or_false (in_spans spans x) ∙ plain x)
     by_test y x false e = refl
 
 -- what is left of a list, with its first band added and then the others

@@ -9,19 +9,14 @@ use Rattle.std.proofs.lemmas.List.{take_more, take_all}
 use Rattle.tr_base.specs.declared.Point.{Point}
 use Rattle.tr_base.specs.Rects.{Edges, between, has_point, empty_rect}
 use Rattle.tr_base.specs.Layouts.{IsBetween, IsPartOf}
+use Rattle.tr_base.proofs.RectFacts.{between-hull_left, between-hull_right}
+use Rattle.tr_base.proofs.BoolLemmas.{or_false}
 use Rattle.tr_region.specs.Points.{holds}
 use Rattle.tr_region.specs.Extents.{hull_of, extents_of}
-use Rattle.tr_region.proofs.BandLemmas.{or-false}
 use Rattle.tr_region.proofs.SweepLemmas.{some_length}
 use Rattle.tr_region.proofs.OrderLemmas.{IsFull, Precedes, AreInOrder, IsFull-at}
 
 -- ---- what lies in a hull
-
-between-hull_left : (a b c d x : ℤ) → between a c x ≡ true → between (int_min a b) (int_max c d) x ≡ true
-between-hull_left a b c d x h = grind (arith, ints, clamps)
-
-between-hull_right : (a b c d x : ℤ) → between b d x ≡ true → between (int_min a b) (int_max c d) x ≡ true
-between-hull_right a b c d x h = grind (arith, ints, clamps)
 
 has_point-hull_left : (a b : Edges) (p : Point) → has_point a p ≡ true → has_point (hull_of a b) p ≡ true
 has_point-hull_left a b p h =
@@ -36,7 +31,7 @@ has_point-hull_right a b p h =
 -- a list's points lie in its extents
 pub holds-extents : (rects : List Edges) (p : Point) → holds rects p ≡ true → has_point (extents_of rects) p ≡ true
 holds-extents [] p h = absurd (false≢true h)
-holds-extents (r ∷ []) p h = sym (or-false (has_point r p)) ∙ h
+holds-extents (r ∷ []) p h = sym (or_false (has_point r p)) ∙ h
 holds-extents (r ∷ s ∷ rects) p h =
     ⊎_elim (λ (k : has_point r p ≡ true). has_point-hull_left r (extents_of (s ∷ rects)) p k)
     (λ (k : holds (s ∷ rects) p ≡ true). has_point-hull_right r (extents_of (s ∷ rects)) p (holds-extents (s ∷ rects) p k))
@@ -195,7 +190,7 @@ between_hull a b outer f g = record {
 
 between_all : (r : Edges) (rects : List Edges) (outer : Edges) → AreInOrder (r ∷ rects) →
     ((p : Point) → holds (r ∷ rects) p ≡ true → has_point outer p ≡ true) → IsBetween (extents_of (r ∷ rects)) outer
-between_all r [] outer h all = between_edges r outer h.0 (λ p k. all p (or-false (has_point r p) ∙ k))
+between_all r [] outer h all = between_edges r outer h.0 (λ p k. all p (or_false (has_point r p) ∙ k))
 between_all r (s ∷ rects) outer h all =
     between_hull r (extents_of (s ∷ rects)) outer (between_edges r outer h.0 (λ p k. all p (ap (λ b. b || holds (s ∷ rects) p) k)))
     (between_all s rects outer h.2 (λ p k. all p (ap (λ b. has_point r p || b) k ∙ or_true (has_point r p))))

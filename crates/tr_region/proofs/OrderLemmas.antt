@@ -5,11 +5,12 @@ use Rattle.std.proofs.lemmas.Int.{ints}
 use Rattle.std.proofs.lemmas.List.Elements.{All-get_or, All-from_recursion}
 use Rattle.tr_base.specs.declared.Point.{Point}
 use Rattle.tr_base.specs.Rects.{Edges, has_point}
+use Rattle.tr_base.proofs.BoolLemmas.{or_false}
 use Rattle.tr_region.specs.Points.{holds}
 use Rattle.tr_region.specs.Bands.{Span, Band, rect_in, rects_in, rects_of, bands_of, AreApart, AreBands, IsCanonical}
 use Rattle.tr_region.specs.Order.{lies_before}
 use Rattle.tr_region.proofs.ListLemmas.{AllByRecursion-append, AllByRecursion-weaker}
-use Rattle.tr_region.proofs.BandLemmas.{AreBands-parts, BeginsFrom, BeginsFrom-after, rects_of-bands_of, or-false}
+use Rattle.tr_region.proofs.BandLemmas.{AreBands-parts, BeginsFrom, BeginsFrom-after, rects_of-bands_of}
 
 -- a rectangle holds points
 pub record IsFull (r : Edges) : Type 0 where
@@ -135,7 +136,7 @@ pub holds_at : (rects : List Edges) (at : ℕ) (d : Edges) (p : Point) → AreIn
     at < length rects → holds rects p ≡ has_point (get_or rects at d) p
 holds_at [] at d p h w k = absurd (omega arith)
 holds_at (r ∷ rects) zero d p h w k =
-    rw (none_after r rects p h.0 h.1 (w.1 zero r (omega arith) (omega arith))) (or-false (has_point r p))
+    rw (none_after r rects p h.0 h.1 (w.1 zero r (omega arith) (omega arith))) (or_false (has_point r p))
 holds_at (r ∷ rects) (suc at) d p h w k =
     rw (no_point_before r p (w.0 zero r (omega arith) (omega arith)))
     (holds_at rects at d p h.2 (λ i e lo hi. w.0 (suc i) e (omega arith) (omega arith), λ i e lo hi. w.1 (suc i) e (omega arith) (omega arith)) (omega arith))

@@ -1,5 +1,5 @@
 -- The places of the points of rectangles: each below the number of points, and where they are when one rectangle more stands at the end.
-use Rattle.std.proofs.Common.{◌≡◌, ℕ, zero, suc, ◌+◌, ◌<◌, ◌≤◌, ℤ, pos, ◌-ℤ◌, ◌≤ℤ◌, Bool, true, false, ◌||◌, cond, List, [], ◌∷◌, ◌++◌, length, get_or, take, refl, sym, ap, ◌∙◌, arith}
+use Rattle.std.proofs.Common.{◌≡◌, ℕ, zero, suc, ◌+◌, ◌<◌, ◌≤◌, ℤ, ◌-ℤ◌, Bool, true, false, ◌||◌, cond, List, [], ◌∷◌, ◌++◌, length, get_or, take, refl, sym, ap, ◌∙◌, arith}
 use Rattle.std.specs.Prelude.{unsigned_abs}
 use Rattle.std.proofs.lemmas.Int.{ints}
 use Rattle.std.proofs.lemmas.Nat.{mul-add-lt}
@@ -9,18 +9,14 @@ use Rattle.std.proofs.lemmas.List.Sums.{sum_by-cons, sum_by-append, sum_by-take-
 use Rattle.tr_base.specs.declared.Point.{Point}
 use Rattle.tr_base.specs.Rects.{Edges, between, has_point, sides_of}
 use Rattle.tr_base.proofs.RectLemmas.{false-true}
-use Rattle.tr_base.proofs.BoolLemmas.{or_true}
-use Rattle.tr_base.proofs.RectFacts.{between_parts}
+use Rattle.tr_base.proofs.BoolLemmas.{or_true, or_false}
+use Rattle.tr_base.proofs.RectFacts.{between_parts, abs_is}
 use Rattle.tr_region.specs.Areas.{area_of, total_area}
 use Rattle.tr_region.specs.Places.{place_in, place_within}
 use Rattle.tr_region.specs.Points.{holds}
-use Rattle.tr_region.proofs.BandLemmas.{holds-append, or-false}
+use Rattle.tr_region.proofs.BandLemmas.{holds-append}
 
 -- ---- one rectangle
-
--- a number that isn't negative
-pub abs_is : (z : ℤ) → pos 0 ≤ℤ z → pos (unsigned_abs z) ≡ z
-abs_is z h = grind (arith, ints)
 
 -- how far a coordinate is from the first edge
 far_within : (low high x : ℤ) → between low high x ≡ true → unsigned_abs (x -ℤ low) < unsigned_abs (high -ℤ low)
@@ -55,12 +51,12 @@ place_in-first r rs p none = ap (λ b. cond b (area_of r + place_in rs p) (place
 
 -- a point that none of the others holds is the first one's
 pub held_first : (r : Edges) (rs : List Edges) (p : Point) → holds (r ∷ rs) p ≡ true → holds rs p ≡ false → has_point r p ≡ true
-held_first r rs p h none = sym (or-false (has_point r p)) ∙ ap (λ b. has_point r p || b) (sym none) ∙ h
+held_first r rs p h none = sym (or_false (has_point r p)) ∙ ap (λ b. has_point r p || b) (sym none) ∙ h
 
 -- ---- one rectangle more at the end
 
 pub holds-push : (rects : List Edges) (r : Edges) (p : Point) → holds (rects ++ r ∷ []) p ≡ (holds rects p || has_point r p)
-holds-push rects r p = holds-append rects (r ∷ []) p ∙ ap (λ b. holds rects p || b) (or-false (has_point r p))
+holds-push rects r p = holds-append rects (r ∷ []) p ∙ ap (λ b. holds rects p || b) (or_false (has_point r p))
 
 -- its own points are held
 pub holds-push_own : (rects : List Edges) (r : Edges) (p : Point) → has_point r p ≡ true → holds (rects ++ r ∷ []) p ≡ true
@@ -68,7 +64,7 @@ holds-push_own rects r p h = holds-push rects r p ∙ ap (λ b. holds rects p ||
 
 -- any other point is held where it was
 pub holds-push_other : (rects : List Edges) (r : Edges) (p : Point) → has_point r p ≡ false → holds (rects ++ r ∷ []) p ≡ holds rects p
-holds-push_other rects r p out = holds-push rects r p ∙ ap (λ b. holds rects p || b) out ∙ or-false (holds rects p)
+holds-push_other rects r p out = holds-push rects r p ∙ ap (λ b. holds rects p || b) out ∙ or_false (holds rects p)
 
 pub total_area-push : (rects : List Edges) (r : Edges) → total_area (rects ++ r ∷ []) ≡ total_area rects + area_of r
 total_area-push rects r =

@@ -1,5 +1,5 @@
 -- What a line of a journal names has a name, where each node and each leaf has one.
-use Rattle.std.proofs.Common.{◌≡◌, ℕ, ◌<◌, Bool, true, false, ◌||◌, ◌==◌, List, [], ◌∷◌, ◌++◌, Option, Some, None, refl, sym, ap, subst, ◌∙◌, arith}
+use Rattle.std.proofs.Common.{◌≡◌, ℕ, ◌<◌, true, ◌==◌, List, [], ◌∷◌, ◌++◌, Option, Some, None, refl, sym, ap, subst, ◌∙◌, arith}
 use Rattle.std.specs.Prelude.{All}
 use Rattle.std.proofs.lemmas.List.Elements.{All-append, All-cons, All-nil, All-push, All-weaker}
 use Rattle.tr_base.specs.declared.LeafId.{LeafId}
@@ -8,6 +8,7 @@ use Rattle.tr_base.specs.declared.Event.{Event}
 use Rattle.tr_base.specs.declared.Spot.{Spot}
 use Rattle.tr_base.specs.declared.Spot.TheVariants as spots
 use Rattle.tr_base.proofs.RectLemmas.{false-true}
+use Rattle.tr_base.proofs.BoolLemmas.{from_or_false}
 use Rattle.tr_client.specs.declared.clients.Client.{Ghosts}
 use Rattle.tr_forest.specs.declared.Edit.{Edit}
 use Rattle.tr_forest.specs.declared.Edit.TheVariants as edits
@@ -39,7 +40,7 @@ use Rattle.tr_journal.specs.Steps.{AreAsMany, AreLevels, IsLevel, IsOwn, IsQuery
 use Rattle.tr_journal.proofs.LevelLemmas.{stated_levels}
 use Rattle.tr_machine.specs.States.{State, content_of, start}
 use Rattle.tr_machine.specs.Machines as machine
-use Rattle.tr_machine.specs.Machines.{Outcome, asked_of, edit_step, obeyed, taken, unless}
+use Rattle.tr_machine.specs.Machines.{Outcome, asked_of, delivered_or_refused, edit_step, obeyed, taken}
 use Rattle.tr_machine.specs.Replays.{IsLegal, IsLegalFrom, line_of_step, next, replay, replay_from}
 use Rattle.tr_machine.proofs.JournalLemmas.{replay-append}
 use Rattle.tr_machine.proofs.KeptLemmas.{IsKept, kept_next, step_along}
@@ -107,10 +108,6 @@ named_step names t (steps.Repaint leaf) named is = has_leaf names t leaf named i
 named_step names t (steps.Report query) named is = named_query names t query named is
 named_step names t step named is = tt
 
-or_false : (b : Bool) → (b || false) ≡ true → b ≡ true
-or_false true h = refl
-or_false false h = h
-
 -- a leaf's own steps are those of a leaf of the tree
 own_leaf : {M : Type 0} (t : Nodes) (own : LeafId) (step : Step M) → may (actors.Leaf own) step ≡ true → IsStep t step → own.0 < leaf_count t
 own_leaf t own (steps.Act leaf cmd) h is = omega (arith, equal_numbers own.0 leaf.0 h, is.within)
@@ -124,8 +121,8 @@ own_leaf t own (steps.Mouse time button down) h is = absurd (false-true h)
 own_leaf t own (steps.Motion time at) h is = absurd (false-true h)
 own_leaf t own (steps.Key time code) h is = absurd (false-true h)
 own_leaf t own (steps.Alter edit) h is = absurd (false-true h)
-own_leaf t own (steps.Flush leaf) h is = omega (arith, equal_numbers own.0 leaf.0 (or_false (own.0 == leaf.0) h), is.within)
-own_leaf t own (steps.Repaint leaf) h is = omega (arith, equal_numbers own.0 leaf.0 (or_false (own.0 == leaf.0) h), is.within)
+own_leaf t own (steps.Flush leaf) h is = omega (arith, equal_numbers own.0 leaf.0 (from_or_false (own.0 == leaf.0) h), is.within)
+own_leaf t own (steps.Repaint leaf) h is = omega (arith, equal_numbers own.0 leaf.0 (from_or_false (own.0 == leaf.0) h), is.within)
 own_leaf t own steps.PaintFrame h is = absurd (false-true h)
 own_leaf t own steps.Sync h is = absurd (false-true h)
 own_leaf t own (steps.Report query) h is = absurd (false-true h)
@@ -155,7 +152,7 @@ module _ {C M : Type 0} (client : Ghosts C M) where
 
   -- a step that the desk refuses, or not
   going_unless : (count : ℕ) (o : Option DeskFault) (m : State C M) (s : Sending) → IsKnowing count m.mail → IsSending count s →
-      IsGoing count (unless o m s)
+      IsGoing count (delivered_or_refused o m s)
   going_unless count None m s is sends = record { mail = sends.mail; sent = sends.sent }
   going_unless count (Some fault) m s is sends = record { mail = is; sent = All-nil (IsBelow count) }
 

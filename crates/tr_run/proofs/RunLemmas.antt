@@ -17,7 +17,7 @@ use Rattle.tr_journal.specs.Reports.{is_report}
 use Rattle.tr_journal.specs.Steps.{stated}
 use Rattle.tr_machine.specs.States.{State}
 use Rattle.tr_machine.specs.Replays.{line_of_step, next, replay, replay_from, after_steps, lines_of_steps}
-use Rattle.tr_machine.specs.Settling.{settling_lines}
+use Rattle.tr_machine.specs.SettleSteps.{settling_lines}
 use Rattle.tr_machine.proofs.JournalLemmas.{lines_of-append, lines_of-take, replay-append, replay-more, replay_from-append, replay_from-lines_of}
 use Rattle.tr_journal.specs.Names.{Names}
 use Rattle.tr_stage.specs.Stages.{StageView, is_note, state}

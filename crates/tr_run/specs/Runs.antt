@@ -11,7 +11,7 @@ use Rattle.tr_journal.specs.Journals.{JournalLine}
 use Rattle.tr_journal.specs.Steps.{stated}
 use Rattle.tr_machine.specs.States.{State}
 use Rattle.tr_machine.specs.Replays.{line_of_step, replay_from}
-use Rattle.tr_machine.specs.Settling.{settling_lines}
+use Rattle.tr_machine.specs.SettleSteps.{settling_lines}
 
 -- a cue of a run: an actor makes a step, holding exactly the step's levels, or the painter settles the stage
 pub data Cue (M : Type 0) : Type 0 where

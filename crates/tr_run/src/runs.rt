@@ -11,7 +11,7 @@ ghost use Rattle.tr_machine.specs.Pictures.{render};
 ghost use Rattle.tr_dump.specs.Reports.{outcome_text};
 ghost use Rattle.tr_journal.specs.Names.{names_of};
 ghost use Rattle.tr_machine.specs.Replays.{line_of_step, lines_of_steps};
-ghost use Rattle.tr_machine.specs.Settling.{settling_lines};
+ghost use Rattle.tr_machine.specs.SettleSteps.{settling_lines};
 ghost use Rattle.tr_stage.specs.Making.{MakesWithoutReply};
 ghost use Rattle.tr_stage.specs.Stages.{IsPainters, is_note, state};
 ghost use Rattle.tr_run.specs.Runs.{makes, reporting};

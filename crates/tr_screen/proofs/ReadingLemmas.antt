@@ -1,7 +1,6 @@
 -- The pixels at the points of rectangles, as one list: where each of them stands, and how a walk over rows collects them.
 use Rattle.std.proofs.Common.{◌≡◌, ℕ, zero, suc, add-one, ◌+◌, ◌*◌, ◌-◌, ◌<◌, ℤ, pos, ◌+ℤ◌, ◌-ℤ◌, ◌≤ℤ◌, ◌<ℤ◌, true, ◌&&◌, List, ◌++◌, append_assoc, flat_map, length, get_or, take, drop, inl, inr, refl, sym, ap, ◌∙◌, arith}
 use Rattle.std.specs.List.{range_with_len}
-use Rattle.std.specs.Prelude.{unsigned_abs}
 use Rattle.std.proofs.lemmas.Int.{ints}
 use Rattle.std.proofs.lemmas.List.{append-nil, get_or_append_left, get_or-append-add, length-append, length-drop, length-take-le}
 use Rattle.std.proofs.lemmas.List.FromFn.{fill_by_all, length-map-range_with_len, get_or-map-range_with_len}
@@ -10,7 +9,7 @@ use Rattle.tr_base.specs.declared.sizes.Size.{Size}
 use Rattle.tr_base.specs.declared.ops.Kind.{Kind}
 use Rattle.tr_base.specs.Rects.{Edges, InReach, IsRect, between, sides_of}
 use Rattle.tr_base.proofs.RectLemmas.{rect_cases}
-use Rattle.tr_base.proofs.RectFacts.{between-within}
+use Rattle.tr_base.proofs.RectFacts.{between-within, abs_is}
 use Rattle.tr_screen.specs.declared.runs.Run.{Run}
 use Rattle.tr_screen.specs.Pictures.{picture_of, pixel_of}
 use Rattle.tr_screen.specs.Runs.{IsRun, column_in, in_run, point_in, start_of, width_of}
@@ -80,10 +79,6 @@ module _ (pixel : Point → ℕ) (r : Edges) where
       ∙ ap (λ m. flat_map (λ j. run_by pixel (row_in r j)) (range_with_len 0 m)) (sym (add-one n)))
 
 -- ---- the rows of a rectangle on a screen
-
--- a number that isn't negative
-abs_is : (z : ℤ) → pos 0 ≤ℤ z → pos (unsigned_abs z) ≡ z
-abs_is z h = grind (arith, ints)
 
 -- a point between the edges is on the screen
 corner_on : (size : Size) (r : Edges) → LiesOn size r → (h v : ℤ) → r.west ≤ℤ h → h <ℤ r.east → r.north ≤ℤ v → v <ℤ r.south →

@@ -15,7 +15,7 @@ use Rattle.tr_base.proofs.RectLemmas.{has_point-rect_of}
 use Rattle.tr_base.proofs.PlaceLemmas.{row_fits, in_whole}
 use Rattle.tr_screen.specs.declared.runs.Run.{Run}
 use Rattle.tr_screen.specs.Pictures.{pixel_of, picture_of, written_at}
-use Rattle.tr_screen.specs.Runs.{in_run, in_rows, run_before, index_of, start_of, width_of, column_in, point_in, IsRun, IsOn, Repaints}
+use Rattle.tr_screen.specs.Runs.{in_run, in_rows, run_before, pixel_index, start_of, width_of, column_in, point_in, IsRun, IsOn, Repaints}
 use Rattle.tr_screen.specs.RunLending.{run_overwritten}
 use Rattle.tr_screen.specs.Copies.{IsCopied, IsFilled}
 use Rattle.tr_screen.proofs.PictureLemmas.{pixel_of-picture_of, concat-first_chunks, written_at-is}
@@ -126,7 +126,7 @@ same_row n row column v west wide hc hw low high =
 pub place_in : (size : Size) (r : Run) (p : Point) →
     IsRun size r → in_run r p ≡ true →
     (unsigned_abs r.west ≤ unsigned_abs p.h) × (unsigned_abs p.h < unsigned_abs r.west + width_of r)
-    × (index_of size p + unsigned_abs r.west ≡ start_of size r + unsigned_abs p.h)
+    × (pixel_index size p + unsigned_abs r.west ≡ start_of size r + unsigned_abs p.h)
 place_in size r p h in_it =
     let at = tests_of_run r p in_it in
     let n = natural size r h in
@@ -138,13 +138,13 @@ place_in size r p h in_it =
 
 -- a point that the run doesn't hold has its place before the run's or after it
 place_outside : (size : Size) (r : Run) (p : Point) → IsRun size r → IsOn size p → in_run r p ≡ false →
-    (index_of size p < start_of size r) ⊎ (start_of size r + width_of r ≤ index_of size p)
-place_outside size r p h on out = by_order (cases_lt (index_of size p) (start_of size r)) (cases_lt (index_of size p) (start_of size r + width_of r))
+    (pixel_index size p < start_of size r) ⊎ (start_of size r + width_of r ≤ pixel_index size p)
+place_outside size r p h on out = by_order (cases_lt (pixel_index size p) (start_of size r)) (cases_lt (pixel_index size p) (start_of size r + width_of r))
   where
     by_order :
-        (index_of size p < start_of size r) ⊎ (start_of size r ≤ index_of size p) →
-        (index_of size p < start_of size r + width_of r) ⊎ (start_of size r + width_of r ≤ index_of size p) →
-        (index_of size p < start_of size r) ⊎ (start_of size r + width_of r ≤ index_of size p)
+        (pixel_index size p < start_of size r) ⊎ (start_of size r ≤ pixel_index size p) →
+        (pixel_index size p < start_of size r + width_of r) ⊎ (start_of size r + width_of r ≤ pixel_index size p) →
+        (pixel_index size p < start_of size r) ⊎ (start_of size r + width_of r ≤ pixel_index size p)
     by_order (inl lt) k = inl lt
     by_order (inr ge) (inr k) = inr k
     by_order (inr ge) (inl lt) =
@@ -162,8 +162,8 @@ place_outside size r p h on out = by_order (cases_lt (index_of size p) (start_of
 
 -- the points of a test have their places from start on, count of them, and all others elsewhere
 pub record HasPlaces (size : Size) (test : Point → Bool) (start count : ℕ) : Type 0 where
-  pub inside : (p : Point) → IsOn size p → test p ≡ true → (start ≤ index_of size p) × (index_of size p < start + count)
-  pub outside : (p : Point) → IsOn size p → test p ≡ false → (index_of size p < start) ⊎ (start + count ≤ index_of size p)
+  pub inside : (p : Point) → IsOn size p → test p ≡ true → (start ≤ pixel_index size p) × (pixel_index size p < start + count)
+  pub outside : (p : Point) → IsOn size p → test p ≡ false → (pixel_index size p < start) ⊎ (start + count ≤ pixel_index size p)
 
 pub run_places : (size : Size) (r : Run) → IsRun size r → HasPlaces size (in_run r) (start_of size r) (width_of r)
 run_places size r h = record {
@@ -183,7 +183,7 @@ rows_places size north south order = record { inside = within; outside = beyond 
     whole = sym (add-mul north (south - north) size.wide) ∙ ap (λ n. n * size.wide) (omega arith)
 
     within : (p : Point) → IsOn size p → in_rows north south p ≡ true →
-        (north * size.wide ≤ index_of size p) × (index_of size p < north * size.wide + (south - north) * size.wide)
+        (north * size.wide ≤ pixel_index size p) × (pixel_index size p < north * size.wide + (south - north) * size.wide)
     within p on t =
         let at = there size p on in
         let v = abs_is p.v at.north in
@@ -193,12 +193,12 @@ rows_places size north south order = record { inside = within; outside = beyond 
         (omega (arith, mul-le-mul_right size.wide low), omega (arith, row_fits size.wide south (unsigned_abs p.v) high, whole))
 
     beyond : (p : Point) → IsOn size p → in_rows north south p ≡ false →
-        (index_of size p < north * size.wide) ⊎ (north * size.wide + (south - north) * size.wide ≤ index_of size p)
+        (pixel_index size p < north * size.wide) ⊎ (north * size.wide + (south - north) * size.wide ≤ pixel_index size p)
     beyond p on t = by_order (cases_lt (unsigned_abs p.v) north) (cases_lt (unsigned_abs p.v) south)
       where
         by_order :
             (unsigned_abs p.v < north) ⊎ (north ≤ unsigned_abs p.v) → (unsigned_abs p.v < south) ⊎ (south ≤ unsigned_abs p.v) →
-            (index_of size p < north * size.wide) ⊎ (north * size.wide + (south - north) * size.wide ≤ index_of size p)
+            (pixel_index size p < north * size.wide) ⊎ (north * size.wide + (south - north) * size.wide ≤ pixel_index size p)
         by_order (inl lt) k = let column = (in_whole size p on).1 in inl (omega (arith, row_fits size.wide north (unsigned_abs p.v) lt))
         by_order (inr ge) (inr past) = inr (omega (arith, mul-le-mul_right size.wide past, whole))
         by_order (inr ge) (inl lt) =
@@ -210,31 +210,33 @@ module _ (size : Size) (kind : Kind) (old new : List ℕ) (test : Point → Bool
   pub painted_places : (f : Point → ℕ) →
       ((k : ℕ) → k < start → get_or new k 0 ≡ get_or old k 0) →
       ((k : ℕ) → start + count ≤ k → get_or new k 0 ≡ get_or old k 0) →
-      ((p : Point) → IsOn size p → test p ≡ true → get_or new (index_of size p) 0 ≡ f p) → Repaints test f (picture_of size kind old) (picture_of size kind new)
+      ((p : Point) → IsOn size p → test p ≡ true → get_or new (pixel_index size p) 0 ≡ f p) →
+      Repaints test f (picture_of size kind old) (picture_of size kind new)
   painted_places f before behind gets =
       record { size = refl; kind = refl; points = λ p on. pixel_of-picture_of size kind new p on ∙ by_test p on (test p) refl }
     where
-      elsewhere : (p : Point) → (index_of size p < start) ⊎ (start + count ≤ index_of size p) → get_or new (index_of size p) 0 ≡ get_or old (index_of size p) 0
-      elsewhere p (inl lt) = before (index_of size p) lt
-      elsewhere p (inr ge) = behind (index_of size p) ge
+      elsewhere : (p : Point) → (pixel_index size p < start) ⊎ (start + count ≤ pixel_index size p) →
+          get_or new (pixel_index size p) 0 ≡ get_or old (pixel_index size p) 0
+      elsewhere p (inl lt) = before (pixel_index size p) lt
+      elsewhere p (inr ge) = behind (pixel_index size p) ge
 
-      by_test : (p : Point) → IsOn size p → (t : Bool) → test p ≡ t → get_or new (index_of size p) 0 ≡ cond t (f p) (pixel_of (picture_of size kind old) p)
+      by_test : (p : Point) → IsOn size p → (t : Bool) → test p ≡ t → get_or new (pixel_index size p) 0 ≡ cond t (f p) (pixel_of (picture_of size kind old) p)
       by_test p on true t = gets p on t
       by_test p on false t = elsewhere p (places.outside p on t) ∙ sym (pixel_of-picture_of size kind old p on)
 
   -- pixels side by side were moved
   pub moved_places : (d : Point) (from : ℕ) → IsCopied old new from start count →
-      ((p : Point) → IsOn size p → test p ≡ true → IsOn size (before_shift p d) × (index_of size (before_shift p d) + start ≡ from + index_of size p)) →
+      ((p : Point) → IsOn size p → test p ≡ true → IsOn size (before_shift p d) × (pixel_index size (before_shift p d) + start ≡ from + pixel_index size p)) →
       Repaints test (λ p. pixel_of (picture_of size kind old) (before_shift p d)) (picture_of size kind old) (picture_of size kind new)
   moved_places d from h source = painted_places (λ p. pixel_of (picture_of size kind old) (before_shift p d)) h.before h.behind gets
     where
-      gets : (p : Point) → IsOn size p → test p ≡ true → get_or new (index_of size p) 0 ≡ pixel_of (picture_of size kind old) (before_shift p d)
+      gets : (p : Point) → IsOn size p → test p ≡ true → get_or new (pixel_index size p) 0 ≡ pixel_of (picture_of size kind old) (before_shift p d)
       gets p on t =
           let at = places.inside p on t in
           let there = source p on t in
-          let k : ℕ = index_of size p - start in
-          let target : index_of size p ≡ start + k = omega (arith, at.0) in
-          let same : from + k ≡ index_of size (before_shift p d) = omega (arith, at.0, there.1) in
+          let k : ℕ = pixel_index size p - start in
+          let target : pixel_index size p ≡ start + k = omega (arith, at.0) in
+          let same : from + k ≡ pixel_index size (before_shift p d) = omega (arith, at.0, there.1) in
           ap (λ n. get_or new n 0) target ∙ h.copied k (omega (arith, at.0, at.1))
           ∙ ap (λ n. get_or old n 0) same ∙ sym (pixel_of-picture_of size kind old (before_shift p d) there.0)
 
@@ -249,7 +251,7 @@ moved_run size kind old new r d h k copied =
   where
     source : (p : Point) → IsOn size p → in_run r p ≡ true →
         IsOn size (before_shift p d)
-        × (index_of size (before_shift p d) + start_of size r ≡ start_of size (run_before r d) + index_of size p)
+        × (pixel_index size (before_shift p d) + start_of size r ≡ start_of size (run_before r d) + pixel_index size p)
     source p on t =
         let s = run_before r d in
         let q = before_shift p d in
@@ -277,7 +279,7 @@ moved_rows size kind old new north south from d order fits straight first last c
   where
     source : (p : Point) → IsOn size p → in_rows north south p ≡ true →
         IsOn size (before_shift p d)
-        × (index_of size (before_shift p d) + north * size.wide ≡ from * size.wide + index_of size p)
+        × (pixel_index size (before_shift p d) + north * size.wide ≡ from * size.wide + pixel_index size p)
     source p on t =
         let at = there size p on in
         let low : pos north ≤ℤ p.v = grind (arith, ints) in
@@ -311,11 +313,11 @@ filled_rows size kind old new north south pixel order h =
     places : HasPlaces size (in_rows north south) (north * size.wide) ((south - north) * size.wide)
     places = rows_places size north south order
 
-    gets : (p : Point) → IsOn size p → in_rows north south p ≡ true → get_or new (index_of size p) 0 ≡ pixel
+    gets : (p : Point) → IsOn size p → in_rows north south p ≡ true → get_or new (pixel_index size p) 0 ≡ pixel
     gets p on t =
         let at = places.inside p on t in
-        let k : ℕ = index_of size p - north * size.wide in
-        let target : index_of size p ≡ north * size.wide + k = omega (arith, at.0) in
+        let k : ℕ = pixel_index size p - north * size.wide in
+        let target : pixel_index size p ≡ north * size.wide + k = omega (arith, at.0) in
         ap (λ n. get_or new n 0) target ∙ h.filled k (omega (arith, at.0, at.1))
 
 -- what is written over a list, index by index
@@ -341,7 +343,7 @@ written_within xs w i k fits lt = rw (written_long xs w i fits) (search (rules, 
 
 -- the place of a run's point, by its column in the run
 pub column_is : (size : Size) (r : Run) (p : Point) → IsRun size r → in_run r p ≡ true →
-    (index_of size p ≡ start_of size r + column_in r p) × (column_in r p < width_of r)
+    (pixel_index size p ≡ start_of size r + column_in r p) × (column_in r p < width_of r)
 column_is size r p h t =
     let at = tests_of_run r p t in
     let to = place_in size r p h t in

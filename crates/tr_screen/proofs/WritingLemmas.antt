@@ -12,7 +12,7 @@ use Rattle.tr_base.proofs.PlaceLemmas.{row_fits, in_whole}
 use Rattle.tr_base.proofs.RectFacts.{between-within}
 use Rattle.tr_kernel.specs.Blocks.{AreWritten}
 use Rattle.tr_screen.specs.Pictures.{pixel_of, picture_of}
-use Rattle.tr_screen.specs.Runs.{index_of, start_of, IsOn, IsRun, Repaints}
+use Rattle.tr_screen.specs.Runs.{pixel_index, start_of, IsOn, IsRun, Repaints}
 use Rattle.tr_screen.specs.Letters.{first_row, in_letters}
 use Rattle.tr_screen.proofs.PictureLemmas.{pixel_of-picture_of}
 use Rattle.tr_screen.proofs.RunLemmas.{abs_is, there}
@@ -35,8 +35,8 @@ module _ (size : Size) (at : Point) (count : ℕ) (first : IsRun size (first_row
   -- the place of a point is none of those of row v of the letters
   abbrev IsBeside : Point → ℕ → Type 0
   IsBeside p v =
-      (index_of size p < start_of size (first_row at count) + v * size.wide)
-      ⊎ (start_of size (first_row at count) + v * size.wide + 8 * count ≤ index_of size p)
+      (pixel_index size p < start_of size (first_row at count) + v * size.wide)
+      ⊎ (start_of size (first_row at count) + v * size.wide + 8 * count ≤ pixel_index size p)
 
   -- all rows of the letters have room
   pub letters_fit : start_of size (first_row at count) + 7 * size.wide + 8 * count ≤ size.high * size.wide
@@ -55,7 +55,7 @@ module _ (size : Size) (at : Point) (count : ℕ) (first : IsRun size (first_row
       record { size = refl; kind = refl; points = λ p on. pixel_of-picture_of size kind new p on ∙ by_test p on (in_letters at count p) refl }
     where
       inside : (p : Point) → IsOn size p → in_letters at count p ≡ true →
-          get_or new (index_of size p) 0 ≡ f (unsigned_abs (p.v -ℤ at.v)) (unsigned_abs (p.h -ℤ at.h))
+          get_or new (pixel_index size p) 0 ≡ f (unsigned_abs (p.v -ℤ at.v)) (unsigned_abs (p.h -ℤ at.h))
       inside p on t =
           let both = and_parts (between at.h (at.h +ℤ pos (8 * count)) p.h) (between at.v (at.v +ℤ pos 8) p.v) t in
           let h_in = tests_of at.h (at.h +ℤ pos (8 * count)) p.h both.0 in
@@ -69,7 +69,7 @@ module _ (size : Size) (at : Point) (count : ℕ) (first : IsRun size (first_row
           let column : unsigned_abs p.h ≡ unsigned_abs at.h + k = omega (arith, ints, abs_is p.h on_it.west, west, k_is) in
           let rows : unsigned_abs p.v * size.wide ≡ unsigned_abs at.v * size.wide + v * size.wide =
           ap (λ n. n * size.wide) row ∙ add-mul (unsigned_abs at.v) v size.wide in
-          let here : index_of size p ≡ start_of size (first_row at count) + v * size.wide + k = omega (arith, rows, column) in
+          let here : pixel_index size p ≡ start_of size (first_row at count) + v * size.wide + k = omega (arith, rows, column) in
           ap (λ i. get_or new i 0) here ∙ h.written v k (omega (arith, ints, v_is, v_in.1)) (omega (arith, ints, k_is, h_in.1))
 
       beside : (p : Point) → IsOn size p → in_letters at count p ≡ false → (v : ℕ) → v < 8 →
@@ -109,6 +109,6 @@ module _ (size : Size) (at : Point) (count : ℕ) (first : IsRun size (first_row
           by_row (inr (inr gt)) = inr (omega (arith, row_fits w (unsigned_abs p.v) row gt, rows, across))
 
       by_test : (p : Point) → IsOn size p → (t : Bool) → in_letters at count p ≡ t →
-          get_or new (index_of size p) 0 ≡ cond t (f (unsigned_abs (p.v -ℤ at.v)) (unsigned_abs (p.h -ℤ at.h))) (pixel_of (picture_of size kind old) p)
+          get_or new (pixel_index size p) 0 ≡ cond t (f (unsigned_abs (p.v -ℤ at.v)) (unsigned_abs (p.h -ℤ at.h))) (pixel_of (picture_of size kind old) p)
       by_test p on true t = inside p on t
-      by_test p on false t = h.others (index_of size p) (beside p on t) ∙ sym (pixel_of-picture_of size kind old p on)
+      by_test p on false t = h.others (pixel_index size p) (beside p on t) ∙ sym (pixel_of-picture_of size kind old p on)

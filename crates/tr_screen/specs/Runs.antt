@@ -54,9 +54,9 @@ pub record Repaints (test : Point → Bool) (f : Point → ℕ) (old new : Pictu
   pub points : (p : Point) → IsOn old.size p → pixel_of new p ≡ (if test p then f p else pixel_of old p)
 
 -- the place of a point among the pixels of a screen, row by row
-abbrev pub index_of : Size → Point → ℕ
-index_of size p = unsigned_abs p.v * size.wide + unsigned_abs p.h
+abbrev pub pixel_index : Size → Point → ℕ
+pixel_index size p = unsigned_abs p.v * size.wide + unsigned_abs p.h
 
 -- the place of the run's first point
 abbrev pub start_of : Size → Run → ℕ
-start_of size r = index_of size (record { h = r.west; v = r.v })
+start_of size r = pixel_index size (record { h = r.west; v = r.v })

@@ -29,7 +29,7 @@ pub fn start_of(size: Size, run: Run) -> usize
 
 /// The place of a point among the pixels of a screen, row by row.
 pub fn index_of(size: Size, p: Point) -> usize
-    ensures { result ≡ spec.index_of size p }
+    ensures { result ≡ spec.pixel_index size p }
 {
     p.v.unsigned_abs() as usize * usize::from(size.wide) + p.h.unsigned_abs() as usize
 }

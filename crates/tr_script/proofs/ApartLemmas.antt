@@ -2,6 +2,7 @@
 use Rattle.std.proofs.Common.{◌≡◌, ℕ, Bool, true, false, ◌||◌, List, [], ◌∷◌, Some, None, Ok, Err, nat_le, refl, sym, ap, ◌∙◌}
 use Rattle.std.specs.Prelude.{Option, Result, IfOk, IfErr, IfSome, OnOk}
 use Rattle.std.proofs.lemmas.Result.{IfOk-weaker, on_ok_weaker}
+use Rattle.tr_base.specs.Lists.{first_true}
 use Rattle.tr_base.proofs.RectLemmas.{false-true}
 use Rattle.tr_journal.specs.declared.Item.TheVariants as items
 use Rattle.tr_grammar.specs.declared.Code.TheVariants.{B7, B10}
@@ -14,7 +15,7 @@ use Rattle.tr_grammar.specs.Texts.{is_silent}
 use Rattle.tr_grammar.specs.Words.{words_of, word_at}
 use Rattle.tr_grammar.specs.Forms.{forms, form_of}
 use Rattle.tr_grammar.specs.States.{SoFar}
-use Rattle.tr_grammar.specs.Faults.{opening_line, allows, first_of, fault_of, is_foreign, is_refused, is_one_too_many}
+use Rattle.tr_grammar.specs.Faults.{opening_line, allows, fault_of, is_foreign, is_refused, is_one_too_many}
 use Rattle.tr_reader.specs.Adding.{IsFault, IsSoundMeaning}
 use Rattle.tr_script.specs.Apart.{meaning_of_line}
 use Rattle.tr_script.specs.Reading.{Reads}
@@ -47,7 +48,7 @@ first_line false = refl
 module _ (c : SoFar) (bytes : List ℕ) (gap : c.place ≡ places.Gap) where
   -- the fault of a line with this meaning
   fault_of_meaning : (m : Meaning) → IsLoud c bytes → Reads c forms (words_of bytes) (Ok m) →
-      fault_of c 1 bytes ≡ first_of ((B10, is_foreign c m) ∷ (B7, is_one_too_many c m) ∷ [])
+      fault_of c 1 bytes ≡ first_true ((B10, is_foreign c m) ∷ (B7, is_one_too_many c m) ∷ [])
   fault_of_meaning m loud read =
       let ws = words_of bytes in
       fault_of_words c 1 bytes loud
@@ -61,7 +62,7 @@ module _ (c : SoFar) (bytes : List ℕ) (gap : c.place ≡ places.Gap) where
 
   -- else it has this one
   pub fault_is : (m : Meaning) (r : Result (Option Meaning) LineRefused) → IsLoud c bytes → Reads c forms (words_of bytes) (Ok m) →
-      IfErr r (IsFault (first_of ((B10, is_foreign c m) ∷ (B7, is_one_too_many c m) ∷ []))) → IfErr r (IsFault (fault_of c 1 bytes))
+      IfErr r (IsFault (first_true ((B10, is_foreign c m) ∷ (B7, is_one_too_many c m) ∷ []))) → IfErr r (IsFault (fault_of c 1 bytes))
   fault_is m r loud read fault = rw (fault_of_meaning m loud read) fault
 
   -- the words have this fault

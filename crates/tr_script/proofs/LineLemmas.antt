@@ -3,6 +3,7 @@ use Rattle.std.proofs.Common.{◌≡◌, ℕ, ◌+◌, ◌<◌, ◌≤◌, Bool,
 use Rattle.std.proofs.Common.{cond, length, refl, sym, ap, ◌∙◌, arith}
 use Rattle.std.proofs.lemmas.Option.{none-some}
 use Rattle.std.specs.Borrow.{Bor}
+use Rattle.tr_base.specs.Lists.{first_true}
 use Rattle.tr_grammar.specs.declared.Code.{Code}
 use Rattle.tr_grammar.specs.declared.Code.TheVariants.{B1, B8}
 use Rattle.tr_grammar.specs.declared.LineRefused.{LineRefused}
@@ -13,7 +14,7 @@ use Rattle.tr_grammar.specs.Words.{word_at, words_of}
 use Rattle.tr_grammar.specs.Forms.{Form, form_of}
 use Rattle.tr_grammar.specs.Meanings.{meaning_of}
 use Rattle.tr_grammar.specs.States.{SoFar, nothing_yet}
-use Rattle.tr_grammar.specs.Faults.{first_of, word_faults, line_faults, fault_as, fault_of, has_ended}
+use Rattle.tr_grammar.specs.Faults.{word_faults, line_faults, fault_as, fault_of, has_ended}
 use Rattle.tr_grammar.specs.Scripts.{Refusal, after_meaning, after_as, after_line, first_bad_line, after_all_lines, refused_at}
 use Rattle.tr_words.specs.Answers.{texts}
 use Rattle.tr_reader.specs.Adding.{IsFault}
@@ -23,22 +24,22 @@ use Rattle.tr_script.specs.Reading.{word_fault, ReadsAs}
 -- ---- one line
 
 -- a fault that is found is the first also where more are tried
-found_first : (xs ys : List (Code × Bool)) (e : Code) → first_of xs ≡ Some e → first_of (xs ++ ys) ≡ Some e
+found_first : (xs ys : List (Code × Bool)) (e : Code) → first_true xs ≡ Some e → first_true (xs ++ ys) ≡ Some e
 found_first [] ys e found = absurd (none-some e found)
 found_first ((code, b) ∷ xs) ys e found = by_test b found (found_first xs ys e)
   where
-    by_test : (b : Bool) → cond b (Some code) (first_of xs) ≡ Some e → (first_of xs ≡ Some e → first_of (xs ++ ys) ≡ Some e) →
-        cond b (Some code) (first_of (xs ++ ys)) ≡ Some e
+    by_test : (b : Bool) → cond b (Some code) (first_true xs) ≡ Some e → (first_true xs ≡ Some e → first_true (xs ++ ys) ≡ Some e) →
+        cond b (Some code) (first_true (xs ++ ys)) ≡ Some e
     by_test true found more = found
     by_test false found more = more found
 
 -- where none is found, the first of those that are left counts
-found_later : (xs ys : List (Code × Bool)) → first_of xs ≡ None → first_of (xs ++ ys) ≡ first_of ys
+found_later : (xs ys : List (Code × Bool)) → first_true xs ≡ None → first_true (xs ++ ys) ≡ first_true ys
 found_later [] ys none = refl
 found_later ((code, b) ∷ xs) ys none = by_test b none (found_later xs ys)
   where
-    by_test : (b : Bool) → cond b (Some code) (first_of xs) ≡ None → (first_of xs ≡ None → first_of (xs ++ ys) ≡ first_of ys) →
-        cond b (Some code) (first_of (xs ++ ys)) ≡ first_of ys
+    by_test : (b : Bool) → cond b (Some code) (first_true xs) ≡ None → (first_true xs ≡ None → first_true (xs ++ ys) ≡ first_true ys) →
+        cond b (Some code) (first_true (xs ++ ys)) ≡ first_true ys
     by_test true none more = absurd (none-some code (sym none))
     by_test false none more = more none
 
@@ -50,11 +51,11 @@ fault_before c n (Some f) ws e found = found_first (word_faults c f ws) (line_fa
 
 -- where the words show none, it is that of what they say
 pub fault_behind : (c : SoFar) (n : ℕ) (form : Option Form) (ws : List (List ℕ)) (m : Meaning) →
-    word_fault c form ws ≡ None → meaning_as c form ws ≡ Some m → fault_as c n form ws ≡ first_of (line_faults c n m)
+    word_fault c form ws ≡ None → meaning_as c form ws ≡ Some m → fault_as c n form ws ≡ first_true (line_faults c n m)
 fault_behind c n None ws m none said = absurd (none-some B1 (sym none))
 fault_behind c n (Some f) ws m none said =
     let is : meaning_of c.names ws f ≡ m = cc in
-    found_later (word_faults c f ws) (line_faults c n (meaning_of c.names ws f)) none ∙ ap (λ (x : Meaning). first_of (line_faults c n x)) is
+    found_later (word_faults c f ws) (line_faults c n (meaning_of c.names ws f)) none ∙ ap (λ (x : Meaning). first_true (line_faults c n x)) is
 
 -- what the words say comes behind the lines so far
 pub after_said : (c : SoFar) (form : Option Form) (ws : List (List ℕ)) (m : Meaning) →

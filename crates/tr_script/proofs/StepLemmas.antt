@@ -8,6 +8,7 @@ use Rattle.tr_journal.specs.declared.Actor.{Actor}
 use Rattle.tr_journal.specs.declared.Step.{Step}
 use Rattle.tr_widget.specs.declared.WidgetCmd.{WidgetCmd}
 use Rattle.tr_base.specs.declared.NoMemory.{NoMemory}
+use Rattle.tr_base.specs.Lists.{first_true}
 use Rattle.tr_grammar.specs.declared.Code.{Code}
 use Rattle.tr_grammar.specs.declared.Code.TheVariants.{B6, B7, B8, B9, B10}
 use Rattle.tr_grammar.specs.declared.LineRefused.TheVariants as refused
@@ -20,7 +21,7 @@ use Rattle.tr_grammar.specs.Words.{words_of, word_at}
 use Rattle.tr_grammar.specs.Forms.{Field, word, one_of, pixels, at_leaf, new_name, a_node, a_leaf, number, signed, shape, glyph, rows, text, Form, forms, form_of, fields, field_words}
 use Rattle.tr_grammar.specs.States.{SoFar}
 use Rattle.tr_grammar.specs.Meanings.{meaning_of}
-use Rattle.tr_grammar.specs.Faults.{first_of, word_faults, line_faults, fault_as, fault_of, has_ended, is_declared_again, is_undeclared, is_foreign, is_refused, is_one_too_many, nodes_so_far}
+use Rattle.tr_grammar.specs.Faults.{word_faults, line_faults, fault_as, fault_of, has_ended, is_declared_again, is_undeclared, is_foreign, is_refused, is_one_too_many, nodes_so_far}
 use Rattle.tr_grammar.specs.Scripts.{after_meaning, after_line, IsPlayable}
 use Rattle.tr_reader.specs.Adding.{is_at_steps, with_steps}
 use Rattle.tr_script.specs.Apart.{TakesStep, meaning_as, stays_at_steps}
@@ -156,11 +157,11 @@ is_some_code : (fault : Option Code) (e : Code) → fault ≡ Some e → is_none
 is_some_code fault e is = rw is refl
 
 -- a fault is found where one of the last is
-found_behind : (xs ys : List (Code × Bool)) → is_none (first_of ys) ≡ false → is_none (first_of (xs ++ ys)) ≡ false
+found_behind : (xs ys : List (Code × Bool)) → is_none (first_true ys) ≡ false → is_none (first_true (xs ++ ys)) ≡ false
 found_behind [] ys some = some
 found_behind ((code, b) ∷ xs) ys some = by_test b (found_behind xs ys some)
   where
-    by_test : (b : Bool) → is_none (first_of (xs ++ ys)) ≡ false → is_none (cond b (Some code) (first_of (xs ++ ys))) ≡ false
+    by_test : (b : Bool) → is_none (first_true (xs ++ ys)) ≡ false → is_none (cond b (Some code) (first_true (xs ++ ys))) ≡ false
     by_test true found = refl
     by_test false found = found
 

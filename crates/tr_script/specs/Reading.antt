@@ -11,7 +11,7 @@ use Rattle.tr_grammar.specs.Words.{word_at, nat_of, int_of, is_name, is_number, 
 use Rattle.tr_grammar.specs.Forms.{Form, Version, Screen, Glyph, Put, PutAt, Root, Begin, Mouse, Motion, Key, Attach, AttachAt, Detach, Tint, Widen, Offset, Fix, Move, Lift, Show, Turn, Reshape, Resize, Rescreen, Sync, Dump, Peek, Journal, Where, Inbox, End, SetTint, SetTile, SetShift, SetText, AddLine, Clear, AddRect, AddSwap, AddExchange, Undo, SetBar, InsertText, EraseByte, SplitLine, GoTo, CopyText, PasteClip, among, form_of}
 use Rattle.tr_grammar.specs.States.{SoFar}
 use Rattle.tr_grammar.specs.Names.{number_of, numbered}
-use Rattle.tr_grammar.specs.Faults.{Sort, opening_line, step_line, allows, first_of, nodes_so_far, word_faults, fault_as}
+use Rattle.tr_grammar.specs.Faults.{Sort, opening_line, step_line, allows, nodes_so_far, word_faults, fault_as}
 use Rattle.tr_grammar.specs.Scripts.{after_as}
 use Rattle.tr_forest.specs.Nodes.{IsNode}
 use Rattle.tr_journal.specs.Steps.{IsLeaf}
@@ -25,6 +25,7 @@ use Rattle.tr_base.specs.declared.Point.{Point}
 use Rattle.tr_base.specs.declared.Shapes.{Shapes}
 use Rattle.tr_base.specs.Shapes.{Lengths}
 use Rattle.tr_base.specs.Rects.{Edges, rect_of}
+use Rattle.tr_base.specs.Lists.{first_true}
 use Rattle.tr_words.specs.Answers.{texts}
 use Rattle.tr_words.specs.declared.LeafWords.{LeafWords}
 use Rattle.tr_words.specs.declared.ShapeWords.{ShapeWords}
@@ -38,7 +39,7 @@ use Rattle.tr_script.specs.Apart.{meaning_as}
 -- the first fault of the words, given their form
 abbrev pub word_fault : SoFar → Option Form → List (List ℕ) → Option Code
 word_fault c None ws = Some B1
-word_fault c (Some f) ws = first_of (word_faults c f ws)
+word_fault c (Some f) ws = first_true (word_faults c f ws)
 
 -- the meaning of the words of this form, which is in range, or their first fault
 abbrev pub ReadsAs : SoFar → Option Form → List (List ℕ) → Result Meaning LineRefused → Type 0
@@ -87,7 +88,7 @@ ReadsFirstValues misplaced misspelled P (Err e) =
 abbrev pub BeginsPlain : {X : Type 0} → Bool → Bool → (X → Type 0) → Result X Code → Type 0
 BeginsPlain misplaced undeclared P (Ok x) = (misplaced ≡ false) × (undeclared ≡ false) × P x
 BeginsPlain misplaced undeclared P (Err e) =
-    first_of ((B5, misplaced) ∷ (B2, false) ∷ (B4, false) ∷ (B3, undeclared || false) ∷ []) ≡ Some e
+    first_true ((B5, misplaced) ∷ (B2, false) ∷ (B4, false) ∷ (B3, undeclared || false) ∷ []) ≡ Some e
 
 -- the forms of the desk's steps
 abbrev pub desk_forms : List Form
@@ -183,31 +184,31 @@ leaf_faults c h misspelled =
 -- the shapes of a leaf whose name is new, and the value of its line, or the first of these faults
 abbrev pub ReadsHead : {V : Type 0} → SoFar → LeafWords → Result V Code → Result (Shapes × V) Code → Type 0
 ReadsHead c h value (Ok (s, v)) =
-    (first_of (leaf_faults c h (is_err value)) ≡ None) × (allows c.place opening_line ≡ true)
+    (first_true (leaf_faults c h (is_err value)) ≡ None) × (allows c.place opening_line ≡ true)
     × (number_of c.names.nodes h.name.now ≡ None) × (s ≡ shapes_in h) × (value ≡ Ok v)
-ReadsHead c h value (Err e) = first_of (leaf_faults c h (is_err value)) ≡ Some e
+ReadsHead c h value (Err e) = first_true (leaf_faults c h (is_err value)) ≡ Some e
 
 -- the leaf of a step's line, and the value of the line, or its first fault
 abbrev pub ReadsLeaf : {V : Type 0} → SoFar → List ℕ → Result V Code → Result (LeafId × V) Code → Type 0
 ReadsLeaf c w value (Ok (l, v)) =
-    (first_of (faults_at c step_line (is_err value) false (is_none (number_of c.names.leaves w) || false)) ≡ None)
+    (first_true (faults_at c step_line (is_err value) false (is_none (number_of c.names.leaves w) || false)) ≡ None)
     × (allows c.place step_line ≡ true) × IsLeaf (nodes_so_far c) l × (l ≡ record { 0 = numbered c.names.leaves w }) × (value ≡ Ok v)
 ReadsLeaf c w value (Err e) =
-    first_of (faults_at c step_line (is_err value) false (is_none (number_of c.names.leaves w) || false)) ≡ Some e
+    first_true (faults_at c step_line (is_err value) false (is_none (number_of c.names.leaves w) || false)) ≡ Some e
 
 -- the node of an edit's line, and the value of the line, or its first fault
 abbrev pub ReadsNode : {V : Type 0} → SoFar → List ℕ → Result V Code → Result (NodeId × V) Code → Type 0
 ReadsNode c w value (Ok (n, v)) =
-    (first_of (faults_at c step_line (is_err value) false (is_none (number_of c.names.nodes w) || false)) ≡ None)
+    (first_true (faults_at c step_line (is_err value) false (is_none (number_of c.names.nodes w) || false)) ≡ None)
     × (allows c.place step_line ≡ true) × IsNode (nodes_so_far c) n × (n ≡ record { 0 = numbered c.names.nodes w }) × (value ≡ Ok v)
 ReadsNode c w value (Err e) =
-    first_of (faults_at c step_line (is_err value) false (is_none (number_of c.names.nodes w) || false)) ≡ Some e
+    first_true (faults_at c step_line (is_err value) false (is_none (number_of c.names.nodes w) || false)) ≡ Some e
 
 -- the value of a desk's line without names, or its first fault
 abbrev pub ReadsPlain : {V : Type 0} → SoFar → Result V Code → Result V Code → Type 0
 ReadsPlain c value (Ok v) =
-    (first_of (faults_at c step_line (is_err value) false false) ≡ None) × (allows c.place step_line ≡ true) × (value ≡ Ok v)
-ReadsPlain c value (Err e) = first_of (faults_at c step_line (is_err value) false false) ≡ Some e
+    (first_true (faults_at c step_line (is_err value) false false) ≡ None) × (allows c.place step_line ≡ true) × (value ≡ Ok v)
+ReadsPlain c value (Err e) = first_true (faults_at c step_line (is_err value) false false) ≡ Some e
 
 -- the faults of a line's point and of the names of a child and its parent, given whether the point is misspelled
 abbrev pub hanging_faults : SoFar → List ℕ → List ℕ → Bool → List (Code × Bool)
@@ -218,10 +219,10 @@ hanging_faults c child parent misspelled =
 -- the child, its parent, and its offset, or the first of these faults
 abbrev pub ReadsHanging : SoFar → List ℕ → List ℕ → Result Point Code → Result (NodeId × NodeId × Point) Code → Type 0
 ReadsHanging c child parent at (Ok (n, m, p)) =
-    (first_of (hanging_faults c child parent (is_err at)) ≡ None)
+    (first_true (hanging_faults c child parent (is_err at)) ≡ None)
     × (n ≡ record { 0 = numbered c.names.nodes child }) × (m ≡ record { 0 = numbered c.names.nodes parent })
     × IsNode (nodes_so_far c) n × IsNode (nodes_so_far c) m × (at ≡ Ok p)
-ReadsHanging c child parent at (Err e) = first_of (hanging_faults c child parent (is_err at)) ≡ Some e
+ReadsHanging c child parent at (Err e) = first_true (hanging_faults c child parent (is_err at)) ≡ Some e
 
 -- the faults of a line that declares a node other than a leaf, from its name and its tint, given whether its values are misspelled
 abbrev pub node_faults : SoFar → List ℕ → List ℕ → Bool → List (Code × Bool)
@@ -232,9 +233,9 @@ node_faults c new tint misspelled =
 -- the tint of a node whose name is new, and the value of its line, or the first of these faults
 abbrev pub ReadsTint : {V : Type 0} → SoFar → List ℕ → List ℕ → Result V Code → Result (ℕ × V) Code → Type 0
 ReadsTint c new tint value (Ok (n, v)) =
-    (first_of (node_faults c new tint (is_err value)) ≡ None) × (allows c.place opening_line ≡ true)
+    (first_true (node_faults c new tint (is_err value)) ≡ None) × (allows c.place opening_line ≡ true)
     × (number_of c.names.nodes new ≡ None) × (n ≡ nat_of tint) × (value ≡ Ok v)
-ReadsTint c new tint value (Err e) = first_of (node_faults c new tint (is_err value)) ≡ Some e
+ReadsTint c new tint value (Err e) = first_true (node_faults c new tint (is_err value)) ≡ Some e
 
 -- the meaning is a step, which is appended to those before it; or it isn't one, and they stay unchanged
 abbrev pub SaysStep : Meaning → List (Actor × Step WidgetCmd) → List (Actor × Step WidgetCmd) → Bool → Type 0

@@ -2,11 +2,12 @@
 ghost use Rattle.std.specs.Prelude.{◌≡◌, ◌<◌, ◌⊎◌, [], ◌∷◌, true, false, Some, None, Ok, IfOk, IfErr, IfSome, OnOk, OnErr};
 ghost use Rattle.std.specs.List.{AllPass};
 ghost use Rattle.tr_base.specs.Lines.{is_printable};
+ghost use Rattle.tr_base.specs.Lists.{first_true};
 ghost use Rattle.tr_grammar.specs.Words.{words_of, word_at};
 ghost use Rattle.tr_grammar.specs.Forms.{forms};
 ghost use Rattle.tr_grammar.specs.declared.Code.TheVariants.{B7, B10};
 ghost use Rattle.tr_grammar.specs.declared.Place.TheVariants.{Gap};
-ghost use Rattle.tr_grammar.specs.Faults.{first_of, line_faults, fault_of, is_foreign, is_one_too_many};
+ghost use Rattle.tr_grammar.specs.Faults.{line_faults, fault_of, is_foreign, is_one_too_many};
 ghost use Rattle.tr_grammar.specs.Scripts.{after_meaning, after_line};
 ghost use Rattle.tr_words.specs.Answers.{texts};
 ghost use Rattle.tr_reader.specs.Adding.{IsFault, IsSoundMeaning, is_at_steps};
@@ -205,9 +206,9 @@ fn take_meaning<'a>(
     meaning: Meaning,
 ) -> Result<(), LineRefused>
     requires { IsSoundMeaning reader.old name.now meaning }
-    ensures none { OnOk result (first_of (line_faults reader.old number meaning) ≡ None) }
+    ensures none { OnOk result (first_true (line_faults reader.old number meaning) ≡ None) }
     ensures next { OnOk result (reader.new ≡ after_meaning reader.old name.now meaning) }
-    ensures fault { IfErr result (λ e. IsFault (first_of (line_faults reader.old number meaning)) e) }
+    ensures fault { IfErr result (λ e. IsFault (first_true (line_faults reader.old number meaning)) e) }
     ensures err { OnErr result ((reader.new ≡ reader.old)
         ⊎ ((MOST_LINES < number) × (reader.new ≡ after_meaning reader.old name.now meaning))) }
 {
@@ -482,7 +483,7 @@ fn own_meaning(reader: &Reader, meaning: Meaning) -> Result<Option<Meaning>, Lin
     ensures own { IfOk result (λ said. said ≡ Some meaning) }
     ensures none { OnOk result ((is_foreign reader.now meaning ≡ false)
         × (is_one_too_many reader.now meaning ≡ false)) }
-    ensures fault { IfErr result (IsFault (first_of ((B10, is_foreign reader.now meaning)
+    ensures fault { IfErr result (IsFault (first_true ((B10, is_foreign reader.now meaning)
         ∷ (B7, is_one_too_many reader.now meaning) ∷ []))) }
 {
     if reader.is_foreign(&meaning) {

@@ -17,9 +17,9 @@ use Rattle.tr_journal.specs.Steps.{IsOwn}
 use Rattle.tr_widget.specs.declared.WidgetCmd.{WidgetCmd}
 use Rattle.tr_machine.specs.States.{State, start}
 use Rattle.tr_machine.specs.Replays.{replay}
-use Rattle.tr_grammar.specs.States.{Part}
 use Rattle.tr_grammar.specs.Scripts.{IsPlayable, IsPlayablePart}
 use Rattle.tr_journal.specs.Names.{Names}
+use Rattle.tr_journal.specs.Parts.{Part}
 use Rattle.tr_stage.specs.Stages.{state}
 use Rattle.tr_run.specs.declared.Mode.{Mode}
 use Rattle.tr_run.specs.Runs.{Cue, makes, run_lines}
@@ -55,13 +55,13 @@ is_later zero = false
 is_later (suc k) = true
 
 -- what a part has done, which is a later one or not
-abbrev pub cues_of : Bool → Part → List (Cue WidgetCmd)
+abbrev pub cues_of : Bool → Part WidgetCmd → List (Cue WidgetCmd)
 cues_of later part = cond later (makes Player Sync ∷ []) [] ++ part_cues part
 
-cues_suc : (parts : List Part) (k : ℕ) (part : Part) → IsAt parts k part →
+cues_suc : (parts : List (Part WidgetCmd)) (k : ℕ) (part : Part WidgetCmd) → IsAt parts k part →
     cues (take k parts) ++ cues_of (is_later k) part ≡ cues (take (suc k) parts)
 cues_suc [] k part at = let none : k < 0 = at.within in absurd (omega arith)
-cues_suc (p ∷ ps) zero part at = ap (λ (q : Part). part_cues q) at.is ∙ sym (append-nil (part_cues p))
+cues_suc (p ∷ ps) zero part at = ap (λ (q : Part WidgetCmd). part_cues q) at.is ∙ sym (append-nil (part_cues p))
 cues_suc (p ∷ ps) (suc k) part at =
     let within : k < length ps = omega (arith, at.within) in
     append_assoc (part_cues p) (flat_map later_cues (take k ps)) (later_cues part)
@@ -69,7 +69,7 @@ cues_suc (p ∷ ps) (suc k) part at =
     (flat_map_next later_cues ps k part (record { within = within; is = at.is })
     ∙ ap (λ (n : ℕ). flat_map later_cues (take n ps)) (add-one k))
 
-pub cues_next : (parts : List Part) (k : ℕ) (part : Part) → IsAt parts k part →
+pub cues_next : (parts : List (Part WidgetCmd)) (k : ℕ) (part : Part WidgetCmd) → IsAt parts k part →
     cues (take k parts) ++ cues_of (is_later k) part ≡ cues (take (k + 1) parts)
 cues_next parts k part at = cues_suc parts k part at ∙ ap (λ (n : ℕ). cues (take n parts)) (sym (add-one k))
 
@@ -81,7 +81,7 @@ pub record AreReady (t : Nodes) (steps : List (Actor × Step WidgetCmd)) : Type 
   pub own : All (λ (made : Actor × Step WidgetCmd). IsOwn t made.0 made.1) steps
   pub other : All (λ (made : Actor × Step WidgetCmd). is_report made.1 ≡ false) steps
 
-pub ready : (t : Nodes) (part : Part) → IsPlayablePart t part → AreReady t part.steps
+pub ready : (t : Nodes) (part : Part WidgetCmd) → IsPlayablePart t part → AreReady t part.steps
 ready t part playable = record {
   own = All-weaker (IsPlayable t) (λ (made : Actor × Step WidgetCmd). IsOwn t made.0 made.1) (λ made is. is.own) part.steps playable.steps;
   other = All-weaker (IsPlayable t) (λ (made : Actor × Step WidgetCmd). is_report made.1 ≡ false) (λ made is. is.other) part.steps playable.steps;

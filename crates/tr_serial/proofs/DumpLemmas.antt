@@ -9,7 +9,7 @@ use Rattle.tr_journal.specs.Journals.{JournalLine}
 use Rattle.tr_machine.specs.States.{State}
 use Rattle.tr_machine.specs.Pictures.{render}
 use Rattle.tr_machine.specs.Replays.{replay_from}
-use Rattle.tr_machine.specs.Settling.{settling_lines}
+use Rattle.tr_machine.specs.SettleSteps.{settling_lines}
 use Rattle.tr_machine.proofs.JournalLemmas.{replay-append, replay_from-append}
 use Rattle.tr_machine.proofs.SettleLemmas.{IsSettled}
 use Rattle.tr_stage.specs.Stages.{StageView, state}

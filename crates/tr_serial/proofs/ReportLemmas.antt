@@ -2,6 +2,10 @@
 use Rattle.std.proofs.Common.{◌≡◌, ℕ, ◌+◌, ◌≤◌, ◌<◌, Bool, true, false, cond, not, ◌&&◌, ◌||◌, nat_lt, nat_le, List, [], ◌∷◌, ◌++◌, length, Option, Some, None, refl, arith, length-append}
 use Rattle.std.proofs.lemmas.Bool.{leb-false, or_parts}
 use Rattle.std.proofs.lemmas.List.Sums.{sum_by-append}
+use Rattle.tr_base.specs.Lists.{first_true}
+use Rattle.tr_base.proofs.ResultFacts.{none_here}
+use Rattle.tr_widget.specs.declared.WidgetCmd.{WidgetCmd}
+use Rattle.tr_journal.specs.Parts.{Part}
 use Rattle.tr_grammar.specs.declared.Code.{Code}
 use Rattle.tr_grammar.specs.declared.Code.TheVariants.{B7, B8, B9}
 use Rattle.tr_grammar.specs.declared.Meaning.{Meaning}
@@ -10,20 +14,16 @@ use Rattle.tr_grammar.specs.Texts.{is_plain, is_silent, lines_of}
 use Rattle.tr_grammar.specs.Words.{word_at, words_of}
 use Rattle.tr_grammar.specs.Forms.{Form, form_of}
 use Rattle.tr_grammar.specs.Meanings.{meaning_of}
-use Rattle.tr_grammar.specs.States.{Part, SoFar, nothing_yet}
-use Rattle.tr_grammar.specs.Faults.{fault_as, fault_of, first_of, has_ended, is_foreign, is_one_too_many, is_refused, line_faults, reports_so_far, word_faults}
+use Rattle.tr_grammar.specs.States.{SoFar, nothing_yet}
+use Rattle.tr_grammar.specs.Faults.{fault_as, fault_of, has_ended, is_foreign, is_one_too_many, is_refused, line_faults, reports_so_far, word_faults}
 use Rattle.tr_grammar.specs.Scripts.{Refusal, after_meaning, after_all_lines, after_as, first_bad_line, most_script_bytes, after_line, or_later, refusal_of, refused_at, script_of}
 use Rattle.tr_serial.specs.Screens.{report_count}
 
 -- where nothing is found, no test passed
-none_of : (xs ys : List (Code × Bool)) → first_of (xs ++ ys) ≡ None → first_of ys ≡ None
+none_of : (xs ys : List (Code × Bool)) → first_true (xs ++ ys) ≡ None → first_true ys ≡ None
 none_of [] ys h = h
 none_of ((code, true) ∷ xs) ys h = absurd (cc)
 none_of ((code, false) ∷ xs) ys h = none_of xs ys h
-
-none_here : (b : Bool) (code : Code) (later : Option Code) → cond b (Some code) later ≡ None → (b ≡ false) × (later ≡ None)
-none_here true code later h = absurd (cc)
-none_here false code later h = (refl, h)
 
 -- ---- one line
 
@@ -34,7 +34,7 @@ module _ (c : SoFar) (few : reports_so_far c ≤ 64) where
       let below : reports_so_far c < 64 = leb-false 64 (reports_so_far c) room in
       omega (arith, below, length-append c.part.reports (query ∷ []))
   more_of w n meanings.Sync room =
-      omega (arith, few, sum_by-append (λ (p : Part). length p.reports) c.ended (c.part ∷ []))
+      omega (arith, few, sum_by-append (λ (p : Part WidgetCmd). length p.reports) c.ended (c.part ∷ []))
   more_of w n l room = few
 
   more_as : (n : ℕ) (f : Option Form) (ws : List (List ℕ)) → fault_as c n f ws ≡ None → reports_so_far (after_as c f ws) ≤ 64
@@ -84,4 +84,4 @@ few_reports bytes h =
     let few : reports_so_far c ≤ 64 =
     more_all nothing_yet 1 (lines_of bytes) (omega arith)
     (none_else (nat_lt most_script_bytes (length bytes)) (refused_at 0 B7) (first_bad_line nothing_yet 1 (lines_of bytes)) h) in
-    omega (arith, few, sum_by-append (λ (p : Part). length p.reports) c.ended (c.part ∷ []))
+    omega (arith, few, sum_by-append (λ (p : Part WidgetCmd). length p.reports) c.ended (c.part ∷ []))

@@ -20,7 +20,7 @@ use Rattle.tr_journal.specs.Reports.{is_report}
 use Rattle.tr_machine.specs.States.{State}
 use Rattle.tr_machine.specs.Pictures.{render}
 use Rattle.tr_machine.specs.Replays.{lines_of_steps, next, replay_from}
-use Rattle.tr_machine.specs.Settling.{frame_steps, is_frame_bad, is_unsettled, repaint_steps, repaints_below, settling, settling_lines}
+use Rattle.tr_machine.specs.SettleSteps.{frame_steps, is_frame_bad, is_unsettled, repaint_steps, repaints_below, settling, settling_lines}
 use Rattle.tr_run.specs.Runs.{makes, reporting, run_lines}
 use Rattle.tr_serial.specs.Screens.{dumped, screens_from}
 

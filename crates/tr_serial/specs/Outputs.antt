@@ -9,7 +9,7 @@ use Rattle.tr_machine.specs.States.{start}
 use Rattle.tr_widget.specs.declared.Widget.{Widget}
 use Rattle.tr_widget.specs.declared.WidgetCmd.{WidgetCmd}
 use Rattle.tr_widget.specs.Widgets.{IsWidget, widget_pic, widget_next, widget_patch, widget_answer, widget_value, widget_keeps, widget_words}
-use Rattle.tr_grammar.specs.States.{Part}
+use Rattle.tr_journal.specs.Parts.{Part}
 use Rattle.tr_grammar.specs.Texts.{lines_of}
 use Rattle.tr_grammar.specs.Scripts.{Script, script_of}
 use Rattle.tr_dump.specs.Values.{line_text}
@@ -32,15 +32,15 @@ widgets = record {
 }
 
 -- the cues of a part: its reports, then its steps
-abbrev pub part_cues : Part → List (Cue WidgetCmd)
+abbrev pub part_cues : Part WidgetCmd → List (Cue WidgetCmd)
 part_cues part = flat_map reporting part.reports ++ map (λ made. makes made.0 made.1) part.steps
 
 -- a later part begins with a sync
-abbrev pub later_cues : Part → List (Cue WidgetCmd)
+abbrev pub later_cues : Part WidgetCmd → List (Cue WidgetCmd)
 later_cues part = makes Player steps.Sync ∷ part_cues part
 
 -- the cues of all parts
-abbrev pub cues : List Part → List (Cue WidgetCmd)
+abbrev pub cues : List (Part WidgetCmd) → List (Cue WidgetCmd)
 cues [] = []
 cues (part ∷ parts) = part_cues part ++ flat_map later_cues parts
 

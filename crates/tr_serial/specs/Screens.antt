@@ -3,14 +3,15 @@ use Rattle.std.specs.Prelude.{ℕ, List, [], ◌∷◌, ◌++◌, length, sum_by
 use Rattle.tr_screen.specs.Pictures.{Picture}
 use Rattle.tr_mirror.specs.Streams.{stream_of}
 use Rattle.tr_client.specs.declared.Client.{Ghosts}
+use Rattle.tr_widget.specs.declared.WidgetCmd.{WidgetCmd}
 use Rattle.tr_journal.specs.declared.Query.TheVariants as queries
 use Rattle.tr_journal.specs.declared.Step.{Step}
 use Rattle.tr_journal.specs.declared.Step.TheVariants as steps
 use Rattle.tr_journal.specs.Journals.{JournalLine}
+use Rattle.tr_journal.specs.Parts.{Part}
 use Rattle.tr_machine.specs.States.{State, start}
 use Rattle.tr_machine.specs.Pictures.{render}
 use Rattle.tr_machine.specs.Replays.{next}
-use Rattle.tr_grammar.specs.States.{Part}
 use Rattle.tr_grammar.specs.Scripts.{Script}
 use Rattle.tr_serial.specs.Outputs.{serial_journal, widgets}
 
@@ -34,5 +35,5 @@ abbrev pub mirror_bytes : Script → List ℕ
 mirror_bytes s = stream_of (dumped_screens s)
 
 -- the number of reports
-abbrev pub report_count : List Part → ℕ
+abbrev pub report_count : List (Part WidgetCmd) → ℕ
 report_count parts = sum_by (λ part. length part.reports) parts

@@ -8,7 +8,7 @@ use Rattle.tr_journal.specs.declared.steps.Actor.{Actor}
 use Rattle.tr_journal.specs.declared.steps.Actor.TheVariants.{Leaf}
 use Rattle.tr_journal.specs.declared.steps.Step.{Step}
 use Rattle.tr_journal.specs.Journals.{JournalLine}
-use Rattle.tr_machine.specs.Handing.{act_steps}
+use Rattle.tr_machine.specs.CommandSteps.{act_steps}
 use Rattle.tr_machine.specs.Replays.{lines_by, next}
 use Rattle.tr_machine.specs.States.{State}
 use Rattle.tr_stage.specs.Stages.{StageView, state}

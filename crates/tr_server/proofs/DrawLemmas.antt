@@ -11,11 +11,11 @@ use Rattle.tr_levels.specs.declared.Level.{Level}
 use Rattle.tr_book.specs.Books.{PreparedView}
 use Rattle.tr_journal.specs.declared.steps.Actor.TheVariants.{Leaf}
 use Rattle.tr_journal.specs.declared.steps.Step.{Step}
-use Rattle.tr_machine.specs.Handing.{act_steps}
+use Rattle.tr_machine.specs.CommandSteps.{act_steps}
 use Rattle.tr_machine.specs.Windows.{Window, Command, content, changed_content}
 use Rattle.tr_machine.specs.States.{State, content_of, window_of}
 use Rattle.tr_machine.specs.Replays.{lines_by, replay}
-use Rattle.tr_machine.proofs.HandingLemmas.{handed, replay_handed, with_commands}
+use Rattle.tr_machine.proofs.CommandStepLemmas.{handed, replay_handed, with_commands}
 use Rattle.tr_machine.proofs.JournalLemmas.{replay-append}
 use Rattle.tr_machine.proofs.ListLemmas.{window_here}
 use Rattle.tr_stage.specs.Sketching.{IsSketchOf}

@@ -12,9 +12,9 @@ use Rattle.tr_journal.specs.declared.steps.Step.TheVariants.{Repaint}
 use Rattle.tr_journal.specs.Journals.{JournalLine}
 use Rattle.tr_machine.specs.States.{State}
 use Rattle.tr_machine.specs.Replays.{after_steps, line_of_step, lines_by, replay, replay_from, under}
-use Rattle.tr_machine.specs.Sharing.{at_shares, repainted_each}
+use Rattle.tr_machine.specs.SharedRepaints.{at_shares, repainted_each}
 use Rattle.tr_machine.proofs.JournalLemmas.{lines_by-append, replay-append, replay_from-lines_of}
-use Rattle.tr_machine.proofs.SharingLemmas.{share_replay}
+use Rattle.tr_machine.proofs.SharedRepaintLemmas.{share_replay}
 use Rattle.tr_stage.specs.Stages.{StageView, state}
 use Rattle.tr_server.specs.Passes.{PassView}
 use Rattle.tr_server.specs.Shares.{HasMade, HasBegun}

@@ -11,9 +11,9 @@ use Rattle.tr_journal.specs.declared.steps.Step.{Step}
 use Rattle.tr_journal.specs.declared.steps.Step.TheVariants.{Repaint}
 use Rattle.tr_machine.specs.States.{State, leaf_batch}
 use Rattle.tr_machine.specs.Replays.{after_steps, lines_by, under}
-use Rattle.tr_machine.specs.Settling.{frame_steps}
-use Rattle.tr_machine.specs.Sharing.{all_bad_leaves, at_shares, bad_leaves, flushing, has_bad, repainted_each, sharing}
-use Rattle.tr_machine.proofs.SharingLemmas.{flushed_all}
+use Rattle.tr_machine.specs.SettleSteps.{frame_steps}
+use Rattle.tr_machine.specs.SharedRepaints.{all_bad_leaves, at_shares, bad_leaves, flushing, has_bad, repainted_each, sharing}
+use Rattle.tr_machine.proofs.SharedRepaintLemmas.{flushed_all}
 use Rattle.tr_stage.specs.declared.sharing.Painted.{Painted}
 use Rattle.tr_stage.specs.Sharing.{ArePainted}
 use Rattle.tr_stage.specs.Stages.{StageView, state}

@@ -7,7 +7,7 @@ use Rattle.tr_levels.specs.Levels.{HaveLevels}
 use Rattle.tr_journal.specs.declared.answers.Reply.{Reply}
 use Rattle.tr_journal.specs.declared.steps.Actor.TheVariants.{Leaf}
 use Rattle.tr_journal.specs.declared.steps.Step.{Step}
-use Rattle.tr_machine.specs.Handing.{act_steps}
+use Rattle.tr_machine.specs.CommandSteps.{act_steps}
 use Rattle.tr_machine.specs.Replays.{lines_by}
 use Rattle.tr_stage.specs.Stages.{StageView, line, state}
 use Rattle.tr_server.specs.Passes.{both_locks}

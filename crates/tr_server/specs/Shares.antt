@@ -7,7 +7,7 @@ use Rattle.tr_journal.specs.declared.steps.Actor.TheVariants.{Painter}
 use Rattle.tr_journal.specs.declared.steps.Step.{Step}
 use Rattle.tr_machine.specs.States.{State}
 use Rattle.tr_machine.specs.Replays.{lines_by}
-use Rattle.tr_machine.specs.Sharing.{IsPaintedOf, has_bad, waits}
+use Rattle.tr_machine.specs.SharedRepaints.{IsPaintedOf, has_bad, waits}
 use Rattle.tr_stage.specs.declared.sharing.Painted.{Painted}
 use Rattle.tr_stage.specs.Stages.{StageView, state}
 use Rattle.tr_server.specs.Passes.{PassView}

@@ -7,7 +7,7 @@ ghost use Rattle.tr_journal.specs.declared.Actor.TheVariants.{Painter};
 ghost use Rattle.tr_journal.specs.Openings.{tree_of};
 ghost use Rattle.tr_machine.specs.States.{leaf_batch};
 ghost use Rattle.tr_machine.specs.Pictures.{render};
-ghost use Rattle.tr_machine.specs.Sharing.{IsPaintedOf, sharing};
+ghost use Rattle.tr_machine.specs.SharedRepaints.{IsPaintedOf, sharing};
 ghost use Rattle.tr_stage.specs.Making.{MakesWithoutReply};
 ghost use Rattle.tr_stage.specs.Stages.{KeepsOthers, state};
 ghost use Rattle.tr_server.specs.Passes.{CountsStep};

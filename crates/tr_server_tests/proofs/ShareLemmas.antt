@@ -2,7 +2,7 @@
 use Rattle.std.proofs.Common.{◌≡◌, List, [], ◌∷◌, ◌++◌, drop, get_or, length, map, sym, ap, subst, arith}
 use Rattle.tr_base.specs.declared.LeafId.{LeafId}
 use Rattle.tr_client.specs.declared.clients.Client.{Ghosts}
-use Rattle.tr_machine.specs.Sharing.{IsPaintedOf}
+use Rattle.tr_machine.specs.SharedRepaints.{IsPaintedOf}
 use Rattle.tr_stage.specs.declared.sharing.Painted.{Painted}
 use Rattle.tr_stage.specs.Stages.{StageView, state}
 use Rattle.tr_server.specs.Shares.{IsPaintedShare, ShareView, share_of}

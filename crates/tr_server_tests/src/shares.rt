@@ -1,7 +1,7 @@
 //! Windows that are painted side by side, and shares that are painted and given back.
 ghost use Rattle.std.specs.Prelude.{◌≡◌, ◌≤◌, false, None, IsTrue, IfSome};
 ghost use Rattle.tr_forest.specs.Nodes.{IsNodeKind, is_leaf, shown_by};
-ghost use Rattle.tr_machine.specs.Sharing.{IsPaintedOf};
+ghost use Rattle.tr_machine.specs.SharedRepaints.{IsPaintedOf};
 ghost use Rattle.tr_stage.specs.Stages.{state};
 
 use super::ends::made;

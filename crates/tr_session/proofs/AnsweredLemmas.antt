@@ -8,20 +8,20 @@ use Rattle.tr_session.specs.declared.errors.Unanswered.{Unanswered}
 use Rattle.tr_session.specs.declared.errors.Unanswered.TheVariants as unanswered
 use Rattle.tr_session.specs.declared.requests.Request.{Request}
 use Rattle.tr_session.specs.declared.requests.Request.TheVariants.{Save, Cut, Quit, Script}
-use Rattle.tr_session.specs.Answering.{Answers, Takes, TellsRefusal}
-use Rattle.tr_session.specs.Answers.{Answer, IsAnswered, after, after_cut, after_for, after_script_line, answer_bytes, bytes, due, due_for, due_of_cut, due_of_line, due_of_save, ends, is_quit, no_memory, refused, saved, text, text_for}
+use Rattle.tr_session.specs.Answering.{RepliesWith, Takes, TellsRefusal}
+use Rattle.tr_session.specs.Answers.{Answer, ComesAfterLine, after_cut, after_for, after_reply, after_script_line, answer_bytes, bytes, due, due_for, due_of_cut, due_of_line, due_of_save, ends, is_quit, no_memory, refused, saved, text, text_for_line}
 use Rattle.tr_session.specs.Lines.{request_of}
-use Rattle.tr_session.specs.Sessions.{SessionView, so_far}
+use Rattle.tr_session.specs.Sessions.{SessionView, script_so_far}
 
 -- the reply to a line has the bytes of its answer
 pub record IsTold (s : SessionView) (line : List ℕ) (t : SessionView) (reply : List ℕ) : Type 0 where
   pub answer : Answer
   pub is : reply ≡ answer_bytes answer
-  pub answered : IsAnswered s line answer t
+  pub answered : ComesAfterLine s line answer t
 
 -- an answer that is due, unless memory ran out
 answered_by : (s : SessionView) (line : List ℕ) (answer : Answer) (t : SessionView) → (answer ≡ no_memory → ⊥) → answer ≡ due s line →
-    t ≡ after s line t.screen → IsAnswered s line answer t
+    t ≡ after_reply s line t.screen → ComesAfterLine s line answer t
 answered_by s line no_memory t other is next = absurd (other refl)
 answered_by s line (text told) t other is next = (is, next)
 answered_by s line (saved told beyond) t other is next = (is, next)
@@ -33,8 +33,8 @@ module _ (s : SessionView) (line : List ℕ) (r : Request) (asked : request_of l
   unfolding due
   due_is = ap (due_for s line) asked
 
-  after_is : (screen : Option Picture) → after s line screen ≡ after_for s line r screen
-  unfolding after
+  after_is : (screen : Option Picture) → after_reply s line screen ≡ after_for s line r screen
+  unfolding after_reply
   after_is screen = ap (λ (q : Request). after_for s line q screen) asked
 
 -- ---- a line of the script
@@ -42,7 +42,7 @@ module _ (s : SessionView) (line : List ℕ) (r : Request) (asked : request_of l
 pub script_told : (s : SessionView) (line : List ℕ) (t : SessionView) (result : Result Unit Unanswered) (old new : List ℕ) → request_of line ≡ Script →
     Takes s line old result t → TellsRefusal result old new (Ok tt) → IsTold s line t new
 script_told s line t (Ok done) old new asked takes tells = record {
-  answer = text (text_for s (meaning_of_line (so_far s) line));
+  answer = text (text_for_line s (meaning_of_line (script_so_far s) line));
   is = tells.0 ∙ takes.1;
   answered = (
     sym (due_is s line Script asked ∙ ap (due_of_line s line) takes.0),
@@ -65,7 +65,7 @@ script_told s line t (Err unanswered.Lost) old new asked takes tells = absurd cc
 -- an answer, or a refusal, that is due
 told_by_due : (s : SessionView) (line : List ℕ) (t : SessionView) (answer : Answer) (result : Result Unit Unanswered) (old new : List ℕ) →
     ends line ≡ false → (answer ≡ no_memory → ⊥) → answer ≡ due s line → (result ≡ Err unanswered.NoMemory → t ≡ s) →
-    ((result ≡ Err unanswered.NoMemory → ⊥) → t ≡ after s line t.screen) → Answers answer old result → TellsRefusal result old new (Ok tt) →
+    ((result ≡ Err unanswered.NoMemory → ⊥) → t ≡ after_reply s line t.screen) → RepliesWith answer old result → TellsRefusal result old new (Ok tt) →
     IsTold s line t new
 told_by_due s line t answer (Ok done) old new goes other is kept next answers tells = record {
   answer = answer;
@@ -89,7 +89,7 @@ save_due s None is = cc
 save_due s (Some screen) is = cc
 
 pub save_told : (s : SessionView) (line : List ℕ) (result : Result Unit Unanswered) (old new : List ℕ) → request_of line ≡ Save →
-    Answers (due_of_save s s.screen) old result → TellsRefusal result old new (Ok tt) → IsTold s line s new
+    RepliesWith (due_of_save s s.screen) old result → TellsRefusal result old new (Ok tt) → IsTold s line s new
 save_told s line result old new asked answers tells =
     told_by_due s line s (due_of_save s s.screen) result old new (ap is_quit asked) (save_due s s.screen) (sym (due_is s line Save asked)) (λ lost. refl)
     (λ whole. sym (after_is s line Save asked s.screen)) answers tells
@@ -113,7 +113,7 @@ err_of (Ok done) holds fails = absurd (fails refl)
 err_of (Err e) holds fails = holds
 
 pub cut_told : (s : SessionView) (line : List ℕ) (t : SessionView) (result : Result Unit Unanswered) (old new : List ℕ) → request_of line ≡ Cut →
-    Answers (due_of_cut s s.screen) old result → OnOk result (t ≡ after_cut s s.screen) → OnErr result (t ≡ s) →
+    RepliesWith (due_of_cut s s.screen) old result → OnOk result (t ≡ after_cut s s.screen) → OnErr result (t ≡ s) →
     TellsRefusal result old new (Ok tt) → IsTold s line t new
 cut_told s line t result old new asked answers on_ok on_err tells =
     let ok : result ≡ Ok tt → t ≡ after_cut s s.screen = λ done. ok_of result on_ok done in
@@ -125,7 +125,7 @@ cut_told s line t result old new asked answers on_ok on_err tells =
     lost_or_done : (r : Result Unit Unanswered) → r ≡ Err unanswered.NoMemory → r ≡ Ok tt → ⊥
     lost_or_done r lost done = cc
 
-    next : (r : Result Unit Unanswered) → Answers (due_of_cut s s.screen) old r → (r ≡ Ok tt → t ≡ after_cut s s.screen) → ((r ≡ Ok tt → ⊥) → t ≡ s) →
+    next : (r : Result Unit Unanswered) → RepliesWith (due_of_cut s s.screen) old r → (r ≡ Ok tt → t ≡ after_cut s s.screen) → ((r ≡ Ok tt → ⊥) → t ≡ s) →
         (r ≡ Err unanswered.NoMemory → ⊥) → TellsRefusal r old new (Ok tt) → t ≡ after_cut s s.screen
     next (Ok done) answers ok err whole told = ok refl
     next (Err (unanswered.Fault code)) answers ok err whole told = err (λ done. cc) ∙ sym (cut_refused s s.screen code answers)

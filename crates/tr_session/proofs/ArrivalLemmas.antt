@@ -6,7 +6,7 @@ use Rattle.std.proofs.lemmas.Grind.{get_or_default_zero}
 use Rattle.std.proofs.lemmas.List.{length-take, length-drop, get_or-take, drop-drop, drop-take}
 use Rattle.std.proofs.Math.Seq.{take-append-add, take-length, drop-length}
 use Rattle.memchr.specs.Find.{IsFirstByte, is_byte}
-use Rattle.tr_session.specs.Arrivals.{ArrivalsView, HasLine, IsWithoutLine, front_of}
+use Rattle.tr_session.specs.Arrivals.{ArrivalsView, HasLine, IsWithoutLine, first_bytes}
 
 -- the front of a front and more bytes is that of the line and these bytes
 front_more : (n : ℕ) (line more : List ℕ) → take n (take n line ++ more) ≡ take n (line ++ more)
@@ -14,7 +14,7 @@ front_more zero line more = refl
 front_more (suc n) [] more = refl
 front_more (suc n) (b ∷ line) more = ap (λ (rest : List ℕ). b ∷ rest) (front_more n line more)
 
-pub front_of_front : (line more : List ℕ) → front_of (front_of line ++ more) ≡ front_of (line ++ more)
+pub front_of_front : (line more : List ℕ) → first_bytes (first_bytes line ++ more) ≡ first_bytes (line ++ more)
 front_of_front line more = front_more 1025 line more
 
 -- the bytes behind the next ones of a part of a piece
@@ -38,7 +38,7 @@ kept_is (suc k) (suc c) (suc r) (x ∷ xs) e = ap (λ (t : List ℕ). x ∷ t) (
 
 -- the front, if so many bytes of the rest are kept as there is room for
 pub front_kept : (begun rest : List ℕ) (count kept : ℕ) → length begun ≤ 1025 → kept ≡ min count (1025 - length begun) →
-    begun ++ take kept rest ≡ front_of (begun ++ take count rest)
+    begun ++ take kept rest ≡ first_bytes (begun ++ take count rest)
 front_kept begun rest count kept few is =
     let whole : length begun + (1025 - length begun) ≡ 1025 = omega arith in
     ap (λ (t : List ℕ). begun ++ t) (kept_is kept count (1025 - length begun) rest is)
@@ -57,7 +57,7 @@ passes rest j within is = ap (λ (b : ℕ). b == 10) (sym (get_or_default_zero r
 
 -- the line that had begun is whole
 pub whole_line : (old kept new : ArrivalsView) (k : ℕ) → IsFirstByte (is_byte 10) old.rest (Some k) →
-    kept.begun ≡ front_of (old.begun ++ take k old.rest) → kept.rest ≡ drop k old.rest → new.begun ≡ kept.begun → new.rest ≡ drop 1 kept.rest →
+    kept.begun ≡ first_bytes (old.begun ++ take k old.rest) → kept.rest ≡ drop k old.rest → new.begun ≡ kept.begun → new.rest ≡ drop 1 kept.rest →
     HasLine old new
 whole_line old kept new k found begun rest begun_too rest_too = record {
   more = take k old.rest;
@@ -73,11 +73,11 @@ whole_line old kept new k found begun rest begun_too rest_too = record {
 
 -- no line feed came
 pub open_line : (old new : ArrivalsView) (count : ℕ) → IsFirstByte (is_byte 10) old.rest None → count ≡ length old.rest →
-    new.begun ≡ front_of (old.begun ++ take count old.rest) → new.rest ≡ drop count old.rest → IsWithoutLine old new
+    new.begun ≡ first_bytes (old.begun ++ take count old.rest) → new.rest ≡ drop count old.rest → IsWithoutLine old new
 open_line old new count none all begun rest = record {
   rest = rest ∙ ap (λ n. drop n old.rest) all ∙ drop-length old.rest;
   unbroken = λ has. none has.0 (omega arith) has.1 (passes old.rest has.0 has.1 has.2);
-  begun = begun ∙ ap (λ n. front_of (old.begun ++ take n old.rest)) all ∙ ap (λ (t : List ℕ). front_of (old.begun ++ t)) (take-length old.rest);
+  begun = begun ∙ ap (λ n. first_bytes (old.begun ++ take n old.rest)) all ∙ ap (λ (t : List ℕ). first_bytes (old.begun ++ t)) (take-length old.rest);
 }
 
 -- so many bytes of a part of a piece end before its end

@@ -13,9 +13,10 @@ use Rattle.tr_journal.specs.Journals.{JournalLine}
 use Rattle.tr_widget.specs.declared.Widget.{Widget}
 use Rattle.tr_widget.specs.declared.WidgetCmd.{WidgetCmd}
 use Rattle.tr_widget.specs.Widgets.{widget_words}
+use Rattle.tr_journal.specs.Parts.{Part}
 use Rattle.tr_machine.specs.States.{State, start}
 use Rattle.tr_machine.specs.Replays.{replay}
-use Rattle.tr_grammar.specs.States.{Part, SoFar, empty_part}
+use Rattle.tr_grammar.specs.States.{SoFar, empty_part}
 use Rattle.tr_grammar.specs.Scripts.{whole}
 use Rattle.tr_stage.specs.Stages.{state}
 use Rattle.tr_run.specs.Runs.{Cue, makes, reporting, run_lines}
@@ -26,7 +27,7 @@ use Rattle.tr_serial.specs.Outputs.{cues, later_cues, part_cues, serial_journal,
 -- ---- the cues of the parts so far and of one more line
 
 -- the last part has done more
-last_more : (ended : List Part) (p q : Part) (more : List (Cue WidgetCmd)) → part_cues q ≡ part_cues p ++ more →
+last_more : (ended : List (Part WidgetCmd)) (p q : Part WidgetCmd) (more : List (Cue WidgetCmd)) → part_cues q ≡ part_cues p ++ more →
     cues (ended ++ q ∷ []) ≡ cues (ended ++ p ∷ []) ++ more
 last_more [] p q more e = append-nil (part_cues q) ∙ e ∙ ap (λ (cs : List (Cue WidgetCmd)). cs ++ more) (sym (append-nil (part_cues p)))
 last_more (x ∷ xs) p q more e =
@@ -38,7 +39,7 @@ last_more (x ∷ xs) p q more e =
     ∙ sym (append_assoc (part_cues x) (flat_map later_cues (xs ++ p ∷ [])) more)
 
 -- a step more
-pub step_more : (ended : List Part) (part : Part) (actor : Actor) (step : Step WidgetCmd) →
+pub step_more : (ended : List (Part WidgetCmd)) (part : Part WidgetCmd) (actor : Actor) (step : Step WidgetCmd) →
     cues (ended ++ record part { steps = part.steps ++ (actor, step) ∷ [] } ∷ []) ≡ cues (ended ++ part ∷ []) ++ makes actor step ∷ []
 step_more ended part actor step =
     let made = λ (m : Actor × Step WidgetCmd). makes m.0 m.1 in
@@ -47,7 +48,7 @@ step_more ended part actor step =
     ∙ sym (append_assoc (flat_map reporting part.reports) (map made part.steps) (makes actor step ∷ [])))
 
 -- a report more, in a part without steps
-pub report_more : (ended : List Part) (part : Part) (query : Query) → part.steps ≡ [] →
+pub report_more : (ended : List (Part WidgetCmd)) (part : Part WidgetCmd) (query : Query) → part.steps ≡ [] →
     cues (ended ++ record part { reports = part.reports ++ query ∷ [] } ∷ []) ≡ cues (ended ++ part ∷ []) ++ reporting query
 report_more ended part query none =
     let made = λ (m : Actor × Step WidgetCmd). makes m.0 m.1 in
@@ -60,7 +61,7 @@ report_more ended part query none =
     ∙ ap (λ (steps : List (Actor × Step WidgetCmd)). (reports ++ map made steps) ++ reporting query) (sym none))
 
 -- a part more, which has done nothing yet
-pub sync_more : (ended : List Part) (part : Part) →
+pub sync_more : (ended : List (Part WidgetCmd)) (part : Part WidgetCmd) →
     cues ((ended ++ part ∷ []) ++ empty_part ∷ []) ≡ cues (ended ++ part ∷ []) ++ makes Player Sync ∷ []
 sync_more [] part = ap (λ (cs : List (Cue WidgetCmd)). cs ++ makes Player Sync ∷ []) (sym (append-nil (part_cues part)))
 sync_more (x ∷ xs) part =

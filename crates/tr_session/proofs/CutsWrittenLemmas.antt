@@ -8,11 +8,11 @@ use Rattle.tr_mirror.specs.Streams.{IsShowable}
 use Rattle.tr_grammar.specs.declared.Code.{Code}
 use Rattle.tr_session.specs.declared.requests.Request.{Request}
 use Rattle.tr_session.specs.declared.requests.Request.TheVariants.{Save, Cut, Quit, Script}
-use Rattle.tr_session.specs.Answers.{Answer, AreAnswered, IsAnswered, after, after_cut, after_for, after_script_line, bytes, due, due_for, due_of_cut, due_of_line, due_of_save, no_memory, refused, saved, text}
+use Rattle.tr_session.specs.Answers.{Answer, AreAnswered, ComesAfterLine, after_cut, after_for, after_reply, after_script_line, bytes, due, due_for, due_of_cut, due_of_line, due_of_save, no_memory, refused, saved, text}
 use Rattle.tr_session.specs.Cuts.{CutsSoFar, bytes_of_cuts, cut_bytes, fitted}
 use Rattle.tr_session.specs.Laws.{WritesCuts, cut_in, screen_of_cut, screens_in}
-use Rattle.tr_session.specs.Lines.{fault_in, request_of}
-use Rattle.tr_session.specs.Sessions.{IsSession, IsShown, SessionView, no_session, so_far}
+use Rattle.tr_session.specs.Lines.{fault_of_line, request_of}
+use Rattle.tr_session.specs.Sessions.{IsRightScreen, IsSession, SessionView, no_session, script_so_far}
 use Rattle.tr_session.proofs.CutLemmas.{cuts_are_shown}
 use Rattle.tr_session.proofs.FitLemmas.{fitted_shows}
 use Rattle.tr_session.proofs.SessionLemmas.{no_session_is}
@@ -47,13 +47,13 @@ module _ (s : SessionView) (line : List ℕ) (t : SessionView) where
   request_goes Save answer is next = save_goes s.screen answer is (ap (λ (u : SessionView). u.cuts) next)
   request_goes Cut answer is next = cut_goes s.screen refl answer is next
   request_goes Quit answer is next = subst Goes (sym is) (same_cuts (ap (λ (u : SessionView). u.cuts) next))
-  request_goes Script answer is next = line_goes (fault_in (so_far s) line) answer is next
+  request_goes Script answer is next = line_goes (fault_of_line (script_so_far s) line) answer is next
 
-  due_goes : (answer : Answer) → answer ≡ due s line → t ≡ after s line t.screen → Goes answer
-  unfolding due after
+  due_goes : (answer : Answer) → answer ≡ due s line → t ≡ after_reply s line t.screen → Goes answer
+  unfolding due after_reply
   due_goes answer is next = request_goes (request_of line) answer is next
 
-  one_goes : (answer : Answer) → IsAnswered s line answer t → Goes answer
+  one_goes : (answer : Answer) → ComesAfterLine s line answer t → Goes answer
   one_goes no_memory kept = same_cuts (ap (λ (u : SessionView). u.cuts) kept.0)
   one_goes (text told) is = due_goes (text told) is.0 is.1
   one_goes (saved told beyond) is = due_goes (saved told beyond) is.0 is.1
@@ -61,7 +61,7 @@ module _ (s : SessionView) (line : List ℕ) (t : SessionView) where
   one_goes (refused code) is = due_goes (refused code) is.0 is.1
 
 -- a stream can show the screen of a cut
-one_shows : (s : SessionView) (answer : Answer) (screen : Option Picture) → IsShown s screen → All IsShowable (screen_of_cut answer screen)
+one_shows : (s : SessionView) (answer : Answer) (screen : Option Picture) → IsRightScreen s screen → All IsShowable (screen_of_cut answer screen)
 one_shows s (bytes group) None shown = All-nil IsShowable
 one_shows s (bytes group) (Some screen) shown = All-cons IsShowable (fitted screen) [] (fitted_shows screen shown.0) (All-nil IsShowable)
 one_shows s (text told) screen shown = All-nil IsShowable

@@ -6,15 +6,15 @@ use Rattle.std.proofs.lemmas.Grind.{flat_map-append}
 use Rattle.tr_io.specs.Streams.{Grew, GrewByPrefix}
 use Rattle.tr_output.proofs.SendingLemmas.{grew_on, prefix_later}
 use Rattle.tr_session.specs.Answers.{Answer, answer_bytes}
-use Rattle.tr_session.specs.Calls.{SinkChange}
-use Rattle.tr_session.specs.Turns.{Adds}
+use Rattle.tr_session.specs.Calls.{SinkBytes}
+use Rattle.tr_session.specs.Turns.{AddsOrWrites}
 
 -- the bytes of these answers
 abbrev pub bytes_of : List Answer → List ℕ
 bytes_of answers = flat_map answer_bytes answers
 
 -- of these answers the first were written, and these bytes are those of the others
-pub record Waits (to : SinkChange) (answers : List Answer) (waiting : List ℕ) : Type 0 where
+pub record Waits (to : SinkBytes) (answers : List Answer) (waiting : List ℕ) : Type 0 where
   pub done : List Answer
   pub others : List Answer
   pub are : answers ≡ done ++ others
@@ -36,7 +36,7 @@ none_waits written waiting none = record { done = []; others = []; are = refl; w
     grew_none None = refl
     grew_none (Some bytes) = ap Some (sym (append-nil bytes))
 
-module _ (to : SinkChange) (answers : List Answer) (waiting : List ℕ) (waits : Waits to answers waiting) where
+module _ (to : SinkBytes) (answers : List Answer) (waiting : List ℕ) (waits : Waits to answers waiting) where
   -- the bytes of all answers
   all_bytes : bytes_of waits.done ++ waiting ≡ bytes_of answers
   all_bytes =
@@ -57,8 +57,8 @@ module _ (to : SinkChange) (answers : List Answer) (waiting : List ℕ) (waits :
   }
 
   -- one more answer waits, or it was written with those that waited
-  pub one_added : (next : SinkChange) (answer : Answer) (now : List ℕ) → next.written ≡ to.written_new →
-      Adds waiting (answer_bytes answer) next now →
+  pub one_added : (next : SinkBytes) (answer : Answer) (now : List ℕ) → next.written ≡ to.written_new →
+      AddsOrWrites waiting (answer_bytes answer) next now →
       Waits (record { written = to.written; written_new = next.written_new }) (answers ++ answer ∷ []) now
   one_added next answer now joins (inl stays) = record {
     done = waits.done;
@@ -97,7 +97,7 @@ module _ (to : SinkChange) (answers : List Answer) (waiting : List ℕ) (waits :
       (prefix_later to.written to.written_new after (bytes_of waits.done) (waiting ++ text) waits.wrote grew)
 
 -- where nothing waits, all answers were written
-pub none_left : (to : SinkChange) (answers : List Answer) → Waits to answers [] → Grew to.written to.written_new (bytes_of answers)
+pub none_left : (to : SinkBytes) (answers : List Answer) → Waits to answers [] → Grew to.written to.written_new (bytes_of answers)
 none_left to answers waits =
     subst (λ (text : List ℕ). Grew to.written to.written_new text)
     (sym (append-nil (bytes_of waits.done)) ∙ all_bytes to answers [] waits) waits.wrote

@@ -3,6 +3,7 @@ use Rattle.std.proofs.Common.{◌≡◌, ℕ, Bool, true, false, ◌&&◌, ◌||
 use Rattle.std.specs.Prelude.{Option}
 use Rattle.std.proofs.lemmas.List.{append-nil}
 use Rattle.tr_base.proofs.RectLemmas.{false-true}
+use Rattle.tr_base.proofs.BoolLemmas.{and_false}
 use Rattle.tr_journal.specs.declared.Actor.TheVariants.{Player}
 use Rattle.tr_journal.specs.declared.Item.TheVariants as items
 use Rattle.tr_journal.specs.declared.Step.TheVariants.{Sync}
@@ -23,9 +24,9 @@ use Rattle.tr_run.specs.Runs.{Cue, makes}
 use Rattle.tr_run.specs.Views.{Does, RunView}
 use Rattle.tr_serial.specs.Outputs.{cues, widgets}
 use Rattle.tr_script.specs.Apart.{meaning_of_line}
-use Rattle.tr_session.specs.Answering.{behind_sort, is_end, sort_of}
+use Rattle.tr_session.specs.Answering.{behind_sort, is_end, meaning_sort}
 use Rattle.tr_session.specs.Insides.{opening_of}
-use Rattle.tr_session.specs.Lines.{added_lines, at_any_time, ends_steps, fault_in, has_begun, needs_sync, sync_lines}
+use Rattle.tr_session.specs.Lines.{added_lines, at_any_time, ends_steps, fault_of_line, has_begun, needs_sync, sync_lines}
 use Rattle.tr_session.specs.Playing.{cues_of_meaning}
 use Rattle.tr_session.specs.Sessions.{cues_for}
 use Rattle.tr_session.proofs.CueLemmas.{Continues, HasPlayedLines, plays_on}
@@ -66,10 +67,6 @@ early_if_gap places.Opening gap = refl
 early_if_gap places.Gap gap = refl
 early_if_gap places.Steps gap = refl
 
-no_sync_for_none : (b : Bool) → (b && false) ≡ false
-no_sync_for_none true = refl
-no_sync_for_none false = refl
-
 is_said : (c : SoFar) (line : List ℕ) → has_begun c.place ≡ true → (has : HasMeaning c line) → IsSaid c line has.m
 is_said c line begun has =
     let gap = gap_if_begun c.place (sort_of_meaning has.m) begun has.allowed in
@@ -79,7 +76,7 @@ is_said c line begun has =
       early = early_if_gap c.place gap;
     }
 
-pub follows : (c : SoFar) (line : List ℕ) → has_begun c.place ≡ true → fault_in c line ≡ None →
+pub follows : (c : SoFar) (line : List ℕ) → has_begun c.place ≡ true → fault_of_line c line ≡ None →
     AddsLine c line (after_all_lines c (added_lines c line))
 follows c line begun none = by_silence (is_silent line) refl
   where
@@ -96,7 +93,7 @@ follows c line begun none = by_silence (is_silent line) refl
     by_silence : (b : Bool) → is_silent line ≡ b → AddsLine c line (after_all_lines c (added_lines c line))
     by_silence true silent = silently (silent_meaning c line silent)
         (ap (λ (said : Option Meaning). after_all_lines c (sync_lines (needs_sync c said) ++ line ∷ [])) (silent_meaning c line silent)
-        ∙ ap (λ (b : Bool). after_all_lines c (sync_lines b ++ line ∷ [])) (no_sync_for_none (is_at_steps c.place))
+        ∙ ap (λ (b : Bool). after_all_lines c (sync_lines b ++ line ∷ [])) (and_false (is_at_steps c.place))
         ∙ silent_next c line silent)
     by_silence false loud = let has = has_meaning c line none loud in by_sync has (needs_sync c (Some has.m)) refl
 
@@ -129,7 +126,7 @@ opening_after c line d begun (behind_sync m said needs is) =
 
 -- whether the last line made a step
 step_after : (c : SoFar) (w : List ℕ) (m : Meaning) → allows places.Gap (sort_of_meaning m) ≡ true →
-    is_at_steps (after_meaning c w m).place ≡ behind_sort (sort_of (Some m)) (is_at_steps c.place)
+    is_at_steps (after_meaning c w m).place ≡ behind_sort (meaning_sort (Some m)) (is_at_steps c.place)
 step_after c w (meanings.Version n) allowed = absurd (false-true allowed)
 step_after c w (meanings.Item (items.Screen size kind)) allowed = absurd (false-true allowed)
 step_after c w (meanings.Item (items.Glyph byte rows)) allowed = absurd (false-true allowed)
@@ -144,7 +141,7 @@ step_after c w (meanings.Report query) allowed = refl
 step_after c w meanings.End allowed = refl
 
 -- a line that needs a sync is a report or the end, which makes no step
-no_step : (at_steps before : Bool) (m : Meaning) → (at_steps && ends_steps (Some m)) ≡ true → behind_sort (sort_of (Some m)) before ≡ false
+no_step : (at_steps before : Bool) (m : Meaning) → (at_steps && ends_steps (Some m)) ≡ true → behind_sort (meaning_sort (Some m)) before ≡ false
 no_step true before (meanings.Version n) needs = absurd (false-true needs)
 no_step true before (meanings.Item item) needs = absurd (false-true needs)
 no_step true before meanings.Begin needs = absurd (false-true needs)
@@ -155,24 +152,24 @@ no_step true before meanings.End needs = refl
 no_step false before m needs = absurd (false-true needs)
 
 pub behind_after : (c : SoFar) (line : List ℕ) (d : SoFar) → AddsLine c line d →
-    is_at_steps d.place ≡ behind_sort (sort_of (meaning_of_line c line)) (is_at_steps c.place)
+    is_at_steps d.place ≡ behind_sort (meaning_sort (meaning_of_line c line)) (is_at_steps c.place)
 behind_after c line d (silently said is) =
     ap (λ (e : SoFar). is_at_steps e.place) is
-    ∙ sym (ap (λ (found : Option Meaning). behind_sort (sort_of found) (is_at_steps c.place)) said)
+    ∙ sym (ap (λ (found : Option Meaning). behind_sort (meaning_sort found) (is_at_steps c.place)) said)
 behind_after c line d (alone m said needs is) =
     ap (λ (e : SoFar). is_at_steps e.place) is
     ∙ step_after c (word_at (words_of line) 1) m said.allowed
-    ∙ sym (ap (λ (found : Option Meaning). behind_sort (sort_of found) (is_at_steps c.place)) said.said)
+    ∙ sym (ap (λ (found : Option Meaning). behind_sort (meaning_sort found) (is_at_steps c.place)) said.said)
 behind_after c line d (behind_sync m said needs is) =
     ap (λ (e : SoFar). is_at_steps e.place) is
     ∙ step_after (after_meaning c [] meanings.Sync) (word_at (words_of line) 1) m said.allowed
     ∙ no_step (is_at_steps c.place) false m needs
     ∙ sym (no_step (is_at_steps c.place) (is_at_steps c.place) m needs)
-    ∙ sym (ap (λ (found : Option Meaning). behind_sort (sort_of found) (is_at_steps c.place)) said.said)
+    ∙ sym (ap (λ (found : Option Meaning). behind_sort (meaning_sort found) (is_at_steps c.place)) said.said)
 
 -- whether the end was read
 end_after : (c : SoFar) (w : List ℕ) (m : Meaning) → allows places.Gap (sort_of_meaning m) ≡ true →
-    has_ended (after_meaning c w m).place ≡ is_end (sort_of (Some m))
+    has_ended (after_meaning c w m).place ≡ is_end (meaning_sort (Some m))
 end_after c w (meanings.Version n) allowed = absurd (false-true allowed)
 end_after c w (meanings.Item (items.Screen size kind)) allowed = absurd (false-true allowed)
 end_after c w (meanings.Item (items.Glyph byte rows)) allowed = absurd (false-true allowed)
@@ -191,21 +188,21 @@ or_none true = refl
 or_none false = refl
 
 pub ended_after : (c : SoFar) (line : List ℕ) (d : SoFar) → AddsLine c line d →
-    has_ended d.place ≡ (has_ended c.place || is_end (sort_of (meaning_of_line c line)))
+    has_ended d.place ≡ (has_ended c.place || is_end (meaning_sort (meaning_of_line c line)))
 ended_after c line d (silently said is) =
     ap (λ (e : SoFar). has_ended e.place) is
     ∙ or_none (has_ended c.place)
-    ∙ sym (ap (λ (found : Option Meaning). has_ended c.place || is_end (sort_of found)) said)
+    ∙ sym (ap (λ (found : Option Meaning). has_ended c.place || is_end (meaning_sort found)) said)
 ended_after c line d (alone m said needs is) =
     ap (λ (e : SoFar). has_ended e.place) is
     ∙ end_after c (word_at (words_of line) 1) m said.allowed
-    ∙ sym (ap (λ (b : Bool). b || is_end (sort_of (Some m))) said.early)
-    ∙ sym (ap (λ (found : Option Meaning). has_ended c.place || is_end (sort_of found)) said.said)
+    ∙ sym (ap (λ (b : Bool). b || is_end (meaning_sort (Some m))) said.early)
+    ∙ sym (ap (λ (found : Option Meaning). has_ended c.place || is_end (meaning_sort found)) said.said)
 ended_after c line d (behind_sync m said needs is) =
     ap (λ (e : SoFar). has_ended e.place) is
     ∙ end_after (after_meaning c [] meanings.Sync) (word_at (words_of line) 1) m said.allowed
-    ∙ sym (ap (λ (b : Bool). b || is_end (sort_of (Some m))) said.early)
-    ∙ sym (ap (λ (found : Option Meaning). has_ended c.place || is_end (sort_of found)) said.said)
+    ∙ sym (ap (λ (b : Bool). b || is_end (meaning_sort (Some m))) said.early)
+    ∙ sym (ap (λ (found : Option Meaning). has_ended c.place || is_end (meaning_sort found)) said.said)
 
 -- ---- the stage
 

@@ -5,9 +5,12 @@ use Rattle.std.specs.List.{list_all, list_any}
 use Rattle.std.proofs.Math.Nat.{add-zero}
 use Rattle.std.proofs.lemmas.Bool.{and_from, lt-leb, or_from, or_parts}
 use Rattle.std.proofs.lemmas.List.Sums.{sum_by-append}
-use Rattle.std.proofs.lemmas.Option.{none-some}
+use Rattle.tr_base.specs.Lists.{first_true}
 use Rattle.tr_base.proofs.RectLemmas.{false-true}
+use Rattle.tr_base.proofs.ResultFacts.{none_here}
+use Rattle.tr_widget.specs.declared.WidgetCmd.{WidgetCmd}
 use Rattle.tr_journal.specs.declared.Item.TheVariants as items
+use Rattle.tr_journal.specs.Parts.{Part}
 use Rattle.tr_grammar.specs.declared.Code.{Code}
 use Rattle.tr_grammar.specs.declared.Code.TheVariants.{B2, B3, B4, B5, B6, B7, B10}
 use Rattle.tr_grammar.specs.declared.Meaning.{Meaning}
@@ -15,17 +18,17 @@ use Rattle.tr_grammar.specs.declared.Meaning.TheVariants as meanings
 use Rattle.tr_grammar.specs.declared.Place.{Place}
 use Rattle.tr_grammar.specs.declared.Place.TheVariants as places
 use Rattle.tr_grammar.specs.Codes.{number_of_code}
-use Rattle.tr_grammar.specs.States.{Part, SoFar}
+use Rattle.tr_grammar.specs.States.{SoFar}
 use Rattle.tr_grammar.specs.Texts.{is_plain, is_silent}
 use Rattle.tr_grammar.specs.Words.{word_at, words_of}
 use Rattle.tr_grammar.specs.Forms.{Form, field_words, fields, form_of}
 use Rattle.tr_grammar.specs.Meanings.{meaning_of}
-use Rattle.tr_grammar.specs.Faults.{allows, fault_as, fault_of, first_of, has_ended, is_declared_again, is_foreign, is_misspelled, is_one_too_many, is_refused, is_undeclared, reports_so_far, sort_of}
+use Rattle.tr_grammar.specs.Faults.{allows, fault_as, fault_of, has_ended, is_declared_again, is_foreign, is_misspelled, is_one_too_many, is_refused, is_undeclared, reports_so_far, sort_of}
 use Rattle.tr_grammar.specs.Scripts.{Refusal, after_all_lines, after_as, after_line, after_meaning, first_bad_line, or_later}
 use Rattle.tr_reader.specs.Adding.{is_at_steps, sort_of_meaning}
 use Rattle.tr_script.proofs.LineLemmas.{fault_of_words}
 use Rattle.tr_script.specs.Apart.{meaning_of_line}
-use Rattle.tr_session.specs.Lines.{at_any_time, ends_steps, fault_in, needs_sync, tried_against}
+use Rattle.tr_session.specs.Lines.{at_any_time, ends_steps, fault_of_line, needs_sync, tried_against}
 use Rattle.tr_session.specs.Sessions.{AreTaken}
 use Rattle.tr_session.proofs.TakenLemmas.{HasMeaning, has_meaning, loud_if_taken, plain_if_taken, sort_by_form}
 
@@ -40,7 +43,7 @@ pub record IsWithinLimits (c : SoFar) : Type 0 where
 less_before : (c : SoFar) (w : List ℕ) (m : Meaning) → IsWithinLimits (after_meaning c w m) → IsWithinLimits c
 less_before c w meanings.Sync within = record {
   syncs = omega (arith, within.syncs, length-append c.ended (c.part ∷ []));
-  reports = omega (arith, within.reports, sum_by-append (λ (p : Part). length p.reports) c.ended (c.part ∷ []));
+  reports = omega (arith, within.reports, sum_by-append (λ (p : Part WidgetCmd). length p.reports) c.ended (c.part ∷ []));
 }
 less_before c w (meanings.Report query) within = record {
   syncs = within.syncs;
@@ -101,17 +104,12 @@ room_for c w (meanings.Item item) few within = room_for_item item few
     room_for_item other none = refl
 room_for c w m few within = refl
 
--- a test that passed
-none_here : (b : Bool) (code : Code) (later : Option Code) → cond b (Some code) later ≡ None → (b ≡ false) × (later ≡ None)
-none_here true code later h = absurd (none-some code (sym h))
-none_here false code later h = (refl, h)
-
 -- the tests of a line, where the place and the limits differ: those of the limits are left
 tried_again : (misplaced spelled again undeclared foreign refused many elsewhere more : Bool) →
-    first_of ((B5, misplaced) ∷ (B2, spelled) ∷ (B4, again) ∷ (B3, undeclared) ∷ (B10, foreign) ∷ (B6, refused) ∷ (B7, many) ∷ []) ≡ None →
+    first_true ((B5, misplaced) ∷ (B2, spelled) ∷ (B4, again) ∷ (B3, undeclared) ∷ (B10, foreign) ∷ (B6, refused) ∷ (B7, many) ∷ []) ≡ None →
     elsewhere ≡ false →
     (many ≡ false)
-    × (first_of ((B5, elsewhere) ∷ (B2, spelled) ∷ (B4, again) ∷ (B3, undeclared) ∷ (B10, foreign) ∷ (B6, refused) ∷ (B7, more) ∷ [])
+    × (first_true ((B5, elsewhere) ∷ (B2, spelled) ∷ (B4, again) ∷ (B3, undeclared) ∷ (B10, foreign) ∷ (B6, refused) ∷ (B7, more) ∷ [])
     ≡ cond more (Some B7) None)
 tried_again misplaced spelled again undeclared foreign refused many elsewhere more none here =
     let a = none_here misplaced B5 _ none in
@@ -131,7 +129,7 @@ early_here places.Gap early = refl
 early_here places.Steps early = refl
 early_here places.Ended early = early
 
-module _ (c : SoFar) (n : ℕ) (line : List ℕ) (none : fault_in c line ≡ None) (no_sync : needs_sync c (meaning_of_line c line) ≡ false) where
+module _ (c : SoFar) (n : ℕ) (line : List ℕ) (none : fault_of_line c line ≡ None) (no_sync : needs_sync c (meaning_of_line c line) ≡ false) where
   plain : is_plain line ≡ true
   plain = plain_if_taken (tried_against c) 1 line none
 

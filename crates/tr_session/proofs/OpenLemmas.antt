@@ -2,14 +2,16 @@
 use Rattle.std.proofs.Common.{◌≡◌, ℕ, Bool, true, false, ◌&&◌, List, [], ◌∷◌, ◌++◌, Some, None, refl, sym, ap, subst, ◌∙◌}
 use Rattle.std.specs.Prelude.{Option, IfSome, codes}
 use Rattle.tr_base.proofs.RectLemmas.{false-true}
+use Rattle.tr_widget.specs.declared.WidgetCmd.{WidgetCmd}
 use Rattle.tr_forest.specs.Nodes.{Nodes}
 use Rattle.tr_journal.specs.Steps.{IsQuery}
+use Rattle.tr_journal.specs.Parts.{Part}
 use Rattle.tr_machine.specs.States.{start}
 use Rattle.tr_grammar.specs.declared.Meaning.{Meaning}
 use Rattle.tr_grammar.specs.declared.Meaning.TheVariants as meanings
 use Rattle.tr_grammar.specs.declared.Place.{Place}
 use Rattle.tr_grammar.specs.declared.Place.TheVariants as places
-use Rattle.tr_grammar.specs.States.{Part, SoFar, empty_part}
+use Rattle.tr_grammar.specs.States.{SoFar, empty_part}
 use Rattle.tr_grammar.specs.Texts.{is_silent}
 use Rattle.tr_grammar.specs.Words.{word_at, words_of}
 use Rattle.tr_grammar.specs.Faults.{allows, has_ended, nodes_so_far, report_line, step_line}
@@ -19,7 +21,7 @@ use Rattle.tr_run.specs.Runs.{run_lines}
 use Rattle.tr_script.specs.Apart.{meaning_of_line}
 use Rattle.tr_serial.specs.Outputs.{cues, serial_journal, widgets}
 use Rattle.tr_session.specs.Insides.{opening_of, reader_place}
-use Rattle.tr_session.specs.Lines.{added_lines, at_any_time, ends_steps, fault_in, has_begun, needs_sync, sync_lines, tried_against}
+use Rattle.tr_session.specs.Lines.{added_lines, at_any_time, ends_steps, fault_of_line, has_begun, needs_sync, sync_lines, tried_against}
 use Rattle.tr_session.specs.Playing.{IsMeant}
 use Rattle.tr_session.specs.Sessions.{AreTaken}
 use Rattle.tr_session.proofs.SavedLemmas.{end_follows}
@@ -90,7 +92,7 @@ open_next c w meanings.Sync fresh allowed = absurd (no_step_yet c.place fresh al
 open_next c w (meanings.Report query) fresh allowed = absurd (no_report_yet c.place fresh allowed)
 open_next c w meanings.End fresh allowed = absurd (no_report_yet c.place fresh allowed)
 
-pub open_after : (c : SoFar) (line : List ℕ) → has_begun c.place ≡ false → fault_in c line ≡ None → StaysOpen c (after_line c line)
+pub open_after : (c : SoFar) (line : List ℕ) → has_begun c.place ≡ false → fault_of_line c line ≡ None → StaysOpen c (after_line c line)
 open_after c line fresh none = by_silence (is_silent line) refl
   where
     by_silence : (b : Bool) → is_silent line ≡ b → StaysOpen c (after_line c line)
@@ -116,14 +118,14 @@ no_part c rested fresh = by_place c.place fresh rested
 opening_same : (d : SoFar) → reader_place d.place ≡ d.place → d.ended ≡ [] → d.part ≡ empty_part → opening_of d ≡ d
 opening_same d place ended part =
     ap (λ (p : Place). record d { place = p; ended = []; part = empty_part }) place
-    ∙ ap (λ (parts : List Part). record d { ended = parts; part = empty_part }) (sym ended)
-    ∙ ap (λ (p : Part). record d { part = p }) (sym part)
+    ∙ ap (λ (parts : List (Part WidgetCmd)). record d { ended = parts; part = empty_part }) (sym ended)
+    ∙ ap (λ (p : Part WidgetCmd). record d { part = p }) (sym part)
 
 -- the journal without a part has no line
 pub no_journal : (d : SoFar) → d.ended ≡ [] → d.part ≡ empty_part → serial_journal (whole d) ≡ []
 no_journal d ended part =
-    ap (λ (parts : List Part). run_lines widgets (start d.items) (cues (parts ++ d.part ∷ []))) ended
-    ∙ ap (λ (p : Part). run_lines widgets (start d.items) (cues (p ∷ []))) part
+    ap (λ (parts : List (Part WidgetCmd)). run_lines widgets (start d.items) (cues (parts ++ d.part ∷ []))) ended
+    ∙ ap (λ (p : Part WidgetCmd). run_lines widgets (start d.items) (cues (p ∷ []))) part
 
 -- ---- a line of the opening
 
@@ -137,7 +139,7 @@ pub record Opens (c : SoFar) (line : List ℕ) : Type 0 where
   pub begun : has_begun (after_line c line).place ≡ allows (after_line c line).place step_line
   pub same : opening_of (after_line c line) ≡ after_line c line
 
-pub opens : (c : SoFar) (line : List ℕ) → Rests c → has_begun c.place ≡ false → fault_in c line ≡ None → Opens c line
+pub opens : (c : SoFar) (line : List ℕ) → Rests c → has_begun c.place ≡ false → fault_of_line c line ≡ None → Opens c line
 opens c line rested fresh none =
     let on = open_after c line fresh none in
     let parts = no_part c rested fresh in
@@ -167,7 +169,7 @@ pub record Begins (c : SoFar) (line : List ℕ) : Type 0 where
   pub names : (after_line (after_line c line) (codes "end")).names ≡ (after_line c line).names
   pub journal : serial_journal (whole (after_line c line)) ≡ []
 
-pub begins : (c : SoFar) (line : List ℕ) → Rests c → has_begun c.place ≡ false → fault_in c line ≡ None → Begins c line
+pub begins : (c : SoFar) (line : List ℕ) → Rests c → has_begun c.place ≡ false → fault_of_line c line ≡ None → Begins c line
 begins c line rested fresh none =
     let on = open_after c line fresh none in
     let parts = no_part c rested fresh in

@@ -24,12 +24,12 @@ use Rattle.tr_session.specs.declared.errors.Unanswered.{Unanswered}
 use Rattle.tr_session.specs.declared.errors.Unanswered.TheVariants as unanswered
 use Rattle.tr_session.specs.declared.sorts.LineSort.{LineSort}
 use Rattle.tr_session.specs.declared.sorts.LineSort.TheVariants as sorts
-use Rattle.tr_session.specs.Answering.{Takes, Tells, behind_sort, sort_ends_steps, is_end, sort_of, tried_by}
-use Rattle.tr_session.specs.Answers.{answer_bytes, text, text_for}
-use Rattle.tr_session.specs.Insides.{HasPlayed, HoldsTogether, IsPlayed, opening_of, screen_in, session_view}
-use Rattle.tr_session.specs.Lines.{added_lines, ends_steps, fault_in, has_begun, needs_sync, sync_lines, tried_against}
-use Rattle.tr_session.specs.Playing.{ActsBehindSync, Follows, IsWantOfMemory, KeepsLines, PlayedView, as_run, cues_of_meaning}
-use Rattle.tr_session.specs.Sessions.{SessionView, so_far, state_of, with_lines}
+use Rattle.tr_session.specs.Answering.{Takes, Tells, behind_sort, sort_ends_steps, is_end, meaning_sort, tried_by}
+use Rattle.tr_session.specs.Answers.{answer_bytes, text, text_for_line}
+use Rattle.tr_session.specs.Insides.{HasPlayedAllLines, HasStageOnceBegun, PartsAgree, opening_of, screen_in, session_view}
+use Rattle.tr_session.specs.Lines.{added_lines, ends_steps, fault_of_line, has_begun, needs_sync, sync_lines, tried_against}
+use Rattle.tr_session.specs.Playing.{ActsBehindSync, FollowsLine, IsWantOfMemory, KeepsLines, PlayedView, as_run, cues_of_meaning}
+use Rattle.tr_session.specs.Sessions.{SessionView, script_so_far, stage_state, with_more_lines}
 use Rattle.tr_session.proofs.CueLemmas.{HasPlayedLines}
 use Rattle.tr_session.proofs.KeepingLemmas.{AddsLine, Runs, behind_after, ended_after, follows, opening_after, stage_after}
 use Rattle.tr_session.proofs.LineLemmas.{tried_is}
@@ -43,7 +43,7 @@ meaning_tried : (c : SoFar) (line : List ℕ) → meaning_of_line (tried_against
 unfolding meaning_of_line
 meaning_tried c line = refl
 
-ends_same : (said : Option Meaning) → sort_ends_steps (sort_of said) ≡ ends_steps said
+ends_same : (said : Option Meaning) → sort_ends_steps (meaning_sort said) ≡ ends_steps said
 ends_same None = refl
 ends_same (Some (meanings.Version n)) = refl
 ends_same (Some (meanings.Item item)) = refl
@@ -55,7 +55,7 @@ ends_same (Some meanings.End) = refl
 
 -- a sync before a line doesn't change whether the line is behind a step
 behind_once : (said : Option Meaning) (synced at : Bool) → synced ≡ (at && ends_steps said) →
-    behind_sort (sort_of said) (cond synced false at) ≡ behind_sort (sort_of said) at
+    behind_sort (meaning_sort said) (cond synced false at) ≡ behind_sort (meaning_sort said) at
 behind_once said false at is = refl
 behind_once said true false is = absurd (false-true (sym is))
 behind_once None true true is = absurd (false-true (sym is))
@@ -70,7 +70,7 @@ behind_once (Some meanings.End) true true is = refl
 -- ---- before a line is read
 
 -- a line up to `begin` comes before the stage, and one after it behind it
-pub begun_if_played : (i : Session) (b : Bool) → HoldsTogether i → is_some i.played ≡ b → has_begun (so_far (session_view i)).place ≡ b
+pub begun_if_played : (i : Session) (b : Bool) → PartsAgree i → is_some i.played ≡ b → has_begun (script_so_far (session_view i)).place ≡ b
 begun_if_played i b holds is = sym holds.session.begun ∙ same i.played ∙ is
   where
     same : (o : Option PlayedView) → is_some (screen_in o) ≡ is_some o
@@ -102,13 +102,13 @@ tells_err sorts.End outcome report bytes e tells = tells
 
 -- the parts of a session before and after a line, whose meaning was followed from p to q
 pub record PlaysLine (i j : Session) (line : List ℕ) (said : Option Meaning) (p q : PlayedView) (f : Followed) (outcome : List ℕ) : Type 0 where
-  pub holds : HoldsTogether i
-  pub begun : has_begun (so_far (session_view i)).place ≡ true
+  pub holds : PartsAgree i
+  pub begun : has_begun (script_so_far (session_view i)).place ≡ true
   pub none : fault_of (tried_by i.script.reader i.script.has_ended) 1 line ≡ None
   pub means : said ≡ meaning_of_line (tried_by i.script.reader i.script.has_ended) line
   pub was : i.played ≡ Some p
   pub now : j.played ≡ Some q
-  pub follows : Follows p q said (i.script.is_behind_step && sort_ends_steps (sort_of said)) f [] outcome
+  pub follows : FollowsLine p q said (i.script.is_behind_step && sort_ends_steps (meaning_sort said)) f [] outcome
   pub reader : j.script.reader ≡ i.script.reader
   pub cuts : j.cuts ≡ i.cuts
 
@@ -118,14 +118,14 @@ module _ (i j : Session) (line : List ℕ) (said : Option Meaning) (p q : Played
   s = session_view i
 
   abbrev pub c : SoFar
-  c = so_far s
+  c = script_so_far s
 
   abbrev pub b : RunView Widget WidgetCmd
   b = plays.follows.now
 
   -- a sync is needed before the line
   abbrev pub needs : Bool
-  needs = i.script.is_behind_step && sort_ends_steps (sort_of said)
+  needs = i.script.is_behind_step && sort_ends_steps (meaning_sort said)
 
   abbrev acts : ActsBehindSync widgets (as_run p) b said needs f.result [] outcome
   acts = plays.follows.acts
@@ -136,7 +136,7 @@ module _ (i j : Session) (line : List ℕ) (said : Option Meaning) (p q : Played
       ∙ ap (λ (ended : Bool). tried_by (opening_of c) ended) plays.holds.ended
       ∙ sym (tried_is c plays.begun)
 
-  none_in : fault_in c line ≡ None
+  none_in : fault_of_line c line ≡ None
   none_in = ap (λ (d : SoFar). fault_of d 1 line) (sym tried) ∙ plays.none
 
   said_in : said ≡ meaning_of_line c line
@@ -144,7 +144,7 @@ module _ (i j : Session) (line : List ℕ) (said : Option Meaning) (p q : Played
 
   needs_is : needs ≡ needs_sync c said
   needs_is =
-      ap (λ (at : Bool). at && sort_ends_steps (sort_of said)) plays.holds.behind
+      ap (λ (at : Bool). at && sort_ends_steps (meaning_sort said)) plays.holds.behind
       ∙ ap (λ (ends : Bool). is_at_steps c.place && ends) (ends_same said)
 
   rested : Rests c
@@ -152,7 +152,7 @@ module _ (i j : Session) (line : List ℕ) (said : Option Meaning) (p q : Played
 
   played : HasPlayedLines c (as_run p)
   played =
-      let has : HasPlayed s p = subst (λ (o : Option PlayedView). IsPlayed s o) plays.was plays.holds.played in
+      let has : HasPlayedAllLines s p = subst (λ (o : Option PlayedView). HasStageOnceBegun s o) plays.was plays.holds.played in
       record { opening = has.opening; names = has.names; journal = has.journal }
 
   names_are : q.names ≡ b.names
@@ -165,8 +165,8 @@ module _ (i j : Session) (line : List ℕ) (said : Option Meaning) (p q : Played
   )
 
   -- what a run has played, the stage of the session has
-  has_played : (t : SessionView) → HasPlayedLines (so_far t) b → IsPlayed t j.played
-  has_played t lines = subst (λ (o : Option PlayedView). IsPlayed t o) (sym plays.now) (record {
+  has_played : (t : SessionView) → HasPlayedLines (script_so_far t) b → HasStageOnceBegun t j.played
+  has_played t lines = subst (λ (o : Option PlayedView). HasStageOnceBegun t o) (sym plays.now) (record {
     opening = ap (λ (g : StageView Widget WidgetCmd). g.opening) plays.follows.stage ∙ lines.opening;
     names = names_are ∙ lines.names;
     journal = ap (λ (g : StageView Widget WidgetCmd). g.journal) plays.follows.stage ∙ lines.journal;
@@ -175,13 +175,13 @@ module _ (i j : Session) (line : List ℕ) (said : Option Meaning) (p q : Played
   -- ---- the line was done
 
   module _ (done : f.result ≡ Ok tt) (lines : j.script.saved.lines ≡ (i.script.saved.lines ++ sync_lines needs) ++ line ∷ [])
-      (behind : j.script.is_behind_step ≡ behind_sort (sort_of said) (cond needs false i.script.is_behind_step))
-      (ended : j.script.has_ended ≡ (i.script.has_ended || is_end (sort_of said))) where
+      (behind : j.script.is_behind_step ≡ behind_sort (meaning_sort said) (cond needs false i.script.is_behind_step))
+      (ended : j.script.has_ended ≡ (i.script.has_ended || is_end (meaning_sort said))) where
     abbrev d : SoFar
     d = after_all_lines c (added_lines c line)
 
     abbrev t : SessionView
-    t = with_lines s (added_lines c line) (Some q.stage.screen)
+    t = with_more_lines s (added_lines c line) (Some q.stage.screen)
 
     adds : AddsLine c line d
     adds = follows c line plays.begun none_in
@@ -196,7 +196,7 @@ module _ (i j : Session) (line : List ℕ) (said : Option Meaning) (p q : Played
     after : HasPlayedLines d b
     after = stage_after c line d needs (as_run p) acts.begun b plays.begun rested played runs adds
 
-    next : so_far t ≡ d
+    next : script_so_far t ≡ d
     next = so_far_after s (added_lines c line) (Some q.stage.screen)
 
     lines_are : j.script.saved.lines ≡ s.lines ++ added_lines c line
@@ -208,30 +208,30 @@ module _ (i j : Session) (line : List ℕ) (said : Option Meaning) (p q : Played
     view : session_view j ≡ t
     view = view_is j (s.lines ++ added_lines c line) (Some q.stage.screen) s.cuts lines_are (ap screen_in plays.now) plays.cuts
 
-    pub played_holds : HoldsTogether j
+    pub played_holds : PartsAgree j
     played_holds =
         together j t view (session_after s line b q.stage.screen plays.holds.session none_in plays.begun after screen_right)
         (plays.reader ∙ plays.holds.reader ∙ sym (opening_after c line d plays.begun adds) ∙ ap opening_of (sym next))
         (ended
-        ∙ ap (λ (e : Bool). e || is_end (sort_of said)) plays.holds.ended
-        ∙ ap (λ (m : Option Meaning). has_ended c.place || is_end (sort_of m)) said_in
+        ∙ ap (λ (e : Bool). e || is_end (meaning_sort said)) plays.holds.ended
+        ∙ ap (λ (m : Option Meaning). has_ended c.place || is_end (meaning_sort m)) said_in
         ∙ sym (ended_after c line d adds)
         ∙ ap (λ (e : SoFar). has_ended e.place) (sym next))
         (behind
-        ∙ ap (λ (at : Bool). behind_sort (sort_of said) (cond needs false at)) plays.holds.behind
+        ∙ ap (λ (at : Bool). behind_sort (meaning_sort said) (cond needs false at)) plays.holds.behind
         ∙ behind_once said needs (is_at_steps c.place) needs_is
-        ∙ ap (λ (m : Option Meaning). behind_sort (sort_of m) (is_at_steps c.place)) said_in
+        ∙ ap (λ (m : Option Meaning). behind_sort (meaning_sort m) (is_at_steps c.place)) said_in
         ∙ sym (behind_after c line d adds)
         ∙ ap (λ (e : SoFar). is_at_steps e.place) (sym next))
         (has_played t (subst (λ (e : SoFar). HasPlayedLines e b) (sym next) after))
 
-    pub played_takes : (bytes : List ℕ) → Tells (sort_of said) outcome f.text bytes (Ok tt) → Takes s line bytes (Ok tt) (session_view j)
+    pub played_takes : (bytes : List ℕ) → Tells (meaning_sort said) outcome f.text bytes (Ok tt) → Takes s line bytes (Ok tt) (session_view j)
     played_takes bytes tells = (
       none_in,
       tells_text s said needs (as_run p) acts.begun b outcome bytes played refl refl needs_is (acts.sync done) (acts.did done)
           (acts.outcome done)
-          (subst (λ (told : List ℕ). Tells (sort_of said) outcome told bytes (Ok tt)) plays.follows.text tells)
-          ∙ ap (λ (m : Option Meaning). answer_bytes (text (text_for s m))) said_in,
+          (subst (λ (told : List ℕ). Tells (meaning_sort said) outcome told bytes (Ok tt)) plays.follows.text tells)
+          ∙ ap (λ (m : Option Meaning). answer_bytes (text (text_for_line s m))) said_in,
       view_is j (s.lines ++ added_lines c line) (screen_in j.played) s.cuts lines_are refl plays.cuts,
     )
 
@@ -240,7 +240,7 @@ module _ (i j : Session) (line : List ℕ) (said : Option Meaning) (p q : Played
   module _ (e : Unanswered) (is : f.result ≡ Err e) (lines : j.script.saved.lines ≡ i.script.saved.lines)
       (behind : j.script.is_behind_step ≡ i.script.is_behind_step) (ended : j.script.has_ended ≡ i.script.has_ended) where
     -- for want of memory the stage is the same
-    kept : f.result ≡ Err unanswered.NoMemory → HoldsTogether j
+    kept : f.result ≡ Err unanswered.NoMemory → PartsAgree j
     kept lost =
         let whole : KeepsLines p.stage b.stage = acts.whole lost in
         let now : HasPlayedLines c b = record {
@@ -249,7 +249,7 @@ module _ (i j : Session) (line : List ℕ) (said : Option Meaning) (p q : Played
           journal = whole.journal ∙ played.journal;
         } in
         let t : SessionView = record s { screen = Some q.stage.screen } in
-        let right : Agrees widgets (state_of s) q.stage.screen =
+        let right : Agrees widgets (stage_state s) q.stage.screen =
         subst (λ (m : State Widget WidgetCmd). Agrees widgets m q.stage.screen) (state_of_lines s b now) screen_right.1 in
         together j t (view_is j s.lines (Some q.stage.screen) s.cuts lines (ap screen_in plays.now) plays.cuts)
         (session_same s q.stage.screen plays.holds.session plays.begun (screen_right.0, right))
@@ -266,15 +266,15 @@ module _ (i j : Session) (line : List ℕ) (said : Option Meaning) (p q : Played
         by_error unanswered.NoMemory is = view_is j s.lines (screen_in j.played) s.cuts lines refl plays.cuts
         by_error unanswered.Lost is = none_in
 
-    pub err_holds : (e ≡ unanswered.Lost → ⊥) → HoldsTogether j
+    pub err_holds : (e ≡ unanswered.Lost → ⊥) → PartsAgree j
     err_holds other = by_error e is other
       where
-        by_error : (e : Unanswered) → f.result ≡ Err e → (e ≡ unanswered.Lost → ⊥) → HoldsTogether j
+        by_error : (e : Unanswered) → f.result ≡ Err e → (e ≡ unanswered.Lost → ⊥) → PartsAgree j
         by_error (unanswered.Fault code) is other = absurd (subst (λ (r : Result Unit Unanswered). IfErr r IsWantOfMemory) is acts.fault)
         by_error unanswered.NoMemory is other = kept is
         by_error unanswered.Lost is other = absurd (other refl)
 
   -- a text that can't be told loses the session
-  pub untold_takes : (e : Unanswered) (bytes : List ℕ) (v : SessionView) → Tells (sort_of said) outcome f.text bytes (Err e) → Takes s line bytes (Err e) v
+  pub untold_takes : (e : Unanswered) (bytes : List ℕ) (v : SessionView) → Tells (meaning_sort said) outcome f.text bytes (Err e) → Takes s line bytes (Err e) v
   untold_takes e bytes v tells =
-      subst (λ (lost : Unanswered). Takes s line bytes (Err lost) v) (sym (tells_err (sort_of said) outcome f.text bytes e tells)) none_in
+      subst (λ (lost : Unanswered). Takes s line bytes (Err lost) v) (sym (tells_err (meaning_sort said) outcome f.text bytes e tells)) none_in

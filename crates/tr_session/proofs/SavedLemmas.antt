@@ -1,27 +1,31 @@
 -- The saved text: it is a script, if it is within the limits of scripts, and is refused for them alone.
-use Rattle.std.proofs.Common.{◌≡◌, ℕ, ◌+◌, ◌≤◌, Bool, true, false, ◌&&◌, nat_lt, cond, List, [], ◌∷◌, ◌++◌, Some, None, append-nil, length, length-append, refl, sym, ap, subst, ◌∙◌, arith}
+use Rattle.std.proofs.Common.{◌≡◌, ℕ, ◌+◌, ◌≤◌, Bool, true, false, nat_lt, cond, List, [], ◌∷◌, ◌++◌, Some, None, append-nil, length, length-append, refl, sym, ap, subst, ◌∙◌, arith}
 use Rattle.std.specs.Prelude.{◌==◌, IfSome, Option, codes}
 use Rattle.std.proofs.lemmas.Bool.{le-ltb}
 use Rattle.std.proofs.lemmas.List.Sums.{sum_by-append}
 use Rattle.tr_base.proofs.RectLemmas.{false-true}
+use Rattle.tr_base.proofs.BoolLemmas.{and_true}
+use Rattle.tr_widget.specs.declared.WidgetCmd.{WidgetCmd}
+use Rattle.tr_journal.specs.Parts.{Part}
 use Rattle.tr_grammar.specs.declared.Meaning.TheVariants as meanings
 use Rattle.tr_grammar.specs.declared.Code.TheVariants.{B7}
 use Rattle.tr_grammar.specs.declared.Place.{Place}
 use Rattle.tr_grammar.specs.declared.Place.TheVariants as places
 use Rattle.tr_grammar.specs.Codes.{number_of_code}
-use Rattle.tr_grammar.specs.States.{Part, SoFar, empty_part, nothing_yet}
+use Rattle.tr_grammar.specs.States.{SoFar, empty_part, nothing_yet}
 use Rattle.tr_grammar.specs.Texts.{is_plain}
 use Rattle.tr_grammar.specs.Faults.{fault_of, has_ended, reports_so_far}
 use Rattle.tr_grammar.specs.Scripts.{Refusal, after_all_lines, after_line, first_bad_line, most_script_bytes, refusal_of, refused_at}
+use Rattle.tr_grammar.proofs.ScriptLemmas.{after_all_lines-append}
 use Rattle.tr_gen.specs.Scripts.{text_of_lines}
 use Rattle.tr_gen_valid.proofs.Cutting.{lines_of-text_of}
 use Rattle.tr_reader.specs.Adding.{is_at_steps}
 use Rattle.tr_script.specs.Apart.{meaning_of_line}
-use Rattle.tr_session.specs.Lines.{at_any_time, fault_in, has_begun, last_lines, needs_sync, sync_lines}
+use Rattle.tr_session.specs.Lines.{at_any_time, fault_of_line, has_begun, last_lines, needs_sync, sync_lines}
 use Rattle.tr_session.specs.Laws.{IsRefusedBeyond, SavesAScript}
-use Rattle.tr_session.specs.Sessions.{AreTaken, SessionView, so_far}
+use Rattle.tr_session.specs.Sessions.{AreTaken, SessionView, script_so_far}
 use Rattle.tr_session.proofs.LimitLemmas.{IsWithinLimits, lines_limited, lines_pass, plain_all}
-use Rattle.tr_session.proofs.TakenLemmas.{added_taken, after_all_lines-append, sync_follows, taken-append}
+use Rattle.tr_session.proofs.TakenLemmas.{added_taken, sync_follows, taken-append}
 
 -- ---- the end
 
@@ -57,19 +61,15 @@ tested_at_gap places.Gap begun early = refl
 tested_at_gap places.Steps begun early = refl
 tested_at_gap places.Ended begun early = absurd (false-true (sym early))
 
-with_true : (b : Bool) → (b && true) ≡ b
-with_true true = refl
-with_true false = refl
-
 -- the end, after a sync if it needs one, is taken
 end_taken : (c : SoFar) → has_begun c.place ≡ true → has_ended c.place ≡ false → AreTaken c (sync_lines (is_at_steps c.place) ++ codes "end" ∷ [])
 end_taken c begun early =
     let says : meaning_of_line c (codes "end") ≡ Some meanings.End = end_says c (c.version == 2) refl in
-    let none : fault_in c (codes "end") ≡ None =
+    let none : fault_of_line c (codes "end") ≡ None =
     ap (λ (p : Place). fault_of (record c { place = p; ended = []; part = empty_part }) 1 (codes "end")) (tested_at_gap c.place begun early)
     ∙ end_passes c (c.version == 2) refl in
     let needs : needs_sync c (meaning_of_line c (codes "end")) ≡ is_at_steps c.place =
-    ap (needs_sync c) says ∙ with_true (is_at_steps c.place) in
+    ap (needs_sync c) says ∙ and_true (is_at_steps c.place) in
     subst (λ (b : Bool). AreTaken c (sync_lines b ++ codes "end" ∷ [])) needs (added_taken c (codes "end") none)
 
 -- the lines that make a script of those so far are taken
@@ -92,7 +92,7 @@ finished_after c true =
     subst (λ (d : SoFar). IsFinished c d 1) (sym (ap (λ (d : SoFar). after_line d (codes "end")) (sync_leads c) ∙ end_follows gap)) (record {
       ended = refl;
       syncs = length-append c.ended (c.part ∷ []);
-      reports = omega (arith, sum_by-append (λ (p : Part). length p.reports) c.ended (c.part ∷ []));
+      reports = omega (arith, sum_by-append (λ (p : Part WidgetCmd). length p.reports) c.ended (c.part ∷ []));
     })
 finished_after c false =
     subst (λ (d : SoFar). IsFinished c d 0) (sym (end_follows c)) (record { ended = refl; syncs = omega arith; reports = refl })
@@ -151,7 +151,7 @@ saved_taken lines taken begun =
 -- a saved text is a script, if it is within the limits
 pub saves_a_script : (s : SessionView) → SavesAScript s
 saves_a_script s session begun within =
-    let c : SoFar = so_far s in
+    let c : SoFar = script_so_far s in
     let joined : after_all_lines nothing_yet (s.lines ++ last_lines c) ≡ after_all_lines c (last_lines c) =
     after_all_lines-append nothing_yet s.lines (last_lines c) in
     let ended : has_ended (after_all_lines nothing_yet (s.lines ++ last_lines c)).place ≡ true =
@@ -166,7 +166,7 @@ saves_a_script s session begun within =
 -- a saved text that is no script is beyond the limits
 pub refuses_beyond : (s : SessionView) → IsRefusedBeyond s
 refuses_beyond s session begun =
-    let c : SoFar = so_far s in
+    let c : SoFar = script_so_far s in
     let lines : List (List ℕ) = s.lines ++ last_lines c in
     let taken : AreTaken nothing_yet lines = saved_taken s.lines session.taken begun in
     let ended : has_ended (after_all_lines nothing_yet lines).place ≡ true =

@@ -8,16 +8,12 @@ use Rattle.std.proofs.lemmas.List.Folds.{list_all-append}
 use Rattle.tr_grammar.specs.Texts.{is_plain, lines_of}
 use Rattle.tr_gen.specs.Scripts.{text_of_lines}
 use Rattle.tr_gen_valid.proofs.Cutting.{lines_of-text_of}
+use Rattle.tr_gen_valid.proofs.Rounds.{sync_plain}
 
 -- an empty text has no line
 pub no_lines : (text : List ℕ) → text ≡ [] → lines_of text ≡ []
 unfolding lines_of
 no_lines text none = ap lines_of none
-
--- `sync` is plain
-pub plain_sync : is_plain (codes "sync") ≡ true
-unfolding is_plain
-plain_sync = refl
 
 -- so is `end`
 plain_end : is_plain (codes "end") ≡ true

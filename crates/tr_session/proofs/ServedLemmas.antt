@@ -8,11 +8,11 @@ use Rattle.std.proofs.Math.Seq.{take-length}
 use Rattle.tr_io.specs.Streams.{Grew, GrewByPrefix}
 use Rattle.tr_session.specs.declared.errors.Stopped.{Stopped}
 use Rattle.tr_session.specs.declared.errors.Stopped.TheVariants as stopped
-use Rattle.tr_session.specs.Answers.{Answer, AreAnswered, IsNext, answer_bytes, ends}
-use Rattle.tr_session.specs.Arrivals.{ArrivalsView, front_of, whole_lines}
-use Rattle.tr_session.specs.Calls.{AreAll, HasQuit, HasServed, SinkChange, SourceChange}
+use Rattle.tr_session.specs.Answers.{Answer, AreAnswered, IsNextSession, answer_bytes, ends}
+use Rattle.tr_session.specs.Arrivals.{ArrivalsView, first_bytes, whole_lines}
+use Rattle.tr_session.specs.Calls.{AreAll, HasQuit, HasServed, SinkBytes, SourceBytes}
 use Rattle.tr_session.specs.Sessions.{SessionView, no_session}
-use Rattle.tr_session.specs.Turns.{AnswersInPart, ReadsNothing, Serving, Turns, Writes}
+use Rattle.tr_session.specs.Turns.{AnswersInPart, ReadsNothing, Serving, TakesOneTurn, Writes}
 use Rattle.tr_session.proofs.FrontLemmas.{ends_by_front}
 use Rattle.tr_session.proofs.GatheringLemmas.{bytes_of, front_written, none_left, part_written}
 use Rattle.tr_session.proofs.ServingLemmas.{HasCome, IsServed, all_whole, first_whole, line_begun, line_came, next_by_front, none_came, none_served, one_answered, one_served, quit_served, read_served, take_before_last, written_served}
@@ -43,7 +43,7 @@ front_going bytes lines part a came going =
 
 -- ---- the answers were written
 
-module _ (from : SourceChange) (to : SinkChange) (s : SessionView) (a : ArrivalsView) (served : IsServed from to s a [])
+module _ (from : SourceBytes) (to : SinkBytes) (s : SessionView) (a : ArrivalsView) (served : IsServed from to s a [])
     (going : AreGoing (take (length served.lines - 1) served.lines)) where
   ends_whole : (result : Result Unit Stopped) → AreAll result from served.bytes (length served.lines) → HasServed from result to
   ends_whole result all =
@@ -70,10 +70,10 @@ module _ (from : SourceChange) (to : SinkChange) (s : SessionView) (a : Arrivals
 
 -- ---- some answers wait
 
-module _ (from : SourceChange) (to : SinkChange) (s : SessionView) (a : ArrivalsView) (waiting : List ℕ) (served : IsServed from to s a waiting)
+module _ (from : SourceBytes) (to : SinkBytes) (s : SessionView) (a : ArrivalsView) (waiting : List ℕ) (served : IsServed from to s a waiting)
     (going : AreGoing (take (length served.lines - 1) served.lines)) where
   -- they were all written
-  ends_flushed : (next : SinkChange) (result : Result Unit Stopped) → AreAll result from served.bytes (length served.lines) →
+  ends_flushed : (next : SinkBytes) (result : Result Unit Stopped) → AreAll result from served.bytes (length served.lines) →
       next.written ≡ to.written_new → Grew next.written next.written_new waiting → HasServed from result (change to.written next.written_new)
   unfolding written_served
   ends_flushed next result all joins grew =
@@ -81,7 +81,7 @@ module _ (from : SourceChange) (to : SinkChange) (s : SessionView) (a : Arrivals
       ends_whole from (change to.written next.written_new) s a (written_served from to s a waiting next.written_new served wrote) going result all
 
   -- they were written in part
-  ends_in_front : (next : SinkChange) → next.written ≡ to.written_new → GrewByPrefix next.written next.written_new waiting →
+  ends_in_front : (next : SinkBytes) → next.written ≡ to.written_new → GrewByPrefix next.written next.written_new waiting →
       HasServed from (Err stopped.Unwritten) (change to.written next.written_new)
   ends_in_front next joins grew = record {
     bytes = served.bytes;
@@ -99,7 +99,7 @@ module _ (from : SourceChange) (to : SinkChange) (s : SessionView) (a : Arrivals
   }
 
   -- a session that is over ends when they are written; no memory is needed for it
-  ends_written : (next : SinkChange) (result : Result Unit Stopped) → AreAll (Ok tt) from served.bytes (length served.lines) →
+  ends_written : (next : SinkBytes) (result : Result Unit Stopped) → AreAll (Ok tt) from served.bytes (length served.lines) →
       next.written ≡ to.written_new → (result ≡ Err stopped.NoMemory → ⊥) → Writes waiting result next →
       HasServed from result (change to.written next.written_new)
   ends_written next (Ok done) all joins other writes = ends_flushed next (Ok tt) all joins writes
@@ -108,13 +108,13 @@ module _ (from : SourceChange) (to : SinkChange) (s : SessionView) (a : Arrivals
   ends_written next (Err stopped.NoMemory) all joins other writes = absurd (other refl)
 
 -- one more answer was written in part
-ends_in_part : (from : SourceChange) (to : SinkChange) (a : Serving) → (served : IsServed from to a.session a.arrivals a.waiting) → AreGoing served.lines →
-    (next : SinkChange) → next.written ≡ to.written_new → AnswersInPart a next → HasServed from (Err stopped.Unwritten) (change to.written next.written_new)
+ends_in_part : (from : SourceBytes) (to : SinkBytes) (a : Serving) → (served : IsServed from to a.session a.arrivals a.waiting) → AreGoing served.lines →
+    (next : SinkBytes) → next.written ≡ to.written_new → AnswersInPart a next → HasServed from (Err stopped.Unwritten) (change to.written next.written_new)
 ends_in_part from to a served going next joins in_part =
     let part = in_part.part in
     let line : List ℕ = served.part ++ in_part.line.more in
     let begun = line_begun served.bytes served.lines served.part a.arrivals in_part.whole served.has in_part.line in
-    let answered : IsNext a.session line part.answer part.last =
+    let answered : IsNextSession a.session line part.answer part.last =
     next_by_front a.session part.last line in_part.whole.begun part.answer begun part.answered in
     let lines : List (List ℕ) = served.lines ++ line ∷ [] in
     let answers : List Answer = served.answers ++ part.answer ∷ [] in
@@ -140,7 +140,7 @@ ends_in_part from to a served going next joins in_part =
 -- ---- by turns
 
 -- after a turn with which the session goes on: there were no more turns than bytes and lines
-pub record IsCounted (from : SourceChange) (to : SinkChange) (a : Serving) (turns : ℕ) : Type 0 where
+pub record IsCounted (from : SourceBytes) (to : SinkBytes) (a : Serving) (turns : ℕ) : Type 0 where
   pub served : IsServed from to a.session a.arrivals a.waiting
   pub going : AreGoing served.lines
   pub few : turns ≤ length served.bytes + length served.lines
@@ -158,7 +158,7 @@ starts left written after s a waiting view begun rest empty same =
     (record { served = none_served left written a waiting begun rest empty; going = no_line_going; few = omega arith }))
 
 -- a line goes on or ends the session if its front does
-ends_is : (line begun : List ℕ) (goes : Bool) → begun ≡ front_of line → goes ≡ not (ends begun) → ends line ≡ not goes
+ends_is : (line begun : List ℕ) (goes : Bool) → begun ≡ first_bytes line → goes ≡ not (ends begun) → ends line ≡ not goes
 ends_is line begun goes is on =
     sym (ends_by_front line) ∙ ap ends (sym is) ∙ not_not (ends begun) ∙ ap (λ (b : Bool). not b) (sym on)
   where
@@ -166,8 +166,8 @@ ends_is line begun goes is on =
     not_not true = refl
     not_not false = refl
 
-pub goes_on : (from next_from : SourceChange) (to next : SinkChange) (a b : Serving) (turns : ℕ) → IsCounted from to a turns →
-    next_from.left ≡ from.left_new → next.written ≡ to.written_new → Turns a next_from (Ok true) next b →
+pub goes_on : (from next_from : SourceBytes) (to next : SinkBytes) (a b : Serving) (turns : ℕ) → IsCounted from to a turns →
+    next_from.left ≡ from.left_new → next.written ≡ to.written_new → TakesOneTurn a next_from (Ok true) next b →
     IsCounted (record { left = from.left; left_new = next_from.left_new }) (change to.written next.written_new) b (turns + 1)
 unfolding one_served read_served
 goes_on from next_from to next a b turns counted joins_from joins (inl one) =
@@ -190,13 +190,13 @@ goes_on from next_from to next a b turns counted joins_from joins (inr reads) =
     record { served = after; going = counted.going; few = longer }
 
 -- after a turn with which it ends, before the answers that wait are written
-pub record IsEnding (from : SourceChange) (to : SinkChange) (a : Serving) : Type 0 where
+pub record IsEnding (from : SourceBytes) (to : SinkBytes) (a : Serving) : Type 0 where
   pub served : IsServed from to a.session a.arrivals a.waiting
   pub going : AreGoing (take (length served.lines - 1) served.lines)
   pub all : AreAll (Ok tt) from served.bytes (length served.lines)
 
-pub ends_with : (from next_from : SourceChange) (to next : SinkChange) (a b : Serving) (turns : ℕ) → IsCounted from to a turns →
-    next_from.left ≡ from.left_new → next.written ≡ to.written_new → Turns a next_from (Ok false) next b →
+pub ends_with : (from next_from : SourceBytes) (to next : SinkBytes) (a b : Serving) (turns : ℕ) → IsCounted from to a turns →
+    next_from.left ≡ from.left_new → next.written ≡ to.written_new → TakesOneTurn a next_from (Ok false) next b →
     IsEnding (record { left = from.left; left_new = next_from.left_new }) (change to.written next.written_new) b
 unfolding one_served read_served
 ends_with from next_from to next a b turns counted joins_from joins (inl one) =
@@ -223,20 +223,20 @@ ends_with from next_from to next a b turns counted joins_from joins (inr reads) 
     }
 
 -- the answers that wait are written after that turn
-pub ends_after : (from : SourceChange) (to next : SinkChange) (a : Serving) (result : Result Unit Stopped) → IsEnding from to a →
+pub ends_after : (from : SourceBytes) (to next : SinkBytes) (a : Serving) (result : Result Unit Stopped) → IsEnding from to a →
     next.written ≡ to.written_new → (result ≡ Err stopped.NoMemory → ⊥) → Writes a.waiting result next →
     HasServed from result (change to.written next.written_new)
 ends_after from to next a result ending joins other writes =
     ends_written from to a.session a.arrivals a.waiting ending.served ending.going next result ending.all joins other writes
 
 -- none of the lines so far ends the session
-all_going : (from : SourceChange) (to : SinkChange) (a : Serving) (turns : ℕ) → (counted : IsCounted from to a turns) →
+all_going : (from : SourceBytes) (to : SinkBytes) (a : Serving) (turns : ℕ) → (counted : IsCounted from to a turns) →
     AreGoing (take (length counted.served.lines - 1) counted.served.lines)
 all_going from to a turns counted =
     All-take (λ l. ends l ≡ false) (length counted.served.lines - 1) counted.served.lines counted.going
 
 -- or after more turns than any process lasts
-pub ends_late : (from : SourceChange) (to next : SinkChange) (a : Serving) (turns : ℕ) (result : Result Unit Stopped) → IsCounted from to a turns →
+pub ends_late : (from : SourceBytes) (to next : SinkBytes) (a : Serving) (turns : ℕ) (result : Result Unit Stopped) → IsCounted from to a turns →
     2 ^ 64 - 1 ≤ turns → next.written ≡ to.written_new → (result ≡ Err stopped.NoMemory → ⊥) → Writes a.waiting result next →
     HasServed from result (change to.written next.written_new)
 ends_late from to next a turns result counted late joins other writes =
@@ -244,8 +244,8 @@ ends_late from to next a turns result counted late joins other writes =
     (inr (inr (omega (arith, late, counted.few)))) joins other writes
 
 -- after a turn that stops it
-pub stops_with : (from next_from : SourceChange) (to next : SinkChange) (a b : Serving) (turns : ℕ) (e : Stopped) → IsCounted from to a turns →
-    next_from.left ≡ from.left_new → next.written ≡ to.written_new → Turns a next_from (Err e) next b →
+pub stops_with : (from next_from : SourceBytes) (to next : SinkBytes) (a b : Serving) (turns : ℕ) (e : Stopped) → IsCounted from to a turns →
+    next_from.left ≡ from.left_new → next.written ≡ to.written_new → TakesOneTurn a next_from (Err e) next b →
     HasServed (record { left = from.left; left_new = next_from.left_new }) (Err e) (change to.written next.written_new)
 unfolding written_served
 stops_with from next_from to next a b turns stopped.Unread counted joins_from joins turned =

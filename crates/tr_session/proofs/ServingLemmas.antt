@@ -8,9 +8,9 @@ use Rattle.std.proofs.lemmas.List.Splits.{length-slice_split, slice_split_at, sl
 use Rattle.std.proofs.Math.Seq.{take-append_seam}
 use Rattle.tr_io.specs.Streams.{Fell, Grew}
 use Rattle.tr_gen.specs.Scripts.{text_of_lines}
-use Rattle.tr_session.specs.Answers.{Answer, AreAnswered, IsAnswered, IsNext, ends}
-use Rattle.tr_session.specs.Arrivals.{ArrivalsView, HasLine, IsWithoutLine, front_of, pieces_of, whole_lines}
-use Rattle.tr_session.specs.Calls.{HasQuit, SinkChange, SourceChange}
+use Rattle.tr_session.specs.Answers.{Answer, AreAnswered, ComesAfterLine, IsNextSession, ends}
+use Rattle.tr_session.specs.Arrivals.{ArrivalsView, HasLine, IsWithoutLine, first_bytes, pieces_of, whole_lines}
+use Rattle.tr_session.specs.Calls.{HasQuit, SinkBytes, SourceBytes}
 use Rattle.tr_session.specs.Sessions.{SessionView, no_session}
 use Rattle.tr_session.specs.Turns.{AnswersOne, ReadsOnce, Serving}
 use Rattle.tr_session.proofs.ArrivalLemmas.{front_of_front}
@@ -23,8 +23,8 @@ use Rattle.tr_session.proofs.SavingLemmas.{text_more}
 
 -- one more line was answered
 pub one_answered : (s t u : SessionView) (lines : List (List ℕ)) (answers : List Answer) (line : List ℕ) (answer : Answer) →
-    AreAnswered s lines answers t → IsNext t line answer u → AreAnswered s (lines ++ line ∷ []) (answers ++ answer ∷ []) u
-one_answered s t u [] [] line answer same is = (u, subst (λ (v : SessionView). IsNext v line answer u) same is, refl)
+    AreAnswered s lines answers t → IsNextSession t line answer u → AreAnswered s (lines ++ line ∷ []) (answers ++ answer ∷ []) u
+one_answered s t u [] [] line answer same is = (u, subst (λ (v : SessionView). IsNextSession v line answer u) same is, refl)
 one_answered s t u (x ∷ xs) (y ∷ ys) line answer are is = (are.0, are.1, one_answered are.0 t u xs ys line answer are.2 is)
 one_answered s t u [] (y ∷ ys) line answer are is = absurd are
 one_answered s t u (x ∷ xs) [] line answer are is = absurd are
@@ -54,7 +54,7 @@ pub record HasCome (bytes : List ℕ) (lines : List (List ℕ)) (part : List ℕ
   pub are : bytes ≡ text_of_lines lines ++ (part ++ a.rest)
   pub whole : All IsUnbroken lines
   pub unbroken : IsUnbroken part
-  pub begun : a.begun ≡ front_of part
+  pub begun : a.begun ≡ first_bytes part
 
 -- a line became whole
 pub line_came : (bytes : List ℕ) (lines : List (List ℕ)) (part : List ℕ) (a w : ArrivalsView) → HasCome bytes lines part a → (h : HasLine a w) →
@@ -76,8 +76,8 @@ line_came bytes lines part a w came h =
 
 -- its front was answered
 pub line_begun : (bytes : List ℕ) (lines : List (List ℕ)) (part : List ℕ) (a w : ArrivalsView) → HasCome bytes lines part a → (h : HasLine a w) →
-    w.begun ≡ front_of (part ++ h.more)
-line_begun bytes lines part a w came h = h.begun ∙ ap (λ (front : List ℕ). front_of (front ++ h.more)) came.begun ∙ front_of_front part h.more
+    w.begun ≡ first_bytes (part ++ h.more)
+line_begun bytes lines part a w came h = h.begun ∙ ap (λ (front : List ℕ). first_bytes (front ++ h.more)) came.begun ∙ front_of_front part h.more
 
 -- no line became whole: all bytes were looked at
 pub none_came : (bytes : List ℕ) (lines : List (List ℕ)) (part : List ℕ) (a w : ArrivalsView) → HasCome bytes lines part a → IsWithoutLine a w →
@@ -88,7 +88,7 @@ none_came bytes lines part a w came h = record {
       ∙ ap (λ (rest : List ℕ). text_of_lines lines ++ ((part ++ a.rest) ++ rest)) (sym h.rest);
   whole = came.whole;
   unbroken = All-append (λ b. (b == 10) ≡ false) part a.rest came.unbroken (unbroken_all a.rest h.unbroken);
-  begun = h.begun ∙ ap (λ (front : List ℕ). front_of (front ++ a.rest)) came.begun ∙ front_of_front part a.rest;
+  begun = h.begun ∙ ap (λ (front : List ℕ). first_bytes (front ++ a.rest)) came.begun ∙ front_of_front part a.rest;
 }
 
 -- more bytes came
@@ -131,14 +131,10 @@ first_whole bytes lines part a came =
     ∙ ap (take (length lines)) pieces
     ∙ take-append_seam lines (pieces_of tail)
 
-front_before_last : (xs : List (List ℕ)) (x : List ℕ) → take (length xs) (xs ++ x ∷ []) ≡ xs
-front_before_last [] x = refl
-front_before_last (y ∷ ys) x = ap (λ (rest : List (List ℕ)). y ∷ rest) (front_before_last ys x)
-
 pub take_before_last : (xs : List (List ℕ)) (x : List ℕ) → take (length (xs ++ x ∷ []) - 1) (xs ++ x ∷ []) ≡ xs
 take_before_last xs x =
     let last : length (xs ++ x ∷ []) - 1 ≡ length xs = omega (arith, length-append xs (x ∷ [])) in
-    ap (λ n. take n (xs ++ x ∷ [])) last ∙ front_before_last xs x
+    ap (λ n. take n (xs ++ x ∷ [])) last ∙ take-append_seam xs (x ∷ [])
 
 -- where all bytes were looked at, the lines that were answered are all whole ones
 pub all_whole : (bytes : List ℕ) (lines : List (List ℕ)) (part : List ℕ) (a : ArrivalsView) → HasCome bytes lines part a → a.rest ≡ [] →
@@ -153,7 +149,7 @@ all_whole bytes lines part a came none =
 -- ---- turns
 
 -- the session after some turns: the bytes that came, the lines that were answered, and the answers, some of which wait
-pub record IsServed (from : SourceChange) (to : SinkChange) (s : SessionView) (a : ArrivalsView) (waiting : List ℕ) : Type 0 where
+pub record IsServed (from : SourceBytes) (to : SinkBytes) (s : SessionView) (a : ArrivalsView) (waiting : List ℕ) : Type 0 where
   pub bytes : List ℕ
   pub came : Fell from.left from.left_new bytes
   pub lines : List (List ℕ)
@@ -164,9 +160,10 @@ pub record IsServed (from : SourceChange) (to : SinkChange) (s : SessionView) (a
   pub waits : Waits to answers waiting
 
 -- what comes after the front of a line comes after the line
-pub next_by_front : (s t : SessionView) (line begun : List ℕ) (answer : Answer) → begun ≡ front_of line → IsNext s begun answer t → IsNext s line answer t
+pub next_by_front : (s t : SessionView) (line begun : List ℕ) (answer : Answer) → begun ≡ first_bytes line → IsNextSession s begun answer t →
+    IsNextSession s line answer t
 next_by_front s t line begun answer is next = (
-  answered_by_front s line answer t (subst (λ (front : List ℕ). IsAnswered s front answer t) is next.0),
+  answered_by_front s line answer t (subst (λ (front : List ℕ). ComesAfterLine s front answer t) is next.0),
   next.1,
 )
 
@@ -189,7 +186,7 @@ none_served left written a waiting begun rest none = record {
     fell_none (Some rest) = refl
 
 -- after what waited was written
-unfoldable pub written_served : (from : SourceChange) (to : SinkChange) (s : SessionView) (a : ArrivalsView) (waiting : List ℕ) (after : Option (List ℕ)) →
+unfoldable pub written_served : (from : SourceBytes) (to : SinkBytes) (s : SessionView) (a : ArrivalsView) (waiting : List ℕ) (after : Option (List ℕ)) →
     IsServed from to s a waiting → Grew to.written_new after waiting → IsServed from (record { written = to.written; written_new = after }) s a []
 written_served from to s a waiting after served grew = record {
   bytes = served.bytes;
@@ -203,13 +200,13 @@ written_served from to s a waiting after served grew = record {
 }
 
 -- after a turn that answers a line
-unfoldable pub one_served : (from : SourceChange) (to next : SinkChange) (a b : Serving) (goes : Bool) → IsServed from to a.session a.arrivals a.waiting →
+unfoldable pub one_served : (from : SourceBytes) (to next : SinkBytes) (a b : Serving) (goes : Bool) → IsServed from to a.session a.arrivals a.waiting →
     next.written ≡ to.written_new → AnswersOne a goes next b →
     IsServed from (record { written = to.written; written_new = next.written_new }) b.session b.arrivals b.waiting
 one_served from to next a b goes served joins one =
     let line = served.part ++ one.line.more in
     let begun = line_begun served.bytes served.lines served.part a.arrivals one.whole served.has one.line in
-    let answered : IsNext a.session line one.answer b.session = next_by_front a.session b.session line one.whole.begun one.answer begun one.answered in
+    let answered : IsNextSession a.session line one.answer b.session = next_by_front a.session b.session line one.whole.begun one.answer begun one.answered in
     record {
       bytes = served.bytes;
       came = served.came;
@@ -223,7 +220,7 @@ one_served from to next a b goes served joins one =
     }
 
 -- after a turn that reads
-unfoldable pub read_served : (from next_from : SourceChange) (to next : SinkChange) (a b : Serving) (goes : Bool) →
+unfoldable pub read_served : (from next_from : SourceBytes) (to next : SinkBytes) (a b : Serving) (goes : Bool) →
     IsServed from to a.session a.arrivals a.waiting → next_from.left ≡ from.left_new → next.written ≡ to.written_new → ReadsOnce a next_from goes next b →
     IsServed (record { left = from.left; left_new = next_from.left_new }) (record { written = to.written; written_new = next.written_new })
     b.session b.arrivals b.waiting

@@ -7,9 +7,9 @@ use Rattle.tr_grammar.specs.Faults.{has_ended}
 use Rattle.tr_reader.specs.Adding.{is_at_steps}
 use Rattle.tr_session.specs.declared.sessions.Session.{Session}
 use Rattle.tr_session.specs.Cuts.{CutsSoFar, no_cut}
-use Rattle.tr_session.specs.Insides.{HoldsTogether, IsPlayed, opening_of, screen_in, session_view}
+use Rattle.tr_session.specs.Insides.{HasStageOnceBegun, PartsAgree, opening_of, screen_in, session_view}
 use Rattle.tr_session.specs.Playing.{PlayedView}
-use Rattle.tr_session.specs.Sessions.{IsSession, SessionView, no_session, so_far}
+use Rattle.tr_session.specs.Sessions.{IsSession, SessionView, no_session, script_so_far}
 
 -- the model of these parts
 pub view_is : (i : Session) (lines : List (List ℕ)) (screen : Option Picture) (cuts : CutsSoFar) → i.script.saved.lines ≡ lines →
@@ -20,15 +20,15 @@ view_is i lines screen cuts l s c =
     ∙ ap (λ (cs : CutsSoFar). record { lines = lines; screen = screen; cuts = cs }) c
 
 -- the parts are those of a session's lines
-pub together : (i : Session) (s : SessionView) → session_view i ≡ s → IsSession s → i.script.reader ≡ opening_of (so_far s) →
-    i.script.has_ended ≡ has_ended (so_far s).place → i.script.is_behind_step ≡ is_at_steps (so_far s).place → IsPlayed s i.played →
-    HoldsTogether i
+pub together : (i : Session) (s : SessionView) → session_view i ≡ s → IsSession s → i.script.reader ≡ opening_of (script_so_far s) →
+    i.script.has_ended ≡ has_ended (script_so_far s).place → i.script.is_behind_step ≡ is_at_steps (script_so_far s).place → HasStageOnceBegun s i.played →
+    PartsAgree i
 together i s is session reader ended behind played = record {
   session = subst IsSession (sym is) session;
-  reader = reader ∙ ap (λ (t : SessionView). opening_of (so_far t)) (sym is);
-  ended = ended ∙ ap (λ (t : SessionView). has_ended (so_far t).place) (sym is);
-  behind = behind ∙ ap (λ (t : SessionView). is_at_steps (so_far t).place) (sym is);
-  played = subst (λ (t : SessionView). IsPlayed t i.played) (sym is) played;
+  reader = reader ∙ ap (λ (t : SessionView). opening_of (script_so_far t)) (sym is);
+  ended = ended ∙ ap (λ (t : SessionView). has_ended (script_so_far t).place) (sym is);
+  behind = behind ∙ ap (λ (t : SessionView). is_at_steps (script_so_far t).place) (sym is);
+  played = subst (λ (t : SessionView). HasStageOnceBegun t i.played) (sym is) played;
 }
 
 -- before the first line
@@ -41,10 +41,10 @@ no_session_is = record {
 }
 
 pub together_empty : (i : Session) → i.script.saved.lines ≡ [] → i.played ≡ None → i.cuts ≡ no_cut → i.script.reader ≡ nothing_yet →
-    i.script.has_ended ≡ false → i.script.is_behind_step ≡ false → HoldsTogether i
+    i.script.has_ended ≡ false → i.script.is_behind_step ≡ false → PartsAgree i
 together_empty i lines played cuts reader ended behind =
     together i no_session (view_is i [] None no_cut lines (ap screen_in played) cuts) no_session_is reader ended behind
-    (subst (λ (p : Option PlayedView). IsPlayed no_session p) (sym played) refl)
+    (subst (λ (p : Option PlayedView). HasStageOnceBegun no_session p) (sym played) refl)
 
 -- the view of no line, no stage and no cut
 pub empty_view : (lines : List (List ℕ)) (cuts : CutsSoFar) → lines ≡ [] → cuts ≡ no_cut →

@@ -3,31 +3,31 @@ use Rattle.std.proofs.Common.{◌≡◌, ℕ, Bool, List, [], ◌∷◌, ◌++�
 use Rattle.tr_grammar.specs.States.{SoFar, nothing_yet}
 use Rattle.tr_grammar.specs.Scripts.{after_all_lines, after_line}
 use Rattle.tr_grammar.specs.Texts.{lines_of}
+use Rattle.tr_grammar.proofs.ScriptLemmas.{after_all_lines-append}
 use Rattle.tr_session.specs.declared.sessions.Session.{Session}
 use Rattle.tr_session.specs.Answering.{Takes}
-use Rattle.tr_session.specs.Insides.{HoldsTogether, screen_in, session_view}
+use Rattle.tr_session.specs.Insides.{PartsAgree, screen_in, session_view}
 use Rattle.tr_session.specs.Lines.{added_lines, sync_lines}
-use Rattle.tr_session.specs.Sessions.{AreTaken, SessionView, so_far, with_lines}
-use Rattle.tr_session.proofs.TakenLemmas.{after_all_lines-append}
+use Rattle.tr_session.specs.Sessions.{AreTaken, SessionView, script_so_far, with_more_lines}
 
 -- from one session to a later one, lines of this text were taken again, and these are the others
 pub record IsTaking (old i : Session) (text rest : List (List ℕ)) : Type 0 where
-  pub holds : HoldsTogether i
-  pub taken : AreTaken (so_far (session_view i)) rest
+  pub holds : PartsAgree i
+  pub taken : AreTaken (script_so_far (session_view i)) rest
   pub lines : i.script.saved.lines ++ rest ≡ old.script.saved.lines ++ text
   pub cuts : i.cuts ≡ old.cuts
 
 -- one more line was taken
 pub takes_on : (old i j : Session) (text rest more : List (List ℕ)) (line bytes : List ℕ) → IsTaking old i text rest → rest ≡ line ∷ more →
-    Takes (session_view i) line bytes (Ok tt) (session_view j) → HoldsTogether j → IsTaking old j text more
+    Takes (session_view i) line bytes (Ok tt) (session_view j) → PartsAgree j → IsTaking old j text more
 takes_on old i j text rest more line bytes taking is takes holds =
     let s : SessionView = session_view i in
-    let taken : AreTaken (so_far s) (line ∷ more) = subst (λ (ls : List (List ℕ)). AreTaken (so_far s) ls) is taking.taken in
-    let added : added_lines (so_far s) line ≡ line ∷ [] = ap (λ (needs : Bool). sync_lines needs ++ line ∷ []) taken.1 in
-    let view : session_view j ≡ with_lines s (line ∷ []) (screen_in j.played) =
-    takes.2 ∙ ap (λ (ls : List (List ℕ)). with_lines s ls (screen_in j.played)) added in
+    let taken : AreTaken (script_so_far s) (line ∷ more) = subst (λ (ls : List (List ℕ)). AreTaken (script_so_far s) ls) is taking.taken in
+    let added : added_lines (script_so_far s) line ≡ line ∷ [] = ap (λ (needs : Bool). sync_lines needs ++ line ∷ []) taken.1 in
+    let view : session_view j ≡ with_more_lines s (line ∷ []) (screen_in j.played) =
+    takes.2 ∙ ap (λ (ls : List (List ℕ)). with_more_lines s ls (screen_in j.played)) added in
     let lines : j.script.saved.lines ≡ i.script.saved.lines ++ line ∷ [] = ap (λ (v : SessionView). v.lines) view in
-    let next : so_far (session_view j) ≡ after_line (so_far s) line =
+    let next : script_so_far (session_view j) ≡ after_line (script_so_far s) line =
     ap (after_all_lines nothing_yet) lines ∙ after_all_lines-append nothing_yet i.script.saved.lines (line ∷ []) in
     record {
       holds = holds;

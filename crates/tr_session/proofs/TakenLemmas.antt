@@ -3,14 +3,17 @@ use Rattle.std.proofs.Common.{◌≡◌, ℕ, Bool, true, false, ◌&&◌, List,
 use Rattle.std.specs.Prelude.{◌==◌, Option, codes}
 use Rattle.std.proofs.lemmas.Option.{none-some}
 use Rattle.tr_base.proofs.RectLemmas.{false-true}
+use Rattle.tr_base.proofs.BoolLemmas.{and_false}
+use Rattle.tr_widget.specs.declared.WidgetCmd.{WidgetCmd}
 use Rattle.tr_journal.specs.declared.Item.TheVariants as items
 use Rattle.tr_journal.specs.Names.{Names}
+use Rattle.tr_journal.specs.Parts.{Part}
 use Rattle.tr_grammar.specs.declared.Code.TheVariants.{B1, B5, B8, B9}
 use Rattle.tr_grammar.specs.declared.Meaning.{Meaning}
 use Rattle.tr_grammar.specs.declared.Meaning.TheVariants as meanings
 use Rattle.tr_grammar.specs.declared.Place.{Place}
 use Rattle.tr_grammar.specs.declared.Place.TheVariants as places
-use Rattle.tr_grammar.specs.States.{Part, SoFar, empty_part}
+use Rattle.tr_grammar.specs.States.{SoFar, empty_part}
 use Rattle.tr_grammar.specs.Texts.{is_plain, is_silent}
 use Rattle.tr_grammar.specs.Words.{word_at, words_of}
 use Rattle.tr_grammar.specs.Forms.{Form, form_of, Version}
@@ -21,15 +24,10 @@ use Rattle.tr_reader.specs.Adding.{is_at_steps, sort_of_meaning}
 use Rattle.tr_script.specs.Apart.{meaning_as, meaning_of_line}
 use Rattle.tr_script.proofs.LineLemmas.{IsLoud, fault_of_words}
 use Rattle.tr_session.specs.Insides.{opening_of, reader_place}
-use Rattle.tr_session.specs.Lines.{added_lines, at_any_time, ends_steps, fault_in, has_begun, needs_sync, sync_lines, tried_against}
+use Rattle.tr_session.specs.Lines.{added_lines, at_any_time, ends_steps, fault_of_line, has_begun, needs_sync, sync_lines, tried_against}
 use Rattle.tr_session.specs.Sessions.{AreTaken}
 
 -- ---- lists of lines
-
--- the lines so far, and then more
-pub after_all_lines-append : (c : SoFar) (xs ys : List (List ℕ)) → after_all_lines c (xs ++ ys) ≡ after_all_lines (after_all_lines c xs) ys
-after_all_lines-append c [] ys = refl
-after_all_lines-append c (x ∷ xs) ys = after_all_lines-append (after_line c x) xs ys
 
 pub taken-append : (c : SoFar) (xs ys : List (List ℕ)) → AreTaken c xs → AreTaken (after_all_lines c xs) ys → AreTaken c (xs ++ ys)
 taken-append c [] ys none more = more
@@ -76,11 +74,6 @@ sync_place c = by_test (c.version == 2) refl
 no_sync_at : (p : Place) (b : Bool) → p ≡ places.Gap → (is_at_steps p && b) ≡ false
 no_sync_at p b gap = ap (λ (q : Place). is_at_steps q && b) gap
 
--- `sync` itself needs none
-no_sync_for_sync : (b : Bool) → (b && false) ≡ false
-no_sync_for_sync true = refl
-no_sync_for_sync false = refl
-
 -- ---- the sort of a line, by its meaning
 
 -- the form of a line and its meaning have one sort
@@ -122,7 +115,7 @@ pub record HasMeaning (c : SoFar) (line : List ℕ) : Type 0 where
   pub means : m ≡ meaning_of c.names (words_of line) form
   pub passed : fault_as (tried_against c) 1 (Some form) (words_of line) ≡ None
 
-pub has_meaning : (c : SoFar) (line : List ℕ) → fault_in c line ≡ None → is_silent line ≡ false → HasMeaning c line
+pub has_meaning : (c : SoFar) (line : List ℕ) → fault_of_line c line ≡ None → is_silent line ≡ false → HasMeaning c line
 unfolding meaning_of_line after_line
 has_meaning c line none loud = by_form (form_of c.version ws) refl
   where
@@ -170,7 +163,7 @@ silent_next c line silent = rw silent refl
 -- ---- the parts so far
 
 -- before `begin` there is no part, and where a report may come the current part has no step
-abbrev pub RestsAt : Place → List Part → Part → Type 0
+abbrev pub RestsAt : Place → List (Part WidgetCmd) → Part WidgetCmd → Type 0
 RestsAt places.Gap ended part = part.steps ≡ []
 RestsAt places.Steps ended part = Unit {0}
 RestsAt places.Ended ended part = Unit {0}
@@ -229,13 +222,13 @@ rested_next c w (meanings.Item (items.Put child parent at)) rested allowed none 
 rested_next c w (meanings.Item (items.Root node)) rested allowed none = at_place c places.Opening rested (only_opening c.place allowed)
 rested_next c w meanings.Begin rested allowed none =
     let opening = at_place c places.Opening rested (only_opening c.place allowed) in
-    ap (λ (part : Part). part.steps) opening.1
+    ap (λ (part : Part WidgetCmd). part.steps) opening.1
 rested_next c w (meanings.Step actor step) rested allowed none = tt
 rested_next c w meanings.Sync rested allowed none = refl
 rested_next c w (meanings.Report query) rested allowed none = at_place c places.Gap rested (only_gap c.place allowed none)
 rested_next c w meanings.End rested allowed none = tt
 
-rested_line : (c : SoFar) (line : List ℕ) → fault_in c line ≡ None → needs_sync c (meaning_of_line c line) ≡ false → Rests c →
+rested_line : (c : SoFar) (line : List ℕ) → fault_of_line c line ≡ None → needs_sync c (meaning_of_line c line) ≡ false → Rests c →
     Rests (after_line c line)
 rested_line c line none no_sync rested = by_test (is_silent line) refl
   where
@@ -263,8 +256,8 @@ opening_is c rested fresh = by_place c.place refl
     whole p is same none =
         ap (λ (q : Place). record c { place = reader_place q; ended = []; part = empty_part }) is
         ∙ ap (λ (q : Place). record c { place = q; ended = []; part = empty_part }) (same ∙ sym is)
-        ∙ ap (λ (ended : List Part). record c { ended = ended; part = empty_part }) (sym none.0)
-        ∙ ap (λ (part : Part). record c { part = part }) (sym none.1)
+        ∙ ap (λ (ended : List (Part WidgetCmd)). record c { ended = ended; part = empty_part }) (sym none.0)
+        ∙ ap (λ (part : Part WidgetCmd). record c { part = part }) (sym none.1)
 
     by_place : (p : Place) → c.place ≡ p → opening_of c ≡ c
     by_place places.Start is = whole places.Start is refl (at_place c places.Start rested is)
@@ -286,7 +279,7 @@ sync_taken c at = by_test (c.version == 2) refl
     by_test : (second : Bool) → (c.version == 2) ≡ second → AreTaken c (codes "sync" ∷ [])
     by_test second is = (
       ap (λ (d : SoFar). fault_of d 1 (codes "sync")) tried ∙ sync_passes c second is,
-      ap (needs_sync c) (sync_says c second is) ∙ no_sync_for_sync (is_at_steps c.place),
+      ap (needs_sync c) (sync_says c second is) ∙ and_false (is_at_steps c.place),
       tt,
     )
 
@@ -300,7 +293,7 @@ tried_after_sync c at = by_test (c.version == 2) refl
         ∙ ap (λ (p : Place). record c { place = at_any_time p; ended = []; part = empty_part }) (sym at)
 
 -- the lines that a line without a fault adds are taken
-pub added_taken : (c : SoFar) (line : List ℕ) → fault_in c line ≡ None → AreTaken c (added_lines c line)
+pub added_taken : (c : SoFar) (line : List ℕ) → fault_of_line c line ≡ None → AreTaken c (added_lines c line)
 added_taken c line none = by_test (needs_sync c (meaning_of_line c line)) refl
   where
     at_steps : (p : Place) (b : Bool) → (is_at_steps p && b) ≡ true → p ≡ places.Steps

@@ -6,14 +6,14 @@ use Rattle.tr_io.specs.Streams.{Grew, GrewByPrefix}
 use Rattle.tr_output.proofs.SendingLemmas.{grew_on, prefix_later, prefix_more}
 use Rattle.tr_session.specs.declared.errors.Stopped.{Stopped}
 use Rattle.tr_session.specs.declared.errors.Stopped.TheVariants as stopped
-use Rattle.tr_session.specs.Answers.{Answer, IsNext, answer_bytes, ends}
+use Rattle.tr_session.specs.Answers.{Answer, IsNextSession, answer_bytes, ends}
 use Rattle.tr_session.specs.Arrivals.{ArrivalsView, HasLine}
-use Rattle.tr_session.specs.Calls.{SinkChange, SourceChange}
+use Rattle.tr_session.specs.Calls.{SinkBytes, SourceBytes}
 use Rattle.tr_session.specs.Sessions.{SessionView}
-use Rattle.tr_session.specs.Turns.{AddsAnswer, AnswersInPart, AnswersLine, Flushes, IsAnsweredInPart, Serving, Turns, Writes}
+use Rattle.tr_session.specs.Turns.{AddsAnswer, AnswersInPart, AnswersLine, Flushes, IsAnsweredInPart, Serving, TakesOneTurn, Writes}
 
 -- a change of a sink's bytes
-abbrev pub change : Option (List ℕ) → Option (List ℕ) → SinkChange
+abbrev pub change : Option (List ℕ) → Option (List ℕ) → SinkBytes
 change before after = record { written = before; written_new = after }
 
 -- the first piece wasn't written whole
@@ -49,22 +49,22 @@ adds_after x y z was answer is (Err stopped.Unwritten) first none writes = prefi
 adds_after x y z was answer is (Err stopped.NoMemory) first none writes = subst (λ (after : Option (List ℕ)). Grew x after was) (sym writes) first
 
 -- those that wait weren't all written
-pub adds_none : (was answer is : List ℕ) (e : Stopped) (to : SinkChange) → (e ≡ stopped.NoMemory → ⊥) → Writes was (Err e) to →
+pub adds_none : (was answer is : List ℕ) (e : Stopped) (to : SinkBytes) → (e ≡ stopped.NoMemory → ⊥) → Writes was (Err e) to →
     AddsAnswer was answer (Err e) to is
 adds_none was answer is stopped.Unread to other writes = writes
 adds_none was answer is stopped.Unwritten to other writes = prefix_more to.written to.written_new was answer writes
 adds_none was answer is stopped.NoMemory to other writes = absurd (other refl)
 
 -- the same, with no answer to come
-pub flushes_none : (was : List ℕ) (e : Stopped) (to : SinkChange) → (e ≡ stopped.NoMemory → ⊥) → Writes was (Err e) to → Flushes was (Err e) to
+pub flushes_none : (was : List ℕ) (e : Stopped) (to : SinkBytes) → (e ≡ stopped.NoMemory → ⊥) → Writes was (Err e) to → Flushes was (Err e) to
 flushes_none was stopped.Unread to other writes = writes
 flushes_none was stopped.Unwritten to other writes = writes
 flushes_none was stopped.NoMemory to other writes = absurd (other refl)
 
 -- ---- a line that was answered
 
-module _ (s t : SessionView) (line was reply is : List ℕ) (to : SinkChange) where
-  module _ (answer : Answer) (told : reply ≡ answer_bytes answer) (answered : IsNext s line answer t) where
+module _ (s t : SessionView) (line was reply is : List ℕ) (to : SinkBytes) where
+  module _ (answer : Answer) (told : reply ≡ answer_bytes answer) (answered : IsNextSession s line answer t) where
     pub answers_ok : (goes : Bool) → AddsAnswer was reply (Ok tt) to is → goes ≡ not (ends line) → AnswersLine s line was (Ok goes) to t is
     answers_ok goes adds on =
         (answer, answered, subst (λ (bytes : List ℕ). AddsAnswer was bytes (Ok tt) to is) told adds, on)
@@ -88,9 +88,9 @@ module _ (s t : SessionView) (line was reply is : List ℕ) (to : SinkChange) wh
 -- ---- a turn
 
 -- a whole line was answered, and nothing was read
-pub turns_line : (a : Serving) (w : ArrivalsView) (r : Result Bool Stopped) (from : SourceChange) (to : SinkChange) (t : SessionView) (b : ArrivalsView)
+pub turns_line : (a : Serving) (w : ArrivalsView) (r : Result Bool Stopped) (from : SourceBytes) (to : SinkBytes) (t : SessionView) (b : ArrivalsView)
     (is : List ℕ) → HasLine a.arrivals w → from.left_new ≡ from.left → AnswersLine a.session w.begun a.waiting r to t is →
-    OnOk r (b ≡ record w { begun = [] }) → Turns a from r to (record { session = t; arrivals = b; waiting = is })
+    OnOk r (b ≡ record w { begun = [] }) → TakesOneTurn a from r to (record { session = t; arrivals = b; waiting = is })
 turns_line a w (Ok goes) from to t b is line same answers rest = inl (
   record { whole = w; line = line; answer = answers.0; answered = answers.1; adds = answers.2; goes_on = answers.3; rest = rest },
   same,
@@ -105,8 +105,8 @@ turns_line a w (Err stopped.Unwritten) from to t b is line same answers rest = (
 turns_line a w (Err stopped.NoMemory) from to t b is line same answers rest = (answers, same)
 
 -- what waited was flushed, and nothing was read
-pub turns_unwritten : (a b : Serving) (e : Stopped) (from : SourceChange) (to : SinkChange) → from.left_new ≡ from.left → Flushes a.waiting (Err e) to →
-    Turns a from (Err e) to b
+pub turns_unwritten : (a b : Serving) (e : Stopped) (from : SourceBytes) (to : SinkBytes) → from.left_new ≡ from.left → Flushes a.waiting (Err e) to →
+    TakesOneTurn a from (Err e) to b
 turns_unwritten a b stopped.Unread from to same flushes = absurd flushes
 turns_unwritten a b stopped.Unwritten from to same flushes = (inr flushes, same)
 turns_unwritten a b stopped.NoMemory from to same flushes = (flushes, same)

@@ -12,16 +12,16 @@ use Rattle.tr_script.specs.Apart.{meaning_of_line}
 use Rattle.tr_serial.specs.Outputs.{out_text}
 use Rattle.tr_session.specs.declared.requests.Request.{Request}
 use Rattle.tr_session.specs.declared.requests.Request.TheVariants.{Save, Cut, Quit, Script}
-use Rattle.tr_session.specs.Answers.{Answer, AreAnswered, IsAnswered, after, after_cut, after_for, after_script_line, bytes, due, due_for, due_of_cut, due_of_line, due_of_save, no_memory, refused, saved, text, text_for}
+use Rattle.tr_session.specs.Answers.{Answer, AreAnswered, ComesAfterLine, after_cut, after_for, after_reply, after_script_line, bytes, due, due_for, due_of_cut, due_of_line, due_of_save, no_memory, refused, saved, text, text_for_line}
 use Rattle.tr_session.specs.Laws.{WritesAsSerial, report_for, report_in, reports_in}
-use Rattle.tr_session.specs.Lines.{fault_in, request_of}
-use Rattle.tr_session.specs.Sessions.{IsSession, SessionView, no_session, so_far}
+use Rattle.tr_session.specs.Lines.{fault_of_line, request_of}
+use Rattle.tr_session.specs.Sessions.{IsSession, SessionView, no_session, script_so_far}
 use Rattle.tr_session.proofs.ReportLemmas.{none_told, reports_all, reports_one}
 use Rattle.tr_session.proofs.SessionLemmas.{no_session_is}
 
 -- the text of `serial` for the lines so far
 abbrev text_of : SessionView → List ℕ
-text_of s = out_text (whole (so_far s))
+text_of s = out_text (whole (script_so_far s))
 
 -- ---- one line
 
@@ -45,7 +45,7 @@ no_lines (Some (meanings.Report query)) = refl
 no_lines (Some meanings.End) = refl
 
 -- the answer to a line without a fault has its report, if it is one
-report_told : (s : SessionView) (said : Option Meaning) → report_for s said ≡ report_in (text (text_for s said)) said
+report_told : (s : SessionView) (said : Option Meaning) → report_for s said ≡ report_in (text (text_for_line s said)) said
 report_told s None = refl
 report_told s (Some (meanings.Version n)) = refl
 report_told s (Some (meanings.Item item)) = refl
@@ -62,7 +62,7 @@ same_text s (Some screen) = refl
 
 module _ (s : SessionView) (line : List ℕ) (t : SessionView) (session : IsSession s) where
   abbrev said : Option Meaning
-  said = meaning_of_line (so_far s) line
+  said = meaning_of_line (script_so_far s) line
 
   -- the line added this text
   abbrev Adds : List ℕ → Type 0
@@ -71,7 +71,7 @@ module _ (s : SessionView) (line : List ℕ) (t : SessionView) (session : IsSess
   adds_none : (more : List ℕ) → more ≡ [] → text_of t ≡ text_of s → Adds more
   adds_none more none same = same ∙ sym (append-nil (text_of s)) ∙ ap (λ (told : List ℕ). text_of s ++ told) (sym none)
 
-  by_fault : (fault : Option Code) (answer : Answer) → fault_in (so_far s) line ≡ fault → answer ≡ due_of_line s line fault →
+  by_fault : (fault : Option Code) (answer : Answer) → fault_of_line (script_so_far s) line ≡ fault → answer ≡ due_of_line s line fault →
       t ≡ after_script_line s line fault t.screen → Adds (report_in answer said)
   by_fault (Some code) answer has is next = adds_none (report_in answer said) (ap (λ (told : Answer). report_in told said) is) (ap text_of next)
   by_fault None answer none is next =
@@ -87,13 +87,13 @@ module _ (s : SessionView) (line : List ℕ) (t : SessionView) (session : IsSess
       (ap text_of next ∙ same_text s s.screen)
   by_request Quit answer is next =
       adds_none (report_in answer said) (ap (λ (told : Answer). report_in told said) is ∙ no_lines said) (ap text_of next)
-  by_request Script answer is next = by_fault (fault_in (so_far s) line) answer refl is next
+  by_request Script answer is next = by_fault (fault_of_line (script_so_far s) line) answer refl is next
 
-  due_told : (answer : Answer) → answer ≡ due s line → t ≡ after s line t.screen → Adds (report_in answer said)
-  unfolding due after
+  due_told : (answer : Answer) → answer ≡ due s line → t ≡ after_reply s line t.screen → Adds (report_in answer said)
+  unfolding due after_reply
   due_told answer is next = by_request (request_of line) answer is next
 
-  one_told : (answer : Answer) → IsAnswered s line answer t → Adds (report_in answer said)
+  one_told : (answer : Answer) → ComesAfterLine s line answer t → Adds (report_in answer said)
   -- after want of memory there is no other text
   one_told no_memory kept = adds_none [] refl (ap text_of kept.0)
   one_told (text told) is = due_told (text told) is.0 is.1
@@ -118,7 +118,7 @@ all_told s [] (answer ∷ answers) t session all = absurd all
 all_told s (line ∷ lines) [] t session all = absurd all
 all_told s (line ∷ lines) (answer ∷ answers) t session all =
     let now : SessionView = all.0 in
-    let told : List ℕ = report_in answer (meaning_of_line (so_far s) line) in
+    let told : List ℕ = report_in answer (meaning_of_line (script_so_far s) line) in
     let later : List ℕ = reports_in now lines answers t all.2 in
     all_told now lines answers t all.1.1 all.2
     ∙ ap (λ (before : List ℕ). before ++ later) (one_told s line now session answer all.1.0)

@@ -11,17 +11,17 @@ use Rattle.tr_session.specs.declared.errors.Unanswered.{Unanswered}
 use Rattle.tr_session.specs.declared.errors.Unanswered.TheVariants as unanswered
 use Rattle.tr_session.specs.declared.sorts.LineSort.{LineSort}
 use Rattle.tr_session.specs.declared.sorts.LineSort.TheVariants as sorts
-use Rattle.tr_session.specs.Answers.{Answer, IsKept, refused, text, no_memory, answer_bytes, due_of_line, after_script_line}
-use Rattle.tr_session.specs.Lines.{fault_in}
-use Rattle.tr_session.specs.Sessions.{SessionView, so_far}
+use Rattle.tr_session.specs.Answers.{Answer, DiffersByScreen, refused, text, no_memory, answer_bytes, due_of_line, after_script_line}
+use Rattle.tr_session.specs.Lines.{fault_of_line}
+use Rattle.tr_session.specs.Sessions.{SessionView, script_so_far}
 
 -- the sort of a meaning
-abbrev pub sort_of : Option Meaning → LineSort
-sort_of (Some (meanings.Step actor step)) = sorts.Step
-sort_of (Some meanings.Sync) = sorts.Sync
-sort_of (Some (meanings.Report query)) = sorts.Report
-sort_of (Some meanings.End) = sorts.End
-sort_of said = sorts.Nothing
+abbrev pub meaning_sort : Option Meaning → LineSort
+meaning_sort (Some (meanings.Step actor step)) = sorts.Step
+meaning_sort (Some meanings.Sync) = sorts.Sync
+meaning_sort (Some (meanings.Report query)) = sorts.Report
+meaning_sort (Some meanings.End) = sorts.End
+meaning_sort said = sorts.Nothing
 
 -- a script has a sync between a step and this line
 abbrev pub sort_ends_steps : LineSort → Bool
@@ -51,19 +51,20 @@ ClaimsFault fault unanswered.NoMemory = ⊤
 ClaimsFault fault unanswered.Lost = ⊥
 
 -- the reply has the bytes of this answer, or the answer is a refusal; unless memory ran out
-abbrev pub Answers : Answer → List ℕ → Result Unit Unanswered → Type 0
-Answers answer bytes (Ok done) = bytes ≡ answer_bytes answer
-Answers answer bytes (Err (unanswered.Fault code)) = answer ≡ refused code
-Answers answer bytes (Err unanswered.NoMemory) = ⊤
-Answers answer bytes (Err unanswered.Lost) = ⊥
+abbrev pub RepliesWith : Answer → List ℕ → Result Unit Unanswered → Type 0
+RepliesWith answer bytes (Ok done) = bytes ≡ answer_bytes answer
+RepliesWith answer bytes (Err (unanswered.Fault code)) = answer ≡ refused code
+RepliesWith answer bytes (Err unanswered.NoMemory) = ⊤
+RepliesWith answer bytes (Err unanswered.Lost) = ⊥
 
 -- a line of the script was answered, or it has a fault, or memory ran out; only a line without a fault can lose the session
 abbrev pub Takes : SessionView → List ℕ → List ℕ → Result Unit Unanswered → SessionView → Type 0
 Takes s line bytes (Ok done) t =
-    (fault_in (so_far s) line ≡ None) × (bytes ≡ answer_bytes (due_of_line s line None)) × (t ≡ after_script_line s line None t.screen)
-Takes s line bytes (Err (unanswered.Fault code)) t = (fault_in (so_far s) line ≡ Some code) × (t ≡ s)
-Takes s line bytes (Err unanswered.NoMemory) t = IsKept s t
-Takes s line bytes (Err unanswered.Lost) t = fault_in (so_far s) line ≡ None
+    (fault_of_line (script_so_far s) line ≡ None) × (bytes ≡ answer_bytes (due_of_line s line None))
+    × (t ≡ after_script_line s line None t.screen)
+Takes s line bytes (Err (unanswered.Fault code)) t = (fault_of_line (script_so_far s) line ≡ Some code) × (t ≡ s)
+Takes s line bytes (Err unanswered.NoMemory) t = DiffersByScreen s t
+Takes s line bytes (Err unanswered.Lost) t = fault_of_line (script_so_far s) line ≡ None
 
 -- the reply has the text of a line that was played: the outcome of its step, its report, or nothing
 abbrev pub Tells : LineSort → List ℕ → List ℕ → List ℕ → Result Unit Unanswered → Type 0

@@ -18,8 +18,8 @@ use Rattle.tr_serial.specs.Outputs.{widgets}
 use Rattle.tr_session.specs.declared.requests.Request.{Request}
 use Rattle.tr_session.specs.declared.requests.Request.TheVariants.{Save, Cut, Quit, Script}
 use Rattle.tr_session.specs.Cuts.{cut_bytes, fitted, with_cut}
-use Rattle.tr_session.specs.Lines.{added_lines, fault_in, request_of}
-use Rattle.tr_session.specs.Sessions.{IsSession, SessionView, so_far, journal_of, state_of, made_by, with_lines, saved_text}
+use Rattle.tr_session.specs.Lines.{added_lines, fault_of_line, request_of}
+use Rattle.tr_session.specs.Sessions.{IsSession, SessionView, script_so_far, journal_of, stage_state, lines_made_by, with_more_lines, saved_text}
 
 -- ---- the bytes of an answer
 
@@ -52,18 +52,19 @@ answer_bytes no_memory = codes "refused memory\n"
 -- ---- the answer that is due
 
 -- the text for a line without a fault: a step's outcome, a report's text, or nothing
-abbrev pub text_for : SessionView → Option Meaning → List ℕ
-text_for s (Some (meanings.Step actor step)) =
-    flat_map (outcome_text (so_far s).names) (made_by s (Some (meanings.Step actor step)))
-text_for s (Some meanings.Sync) = flat_map (outcome_text (so_far s).names) (made_by s (Some meanings.Sync))
-text_for s (Some (meanings.Report query)) =
-    texts_from widgets widget_words (so_far s).names Serial (journal_of s) (state_of s) (made_by s (Some (meanings.Report query)))
-text_for s said = []
+abbrev pub text_for_line : SessionView → Option Meaning → List ℕ
+text_for_line s (Some (meanings.Step actor step)) =
+    flat_map (outcome_text (script_so_far s).names) (lines_made_by s (Some (meanings.Step actor step)))
+text_for_line s (Some meanings.Sync) = flat_map (outcome_text (script_so_far s).names) (lines_made_by s (Some meanings.Sync))
+text_for_line s (Some (meanings.Report query)) =
+    texts_from widgets widget_words (script_so_far s).names Serial (journal_of s) (stage_state s)
+    (lines_made_by s (Some (meanings.Report query)))
+text_for_line s said = []
 
 -- the answer to a line of a script with this fault, or without one
 abbrev pub due_of_line : SessionView → List ℕ → Option Code → Answer
 due_of_line s line (Some code) = refused code
-due_of_line s line None = text (text_for s (meaning_of_line (so_far s) line))
+due_of_line s line None = text (text_for_line s (meaning_of_line (script_so_far s) line))
 
 -- the answer to `!save`; before `begin` there is no script to save
 abbrev pub due_of_save : SessionView → Option Picture → Answer
@@ -80,7 +81,7 @@ abbrev pub due_for : SessionView → List ℕ → Request → Answer
 due_for s line Save = due_of_save s s.screen
 due_for s line Cut = due_of_cut s s.screen
 due_for s line Quit = text []
-due_for s line Script = due_of_line s line (fault_in (so_far s) line)
+due_for s line Script = due_of_line s line (fault_of_line (script_so_far s) line)
 
 -- the request ends the session
 abbrev pub is_quit : Request → Bool
@@ -100,7 +101,7 @@ ends line = is_quit (request_of line)
 -- after a line of a script; the screen is that of the stage afterwards
 abbrev pub after_script_line : SessionView → List ℕ → Option Code → Option Picture → SessionView
 after_script_line s line (Some code) screen = s
-after_script_line s line None screen = with_lines s (added_lines (so_far s) line) screen
+after_script_line s line None screen = with_more_lines s (added_lines (script_so_far s) line) screen
 
 -- after a cut of this screen, if there is one
 abbrev pub after_cut : SessionView → Option Picture → SessionView
@@ -112,28 +113,28 @@ abbrev pub after_for : SessionView → List ℕ → Request → Option Picture �
 after_for s line Save screen = s
 after_for s line Cut screen = after_cut s s.screen
 after_for s line Quit screen = s
-after_for s line Script screen = after_script_line s line (fault_in (so_far s) line) screen
+after_for s line Script screen = after_script_line s line (fault_of_line (script_so_far s) line) screen
 
 -- after a line that was answered
-unfoldable pub after : SessionView → List ℕ → Option Picture → SessionView
-after s line screen = after_for s line (request_of line) screen
+unfoldable pub after_reply : SessionView → List ℕ → Option Picture → SessionView
+after_reply s line screen = after_for s line (request_of line) screen
 
 -- after want of memory the session is unchanged, but that the bad points of the screen may have other pixels
-abbrev pub IsKept : SessionView → SessionView → Type 0
-IsKept s t = t ≡ record s { screen = t.screen }
+abbrev pub DiffersByScreen : SessionView → SessionView → Type 0
+DiffersByScreen s t = t ≡ record s { screen = t.screen }
 
 -- the session t comes after s and this line, which got this answer; `!quit` needs no memory
-abbrev pub IsAnswered : SessionView → List ℕ → Answer → SessionView → Type 0
-IsAnswered s line no_memory t = IsKept s t × (ends line ≡ false)
-IsAnswered s line answer t = (answer ≡ due s line) × (t ≡ after s line t.screen)
+abbrev pub ComesAfterLine : SessionView → List ℕ → Answer → SessionView → Type 0
+ComesAfterLine s line no_memory t = DiffersByScreen s t × (ends line ≡ false)
+ComesAfterLine s line answer t = (answer ≡ due s line) × (t ≡ after_reply s line t.screen)
 
 -- so t does, and its screen is right
-abbrev pub IsNext : SessionView → List ℕ → Answer → SessionView → Type 0
-IsNext s line answer t = IsAnswered s line answer t × IsSession t
+abbrev pub IsNextSession : SessionView → List ℕ → Answer → SessionView → Type 0
+IsNextSession s line answer t = ComesAfterLine s line answer t × IsSession t
 
 -- the session t comes after s and these lines, which got these answers
 abbrev pub AreAnswered : SessionView → List (List ℕ) → List Answer → SessionView → Type 0
 AreAnswered s [] [] t = t ≡ s
 AreAnswered s (line ∷ lines) (answer ∷ answers) t =
-    (now : SessionView) × IsNext s line answer now × AreAnswered now lines answers t
+    (now : SessionView) × IsNextSession s line answer now × AreAnswered now lines answers t
 AreAnswered s lines answers t = ⊥

@@ -8,8 +8,8 @@ pub record ArrivalsView : Type 0 where
   pub rest : List ℕ
 
 -- the first 1,025 bytes of a line, which have its request and its fault
-abbrev pub front_of : List ℕ → List ℕ
-front_of line = take 1025 line
+abbrev pub first_bytes : List ℕ → List ℕ
+first_bytes line = take 1025 line
 
 -- the pieces between line feeds
 abbrev pub pieces_of : List ℕ → List (List ℕ)
@@ -24,10 +24,10 @@ pub record HasLine (old new : ArrivalsView) : Type 0 where
   pub more : List ℕ
   pub rest : old.rest ≡ more ++ 10 ∷ new.rest
   pub unbroken : Contains more 10 → ⊥
-  pub begun : new.begun ≡ front_of (old.begun ++ more)
+  pub begun : new.begun ≡ first_bytes (old.begun ++ more)
 
 -- the line that has begun isn't whole yet
 pub record IsWithoutLine (old new : ArrivalsView) : Type 0 where
   pub rest : new.rest ≡ []
   pub unbroken : Contains old.rest 10 → ⊥
-  pub begun : new.begun ≡ front_of (old.begun ++ old.rest)
+  pub begun : new.begun ≡ first_bytes (old.begun ++ old.rest)

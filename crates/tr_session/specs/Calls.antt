@@ -11,21 +11,21 @@ use Rattle.tr_session.specs.Arrivals.{whole_lines}
 use Rattle.tr_session.specs.Sessions.{SessionView, no_session}
 
 -- the bytes that a source has left, before and after a call
-pub record SourceChange : Type 0 where
+pub record SourceBytes : Type 0 where
   pub left : Option (List ℕ)
   pub left_new : Option (List ℕ)
 
 -- the change by a call, for any source
-abbrev pub change_of_source : {S : Type 0} → SourceGhosts S → S → S → SourceChange
+abbrev pub change_of_source : {S : Type 0} → SourceGhosts S → S → S → SourceBytes
 change_of_source source before after = record { left = source.left before; left_new = source.left after }
 
 -- the bytes that a sink has taken, before and after a call
-pub record SinkChange : Type 0 where
+pub record SinkBytes : Type 0 where
   pub written : Option (List ℕ)
   pub written_new : Option (List ℕ)
 
 -- the change by a call, for any sink
-abbrev pub change_of_sink : {K : Type 0} → SinkGhosts K → K → K → SinkChange
+abbrev pub change_of_sink : {K : Type 0} → SinkGhosts K → K → K → SinkBytes
 change_of_sink sink before after = record { written = sink.written before; written_new = sink.written after }
 
 -- the last of these lines ends the session
@@ -37,7 +37,7 @@ abbrev pub IsOver : Option (List ℕ) → List ℕ → ℕ → Type 0
 IsOver left bytes count = (count ≡ length (whole_lines bytes)) × IfSome left (λ rest. rest ≡ [])
 
 -- the number of lines that were answered: all of them, unless the session ended before, or took more turns than any process lasts
-abbrev pub AreAll : Result Unit Stopped → SourceChange → List ℕ → ℕ → Type 0
+abbrev pub AreAll : Result Unit Stopped → SourceBytes → List ℕ → ℕ → Type 0
 AreAll (Ok done) from bytes count =
     HasQuit (take count (whole_lines bytes)) ⊎ (IsOver from.left_new bytes count ⊎ (2 ^ 64 - 1 ≤ length bytes + count))
 AreAll (Err Unread) from bytes count = count ≡ length (whole_lines bytes)
@@ -45,7 +45,7 @@ AreAll (Err stopped) from bytes count = ⊤
 
 -- these bytes came, the first of their whole lines were answered, none of them after one that ends the session, and the answers were
 -- written; if the sink had a fault, some of the first of their bytes
-pub record HasServed (from : SourceChange) (result : Result Unit Stopped) (to : SinkChange) : Type 0 where
+pub record HasServed (from : SourceBytes) (result : Result Unit Stopped) (to : SinkBytes) : Type 0 where
   pub bytes : List ℕ
   pub came : Fell from.left from.left_new bytes
   pub count : ℕ

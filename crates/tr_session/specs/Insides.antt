@@ -10,7 +10,7 @@ use Rattle.tr_reader.specs.Adding.{is_at_steps}
 use Rattle.tr_session.specs.declared.sessions.Session.{Session}
 use Rattle.tr_session.specs.Playing.{HasStarted, PlayedView, begun_by}
 use Rattle.tr_session.specs.Lines.{has_begun}
-use Rattle.tr_session.specs.Sessions.{SessionView, IsSession, so_far, journal_of}
+use Rattle.tr_session.specs.Sessions.{SessionView, IsSession, script_so_far, journal_of}
 
 -- the screen, once there is a stage
 abbrev pub screen_in : Option PlayedView → Option Picture
@@ -32,23 +32,23 @@ abbrev pub opening_of : SoFar → SoFar
 opening_of c = record c { place = reader_place c.place; ended = []; part = empty_part }
 
 -- the stage has played the lines
-pub record HasPlayed (s : SessionView) (p : PlayedView) : Type 0 where
-  pub opening : p.stage.opening ≡ (so_far s).items
-  pub names : p.names ≡ (so_far s).names
+pub record HasPlayedAllLines (s : SessionView) (p : PlayedView) : Type 0 where
+  pub opening : p.stage.opening ≡ (script_so_far s).items
+  pub names : p.names ≡ (script_so_far s).names
   pub journal : p.stage.journal ≡ journal_of s
 
 -- there is a stage once `begin` was read, and it has played the lines
-abbrev pub IsPlayed : SessionView → Option PlayedView → Type 0
-IsPlayed s None = has_begun (so_far s).place ≡ false
-IsPlayed s (Some p) = HasPlayed s p
+abbrev pub HasStageOnceBegun : SessionView → Option PlayedView → Type 0
+HasStageOnceBegun s None = has_begun (script_so_far s).place ≡ false
+HasStageOnceBegun s (Some p) = HasPlayedAllLines s p
 
 -- the parts of a session are those of its lines
-pub record HoldsTogether (s : Session) : Type 0 where
+pub record PartsAgree (s : Session) : Type 0 where
   pub session : IsSession (session_view s)
-  pub reader : s.script.reader ≡ opening_of (so_far (session_view s))
-  pub ended : s.script.has_ended ≡ has_ended (so_far (session_view s)).place
-  pub behind : s.script.is_behind_step ≡ is_at_steps (so_far (session_view s)).place
-  pub played : IsPlayed (session_view s) s.played
+  pub reader : s.script.reader ≡ opening_of (script_so_far (session_view s))
+  pub ended : s.script.has_ended ≡ has_ended (script_so_far (session_view s)).place
+  pub behind : s.script.is_behind_step ≡ is_at_steps (script_so_far (session_view s)).place
+  pub played : HasStageOnceBegun (session_view s) s.played
 
 -- the stage of `begin` with its opening was started, and the line was added
 pub record Starts (old : Session) (line : List ℕ) (new : Session) : Type 0 where

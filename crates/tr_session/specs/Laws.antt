@@ -14,42 +14,43 @@ use Rattle.tr_grammar.specs.Faults.{reports_so_far}
 use Rattle.tr_grammar.specs.Scripts.{after_all_lines, most_script_bytes, refusal_of, script_of, whole}
 use Rattle.tr_script.specs.Apart.{meaning_of_line}
 use Rattle.tr_serial.specs.Outputs.{out_text}
-use Rattle.tr_session.specs.Answers.{Answer, AreAnswered, bytes, text, text_for}
+use Rattle.tr_session.specs.Answers.{Answer, AreAnswered, bytes, text, text_for_line}
 use Rattle.tr_session.specs.Cuts.{bytes_of_cuts, fitted, no_cut}
-use Rattle.tr_session.specs.Lines.{added_lines, fault_in, has_begun, last_lines}
-use Rattle.tr_session.specs.Sessions.{SessionView, IsSession, no_session, saved_text, so_far, with_lines}
+use Rattle.tr_session.specs.Lines.{added_lines, fault_of_line, has_begun, last_lines}
+use Rattle.tr_session.specs.Sessions.{SessionView, IsSession, no_session, saved_text, script_so_far, with_more_lines}
 
 -- the saved script is within the limits of scripts
-pub record IsWithin (s : SessionView) : Type 0 where
-  pub lines : length (s.lines ++ last_lines (so_far s)) ≤ 100000
-  pub syncs : length (after_all_lines (so_far s) (last_lines (so_far s))).ended ≤ 1000
-  pub reports : reports_so_far (so_far s) ≤ 64
+pub record IsWithinScriptLimits (s : SessionView) : Type 0 where
+  pub lines : length (s.lines ++ last_lines (script_so_far s)) ≤ 100000
+  pub syncs : length (after_all_lines (script_so_far s) (last_lines (script_so_far s))).ended ≤ 1000
+  pub reports : reports_so_far (script_so_far s) ≤ 64
   pub bytes : length (saved_text s) ≤ most_script_bytes
 
 -- a saved text is a script, if it is within the limits
 abbrev pub SavesAScript : SessionView → Type 0
-SavesAScript s = IsSession s → has_begun (so_far s).place ≡ true → IsWithin s → refusal_of (saved_text s) ≡ None
+SavesAScript s = IsSession s → has_begun (script_so_far s).place ≡ true → IsWithinScriptLimits s → refusal_of (saved_text s) ≡ None
 
 -- a saved text that is no script is beyond the limits: B7 is the fault that is named
 abbrev pub IsRefusedBeyond : SessionView → Type 0
 IsRefusedBeyond s =
-    IsSession s → has_begun (so_far s).place ≡ true → IfSome (refusal_of (saved_text s)) (λ refusal. refusal.code ≡ number_of_code B7)
+    IsSession s → has_begun (script_so_far s).place ≡ true →
+    IfSome (refusal_of (saved_text s)) (λ refusal. refusal.code ≡ number_of_code B7)
 
 -- the text of a line that is a report
 abbrev pub report_for : SessionView → Option Meaning → List ℕ
-report_for s (Some (meanings.Report query)) = text_for s (Some (meanings.Report query))
+report_for s (Some (meanings.Report query)) = text_for_line s (Some (meanings.Report query))
 report_for s said = []
 
 -- a line that is taken adds its report, if it is one, to the text of `serial`
 abbrev pub ReportsOne : SessionView → List ℕ → Option Picture → Type 0
 ReportsOne s line screen =
-    IsSession s → fault_in (so_far s) line ≡ None →
-    out_text (whole (so_far (with_lines s (added_lines (so_far s) line) screen)))
-    ≡ out_text (whole (so_far s)) ++ report_for s (meaning_of_line (so_far s) line)
+    IsSession s → fault_of_line (script_so_far s) line ≡ None →
+    out_text (whole (script_so_far (with_more_lines s (added_lines (script_so_far s) line) screen)))
+    ≡ out_text (whole (script_so_far s)) ++ report_for s (meaning_of_line (script_so_far s) line)
 
 -- `serial` writes for the saved script the reports of the session
 abbrev pub ReportsAll : SessionView → Type 0
-ReportsAll s = IsSession s → IsWithin s → out_text (script_of (saved_text s)) ≡ out_text (whole (so_far s))
+ReportsAll s = IsSession s → IsWithinScriptLimits s → out_text (script_of (saved_text s)) ≡ out_text (whole (script_so_far s))
 
 -- the text of a report in an answer to a line with this meaning, if it is one
 abbrev pub report_in : Answer → Option Meaning → List ℕ
@@ -60,13 +61,13 @@ report_in answer said = []
 abbrev pub reports_in : (s : SessionView) (lines : List (List ℕ)) (answers : List Answer) (t : SessionView) →
     AreAnswered s lines answers t → List ℕ
 reports_in s (line ∷ lines) (answer ∷ answers) t all =
-    report_in answer (meaning_of_line (so_far s) line) ++ reports_in all.0 lines answers t all.2
+    report_in answer (meaning_of_line (script_so_far s) line) ++ reports_in all.0 lines answers t all.2
 reports_in s lines answers t all = []
 
 -- `serial` writes for the last saved script the reports in the answers to all lines
 abbrev pub WritesAsSerial : List (List ℕ) → List Answer → SessionView → Type 0
 WritesAsSerial lines answers last =
-    (all : AreAnswered no_session lines answers last) → IsWithin last →
+    (all : AreAnswered no_session lines answers last) → IsWithinScriptLimits last →
     out_text (script_of (saved_text last)) ≡ reports_in no_session lines answers last all
 
 -- a reader of the stream of these screens has them

@@ -41,8 +41,8 @@ abbrev pub tried_against : SoFar → SoFar
 tried_against c = record c { place = at_any_time c.place; ended = []; part = empty_part }
 
 -- the first fault of a line, if it has one: that of a script's line 1, since a session counts no lines
-abbrev pub fault_in : SoFar → List ℕ → Option Code
-fault_in c line = fault_of (tried_against c) 1 line
+abbrev pub fault_of_line : SoFar → List ℕ → Option Code
+fault_of_line c line = fault_of (tried_against c) 1 line
 
 -- a report or the end
 abbrev pub ends_steps : Option Meaning → Bool

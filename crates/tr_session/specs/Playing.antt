@@ -103,7 +103,7 @@ pub record ActsBehindSync {C : Type 0} (client : Ghosts C WidgetCmd) (a b : RunV
   pub fault : IfErr result IsWantOfMemory
 
 -- a line was followed: its cues were done, and the texts are theirs, unless the session is lost
-pub record Follows (p q : PlayedView) (said : Option Meaning) (needs : Bool) (f : Followed) (old new : List ℕ) : Type 0 where
+pub record FollowsLine (p q : PlayedView) (said : Option Meaning) (needs : Bool) (f : Followed) (old new : List ℕ) : Type 0 where
   pub names : q.names ≡ p.names
   pub now : RunView Widget WidgetCmd
   pub acts : ActsBehindSync widgets (as_run p) now said needs f.result old new

@@ -13,7 +13,7 @@ unanswered_of refused.NoMemory = unanswered.NoMemory
 unanswered_of (refused.Fault code) = unanswered.Fault code
 
 -- the exit status
-abbrev pub code : Stopped → ℕ
-code stopped.Unread = 4
-code stopped.Unwritten = 5
-code stopped.NoMemory = 6
+abbrev pub status_of_stopped : Stopped → ℕ
+status_of_stopped stopped.Unread = 4
+status_of_stopped stopped.Unwritten = 5
+status_of_stopped stopped.NoMemory = 6

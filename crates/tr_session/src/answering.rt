@@ -5,13 +5,13 @@ ghost use Rattle.tr_grammar.specs.States.{nothing_yet};
 ghost use Rattle.tr_grammar.specs.Texts.{is_plain, lines_of};
 ghost use Rattle.tr_session.specs.declared.errors.Unanswered.TheVariants as unanswered;
 ghost use Rattle.tr_session.specs.Answers as spec;
-ghost use Rattle.tr_session.specs.Answers.{Answer, IsAnswered, answer_bytes, text as texts};
-ghost use Rattle.tr_session.specs.Insides.{HasItsLines, HoldsTogether, Starts, session_view};
+ghost use Rattle.tr_session.specs.Answers.{Answer, ComesAfterLine, answer_bytes, text as texts};
+ghost use Rattle.tr_session.specs.Insides.{HasItsLines, PartsAgree, Starts, session_view};
 ghost use Rattle.tr_session.specs.Lines.{has_begun};
 ghost use Rattle.tr_session.specs.Cuts.{AreCuts};
-ghost use Rattle.tr_session.specs.Playing.{Follows, IsMeant};
-ghost use Rattle.tr_session.specs.Sessions.{AreTaken, so_far};
-ghost use Rattle.tr_session.specs.Answering.{Answers, Takes, Tells, TellsRefusal};
+ghost use Rattle.tr_session.specs.Playing.{FollowsLine, IsMeant};
+ghost use Rattle.tr_session.specs.Sessions.{AreTaken, script_so_far};
+ghost use Rattle.tr_session.specs.Answering.{RepliesWith, Takes, Tells, TellsRefusal};
 
 use crate::errors::{Lost, Unanswered};
 use crate::playing::{Followed, Played};
@@ -29,11 +29,11 @@ use tr_words::first_line;
 impl<'a> Session<'a> {
     /// Answers a line. Returns whether the session ends with it. After `Lost` the session can't go on.
     pub(crate) fn answer(&mut self, line: &[u8], reply: &mut Reply) -> Result<bool, Lost>
-        requires { HoldsTogether self.old }
+        requires { PartsAgree self.old }
         ensures answered { IfOk result (λ ends. (answer : Answer) × (reply.new ≡ answer_bytes answer)
-            × IsAnswered (session_view self.old) line.now answer (session_view self.new)) }
+            × ComesAfterLine (session_view self.old) line.now answer (session_view self.new)) }
         ensures ends { IfOk result (λ ends. ends ≡ spec.ends line.now) }
-        ensures holds { OnOk result (HoldsTogether self.new) }
+        ensures holds { OnOk result (PartsAgree self.new) }
     {
         match request_of(line) {
             Request::Save => {
@@ -60,8 +60,8 @@ impl<'a> Session<'a> {
 
     /// The script so far.
     fn save(&self, reply: &mut Reply) -> Result<(), Unanswered>
-        requires { HoldsTogether self.now }
-        ensures { Answers (spec.due_of_save (session_view self.now) (session_view self.now).screen)
+        requires { PartsAgree self.now }
+        ensures { RepliesWith (spec.due_of_save (session_view self.now) (session_view self.now).screen)
             reply.new result }
     {
         if self.played.is_none() {
@@ -75,13 +75,13 @@ impl<'a> Session<'a> {
 
     /// The group that leads to the screen as it is.
     fn cut(&mut self, reply: &mut Reply) -> Result<(), Unanswered>
-        requires { HoldsTogether self.old }
-        ensures answer { Answers (spec.due_of_cut (session_view self.old) (session_view self.old).screen)
+        requires { PartsAgree self.old }
+        ensures answer { RepliesWith (spec.due_of_cut (session_view self.old) (session_view self.old).screen)
             reply.new result }
         ensures ok { OnOk result (session_view self.new
             ≡ spec.after_cut (session_view self.old) (session_view self.old).screen) }
         ensures err { OnErr result (session_view self.new ≡ session_view self.old) }
-        ensures holds { HoldsTogether self.new }
+        ensures holds { PartsAgree self.new }
     {
         let Some(played) = &self.played else {
             return Err(Unanswered::Fault(Code::B5));
@@ -95,9 +95,9 @@ impl<'a> Session<'a> {
     /// Takes a line of the script. If memory runs out once the line has changed the stage or the reader, the
     /// lines before it are taken again.
     fn take(&mut self, line: &[u8], reply: &mut Reply) -> Result<(), Unanswered>
-        requires { HoldsTogether self.old }
+        requires { PartsAgree self.old }
         ensures takes { Takes (session_view self.old) line.now reply.new result (session_view self.new) }
-        ensures holds { result ≢ Err unanswered.Lost → HoldsTogether self.new }
+        ensures holds { result ≢ Err unanswered.Lost → PartsAgree self.new }
     {
         match self.take_once(line, reply) {
             Err(Unanswered::Lost) => match self.take_again(reply) {
@@ -112,7 +112,7 @@ impl<'a> Session<'a> {
     fn take_again(&mut self, reply: &mut Reply) -> Result<(), Lost>
         requires taken { AreTaken nothing_yet self.old.script.saved.lines }
         requires cuts { AreCuts self.old.cuts }
-        ensures { OnOk result (HasItsLines self.old self.new × HoldsTogether self.new) }
+        ensures { OnOk result (HasItsLines self.old self.new × PartsAgree self.new) }
     {
         drop(self.played.take());
         let before = std::mem::replace(&mut self.script, Script::new(self.alloc));
@@ -123,12 +123,12 @@ impl<'a> Session<'a> {
 
     /// Takes lines, each of which was taken once before.
     fn take_lines(&mut self, text: &[u8], reply: &mut Reply) -> Result<(), Lost>
-        requires holds { HoldsTogether self.old }
-        requires taken { AreTaken (so_far (session_view self.old)) (lines_of text.now) }
+        requires holds { PartsAgree self.old }
+        requires taken { AreTaken (script_so_far (session_view self.old)) (lines_of text.now) }
         ensures lines { OnOk result
             (self.new.script.saved.lines ≡ self.old.script.saved.lines ++ lines_of text.now) }
         ensures cuts { OnOk result (self.new.cuts ≡ self.old.cuts) }
-        ensures holds { OnOk result (HoldsTogether self.new) }
+        ensures holds { OnOk result (PartsAgree self.new) }
     {
         let mut rest = text;
         while !rest.is_empty() {
@@ -145,9 +145,9 @@ impl<'a> Session<'a> {
     /// Takes a line of the script. If memory runs out once the line has changed the stage or the reader, the
     /// session is lost, but for its lines and its cuts.
     fn take_once(&mut self, line: &[u8], reply: &mut Reply) -> Result<(), Unanswered>
-        requires { HoldsTogether self.old }
+        requires { PartsAgree self.old }
         ensures takes { Takes (session_view self.old) line.now reply.new result (session_view self.new) }
-        ensures holds { result ≢ Err unanswered.Lost → HoldsTogether self.new }
+        ensures holds { result ≢ Err unanswered.Lost → PartsAgree self.new }
         ensures lost { result ≡ Err unanswered.Lost → HasItsLines self.old self.new }
     {
         if self.played.is_some() {
@@ -160,10 +160,10 @@ impl<'a> Session<'a> {
     /// Takes a line up to `begin`. There is room for it before anything changes. With `begin` the stage
     /// starts.
     fn open(&mut self, line: &[u8], reply: &mut Reply) -> Result<(), Unanswered>
-        requires holds { HoldsTogether self.old }
-        requires early { has_begun (so_far (session_view self.old)).place ≡ false }
+        requires holds { PartsAgree self.old }
+        requires early { has_begun (script_so_far (session_view self.old)).place ≡ false }
         ensures takes { Takes (session_view self.old) line.now reply.new result (session_view self.new) }
-        ensures holds { result ≢ Err unanswered.Lost → HoldsTogether self.new }
+        ensures holds { result ≢ Err unanswered.Lost → PartsAgree self.new }
         ensures lost { result ≡ Err unanswered.Lost → HasItsLines self.old self.new }
     {
         self.script.saved.reserve(line)?;
@@ -198,10 +198,10 @@ impl<'a> Session<'a> {
 
     /// Takes a line after `begin`. There is room for it, and for a sync, before anything changes.
     fn play(&mut self, line: &[u8], reply: &mut Reply) -> Result<(), Unanswered>
-        requires holds { HoldsTogether self.old }
-        requires begun { has_begun (so_far (session_view self.old)).place ≡ true }
+        requires holds { PartsAgree self.old }
+        requires begun { has_begun (script_so_far (session_view self.old)).place ≡ true }
         ensures takes { Takes (session_view self.old) line.now reply.new result (session_view self.new) }
-        ensures holds { result ≢ Err unanswered.Lost → HoldsTogether self.new }
+        ensures holds { result ≢ Err unanswered.Lost → PartsAgree self.new }
         ensures lost { result ≡ Err unanswered.Lost → HasItsLines self.old self.new }
     {
         self.script.saved.reserve(line)?;
@@ -229,7 +229,7 @@ impl<'a> Session<'a> {
     fn follow(&mut self, said: Option<Meaning>, needs_sync: bool) -> Followed
         requires { IsSomeAnd self.old.played (λ p. IsMeant (tree_of p.stage.opening).nodes said) }
         ensures followed { IsSomeAnd self.old.played (λ p. IsSomeAnd self.new.played (λ q.
-            Follows p q said needs_sync result [] self.new.outcome.items)) }
+            FollowsLine p q said needs_sync result [] self.new.outcome.items)) }
         ensures script { self.new.script ≡ self.old.script }
         ensures cuts { self.new.cuts ≡ self.old.cuts }
     {

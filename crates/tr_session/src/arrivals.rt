@@ -2,7 +2,7 @@
 ghost use Rattle.std.specs.Prelude.{◌≡◌, ◌≤◌, ◌++◌, [], true, false, length, take, drop, OnErr, OnOk, IfOk, IfSome};
 ghost use Rattle.tr_io.specs.Faults.{HasFault};
 ghost use Rattle.tr_io.specs.Streams.{Fell};
-ghost use Rattle.tr_session.specs.Arrivals.{HasLine, IsWithoutLine, front_of};
+ghost use Rattle.tr_session.specs.Arrivals.{HasLine, IsWithoutLine, first_bytes};
 
 use memchr::memchr;
 use std::alloc::Global;
@@ -83,7 +83,7 @@ impl Arrivals {
     /// Goes on by so many bytes of a line, and keeps them as far as they are in its front.
     fn keep(&mut self, count: usize)
         requires { count ≤ length self.old.rest }
-        ensures begun { self.new.begun ≡ front_of (self.old.begun ++ take count self.old.rest) }
+        ensures begun { self.new.begun ≡ first_bytes (self.old.begun ++ take count self.old.rest) }
         ensures rest { self.new.rest ≡ drop count self.old.rest }
     {
         let rest = &self.piece[self.start..self.end];

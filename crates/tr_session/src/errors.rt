@@ -1,7 +1,7 @@
 ghost use Rattle.std.specs.Prelude.{◌≡◌};
 ghost use Rattle.tr_session.specs.declared.errors.Unanswered.TheVariants as unanswered;
 ghost use Rattle.tr_session.specs.declared.errors.Stopped.TheVariants as stopped;
-ghost use Rattle.tr_session.specs.Refusals.{code};
+ghost use Rattle.tr_session.specs.Refusals.{status_of_stopped};
 
 use std::alloc::AllocError;
 use thiserror::Error;
@@ -74,7 +74,7 @@ pub enum Stopped {
 impl Stopped {
     /// The exit status of the process: 4, 5 or 6. A session that ends by itself has 0.
     pub fn code(self) -> u8
-        ensures { result ≡ code self }
+        ensures { result ≡ status_of_stopped self }
     {
         match self {
             Stopped::Unread => 4,

@@ -3,7 +3,7 @@ ghost use Rattle.std.specs.Prelude.{◌≡◌, ◌≢◌, ◌≤◌, ◌+◌, []
 ghost use Rattle.tr_io.specs.Faults.{HasFault};
 ghost use Rattle.tr_session.specs.declared.errors.Stopped.TheVariants as stopped;
 ghost use Rattle.tr_session.specs.Calls.{change_of_sink};
-ghost use Rattle.tr_session.specs.Turns.{AddsAnswer, Flushes, HasRoom, Writes, waiting_room};
+ghost use Rattle.tr_session.specs.Turns.{AddsAnswer, Flushes, HasRoomForAnswers, Writes, waiting_room};
 
 use crate::errors::Stopped;
 use crate::replies::Reply;
@@ -19,8 +19,8 @@ pub(crate) fn add_answer<K: Sink>(
     reply: &Reply,
     sink: &mut K,
 ) -> Result<(), Stopped>
-    requires { HasRoom waiting.old (K.room sink.old) }
-    ensures room { OnOk result (HasRoom waiting.new (K.room sink.new)) }
+    requires { HasRoomForAnswers waiting.old (K.room sink.old) }
+    ensures room { OnOk result (HasRoomForAnswers waiting.new (K.room sink.new)) }
     ensures added { AddsAnswer waiting.old.items reply.now result
         (change_of_sink K.Sink sink.old sink.new) waiting.new.items }
     ensures unwritten { result ≡ Err stopped.Unwritten → HasFault (K.faults sink.old) (K.faults sink.new) }
@@ -40,8 +40,8 @@ pub(crate) fn add_answer<K: Sink>(
 
 /// Writes the answers that wait, and makes room for others.
 pub(crate) fn flush<K: Sink>(waiting: &mut Vec<u8>, sink: &mut K) -> Result<(), Stopped>
-    requires { HasRoom waiting.old (K.room sink.old) }
-    ensures room { OnOk result (HasRoom waiting.new (K.room sink.new)) }
+    requires { HasRoomForAnswers waiting.old (K.room sink.old) }
+    ensures room { OnOk result (HasRoomForAnswers waiting.new (K.room sink.new)) }
     ensures written { Flushes waiting.old.items result (change_of_sink K.Sink sink.old sink.new) }
     ensures empty { OnOk result (waiting.new.items ≡ []) }
     ensures unwritten { result ≡ Err stopped.Unwritten → HasFault (K.faults sink.old) (K.faults sink.new) }
@@ -58,7 +58,7 @@ pub(crate) fn flush<K: Sink>(waiting: &mut Vec<u8>, sink: &mut K) -> Result<(), 
 
 /// Writes the answers that wait.
 pub(crate) fn write_waiting<K: Sink>(waiting: &mut Vec<u8>, sink: &mut K) -> Result<(), Stopped>
-    requires { HasRoom waiting.old (K.room sink.old) }
+    requires { HasRoomForAnswers waiting.old (K.room sink.old) }
     ensures room { waiting_room ≤ vec_capacity waiting.new }
     ensures written { Writes waiting.old.items result (change_of_sink K.Sink sink.old sink.new) }
     ensures empty { OnOk result (waiting.new.items ≡ []) }

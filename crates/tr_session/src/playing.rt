@@ -9,7 +9,7 @@ ghost use Rattle.tr_run.specs.Runs.{makes, reporting};
 ghost use Rattle.tr_run.specs.Views.{Does};
 ghost use Rattle.tr_run.specs.declared.Mode.TheVariants.{Serial};
 ghost use Rattle.tr_session.specs.declared.errors.Unanswered.TheVariants as unanswered;
-ghost use Rattle.tr_session.specs.Playing.{Acts, ActsBehindSync, Follows, HasOutcome, HasStarted, IsMeant, IsWantOfMemory, KeepsLines, begun_by};
+ghost use Rattle.tr_session.specs.Playing.{Acts, ActsBehindSync, FollowsLine, HasOutcome, HasStarted, IsMeant, IsWantOfMemory, KeepsLines, begun_by};
 
 use crate::errors::Unanswered;
 use crate::openings::script_of;
@@ -92,7 +92,7 @@ impl Played {
         out: &mut Vec<u8>,
     ) -> (Played, Followed)
         requires { IsMeant (tree_of self.stage.opening).nodes said }
-        ensures { Follows self result.0 said needs_sync result.1 out.old.items out.new.items }
+        ensures { FollowsLine self result.0 said needs_sync result.1 out.old.items out.new.items }
     {
         let Played { names, stage } = self;
         let mut run = Run::over(alloc, stage, &names, Mode::Serial);

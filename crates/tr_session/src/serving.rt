@@ -3,9 +3,9 @@ ghost use Rattle.std.specs.Prelude.{◌≡◌, ◌≤◌, [], Err, IfOk, OnOk, C
 ghost use Rattle.tr_io.specs.Faults.{HasFault};
 ghost use Rattle.tr_session.specs.declared.errors.Stopped.TheVariants as stopped;
 ghost use Rattle.tr_session.specs.Calls.{HasServed, change_of_sink, change_of_source};
-ghost use Rattle.tr_session.specs.Insides.{HoldsTogether, session_view};
+ghost use Rattle.tr_session.specs.Insides.{PartsAgree, session_view};
 ghost use Rattle.tr_session.specs.Sessions.{no_session};
-ghost use Rattle.tr_session.specs.Turns.{AnswersLine, HasRoom, Turns, waiting_room};
+ghost use Rattle.tr_session.specs.Turns.{AnswersLine, HasRoomForAnswers, TakesOneTurn, waiting_room};
 
 use crate::arrivals::Arrivals;
 use crate::errors::Stopped;
@@ -72,7 +72,7 @@ fn take_turns<S: Source, K: Sink>(
     requires empty { waiting.old.items ≡ [] }
     requires room { waiting_room ≤ vec_capacity waiting.old }
     requires view { session_view session.old ≡ no_session }
-    requires holds { HoldsTogether session.old }
+    requires holds { PartsAgree session.old }
     ensures served { HasServed (change_of_source S.Source source.old source.new) result
         (change_of_sink K.Sink sink.old sink.new) }
     ensures read_fault { result ≡ Err stopped.Unread → HasFault (S.faults source.old) (S.faults source.new) }
@@ -104,15 +104,15 @@ fn turn<S: Source, K: Sink>(
     source: &mut S,
     sink: &mut K,
 ) -> Result<bool, Stopped>
-    requires holds { HoldsTogether session.old }
-    requires room { HasRoom waiting.old (K.room sink.old) }
-    ensures holds { OnOk result (HoldsTogether session.new) }
-    ensures room { OnOk result (HasRoom waiting.new (K.room sink.new)) }
+    requires holds { PartsAgree session.old }
+    requires room { HasRoomForAnswers waiting.old (K.room sink.old) }
+    ensures holds { OnOk result (PartsAgree session.new) }
+    ensures room { OnOk result (HasRoomForAnswers waiting.new (K.room sink.new)) }
 
     // If a line is whole, it is answered, and nothing is read.
     ensures prompt { Contains arrivals.old.rest 10 →
         (S.left source.new ≡ S.left source.old) × (S.faults source.new ≡ S.faults source.old) }
-    ensures turned { Turns (record {
+    ensures turned { TakesOneTurn (record {
       session = session_view session.old;
       arrivals = arrivals.old;
       waiting = waiting.old.items;
@@ -150,10 +150,10 @@ fn answer_one<K: Sink>(
     waiting: &mut Vec<u8>,
     sink: &mut K,
 ) -> Result<bool, Stopped>
-    requires holds { HoldsTogether session.old }
-    requires room { HasRoom waiting.old (K.room sink.old) }
-    ensures holds { OnOk result (HoldsTogether session.new) }
-    ensures room { OnOk result (HasRoom waiting.new (K.room sink.new)) }
+    requires holds { PartsAgree session.old }
+    requires room { HasRoomForAnswers waiting.old (K.room sink.old) }
+    ensures holds { OnOk result (PartsAgree session.new) }
+    ensures room { OnOk result (HasRoomForAnswers waiting.new (K.room sink.new)) }
     ensures answered { AnswersLine (session_view session.old) arrivals.old.begun waiting.old.items result
         (change_of_sink K.Sink sink.old sink.new) (session_view session.new) waiting.new.items }
     ensures arrivals { OnOk result (arrivals.new ≡ record arrivals.old { begun = [] }) }

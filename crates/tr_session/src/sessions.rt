@@ -1,6 +1,6 @@
 //! The state of a session.
 ghost use Rattle.std.specs.Prelude.{◌≡◌};
-ghost use Rattle.tr_session.specs.Insides.{HoldsTogether, session_view};
+ghost use Rattle.tr_session.specs.Insides.{PartsAgree, session_view};
 ghost use Rattle.tr_session.specs.Sessions as spec;
 
 use crate::cuts::Cuts;
@@ -28,7 +28,7 @@ impl<'a> Session<'a> {
     /// The session before the first line. The arena keeps the lines of its opening.
     pub(crate) fn new(alloc: Global, arena: &'a Bump) -> Session<'a>
         ensures view { session_view result ≡ spec.no_session }
-        ensures holds { HoldsTogether result }
+        ensures holds { PartsAgree result }
     {
         let script = Script::new(alloc);
         let cuts = Cuts::new();

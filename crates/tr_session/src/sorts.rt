@@ -18,7 +18,7 @@ pub(crate) enum LineSort {
 
 /// The sort of a line with this meaning.
 pub(crate) fn sort_of(said: &Option<Meaning>) -> LineSort
-    ensures { result ≡ spec.sort_of said.now }
+    ensures { result ≡ spec.meaning_sort said.now }
 {
     match said {
         Some(Meaning::Step { .. }) => LineSort::Step,

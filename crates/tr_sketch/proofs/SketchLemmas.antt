@@ -6,14 +6,13 @@ use Rattle.tr_base.specs.declared.Point.{Point}
 use Rattle.tr_base.specs.declared.Size.{Size}
 use Rattle.tr_base.specs.Layouts.{IsDomain}
 use Rattle.tr_base.specs.Rects.{Edges, IsRect, before_shift, empty_rect, has_point, shifted, sides_of, whole_of, IsScreenSize}
-use Rattle.tr_base.proofs.RectFacts.{edges_are, rect_of-full}
+use Rattle.tr_base.proofs.RectFacts.{abs_is, edges_are, rect_of-full}
 use Rattle.tr_base.proofs.RectLemmas.{has_point-shifted, rect_cases}
 use Rattle.tr_base.proofs.BoolLemmas.{or_false}
 use Rattle.tr_region.specs.Areas.{area_of, total_area}
 use Rattle.tr_region.specs.Places.{place_in, place_within}
 use Rattle.tr_region.specs.Points.{holds}
 use Rattle.tr_region.proofs.OrderLemmas.{IsFull}
-use Rattle.tr_region.proofs.PlaceLemmas.{abs_is}
 use Rattle.tr_paint.specs.Paints.{IsNearRect}
 use Rattle.tr_exec.specs.Executions.{IsOrigin, screen_point}
 use Rattle.tr_exec.proofs.PlacedLemmas.{before-placed}

@@ -8,10 +8,10 @@ use Rattle.tr_base.specs.declared.NodeId.{NodeId}
 use Rattle.tr_base.specs.Rects.{before_shift, has_point, whole_of}
 use Rattle.tr_base.proofs.RectLemmas.{false-true}
 use Rattle.tr_forest.specs.Nodes.{Nodes, node}
-use Rattle.tr_forest.specs.Families.{levels, depth, deeper, is_among, is_under, is_under_within, of_parent}
+use Rattle.tr_forest.specs.Families.{levels, depth, is_among, is_under, is_under_within, of_parent}
 use Rattle.tr_forest.specs.Forests.{IsForest}
 use Rattle.tr_forest.specs.Edits.{without}
-use Rattle.tr_forest.proofs.FamilyLemmas.{by_id, depth_child, depth_law, test_apart, test_same, tested_same, under_itself, under_law, under_suc, under_zero, same_id, hanger_is_node, parent_case}
+use Rattle.tr_forest.proofs.FamilyLemmas.{by_id, depth_child, test_apart, test_same, tested_same, under_itself, under_law, under_suc, under_zero, same_id, hanger_is_node, parent_case, under_deeper}
 use Rattle.tr_forest.proofs.Lists.{among_left, among_rest}
 use Rattle.tr_tree.specs.Trees.{Seen}
 use Rattle.tr_tree.specs.Places.{domain}
@@ -197,20 +197,6 @@ above f t top n ne h =
     parent_case (node t n).parent (is_under_within f t top)
     (sym (under_suc f t top n ∙ ap (λ b. b || of_parent (node t n).parent (is_under_within f t top)) ne) ∙ h)
 
--- it lies no higher than the top
-no_higher : (f : ℕ) (t : Nodes) → IsForest t → (top n : NodeId) → is_under_within f t top n ≡ true → depth t top ≤ depth t n
-no_higher zero t forest top n h =
-    let same : n ≡ top = tested_same n top (sym (under_zero t top n) ∙ h) in
-    let as_deep : depth t n ≡ depth t top = ap (depth t) same in
-    omega arith
-no_higher (suc f) t forest top n h = by_id n top
-    (λ same. let as_deep : depth t n ≡ depth t top = ap (depth t) same in omega arith)
-    (λ ne.
-    let up = above f t top n ne h in
-    let less : depth t top ≤ depth t up.0 = no_higher f t forest top up.0 up.2 in
-    let one : depth t n ≡ depth t up.0 + 1 = depth_law t n forest ∙ ap (λ (o : Option NodeId). deeper o (depth t)) up.1 in
-    omega arith)
-
 -- so the top is no child of what lies below it
 no_child : (t : Nodes) → IsForest t → (top n : NodeId) → is_under t top n ≡ true → is_among top (node t n).children ≡ false
 no_child t forest top n h = by_test (is_among top (node t n).children) refl
@@ -218,7 +204,7 @@ no_child t forest top n h = by_test (is_among top (node t n).children) refl
     by_test : (b : Bool) → is_among top (node t n).children ≡ b → b ≡ false
     by_test true e =
         let deep : depth t top ≡ depth t n + 1 = depth_child t n top forest e in
-        let less : depth t top ≤ depth t n = no_higher levels t forest top n h in
+        let less : depth t top ≤ depth t n = under_deeper levels t forest top n h in
         absurd (omega arith)
     by_test false e = refl
 

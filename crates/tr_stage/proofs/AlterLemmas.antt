@@ -37,7 +37,7 @@ use Rattle.tr_machine.specs.Replays.{line_of_step, next, replay}
 use Rattle.tr_machine.proofs.SoundLemmas.{fits}
 use Rattle.tr_machine.proofs.AlterLemmas.{IsAlter, KeepsColours, alter_shows}
 use Rattle.tr_windows.specs.Presents.{Present, cleared_from, kept_by, presents}
-use Rattle.tr_windows.specs.Promises.{Keeps}
+use Rattle.tr_windows.specs.Promises.{KeepsPoints}
 use Rattle.tr_windows.proofs.PresentLemmas.{presents-altered, presents-keeping, presents-survive}
 use Rattle.tr_stage.specs.Stages.{RepresentsState, IsStage, Parts}
 use Rattle.tr_stage.proofs.MailLemmas.{edited-count}
@@ -76,7 +76,7 @@ module _ {C M : Type 0} (client : Ghosts C M) where
   pub record IsEdited (m : State C M) (edit : Edit) (old new : Parts C) : Type 0 where
     pub was : IsShown old.surface
     pub is : IsShown new.surface
-    pub keeps : (look : Look) (leaf : LeafId) (w : Present C) → slice_get old.windows leaf.0 ≡ Some w → Keeps client look w
+    pub keeps : (look : Look) (leaf : LeafId) (w : Present C) → slice_get old.windows leaf.0 ≡ Some w → KeepsPoints client look w
     pub allowed : refusal old.surface.tree.nodes edit ≡ None
     pub tree : new.surface.tree ≡ edited_tree old.surface.tree edit
     pub bad : (p : Point) →
@@ -132,7 +132,7 @@ module _ {C M : Type 0} (client : Ghosts C M) where
     }
       where
         Keep : List (Present C) → Type 0
-        Keep ws = (look : Look) (leaf : LeafId) (w : Present C) → slice_get ws leaf.0 ≡ Some w → Keeps client look w
+        Keep ws = (look : Look) (leaf : LeafId) (w : Present C) → slice_get ws leaf.0 ≡ Some w → KeepsPoints client look w
 
     -- the surface before and after
     surfaces : IsAlter client m edit old.surface new.surface

@@ -10,6 +10,7 @@ use Rattle.tr_base.specs.declared.LeafId.{LeafId}
 use Rattle.tr_base.specs.Layouts.{IsBetween, IsDomain}
 use Rattle.tr_base.specs.Rects.{Edges, IsRect, before_shift, between, empty_rect, has_point, shifted, sides_of, whole_of, IsScreenSize}
 use Rattle.tr_base.proofs.RectLemmas.{has_point-rect_of}
+use Rattle.tr_base.proofs.RectFacts.{abs_is}
 use Rattle.tr_region.specs.Areas.{area_of, total_area}
 use Rattle.tr_region.specs.Bands.{IsCanonical}
 use Rattle.tr_region.specs.Extents.{extents_of}
@@ -17,7 +18,6 @@ use Rattle.tr_region.specs.Places.{place_in}
 use Rattle.tr_region.specs.Points.{holds}
 use Rattle.tr_region.proofs.ExtentsLemmas.{IsFull-some, extents_least, no_extents}
 use Rattle.tr_region.proofs.OrderLemmas.{AreInOrder, AreInOrder-canonical, IsFull}
-use Rattle.tr_region.proofs.PlaceLemmas.{abs_is}
 use Rattle.tr_region.proofs.ShiftLemmas.{holds-shifted}
 use Rattle.tr_paint.specs.Paints.{IsNearPoint}
 use Rattle.tr_exec.specs.Executions.{IsOrigin, RegionLiesOn, greatest_screen, screen_point}

@@ -18,16 +18,13 @@ use Rattle.tr_region.specs.Points.{count_below, holds, sum_below}
 use Rattle.tr_region.specs.Rows.{HoldsRow, IsNearest}
 use Rattle.tr_region.proofs.BandRows.{cut_rows}
 use Rattle.tr_region.proofs.ColumnLemmas.{in_spans-push, none_west}
-use Rattle.tr_region.proofs.CountLemmas.{count_below-le, sum_below-add, sum_below-le, sum_below-same, sum_below-zero}
+use Rattle.tr_region.proofs.CountLemmas.{count_below-le, sum_below-le, sum_below-zero}
 use Rattle.tr_screen.specs.Pictures.{Picture, row_of}
 use Rattle.tr_surface.specs.Counts.{count_on}
+use Rattle.tr_surface.proofs.CountLemmas.{one}
 use Rattle.tr_stage.specs.Stages.{is_different}
 
 -- ---- counts of numbers
-
--- one where the test is passed, and none where it isn't
-abbrev one : Bool → ℕ
-one b = cond b 1 0
 
 -- tests that agree below n count as many
 pub count-alike : (n : ℕ) (f g : ℕ → Bool) → ((x : ℕ) → x < n → f x ≡ g x) → count_below n f ≡ count_below n g
@@ -72,16 +69,6 @@ count-first zero f = omega arith
 count-first (suc n) f = let before : count_below (suc n) f ≡ one (f 0) + count_below n (λ x. f (suc x)) = count-first n f in omega (arith, before)
 
 -- ---- counts of points
-
--- points that pass one of two tests that exclude each other
-pub count_on-apart : (size : Size) (both f g : Point → Bool) → ((p : Point) → one (both p) ≡ one (f p) + one (g p)) →
-    count_on size both ≡ count_on size f + count_on size g
-count_on-apart size both f g each =
-    sum_below-same size.high _ _ (λ v. count-apart size.wide (λ h. both (at h v)) (λ h. f (at h v)) (λ h. g (at h v)) (λ h low. each (at h v)))
-    ∙ sum_below-add size.high (λ v. count_below size.wide (λ h. f (at h v))) (λ v. count_below size.wide (λ h. g (at h v)))
-  where
-    at : ℕ → ℕ → Point
-    at h v = record { h = pos h; v = pos v }
 
 -- no point passes a test that fails everywhere
 pub count_on-none : (size : Size) (f : Point → Bool) → ((p : Point) → f p ≡ false) → count_on size f ≡ 0

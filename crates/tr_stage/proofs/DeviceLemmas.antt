@@ -27,7 +27,7 @@ use Rattle.tr_journal.specs.Openings.{tree_of}
 use Rattle.tr_journal.specs.Steps.{IsFor}
 use Rattle.tr_machine.specs.States.{State}
 use Rattle.tr_machine.specs.Machines as machine
-use Rattle.tr_machine.specs.Machines.{Outcome, answered, delivered, unless}
+use Rattle.tr_machine.specs.Machines.{Outcome, answered, delivered, delivered_or_refused}
 use Rattle.tr_machine.specs.Replays.{line_of_step, replay}
 use Rattle.tr_machine.proofs.SoundLemmas.{IsObedient}
 use Rattle.tr_machine.proofs.StillLemmas.{mail_shows}
@@ -135,7 +135,7 @@ pub record IsTold {C : Type 0} (old : Parts C) (d : Device) (tree : Seen) (after
 module _ {C M : Type 0} (client : Ghosts C M) where
   -- the machine makes the step so, and it leaves as many inboxes
   pub record IsDevice (step : Step M) (d : Device) : Type 0 where
-    pub made : (m : State C M) → machine.step client m step ≡ unless (d.fault m.mail) m (d.makes m.tree m.mail)
+    pub made : (m : State C M) → machine.step client m step ≡ delivered_or_refused (d.fault m.mail) m (d.makes m.tree m.mail)
     pub obeys : (m : State C M) → IsObedient client m step
     pub inboxes : (t : Seen) (m : Mails) → length (d.makes t m).mail.inboxes ≡ length m.inboxes
 
@@ -151,7 +151,7 @@ module _ {C M : Type 0} (client : Ghosts C M) where
       machine.step client (state_before client b) step ≡ delivered (state_before client b) (record { mail = x.mail; sent = x.sent })
   sent_out b step d making is x =
       is.made m
-      ∙ ap (λ (o : Option DeskFault). unless o m (d.makes m.tree m.mail)) (ap d.fault (sym making.is.kept.mail) ∙ x.allowed)
+      ∙ ap (λ (o : Option DeskFault). delivered_or_refused o m (d.makes m.tree m.mail)) (ap d.fault (sym making.is.kept.mail) ∙ x.allowed)
       ∙ ap (λ (s : Sending). delivered m s) (makes_now b step d making x)
     where
       m : State C M
@@ -161,7 +161,7 @@ module _ {C M : Type 0} (client : Ghosts C M) where
   refused_out : (b : Before C M) (step : Step M) (d : Device) → IsMaking client b step → IsDevice step d → (x : IsRefused b.parts d) →
       machine.step client (state_before client b) step ≡ answered (answers.Desk x.fault) (state_before client b)
   refused_out b step d making is x =
-      is.made m ∙ ap (λ (o : Option DeskFault). unless o m (d.makes m.tree m.mail)) (ap d.fault (sym making.is.kept.mail) ∙ x.refused)
+      is.made m ∙ ap (λ (o : Option DeskFault). delivered_or_refused o m (d.makes m.tree m.mail)) (ap d.fault (sym making.is.kept.mail) ∙ x.refused)
     where
       m : State C M
       m = state_before client b

@@ -28,10 +28,10 @@ use Rattle.tr_machine.specs.Windows.{Window, Command, content, with_change, batc
 use Rattle.tr_machine.specs.States.{State, changed_at, content_of, look, window_of}
 use Rattle.tr_machine.specs.Paintings.{acted}
 use Rattle.tr_machine.specs.Replays.{lines_by, replay}
-use Rattle.tr_machine.specs.Handing.{act_entries, act_entry, act_steps}
+use Rattle.tr_machine.specs.CommandSteps.{act_entries, act_entry, act_steps}
 use Rattle.tr_machine.specs.Promises.{IsSound, Leads}
 use Rattle.tr_machine.proofs.JournalLemmas.{legal-append, replay-append}
-use Rattle.tr_machine.proofs.HandingLemmas.{commands_more, handed, handed_more, handed_none, legal_handed, no_commands, replay_handed, with_commands}
+use Rattle.tr_machine.proofs.CommandStepLemmas.{commands_more, handed, handed_more, handed_none, legal_handed, no_commands, replay_handed, with_commands}
 use Rattle.tr_machine.proofs.ListLemmas.{changed_at-at, changed_at-twice, unchanged}
 use Rattle.tr_machine.proofs.SoundLemmas.{sound_changed}
 use Rattle.tr_machine.proofs.StillLemmas.{window_shows}

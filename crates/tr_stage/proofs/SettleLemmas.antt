@@ -1,6 +1,6 @@
 -- What a stage tells of the steps that settle it, and of the state and the screen after them.
 use Rattle.std.proofs.Common.{◌≡◌, ℕ, zero, suc, ◌+◌, ◌<◌, ◌==◌, Bool, true, false, not, ◌&&◌, ◌||◌, cond, List, [], ◌∷◌, ◌++◌, length, get_or, take, refl, sym, ap, subst, ◌∙◌, add-one, append_assoc, arith}
-use Rattle.std.specs.Prelude.{◌↔◌, IsTrue, All, Result, Ok, Err, OnErr}
+use Rattle.std.specs.Prelude.{◌↔◌, IsTrue, All}
 use Rattle.std.specs.List.{AllByRecursion}
 use Rattle.std.proofs.lemmas.List.{append-nil}
 use Rattle.tr_base.specs.declared.Point.{Point}
@@ -32,7 +32,7 @@ use Rattle.tr_machine.specs.States.{State, leaf_batch}
 use Rattle.tr_machine.specs.Paintings.{is_visible}
 use Rattle.tr_machine.specs.Pictures.{render}
 use Rattle.tr_machine.specs.Replays.{line_of_step, next, replay, after_steps, lines_of_steps}
-use Rattle.tr_machine.specs.Settling.{is_frame_bad, is_unsettled, repaints_below, settling, settling_lines}
+use Rattle.tr_machine.specs.SettleSteps.{is_frame_bad, is_unsettled, repaints_below, settling, settling_lines}
 use Rattle.tr_machine.proofs.JournalLemmas.{all_at, lines_of-take, replay-append, replay_from-lines_of}
 use Rattle.tr_machine.proofs.PointLemmas.{none_on, some_on}
 use Rattle.tr_machine.proofs.RenderLemmas.{idle_screen}
@@ -87,13 +87,6 @@ some_batch b ps qs is same h e = false-true (sym h ∙ is.1 (same ∙ e))
 -- an empty one
 pub empty_batch : (b : Bool) (ps qs : List Paint) → (IsTrue b ↔ (ps ≡ [])) → ps ≡ qs → b ≡ true → qs ≡ []
 empty_batch b ps qs is same h = sym same ∙ is.0 h
-
--- ---- what an answer says of a result
-
--- what holds holds after an error
-pub on_err : {T E P : Type 0} (r : Result T E) → P → OnErr r P
-on_err (Ok x) p = tt
-on_err (Err e) p = p
 
 -- ---- the steps
 

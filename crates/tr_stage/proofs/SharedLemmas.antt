@@ -20,11 +20,11 @@ use Rattle.tr_machine.specs.States.{State, leaf_batch}
 use Rattle.tr_machine.specs.Paintings.{is_visible}
 use Rattle.tr_machine.specs.Pictures.{render}
 use Rattle.tr_machine.specs.Replays.{after_steps, lines_of_steps, replay}
-use Rattle.tr_machine.specs.Settling.{frame_steps}
-use Rattle.tr_machine.specs.Sharing.{IsPaintedOf, all_bad_leaves, bad_leaves, flushes_below, flushing, has_bad, repainted_each, share_lines}
+use Rattle.tr_machine.specs.SettleSteps.{frame_steps}
+use Rattle.tr_machine.specs.SharedRepaints.{IsPaintedOf, all_bad_leaves, bad_leaves, flushes_below, flushing, has_bad, repainted_each, share_lines}
 use Rattle.tr_machine.proofs.JournalLemmas.{all_at}
 use Rattle.tr_machine.proofs.RenderLemmas.{idle_screen}
-use Rattle.tr_machine.proofs.SharingLemmas.{AreApart, AreBelow, AreOthers, bad_apart, bad_below, each_batch, each_tree, flushed_all, flushing-for, framing_batch, framing_good, painted_each, repainted_good, state_shared}
+use Rattle.tr_machine.proofs.SharedRepaintLemmas.{AreApart, AreBelow, AreOthers, bad_apart, bad_below, each_batch, each_tree, flushed_all, flushing-for, framing_batch, framing_good, painted_each, repainted_good, state_shared}
 use Rattle.tr_machine.proofs.SoundLemmas.{fits}
 use Rattle.tr_stage.specs.declared.sharing.Painted.{Painted}
 use Rattle.tr_stage.specs.Stages.{IsPainters, IsStage, Parts, StageView, state}

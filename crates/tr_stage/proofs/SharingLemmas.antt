@@ -39,7 +39,7 @@ use Rattle.tr_machine.proofs.SoundLemmas.{fits}
 use Rattle.tr_windows.specs.Presents.{Present, without_batch}
 use Rattle.tr_windows.proofs.PresentLemmas.{presents-repainted}
 use Rattle.tr_stage.specs.Stages.{Parts}
-use Rattle.tr_machine.specs.Sharing.{IsPaintedOf}
+use Rattle.tr_machine.specs.SharedRepaints.{IsPaintedOf}
 use Rattle.tr_stage.proofs.StageLemmas.{holding}
 use Rattle.tr_stage.proofs.DeviceLemmas.{Before, IsAfter, IsMaking, forest_before, made_step, state_before}
 use Rattle.tr_stage.proofs.StaleLemmas.{IsPlan, plan_paints}

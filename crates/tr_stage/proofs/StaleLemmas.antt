@@ -26,7 +26,7 @@ use Rattle.tr_spot.proofs.WayLemmas.{and_left, and_right}
 use Rattle.tr_surface.specs.Counts.{count_on}
 use Rattle.tr_surface.specs.Surfaces.{is_bad}
 use Rattle.tr_surface.proofs.ShownLemmas.{in_leaf_on}
-use Rattle.tr_surface.proofs.CountLemmas.{count_on-same}
+use Rattle.tr_surface.proofs.CountLemmas.{count_on-same, count_on-apart}
 use Rattle.tr_journal.specs.declared.items.Item.{Item}
 use Rattle.tr_journal.specs.Journals.{JournalLine}
 use Rattle.tr_machine.specs.Windows.{Window}
@@ -46,7 +46,7 @@ use Rattle.tr_windows.specs.Promises.{waiting_in}
 use Rattle.tr_windows.proofs.PresentLemmas.{presents-waiting}
 use Rattle.tr_stage.specs.Standings.{Stands}
 use Rattle.tr_stage.specs.Stages.{RepresentsState, IsStage, Parts, StageView, is_different, is_good_in, state}
-use Rattle.tr_stage.proofs.CountLemmas.{count_on-apart, count_on-few, count_on-none}
+use Rattle.tr_stage.proofs.CountLemmas.{count_on-few, count_on-none}
 use Rattle.tr_stage.proofs.SettleLemmas.{IsView, batch_is, windows_many}
 
 -- ---- tests

@@ -3,7 +3,7 @@ use Rattle.std.specs.Prelude.{◌≡◌, ⊤, List, [], ◌∷◌}
 use Rattle.tr_base.specs.declared.LeafId.{LeafId}
 use Rattle.tr_client.specs.declared.clients.Client.{Ghosts}
 use Rattle.tr_machine.specs.States.{State}
-use Rattle.tr_machine.specs.Sharing.{IsPaintedOf}
+use Rattle.tr_machine.specs.SharedRepaints.{IsPaintedOf}
 use Rattle.tr_stage.specs.declared.sharing.Painted.{Painted}
 
 -- the painted parts are the bad points of these leaves, in the order of the leaves

@@ -7,7 +7,7 @@ ghost use Rattle.tr_journal.specs.declared.Actor.TheVariants.{Leaf};
 ghost use Rattle.tr_journal.specs.Openings.{tree_of};
 ghost use Rattle.tr_machine.specs.States.{leaf_batch, content_of};
 ghost use Rattle.tr_machine.specs.Replays.{lines_by};
-ghost use Rattle.tr_machine.specs.Handing.{act_entries, act_entry, act_steps};
+ghost use Rattle.tr_machine.specs.CommandSteps.{act_entries, act_entry, act_steps};
 ghost use Rattle.tr_stage.specs.Stages.{state};
 
 use crate::stages::Stage;

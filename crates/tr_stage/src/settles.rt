@@ -8,7 +8,7 @@ ghost use Rattle.tr_journal.specs.Openings.{tree_of};
 ghost use Rattle.tr_machine.specs.States.{leaf_batch};
 ghost use Rattle.tr_machine.specs.Pictures.{render};
 ghost use Rattle.tr_machine.specs.Replays.{lines_of_steps};
-ghost use Rattle.tr_machine.specs.Settling.{is_unsettled, settling, settling_lines};
+ghost use Rattle.tr_machine.specs.SettleSteps.{is_unsettled, settling, settling_lines};
 ghost use Rattle.tr_stage.specs.Stages.{IsPainters, state};
 
 use crate::stages::Stage;

@@ -1,9 +1,9 @@
 ghost use Rattle.std.specs.Prelude.{◌≡◌, ◌<◌, [], All, IfOk, OnOk};
 ghost use Rattle.tr_forest.specs.Nodes.{leaf_count};
 ghost use Rattle.tr_journal.specs.Openings.{tree_of};
-ghost use Rattle.tr_machine.specs.Settling.{frame_steps};
-ghost use Rattle.tr_machine.specs.Sharing as spec;
-ghost use Rattle.tr_machine.specs.Sharing.{all_bad_leaves, flushing};
+ghost use Rattle.tr_machine.specs.SettleSteps.{frame_steps};
+ghost use Rattle.tr_machine.specs.SharedRepaints as spec;
+ghost use Rattle.tr_machine.specs.SharedRepaints.{all_bad_leaves, flushing};
 ghost use Rattle.tr_stage.specs.Sharing.{ArePainted};
 ghost use Rattle.tr_stage.specs.Stages.{IsPainters, state};
 

@@ -16,7 +16,7 @@ ghost use Rattle.tr_journal.specs.Steps.{IsFor};
 ghost use Rattle.tr_machine.specs.States.{leaf_batch};
 ghost use Rattle.tr_machine.specs.Paintings.{is_visible};
 ghost use Rattle.tr_machine.specs.Pictures.{want};
-ghost use Rattle.tr_machine.specs.Sharing.{IsPaintedOf};
+ghost use Rattle.tr_machine.specs.SharedRepaints.{IsPaintedOf};
 ghost use Rattle.tr_stage.specs.Making.{Makes, MakesWithoutReply};
 ghost use Rattle.tr_stage.specs.Stages.{KeepsOthers, state};
 

@@ -1,15 +1,13 @@
 -- How many points are bad: those of the screen less the good ones of each node.
 use Rattle.std.proofs.Common.{◌≡◌, ℕ, zero, suc, ◌+◌, ◌*◌, ◌<◌, ◌≤◌, pos, Bool, true, false, cond, not, ◌&&◌, ◌||◌, ◌⊎◌, inl, inr, List, [], take, length, get_or, refl, sym, ap, ◌∙◌, arith}
 use Rattle.std.proofs.lemmas.Bool.{cases_lt}
-use Rattle.std.proofs.lemmas.Int.{ints}
 use Rattle.std.proofs.lemmas.List.{get_or-take, get_or_default, length-take-le, take_all}
 use Rattle.std.proofs.lemmas.List.Folds.{list_any_more}
 use Rattle.tr_base.specs.declared.Point.{Point}
 use Rattle.tr_base.specs.declared.Size.{Size}
 use Rattle.tr_base.specs.declared.NodeId.{NodeId}
-use Rattle.tr_base.specs.Rects.{Edges, between, has_point, whole_of}
-use Rattle.tr_base.proofs.PlaceLemmas.{in_whole}
-use Rattle.tr_base.proofs.RectLemmas.{has_point-rect_of}
+use Rattle.tr_base.specs.Rects.{Edges, has_point, whole_of}
+use Rattle.tr_base.proofs.PlaceLemmas.{in_whole, whole_has}
 use Rattle.tr_region.specs.Points.{count_below, count_in_square, holds, sum_below}
 use Rattle.tr_region.proofs.CountLemmas.{count_below-same, sum_below-add, sum_below-same}
 use Rattle.tr_forest.specs.Forests.{IsForest}
@@ -65,18 +63,10 @@ sum-all (suc n) k f all =
     let here : f n ≡ k = all n (omega arith) in
     omega (arith, before, here)
 
-pub on_screen : (size : Size) (h v : ℕ) → h < size.wide → v < size.high → has_point (whole_of size) (record { h = pos h; v = pos v }) ≡ true
-on_screen size h v left above =
-    has_point-rect_of (pos 0) (pos size.wide) (pos 0) (pos size.high) (record { h = pos h; v = pos v })
-    ∙ rw (within h size.wide left, within v size.high above) refl
-  where
-    within : (x n : ℕ) → x < n → between (pos 0) (pos n) (pos x) ≡ true
-    within x n lt = grind (arith, ints)
-
 pub count_on-all : (size : Size) → count_on size (λ p. has_point (whole_of size) p) ≡ size.high * size.wide
 count_on-all size =
     sum-all size.high size.wide (λ v. count_below size.wide (λ h. has_point (whole_of size) (record { h = pos h; v = pos v })))
-    (λ v above. count-all size.wide (λ h. has_point (whole_of size) (record { h = pos h; v = pos v })) (λ h left. on_screen size h v left above))
+    (λ v above. count-all size.wide (λ h. has_point (whole_of size) (record { h = pos h; v = pos v })) (λ h left. whole_has size h v left above))
 
 -- ---- a greater square
 

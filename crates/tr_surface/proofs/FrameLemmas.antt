@@ -11,6 +11,7 @@ use Rattle.tr_base.specs.declared.Spot.TheVariants as spots
 use Rattle.tr_base.specs.declared.Op.TheVariants.{Set}
 use Rattle.tr_base.specs.Ops.{eff}
 use Rattle.tr_base.specs.Rects.{Edges, has_point, whole_of}
+use Rattle.tr_base.proofs.RectLemmas.{false-true}
 use Rattle.tr_region.specs.Points.{holds}
 use Rattle.tr_screen.specs.Pictures.{Picture, pixel_of}
 use Rattle.tr_screen.specs.Runs.{Repaints}
@@ -34,9 +35,6 @@ use Rattle.tr_surface.specs.Surfaces.{AreOwn, IsShown, Shown, any_holds, is_bad,
 use Rattle.tr_surface.specs.Frames.{AreBadFrames, AreGoodFrames}
 use Rattle.tr_surface.proofs.SurvivorLemmas.{IsOf, owns_point}
 use Rattle.tr_surface.proofs.GoodLemmas.{HasOwner, bad_here, bad_off, bad_on, has_owner}
-
-false-true : false ≡ true → ⊥
-false-true h = cc h
 
 -- the colour of the node's frame
 abbrev colour_on : Seen → NodeId → ℕ

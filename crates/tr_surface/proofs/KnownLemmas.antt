@@ -17,18 +17,18 @@ use Rattle.tr_tree.specs.Trees.{Seen}
 use Rattle.tr_spot.specs.Spots.{HasRoot, owner, region_of, spot, spot_on, spot_below}
 use Rattle.tr_spot.specs.Leaves.{same_size}
 use Rattle.tr_surface.specs.Surfaces.{Shown, any_holds, is_bad, is_on}
-use Rattle.tr_surface.specs.TreeSteps.{Keeping, is_kept, same_point, source_by, survives}
+use Rattle.tr_surface.specs.TreeSteps.{WindowFacts, is_kept, same_point, source_by, survives}
 use Rattle.tr_surface.specs.Survivors.{change, change_to, good_by}
 use Rattle.tr_surface.proofs.GoodLemmas.{any_none, bad_is}
 
 -- a good point is on the screen, its source was, and survives
-pub record IsGood (k : Keeping) (was is : Seen) (moved : Option NodeId) (bad : Point → Bool) (p : Point) : Type 0 where
+pub record IsGood (k : WindowFacts) (was is : Seen) (moved : Option NodeId) (bad : Point → Bool) (p : Point) : Type 0 where
   pub on : is_on is p ≡ true
   pub was_on : is_on was (source_by was is moved p) ≡ true
   pub was_good : bad (source_by was is moved p) ≡ false
   pub lasts : survives k (spot was (source_by was is moved p)) (spot is p) ≡ true
 
-pub good_parts : (k : Keeping) (was is : Seen) (moved : Option NodeId) (bad : Point → Bool) (p : Point) →
+pub good_parts : (k : WindowFacts) (was is : Seen) (moved : Option NodeId) (bad : Point → Bool) (p : Point) →
     good_by k (change was is moved bad) p ≡ true → IsGood k was is moved bad p
 good_parts k was is moved bad p h = by_tests (is_on is p) (is_on was s) (bad s) (survives k (spot was s) (spot is p)) refl refl refl refl h
   where
@@ -56,7 +56,7 @@ is_off spots.Off = true
 is_off spot = false
 
 -- spots of other kinds differ
-other_kind : (k : Keeping) (old new : Kind) (s t : Spot) → is_off t ≡ false → same_kind (kind_in old s) (kind_in new t) ≡ false → survives k s t ≡ false
+other_kind : (k : WindowFacts) (old new : Kind) (s t : Spot) → is_off t ≡ false → same_kind (kind_in old s) (kind_in new t) ≡ false → survives k s t ≡ false
 unfolding kind_in is_off
 other_kind k old new (spots.Leaf a p from x) (spots.Leaf b q to y) on h =
     rw h (by_tests (a.0 == b.0 && same_point p q) (same_size from to) (is_kept k a from to q))
@@ -109,7 +109,7 @@ on_is t root p on = ap (λ b. is_off (cond b (spot_below t p t.nodes.root) spots
     by_root (Some r) some = on_node t p (owner t r p) (node t.nodes (owner t r p)).kind
 
 -- where none is good, none stays so
-pub none_left : (k : Keeping) (s : Shown) (is : Seen) (moved : Option NodeId) → ((n : NodeId) → region_of s.good n ≡ []) → (p : Point) →
+pub none_left : (k : WindowFacts) (s : Shown) (is : Seen) (moved : Option NodeId) → ((n : NodeId) → region_of s.good n ≡ []) → (p : Point) →
     good_by k (change_to s is moved) p ≡ false
 none_left k s is moved none p =
     let q : Point = source_by s.tree is moved p in
@@ -123,7 +123,7 @@ none_left k s is moved none p =
     by_tests true true c d h = ap (λ x. not x && d) h
 
 -- where the kind changes no point stays good
-pub none_good : (k : Keeping) (was is : Seen) (moved : Option NodeId) (bad : Point → Bool) → HasRoot is → same_kind was.kind is.kind ≡ false → (p : Point) →
+pub none_good : (k : WindowFacts) (was is : Seen) (moved : Option NodeId) (bad : Point → Bool) → HasRoot is → same_kind was.kind is.kind ≡ false → (p : Point) →
     good_by k (change was is moved bad) p ≡ false
 none_good k was is moved bad root other p = by_good (good_by k (change was is moved bad) p) refl
   where

@@ -12,7 +12,7 @@ use Rattle.tr_repair.specs.Moves.{MovesOn}
 use Rattle.tr_tree.specs.Trees.{Seen}
 use Rattle.tr_spot.specs.Spots.{HasRoot, spot}
 use Rattle.tr_surface.specs.Surfaces.{is_on}
-use Rattle.tr_surface.specs.TreeSteps.{Keeping, is_below, source_by, way_of}
+use Rattle.tr_surface.specs.TreeSteps.{WindowFacts, is_below, source_by, way_of}
 use Rattle.tr_surface.specs.Survivors.{IsFitted, change, follows_by, good_by, is_below_moved, way_of_moved}
 use Rattle.tr_surface.proofs.KnownLemmas.{IsGood, good_parts, none_good}
 
@@ -25,7 +25,7 @@ on_same : (t u : Seen) → u.size ≡ t.size → (p : Point) → is_on t p ≡ t
 on_same t u same p on = ap (λ (z : Size). has_point (whole_of z) p) same ∙ on
 
 -- a good point that follows comes from as far away as the child
-follows_from : (k : Keeping) (was is : Seen) (moved : Option NodeId) (bad : Point → Bool) → IsMove was is moved →
+follows_from : (k : WindowFacts) (was is : Seen) (moved : Option NodeId) (bad : Point → Bool) → IsMove was is moved →
     (p : Point) → follows_by k (change was is moved bad) p ≡ true →
     (is_on is p ≡ true) × (is_on is (before_shift p (way_of_moved was is moved)) ≡ true)
 follows_from k was is None bad move p h = from_false-true h
@@ -42,7 +42,7 @@ follows_from k was is (Some child) bad move p h = by_below (is_below is.nodes ch
         let source : source_by was is (Some child) p ≡ before_shift p (way_of was is child) = ap (λ b. cond b (before_shift p (way_of was is child)) p) e in
         (fine.on, on_same was is (move.size child refl) (before_shift p (way_of was is child)) (sym (ap (λ (s : Point). is_on was s) source) ∙ fine.was_on))
 
-pub moves_on : (k : Keeping) (was is : Seen) (moved : Option NodeId) (bad test : Point → Bool) → IsMove was is moved → (size : Size) → size ≡ is.size →
+pub moves_on : (k : WindowFacts) (was is : Seen) (moved : Option NodeId) (bad test : Point → Bool) → IsMove was is moved → (size : Size) → size ≡ is.size →
     ((p : Point) → test p ≡ follows_by k (change was is moved bad) p) → MovesOn size (way_of_moved was is moved) test
 moves_on k was is moved bad test move size same follows = λ p h.
     let both = follows_from k was is moved bad move p (sym (follows p) ∙ h) in (
@@ -51,7 +51,7 @@ moves_on k was is moved bad test move size same follows = λ p h.
     )
 
 -- a good point's kind stays
-good_kind : (k : Keeping) (was is : Seen) (moved : Option NodeId) (bad : Point → Bool) → HasRoot is →
+good_kind : (k : WindowFacts) (was is : Seen) (moved : Option NodeId) (bad : Point → Bool) → HasRoot is →
     (p : Point) → good_by k (change was is moved bad) p ≡ true → same_kind was.kind is.kind ≡ true
 good_kind k was is moved bad root p h = by_kind (same_kind was.kind is.kind) refl
   where
@@ -71,7 +71,7 @@ kept_pixel : (was is : Seen) (old mid : Picture) → AreScreens was is old mid �
 kept_pixel was is old mid screens same p was_on on =
     screens.fitted.points p (ap (λ k. same_kind k is.kind) screens.kind ∙ same) (ap (λ (z : Size). has_point (whole_of z) p) screens.size ∙ was_on) on
 
-pub pixels_come : (k : Keeping) (was is : Seen) (moved : Option NodeId) (bad test : Point → Bool) → IsMove was is moved →
+pub pixels_come : (k : WindowFacts) (was is : Seen) (moved : Option NodeId) (bad test : Point → Bool) → IsMove was is moved →
     (old mid new : Picture) → AreScreens was is old mid → ((p : Point) → test p ≡ follows_by k (change was is moved bad) p) →
     Repaints test (λ p. pixel_of mid (before_shift p (way_of_moved was is moved))) mid new →
     (p : Point) → good_by k (change was is moved bad) p ≡ true → pixel_of new p ≡ pixel_of old (source_by was is moved p)

@@ -8,13 +8,13 @@ use Rattle.std.proofs.lemmas.List.Sums.{sum_by-cons}
 use Rattle.tr_base.specs.declared.Point.{Point}
 use Rattle.tr_base.specs.declared.Size.{Size}
 use Rattle.tr_base.specs.Rects.{Edges, IsRect, before_shift, between, empty_rect, has_point, shifted, whole_of}
-use Rattle.tr_base.proofs.RectFacts.{rect_of-full, between_parts}
+use Rattle.tr_base.proofs.RectFacts.{rect_of-full, between_parts, abs_is}
 use Rattle.tr_base.proofs.RectLemmas.{false-true, rect_cases}
 use Rattle.tr_region.specs.Areas.{area_of, total_area}
 use Rattle.tr_region.specs.Places.{place_in, place_within}
 use Rattle.tr_region.specs.Points.{holds}
 use Rattle.tr_region.proofs.OrderLemmas.{IsFull}
-use Rattle.tr_region.proofs.PlaceLemmas.{IsRectAt, abs_is, held_first, holds-push_other, holds-push_own, place_in-before, place_in-first, place_in-held, place_in-last, place_within-lt, row_and_column, take-rect}
+use Rattle.tr_region.proofs.PlaceLemmas.{IsRectAt, held_first, holds-push_other, holds-push_own, place_in-before, place_in-first, place_in-held, place_in-last, place_within-lt, row_and_column, take-rect}
 use Rattle.tr_screen.specs.Pictures.{Picture, pixel_of}
 use Rattle.tr_screen.specs.declared.Run.{Run}
 use Rattle.tr_screen.specs.Runs.{Repaints, in_run, point_in, width_of}

@@ -27,7 +27,7 @@ use Rattle.tr_spot.proofs.WayLemmas.{and_left, and_right, equal_numbers, it_is}
 use Rattle.tr_spot.proofs.SpotLemmas.{spot_is, leaf_spot, frame_spot}
 use Rattle.tr_surface.specs.declared.survivors.Survivors.TheVariants as variants
 use Rattle.tr_surface.specs.Surfaces.{is_on}
-use Rattle.tr_surface.specs.TreeSteps.{Keeping, is_kept, same_point, survives}
+use Rattle.tr_surface.specs.TreeSteps.{WindowFacts, is_kept, same_point, survives}
 use Rattle.tr_surface.specs.Survivors.{corner, domain_size, leaf_survivors, survivors_by, has_survivor}
 
 -- ---- tests
@@ -84,7 +84,7 @@ no_leaf kind e = refl
 
 -- ---- what survives between two spots of a leaf, and of a frame
 
-leaves_survive : (k : Keeping) (leaf : LeafId) (p by o n : Point) (from to : Size) (kind : Kind) →
+leaves_survive : (k : WindowFacts) (leaf : LeafId) (p by o n : Point) (from to : Size) (kind : Kind) →
     survives k (spots.Leaf leaf (before_shift (before_shift p by) o) from kind) (spots.Leaf leaf (before_shift p n) to kind)
     ≡ has_survivor k (leaf_survivors (same_point (before_shift n by) o) leaf from to) (before_shift p n)
 leaves_survive k leaf p by o n from to kind = rw (same_number leaf.0, same_place p by o n, same_kind_itself kind) (by_place (same_point (before_shift n by) o))
@@ -104,7 +104,7 @@ leaves_survive k leaf p by o n from to kind = rw (same_number leaf.0, same_place
     by_place true = by_size (same_size from to)
     by_place false = refl
 
-frames_survive : (k : Keeping) (n : NodeId) (a b : ℕ) (kind : Kind) (q : Point) →
+frames_survive : (k : WindowFacts) (n : NodeId) (a b : ℕ) (kind : Kind) (q : Point) →
     survives k (spots.Frame n a kind) (spots.Frame n b kind) ≡ has_survivor k (cond (a == b) variants.All variants.Nothing) q
 frames_survive k n a b kind q = rw (same_number n.0, same_kind_itself kind) (by_test (a == b))
   where
@@ -115,7 +115,7 @@ frames_survive k n a b kind q = rw (same_number n.0, same_kind_itself kind) (by_
 -- ---- what survives between two spots, of which the second is a node's
 
 -- a leaf's points survive in the leaf alone
-leaf_apart : (k : Keeping) (leaf : LeafId) (s t : Spot) → is_in_leaf leaf s ≡ false → is_in_leaf leaf t ≡ true → survives k s t ≡ false
+leaf_apart : (k : WindowFacts) (leaf : LeafId) (s t : Spot) → is_in_leaf leaf s ≡ false → is_in_leaf leaf t ≡ true → survives k s t ≡ false
 leaf_apart k leaf (spots.Leaf a p from old) (spots.Leaf b q to new) h here =
     let apart : (a.0 == b.0) ≡ false = ap (λ (m : ℕ). (a.0 == m)) (equal_numbers b.0 leaf.0 here) ∙ h in
     rw apart refl
@@ -125,7 +125,7 @@ leaf_apart k leaf s (spots.Frame n b new) h here = from_false-true here
 leaf_apart k leaf s spots.Off h here = from_false-true here
 
 -- a frame's in the frame alone
-frame_apart : (k : Keeping) (n : NodeId) (s t : Spot) → is_on_frame n s ≡ false → is_on_frame n t ≡ true → survives k s t ≡ false
+frame_apart : (k : WindowFacts) (n : NodeId) (s t : Spot) → is_on_frame n s ≡ false → is_on_frame n t ≡ true → survives k s t ≡ false
 frame_apart k n (spots.Frame a x old) (spots.Frame b y new) h here =
     let apart : (a.0 == b.0) ≡ false = ap (λ (m : ℕ). (a.0 == m)) (equal_numbers b.0 n.0 here) ∙ h in
     rw apart refl
@@ -144,7 +144,7 @@ pub record AreForests (was is : Seen) : Type 0 where
   pub after : IsForest is.nodes
 
 -- where the node had the point before, it survives where it is among the node's survivors
-pub there : (k : Keeping) (was is : Seen) → AreForests was is → is.kind ≡ was.kind → (n : NodeId) →
+pub there : (k : WindowFacts) (was is : Seen) → AreForests was is → is.kind ≡ was.kind → (n : NodeId) →
     (o : Option LeafId) → leaf_of (node is.nodes n).kind ≡ o → leaf_of (node was.nodes n).kind ≡ o →
     (by p : Point) → IsOf was n (before_shift p by) ≡ true → IsOf is n p ≡ true →
     survives k (spot was (before_shift p by)) (spot is p) ≡ has_survivor k (survivors_by was is by n o) (from_corner (domain is n) p)
@@ -166,7 +166,7 @@ there k was is forests kind n o is_o was_o by p before after =
         ∙ frames_survive k n (node was.nodes n).tint (node is.nodes n).tint was.kind (from_corner (domain is n) p))
 
 -- where it hadn't, nothing does
-pub apart : (k : Keeping) (was is : Seen) (n : NodeId) → leaf_of (node is.nodes n).kind ≡ leaf_of (node was.nodes n).kind →
+pub apart : (k : WindowFacts) (was is : Seen) (n : NodeId) → leaf_of (node is.nodes n).kind ≡ leaf_of (node was.nodes n).kind →
     (s p : Point) → IsOf was n s ≡ false → IsOf is n p ≡ true → survives k (spot was s) (spot is p) ≡ false
 apart k was is n same s p before after = by_leaf (leaf_of (node was.nodes n).kind) same refl
   where

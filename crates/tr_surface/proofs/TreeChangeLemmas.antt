@@ -20,7 +20,7 @@ use Rattle.tr_spot.specs.Spots.{HasRoot, spot, spot_on, from_corner, region_of}
 use Rattle.tr_spot.proofs.WayLemmas.{and_right}
 use Rattle.tr_surface.specs.declared.survivors.Survivors.{Survivors}
 use Rattle.tr_surface.specs.Surfaces.{AreOwn, IsShown, Shown, any_holds, is_bad, is_on}
-use Rattle.tr_surface.specs.TreeSteps.{Keeping, is_below, source_by, survives, way_of}
+use Rattle.tr_surface.specs.TreeSteps.{WindowFacts, is_below, source_by, survives, way_of}
 use Rattle.tr_surface.specs.Survivors.{AreGoodAfter, IsLike, change, change_to, follows, follows_by, goes_on, good_at, good_by, has_survivor, in_moved, survivors_from, unmoved, way_from}
 use Rattle.tr_surface.proofs.SurvivorLemmas.{AreForests, IsOf, owns_point, leaf_on, frame_on, there, apart}
 use Rattle.tr_surface.proofs.GoodLemmas.{HasOwner, any_here, any_off, good_own, has_owner, one_owner}
@@ -64,7 +64,7 @@ pub record AreKin (was is : Seen) : Type 0 where
   pub kind : is.kind ≡ was.kind
 
 -- a point of a node is good where it comes from a good point of the node, which survives
-pub node_good : (k : Keeping) (was is : Seen) → AreKin was is → (moved : Option NodeId) (bad : Point → Bool) (n : NodeId) (p : Point) → IsOf is n p ≡ true →
+pub node_good : (k : WindowFacts) (was is : Seen) → AreKin was is → (moved : Option NodeId) (bad : Point → Bool) (n : NodeId) (p : Point) → IsOf is n p ≡ true →
     let by = way_from was is moved n in
     good_by k (change was is moved bad) p
     ≡ (IsOf was n (before_shift p by) && not (bad (before_shift p by)) && has_survivor k (survivors_from was is by n) (from_corner (domain is n) p))
@@ -95,7 +95,7 @@ node_good k was is kin moved bad n p mine =
 -- ---- the good points of all nodes
 
 -- a point of a node is good where it goes on
-goes_good : (k : Keeping) (s : Shown) (is : Seen) → IsShown s → AreKin s.tree is → (moved : Option NodeId) (n : NodeId) → IsNode is.nodes n → (p : Point) →
+goes_good : (k : WindowFacts) (s : Shown) (is : Seen) → IsShown s → AreKin s.tree is → (moved : Option NodeId) (n : NodeId) → IsNode is.nodes n → (p : Point) →
     IsOf is n p ≡ true → goes_on k s.tree is moved s.good n p ≡ good_by k (change_to s is moved) p
 goes_good k s is shown kin moved n inside p mine =
     ap (λ b. b && has_survivor k (survivors_from s.tree is by n) (from_corner (domain is n) p)) (good_own s shown n old from)
@@ -111,18 +111,18 @@ goes_good k s is shown kin moved n inside p mine =
     old = record { within = omega (arith, inside.within, kin.like.count) }
 
 -- a list of regions has the good points of all nodes
-pub record AreFound (k : Keeping) (s : Shown) (is : Seen) (moved : Option NodeId) (good : List (List Edges)) : Type 0 where
+pub record AreFound (k : WindowFacts) (s : Shown) (is : Seen) (moved : Option NodeId) (good : List (List Edges)) : Type 0 where
   pub count : length good ≡ length is.nodes.entries
   pub each : (n : NodeId) (p : Point) → IsNode is.nodes n → holds (region_of good n) p ≡ good_at k s.tree is moved s.good n p
 
-pub found_own : (k : Keeping) (s : Shown) (is : Seen) (moved : Option NodeId) (good : List (List Edges)) → AreFound k s is moved good → AreOwn is good
+pub found_own : (k : WindowFacts) (s : Shown) (is : Seen) (moved : Option NodeId) (good : List (List Edges)) → AreFound k s is moved good → AreOwn is good
 found_own k s is moved good found = record {
   count = found.count;
   points = λ n p inside h. and_right (goes_on k s.tree is moved s.good n p) (IsOf is n p) (sym (found.each n p inside) ∙ h);
 }
 
 -- a good point of a node
-found_here : (k : Keeping) (s : Shown) (is : Seen) → IsShown s → AreKin s.tree is → (moved : Option NodeId) (good : List (List Edges)) →
+found_here : (k : WindowFacts) (s : Shown) (is : Seen) → IsShown s → AreKin s.tree is → (moved : Option NodeId) (good : List (List Edges)) →
     AreFound k s is moved good → (n : NodeId) → IsNode is.nodes n → (p : Point) → IsOf is n p ≡ true →
     holds (region_of good n) p ≡ good_by k (change_to s is moved) p
 found_here k s is shown kin moved good found n inside p mine =
@@ -131,7 +131,7 @@ found_here k s is shown kin moved good found n inside p mine =
     ∙ and_true (goes_on k s.tree is moved s.good n p)
     ∙ goes_good k s is shown kin moved n inside p mine
 
-pub good_found : (k : Keeping) (s : Shown) (is : Seen) → IsShown s → AreKin s.tree is → HasRoot is → (moved : Option NodeId) (good : List (List Edges)) →
+pub good_found : (k : WindowFacts) (s : Shown) (is : Seen) → IsShown s → AreKin s.tree is → HasRoot is → (moved : Option NodeId) (good : List (List Edges)) →
     AreFound k s is moved good → AreGoodAfter k (change_to s is moved) good
 good_found k s is shown kin root moved good found = record { own = own; any = λ p. by_screen p (is_on is p) refl }
   where
@@ -149,7 +149,7 @@ good_found k s is shown kin root moved good found = record { own = own; any = λ
         ∙ found_here k s is shown kin moved good found at.node_at at.is_node p at.mine
 
 -- where a node's good points come to, told by its own way and survivors
-pub goes_on_is : (k : Keeping) (was is : Seen) (moved : Option NodeId) (good : List (List Edges)) (n : NodeId)
+pub goes_on_is : (k : WindowFacts) (was is : Seen) (moved : Option NodeId) (good : List (List Edges)) (n : NodeId)
     (by : Point) (survivors : Survivors) (left : Bool) (p : Point) →
     by ≡ way_from was is moved n → survivors ≡ survivors_from was is by n →
     left ≡ (holds (region_of good n) (before_shift p by) && has_survivor k survivors (from_corner (domain is n) p)) → left ≡ goes_on k was is moved good n p
@@ -213,7 +213,7 @@ moved_here t forest good own child n inside p mine = by_test (is_under t.nodes c
     by_test false h =
         moved_off (length t.nodes.entries) t.nodes child good p (λ i lt. other h i lt (holds (get_or good i []) p) refl) ∙ sym h
 
-pub follows_found : (k : Keeping) (s : Shown) (is : Seen) → IsShown s → AreKin s.tree is → HasRoot is → (moved : Option NodeId) (good : List (List Edges)) →
+pub follows_found : (k : WindowFacts) (s : Shown) (is : Seen) → IsShown s → AreKin s.tree is → HasRoot is → (moved : Option NodeId) (good : List (List Edges)) →
     AreFound k s is moved good → (p : Point) → follows is.nodes moved good p ≡ follows_by k (change_to s is moved) p
 follows_found k s is shown kin root None good found p = refl
 follows_found k s is shown kin root (Some child) good found p = by_screen (is_on is p) refl

@@ -21,7 +21,7 @@ use Rattle.tr_spot.specs.Leaves.{same_size}
 use Rattle.tr_surface.specs.declared.survivors.Survivors.{Survivors}
 use Rattle.tr_surface.specs.declared.survivors.Survivors.TheVariants as variants
 use Rattle.tr_surface.specs.Surfaces.{AreOwn, Shown, any_holds, is_bad, is_on}
-use Rattle.tr_surface.specs.TreeSteps.{Keeping, child_of, is_below, is_kept, same_point, source_by, survives, way_of}
+use Rattle.tr_surface.specs.TreeSteps.{WindowFacts, child_of, is_below, is_kept, same_point, source_by, survives, way_of}
 
 -- the north-west corner of a rectangle
 abbrev pub corner_of : Edges → Point
@@ -78,23 +78,23 @@ abbrev pub survivors_from : Seen → Seen → Point → NodeId → Survivors
 survivors_from was is by n = survivors_by was is by n (leaf_of (node was.nodes n).kind)
 
 -- a point is among the survivors, in the coordinates of the node's domain
-abbrev pub has_survivor : Keeping → Survivors → Point → Bool
+abbrev pub has_survivor : WindowFacts → Survivors → Point → Bool
 has_survivor k variants.Nothing q = false
 has_survivor k variants.All q = true
 has_survivor k (variants.Kept leaf from to) q = is_kept k leaf from to q
 
 -- the source of a node's point was good, and the point survives
-abbrev pub goes_on : Keeping → Seen → Seen → Option NodeId → List (List Edges) → NodeId → Point → Bool
+abbrev pub goes_on : WindowFacts → Seen → Seen → Option NodeId → List (List Edges) → NodeId → Point → Bool
 goes_on k was is moved good n p =
     let by = way_from was is moved n in
     holds (region_of good n) (before_shift p by) && has_survivor k (survivors_from was is by n) (from_corner (domain is n) p)
 
 -- a point is a good one of a node after a change
-abbrev pub good_at : Keeping → Seen → Seen → Option NodeId → List (List Edges) → NodeId → Point → Bool
+abbrev pub good_at : WindowFacts → Seen → Seen → Option NodeId → List (List Edges) → NodeId → Point → Bool
 good_at k was is moved good n p = goes_on k was is moved good n p && is_spot_of is n (spot is p)
 
 -- a point is good after a change
-abbrev pub good_by : Keeping → TreeEdit → Point → Bool
+abbrev pub good_by : WindowFacts → TreeEdit → Point → Bool
 good_by k c p =
     let s = source_by c.was c.is c.moved p in
     is_on c.is p && is_on c.was s && not (c.bad s) && survives k (spot c.was s) (spot c.is p)
@@ -136,11 +136,11 @@ IsFitting leaves (variants.Kept leaf from to) = (leaf.0 < leaves) × IsWindowSiz
 IsFitting leaves survivors = ⊤
 
 -- a point is bad after a change
-abbrev pub bad_by : Keeping → TreeEdit → Point → Bool
+abbrev pub bad_by : WindowFacts → TreeEdit → Point → Bool
 bad_by k c p = is_on c.is p && not (good_by k c p)
 
 -- a point is good after a change, and moves along with the moved child
-abbrev pub follows_by : Keeping → TreeEdit → Point → Bool
+abbrev pub follows_by : WindowFacts → TreeEdit → Point → Bool
 follows_by k c p = is_carried c p && good_by k c p
 
 -- an edit changes neither the number of nodes nor which of them are leaves
@@ -164,7 +164,7 @@ pub record IsFitted (t : Seen) (old new : Picture) : Type 0 where
       has_point (whole_of old.size) p ≡ true → is_on t p ≡ true → pixel_of new p ≡ pixel_of old p
 
 -- the good points of all nodes after a change, as a region of own points for each node
-pub record AreGoodAfter (k : Keeping) (c : TreeEdit) (good : List (List Edges)) : Type 0 where
+pub record AreGoodAfter (k : WindowFacts) (c : TreeEdit) (good : List (List Edges)) : Type 0 where
   pub own : AreOwn c.is good
   pub any : (p : Point) → any_holds good p ≡ good_by k c p
 

@@ -25,7 +25,7 @@ use Rattle.tr_surface.specs.Surfaces.{is_on}
 
 -- the facts about windows that an edit of the tree needs: the points that a leaf keeps when its size changes, and the commands that wait
 -- for it
-pub record Keeping : Type 0 where
+pub record WindowFacts : Type 0 where
   pub keeps : LeafId → Size → Size → Edges
   pub batch : LeafId → List Paint
 
@@ -86,25 +86,25 @@ same_spot spots.Off spots.Off = true
 same_spot s t = false
 
 -- a point of a leaf whose size changes is kept: the client keeps it, and no waiting command touches it
-abbrev pub is_kept : Keeping → LeafId → Size → Size → Point → Bool
+abbrev pub is_kept : WindowFacts → LeafId → Size → Size → Point → Bool
 is_kept k leaf from to q = has_point (k.keeps leaf from to) q && not (touches (k.batch leaf) q)
 
 -- the two spots are the same point of a leaf whose size changes, and it is kept
-abbrev pub kept_spot : Keeping → Spot → Spot → Bool
+abbrev pub kept_spot : WindowFacts → Spot → Spot → Bool
 kept_spot k (spots.Leaf a p from old) (spots.Leaf b q to new) =
     (a.0 == b.0) && same_point p q && same_kind old new && not (same_size from to) && is_kept k a from to q
 kept_spot k s t = false
 
 -- the second spot must show the same as the first one did
-abbrev pub survives : Keeping → Spot → Spot → Bool
+abbrev pub survives : WindowFacts → Spot → Spot → Bool
 survives k s t = same_spot s t || kept_spot k s t
 
 -- a point of the new screen is good after an edit if its source was on the old screen, was good, and survives
-abbrev pub good_after : Keeping → Seen → Seen → Edit → (Point → Bool) → Point → Bool
+abbrev pub good_after : WindowFacts → Seen → Seen → Edit → (Point → Bool) → Point → Bool
 good_after k was is edit bad p =
     let s = source was is edit p in
     is_on is p && is_on was s && not (bad s) && survives k (spot was s) (spot is p)
 
 -- the bad points after an edit: all points of the new screen that aren't good
-abbrev pub bad_after_edit : Keeping → Seen → Seen → Edit → (Point → Bool) → Point → Bool
+abbrev pub bad_after_edit : WindowFacts → Seen → Seen → Edit → (Point → Bool) → Point → Bool
 bad_after_edit k was is edit bad p = is_on is p && not (good_after k was is edit bad p)

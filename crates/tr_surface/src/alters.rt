@@ -10,7 +10,7 @@ ghost use Rattle.tr_tree.specs.Trees.{edited_tree};
 ghost use Rattle.tr_spot.specs.Spots.{HasRoot, region_of};
 ghost use Rattle.tr_surface.specs.Formers.{IsFormer};
 ghost use Rattle.tr_surface.specs.Surfaces.{is_bad};
-ghost use Rattle.tr_surface.specs.TreeSteps.{Keeping, bad_after_edit, child_of as spec_child, first_node, good_after, moved_child as spec_moved, source};
+ghost use Rattle.tr_surface.specs.TreeSteps.{WindowFacts, bad_after_edit, child_of as spec_child, first_node, good_after, moved_child as spec_moved, source};
 ghost use Rattle.tr_surface.specs.TreeChanges.{IsCover};
 ghost use Rattle.tr_surface.specs.Survivors as spec;
 
@@ -109,7 +109,7 @@ impl Surface {
     /// Whether the new tree's pixels are of another kind, or no point is good: then no point stays good.
     fn is_lost(&self, is: &Tree) -> bool
         requires { HasRoot is.now }
-        ensures lost { IsTrue result → (k : Keeping) (moved : Option NodeId) (p : Point) →
+        ensures lost { IsTrue result → (k : WindowFacts) (moved : Option NodeId) (p : Point) →
             spec.good_by k (spec.change_to self.now is.now moved) p ≡ false }
         ensures kind { result ≡ false → is.now.kind ≡ self.now.tree.kind }
     {

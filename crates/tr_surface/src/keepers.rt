@@ -2,7 +2,7 @@ ghost use Rattle.std.specs.Prelude.{◌≡◌, ◌<◌, ℕ, true};
 ghost use Rattle.tr_base.specs.declared.Point.{Point};
 ghost use Rattle.tr_base.specs.Rects.{has_point, whole_of};
 ghost use Rattle.tr_client.specs.Laws.{IsWindowSize};
-ghost use Rattle.tr_surface.specs.TreeSteps.{Keeping};
+ghost use Rattle.tr_surface.specs.TreeSteps.{WindowFacts};
 
 use tr_base::{LeafId, Rect, Size};
 use tr_paint::Batch;
@@ -10,7 +10,7 @@ use tr_paint::Batch;
 /// The facts about windows that an edit of the tree needs.
 pub trait Keeper {
     /// The points that windows keep when their sizes change, and the commands that wait for them.
-    ghost keeping: { Self → Keeping };
+    ghost keeping: { Self → WindowFacts };
 
     /// The number of windows.
     ghost leaves: { Self → ℕ };

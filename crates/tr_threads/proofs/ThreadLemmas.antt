@@ -2,7 +2,7 @@
 use Rattle.std.proofs.Common.{◌≡◌, ℕ, List, [], ◌∷◌, ◌++◌, length, Result, Ok, Err, ap, refl, subst, sym, ◌∙◌, arith}
 use Rattle.std.specs.Prelude.{All, IfOk, codes}
 use Rattle.std.specs.List.{Contains}
-use Rattle.std.proofs.lemmas.List.Elements.{All-contains, All-map, All-weaker, Contains-append_right}
+use Rattle.std.proofs.lemmas.List.Elements.{All-contains, All-weaker, Contains-append_right}
 use Rattle.tr_journal.specs.declared.items.Item.{Item}
 use Rattle.tr_journal.specs.declared.steps.Actor.{Actor}
 use Rattle.tr_journal.specs.declared.steps.Step.{Step}
@@ -16,18 +16,16 @@ use Rattle.tr_machine.specs.Replays.{IsLegal}
 use Rattle.tr_widget.specs.declared.Widget.{Widget}
 use Rattle.tr_widget.specs.declared.WidgetCmd.{WidgetCmd}
 use Rattle.tr_widget.specs.Widgets.{widget_words}
-use Rattle.tr_grammar.specs.States.{Part as Seen}
+use Rattle.tr_journal.specs.Parts.{Part}
 use Rattle.tr_grammar.specs.Scripts.{IsPlayable, IsPlayablePart, IsPlayableScript, Script}
 use Rattle.tr_dump.specs.Differs.{differs_text}
 use Rattle.tr_dump.specs.Names.{IsNamedDifference, IsNamedStep}
 use Rattle.tr_run.specs.Views.{AreNamed}
 use Rattle.tr_run.proofs.LineLemmas.{named_step}
-use Rattle.tr_interleaves.specs.Interleaves.{Part}
 use Rattle.tr_stage.specs.Stages.{StageView}
 use Rattle.tr_serial.specs.Outputs.{widgets}
 use Rattle.tr_server.specs.Differing.{DiffersView}
 use Rattle.tr_parts.specs.Plays.{HasInterleaved, journal_texts, played_threads}
-use Rattle.tr_play.specs.Plays.{part_of, parts_of}
 use Rattle.tr_threads.specs.Threads.{HasDifferedIn, IsPlayedByThreads, again_text, last_text, threads_text}
 use Rattle.tr_threads.proofs.NamedLemmas.{difference_named, steps_named}
 
@@ -39,17 +37,16 @@ module _ (s : Script) (playable : IsPlayableScript s) where
   are_named = record { nodes = playable.nodes; leaves = playable.leaves }
 
   -- the steps of each part
-  part_named : (part : Seen) → IsPlayablePart (tree_of s.opening).nodes part →
-      All (λ (m : Made). IsNamedStep s.names m.1) (part_of part).steps
+  part_named : (part : Part WidgetCmd) → IsPlayablePart (tree_of s.opening).nodes part →
+      All (λ (m : Made). IsNamedStep s.names m.1) part.steps
   part_named part is =
       All-weaker (IsPlayable (tree_of s.opening).nodes) (λ (m : Made). IsNamedStep s.names m.1)
       (λ (m : Made) can. named_step s.names (tree_of s.opening).nodes m.1 are_named can.own.values) part.steps is.steps
 
-  parts_named : All (λ (part : Part WidgetCmd). All (λ (m : Made). IsNamedStep s.names m.1) part.steps) (parts_of s.parts)
+  parts_named : All (λ (part : Part WidgetCmd). All (λ (m : Made). IsNamedStep s.names m.1) part.steps) s.parts
   parts_named =
-      All-map (λ (part : Part WidgetCmd). All (λ (m : Made). IsNamedStep s.names m.1) part.steps) part_of s.parts
-      (All-weaker (IsPlayablePart (tree_of s.opening).nodes) (λ (part : Seen). All (λ (m : Made). IsNamedStep s.names m.1) (part_of part).steps)
-      part_named s.parts playable.parts)
+      All-weaker (IsPlayablePart (tree_of s.opening).nodes) (λ (part : Part WidgetCmd). All (λ (m : Made). IsNamedStep s.names m.1) part.steps)
+      part_named s.parts playable.parts
 
   -- the difference that a session found in one of them, where what it found is a journal of the machine
   pub differed_named : (d : DiffersView Widget WidgetCmd) → HasDifferedIn s d → IsLegal widgets d.stage.opening d.stage.journal →
@@ -58,11 +55,11 @@ module _ (s : Script) (playable : IsPlayableScript s) where
       let left = differed.left in
       let played = differed.played in
       let here : Contains (differed.part ∷ differed.later) differed.part = (0, omega arith, refl) in
-      let among : Contains (parts_of s.parts) differed.part =
+      let among : Contains s.parts differed.part =
       subst (λ (parts : List (Part WidgetCmd)). Contains parts differed.part) (sym differed.of_script)
       (Contains-append_right differed.before (differed.part ∷ differed.later) differed.part here) in
       let made : All (λ (m : Made). IsNamedStep s.names m.1) differed.part.steps =
-      All-contains (λ (part : Part WidgetCmd). All (λ (m : Made). IsNamedStep s.names m.1) part.steps) (parts_of s.parts) differed.part
+      All-contains (λ (part : Part WidgetCmd). All (λ (m : Made). IsNamedStep s.names m.1) part.steps) s.parts differed.part
       parts_named among in
       difference_named widgets s.names s.opening d
       (record {
@@ -81,15 +78,15 @@ module _ (s : Script) (playable : IsPlayableScript s) where
 
 -- what a run came to that threads played is what its script came to
 pub played_by : {F E : Type 0} (stage : F → StageView Widget WidgetCmd) (text : F → List ℕ) (s : Script) (items : List (Item Widget)) (names : Names)
-    (parts : List Seen) (result : Result F E) → items ≡ s.opening → names ≡ s.names → parts ≡ s.parts →
-    IfOk result (λ end. HasInterleaved widgets items (parts_of parts) (stage end)) →
+    (parts : List (Part WidgetCmd)) (result : Result F E) → items ≡ s.opening → names ≡ s.names → parts ≡ s.parts →
+    IfOk result (λ end. HasInterleaved widgets items parts (stage end)) →
     IfOk result (λ end. text end ≡ journal_texts widgets widget_words names items (stage end).journal ++ played_threads) →
     IfOk result (λ end. IsPlayedByThreads s (stage end) (text end))
 unfolding threads_text
 played_by stage text s items names parts (Ok end) opens named parted played written = record {
   played =
-      subst (λ (ps : List Seen). HasInterleaved widgets s.opening (parts_of ps) (stage end)) parted
-      (subst (λ (is : List (Item Widget)). HasInterleaved widgets is (parts_of parts) (stage end)) opens played);
+      subst (λ (ps : List (Part WidgetCmd)). HasInterleaved widgets s.opening ps (stage end)) parted
+      (subst (λ (is : List (Item Widget)). HasInterleaved widgets is parts (stage end)) opens played);
   text_is =
       written
       ∙ ap (λ (ns : Names). journal_texts widgets widget_words ns items (stage end).journal ++ played_threads) named

@@ -11,7 +11,7 @@ use Rattle.tr_stage.specs.Stages.{StageView}
 use Rattle.tr_serial.specs.Outputs.{widgets, serial_journal, out_text}
 use Rattle.tr_server.specs.Differing.{DiffersView}
 use Rattle.tr_parts.specs.Plays.{HasInterleaved, journal_texts, played_threads}
-use Rattle.tr_play.specs.Plays.{DiffersInPart, parts_of}
+use Rattle.tr_play.specs.Plays.{DiffersInPart}
 use Rattle.tr_threads.specs.declared.plays.Threaded.{Threaded}
 
 -- the text of a journal that threads made: the texts of its reports, and the line that says that threads played
@@ -21,12 +21,12 @@ threads_text s stage = journal_texts widgets widget_words s.names s.opening stag
 -- a script was played by threads: its stage's journal is one of the machine and interleaves the parts of the script, and the text
 -- is that of this journal
 pub record IsPlayedByThreads (s : Script) (stage : StageView Widget WidgetCmd) (text : List ℕ) : Type 0 where
-  pub played : HasInterleaved widgets s.opening (parts_of s.parts) stage
+  pub played : HasInterleaved widgets s.opening s.parts stage
   pub text_is : text ≡ threads_text s stage
 
 -- a session that played a part of the script found this difference
 abbrev pub HasDifferedIn : Script → DiffersView Widget WidgetCmd → Type 0
-HasDifferedIn s d = DiffersInPart widgets s.opening (parts_of s.parts) d
+HasDifferedIn s d = DiffersInPart widgets s.opening s.parts d
 
 -- the last two lines, where a script is played again: the difference, and that the script was played again
 unfoldable pub last_text : {M : Type 0} → (M → List ℕ) → Names → Difference M → List ℕ

@@ -30,8 +30,9 @@ pub struct Threaded {
     pub differs: Option<Differs<Widget>>,
 }
 
-/// Plays a script of some parts by threads: they make the steps of the leaves' clients and of the desk, and the
-/// painter repaints the screen meanwhile. The text is the reports, and a line that says that threads played.
+/// Plays a script of some parts by threads: they make the steps of the leaves' clients and of the desk, and
+/// the painter repaints the screen meanwhile. The text is the reports, and a line that says that threads
+/// played.
 pub fn threads<R: Threads + Wait + Sync, G: Gate + Sync>(
     workers: &Workers<'_, R, G>,
     script: Script,

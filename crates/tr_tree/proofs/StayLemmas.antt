@@ -15,10 +15,10 @@ use Rattle.tr_forest.specs.declared.NodeKind.TheVariants as kinds
 use Rattle.tr_forest.specs.declared.Edit.{Edit}
 use Rattle.tr_forest.specs.declared.Edit.TheVariants as edits
 use Rattle.tr_forest.specs.Nodes.{Nodes, Entry, IsNode, node, is_filter, is_z}
-use Rattle.tr_forest.specs.Families.{is_among, is_under, is_under_within, depth, of_parent}
+use Rattle.tr_forest.specs.Families.{is_among, is_under, depth, of_parent}
 use Rattle.tr_forest.specs.Forests.{IsForest}
 use Rattle.tr_forest.specs.Edits.{IsEdit, edited, is_root, refusal, changed, lifting, turned_to, at_parent, hangs_outside_z}
-use Rattle.tr_forest.proofs.FamilyLemmas.{by_id, test_same, tested_same, same_id, test_apart, among_at, child_is_node, parent_is_node, depth_child, depth_some, under_itself, under_zero, under_suc}
+use Rattle.tr_forest.proofs.FamilyLemmas.{by_id, test_same, same_id, test_apart, among_at, child_is_node, parent_is_node, depth_child, depth_some, under_itself, under_deeper}
 use Rattle.tr_forest.proofs.Keeping.{changed_here, changed_part, changed_other, depth_equal}
 use Rattle.tr_forest.proofs.Editing.{follows_edited}
 use Rattle.tr_tree.specs.declared.layouts.Layout.{Layout}
@@ -395,22 +395,6 @@ offset_placed t u edit n by cs d is forest fits allowed new children some =
     (sym (ap (is_among (get_or cs 0 d)) own) ∙ among_at cs 0 d some))
 
 -- ---- the walk below such a child
-
-under_deeper : (f : ℕ) (t : Nodes) → IsForest t → (top n : NodeId) → is_under_within f t top n ≡ true → depth t top ≤ depth t n
-under_deeper zero t forest top n h =
-    let same : n ≡ top = tested_same n top (sym (under_zero t top n) ∙ h) in omega (arith, ap (depth t) same)
-under_deeper (suc f) t forest top n h = by_id n top
-    (λ same. omega (arith, ap (depth t) same))
-    (λ other. by_parent (node t n).parent refl (λ p k. under_deeper f t forest top p k)
-    (sym (under_suc f t top n ∙ ap (λ b. b || of_parent (node t n).parent (is_under_within f t top)) other) ∙ h))
-  where
-    by_parent : (o : Option NodeId) → (node t n).parent ≡ o → ((p : NodeId) → is_under_within f t top p ≡ true → depth t top ≤ depth t p) →
-        of_parent o (is_under_within f t top) ≡ true → depth t top ≤ depth t n
-    by_parent None e above k = absurd cc
-    by_parent (Some p) e above k =
-        let up : depth t top ≤ depth t p = above p k in
-        let deep : depth t n ≡ depth t p + 1 = depth_child t p n forest (forest.parents n p e) in
-        omega arith
 
 -- a parent isn't below its child
 pub parent_is_off : (t : Nodes) → IsForest t → (n parent : NodeId) → (node t n).parent ≡ Some parent → is_under t n parent ≡ false

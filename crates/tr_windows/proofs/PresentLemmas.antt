@@ -17,7 +17,7 @@ use Rattle.tr_client.specs.declared.clients.Client.{Ghosts}
 use Rattle.tr_forest.specs.declared.Edit.{Edit}
 use Rattle.tr_tree.specs.Trees.{Seen, edited_tree}
 use Rattle.tr_spot.specs.Leaves.{leaf_size}
-use Rattle.tr_surface.specs.TreeSteps.{Keeping}
+use Rattle.tr_surface.specs.TreeSteps.{WindowFacts}
 use Rattle.tr_mail.specs.Deliveries.{is_reshaped}
 use Rattle.tr_journal.specs.declared.items.Item.{Item}
 use Rattle.tr_journal.specs.Openings.{contents_of}
@@ -26,10 +26,10 @@ use Rattle.tr_machine.specs.Windows.{Change, Command, Mark, Window, fresh, with_
 use Rattle.tr_machine.specs.States as states
 use Rattle.tr_machine.specs.States.{State, start, look, window_of, changed_at, content_of, leaf_batch}
 use Rattle.tr_machine.specs.Paintings.{acted, marked, flushed, repainted}
-use Rattle.tr_machine.specs.Edits.{altered, keeping, keeps_in, refitted_from}
+use Rattle.tr_machine.specs.Edits.{altered, points_kept, refitted_from, window_facts}
 use Rattle.tr_machine.specs.Pictures.{waiting_count}
-use Rattle.tr_windows.specs.Presents.{Present, with_empty_batch, without_batch, mark_on, act_on, refitted, cleared_from, content_at, waiting_batch, batch_at, kept_in, kept_by, present, presents_from, presents}
-use Rattle.tr_windows.specs.Promises.{Keeps, waiting_in}
+use Rattle.tr_windows.specs.Presents.{Present, with_empty_batch, without_batch, mark_on, act_on, without_old_batch, cleared_from, content_at, waiting_batch, batch_at, kept_in, kept_by, present, presents_from, presents}
+use Rattle.tr_windows.specs.Promises.{KeepsPoints, waiting_in}
 use Rattle.tr_windows.proofs.ShapeLemmas.{same_shape}
 
 -- ---- one window
@@ -131,7 +131,7 @@ from-refitted client font was is s [] = refl
 from-refitted {C} {M} client font was is s (w ∷ ws) =
     ap (λ v. v ∷ presents_from client (suc s) (look_of is.kind font) is (refitted_from client (suc s) was is ws))
     (by_test (is_reshaped was is leaf) refl)
-    ∙ ap (λ vs. refitted was is leaf (present client (look_of was.kind font) (leaf_size was leaf) w) ∷ vs)
+    ∙ ap (λ vs. without_old_batch was is leaf (present client (look_of was.kind font) (leaf_size was leaf) w) ∷ vs)
     (from-refitted client font was is (suc s) ws)
   where
     leaf : LeafId
@@ -184,20 +184,20 @@ presents-batch {C} {M} client m leaf = ap waiting_batch (present_at client m lea
     by_window (Some w) = refl
 
 -- what an edit of the tree asks of the windows
-pub presents-keeping : {C M : Type 0} (client : Ghosts C M) (m : State C M) → kept_by client (presents client m) ≡ keeping client m
+pub presents-keeping : {C M : Type 0} (client : Ghosts C M) (m : State C M) → kept_by client (presents client m) ≡ window_facts client m
 presents-keeping {C} {M} client m =
     joined _ _ _ _ (fun_ext λ leaf. fun_ext λ from. fun_ext λ to. kept leaf from to) (fun_ext λ leaf. presents-batch client m leaf)
   where
     joined : (k n : LeafId → Size → Size → Edges) (b c : LeafId → List Paint) → k ≡ n → b ≡ c →
-        (let x : Keeping = record { keeps = k; batch = b } in let y : Keeping = record { keeps = n; batch = c } in x ≡ y)
+        (let x : WindowFacts = record { keeps = k; batch = b } in let y : WindowFacts = record { keeps = n; batch = c } in x ≡ y)
     joined k n b c p q = rw (p, q) refl
 
     by_window : (leaf : LeafId) (from to : Size) (o : Option (Window C M)) →
-        kept_in client (option_map (present client (look m) (leaf_size m.tree leaf)) o) from to ≡ keeps_in client o from to
+        kept_in client (option_map (present client (look m) (leaf_size m.tree leaf)) o) from to ≡ points_kept client o from to
     by_window leaf from to None = refl
     by_window leaf from to (Some w) = refl
 
-    kept : (leaf : LeafId) (from to : Size) → kept_in client (slice_get (presents client m) leaf.0) from to ≡ keeps_in client (window_of m leaf) from to
+    kept : (leaf : LeafId) (from to : Size) → kept_in client (slice_get (presents client m) leaf.0) from to ≡ points_kept client (window_of m leaf) from to
     kept leaf from to = ap (λ o. kept_in client o from to) (present_at client m leaf) ∙ by_window leaf from to (window_of m leaf)
 
 -- how many commands wait
@@ -225,7 +225,7 @@ presents-patch client m leaf cmd law w is =
 
 -- what a window keeps when its size changes survives
 pub presents-survive : {C M : Type 0} (client : Ghosts C M) (m : State C M) →
-    ((look : Look) (leaf : LeafId) (p : Present C) → slice_get (presents client m) leaf.0 ≡ Some p → Keeps client look p) →
+    ((look : Look) (leaf : LeafId) (p : Present C) → slice_get (presents client m) leaf.0 ≡ Some p → KeepsPoints client look p) →
     (leaf : LeafId) (w : Window C M) → window_of m leaf ≡ Some w → (look : Look) (from to : Size) → IsWindowSize from → IsWindowSize to →
     Survives (client.keeps (content client w) from to) from to (client.pic look from (content client w)) (client.pic look to (content client w))
 presents-survive client m law leaf w is look from to small small' =

@@ -7,7 +7,7 @@ use Rattle.tr_base.proofs.KindLemmas.{kinds_equal}
 use Rattle.tr_spot.specs.Leaves.{leaf_size, same_size}
 use Rattle.tr_tree.specs.Trees.{Seen}
 use Rattle.tr_mail.specs.Deliveries.{is_reshaped}
-use Rattle.tr_windows.specs.Presents.{Present, refitted, cleared_from}
+use Rattle.tr_windows.specs.Presents.{Present, without_old_batch, cleared_from}
 use Rattle.tr_windows.proofs.ChangeLemmas.{changed_below, changed_below-first}
 
 -- what a window has before and after an edit of the tree that doesn't reshape it
@@ -27,16 +27,16 @@ same_shape was is leaf h = by_tests (same_size (leaf_size was leaf) (leaf_size i
 
 -- the windows are cleared one by one
 pub cleared_one_by_one : {C : Type 0} (was is : Seen) (s : ℕ) (f : ℕ → Present C → Present C) →
-    ((k : ℕ) (w : Present C) → f k w ≡ refitted was is (record { 0 = s + k }) w) → (ws : List (Present C)) →
+    ((k : ℕ) (w : Present C) → f k w ≡ without_old_batch was is (record { 0 = s + k }) w) → (ws : List (Present C)) →
     changed_below (length ws) f ws ≡ cleared_from s was is ws
 cleared_one_by_one was is s f each [] = refl
 cleared_one_by_one {C} was is s f each (w ∷ ws) =
     changed_below-first f (length ws) w ws
     ∙ ap (λ v. v ∷ changed_below (length ws) (λ k. f (suc k)) ws) first
-    ∙ ap (λ vs. refitted was is (record { 0 = s }) w ∷ vs) (cleared_one_by_one was is (suc s) (λ k. f (suc k)) later ws)
+    ∙ ap (λ vs. without_old_batch was is (record { 0 = s }) w ∷ vs) (cleared_one_by_one was is (suc s) (λ k. f (suc k)) later ws)
   where
-    first : f zero w ≡ refitted was is (record { 0 = s }) w
-    first = each zero w ∙ ap (λ n. refitted was is (record { 0 = n }) w) (add-zero s)
+    first : f zero w ≡ without_old_batch was is (record { 0 = s }) w
+    first = each zero w ∙ ap (λ n. without_old_batch was is (record { 0 = n }) w) (add-zero s)
 
-    later : (k : ℕ) (v : Present C) → f (suc k) v ≡ refitted was is (record { 0 = suc s + k }) v
-    later k v = let e : s + suc k ≡ suc s + k = omega arith in each (suc k) v ∙ ap (λ n. refitted was is (record { 0 = n }) v) e
+    later : (k : ℕ) (v : Present C) → f (suc k) v ≡ without_old_batch was is (record { 0 = suc s + k }) v
+    later k v = let e : s + suc k ≡ suc s + k = omega arith in each (suc k) v ∙ ap (λ n. without_old_batch was is (record { 0 = n }) v) e

@@ -11,7 +11,7 @@ use Rattle.tr_paint.specs.Traces.{Look}
 use Rattle.tr_client.specs.declared.clients.Client.{Ghosts}
 use Rattle.tr_tree.specs.Trees.{Seen}
 use Rattle.tr_spot.specs.Leaves.{leaf_size}
-use Rattle.tr_surface.specs.TreeSteps.{Keeping}
+use Rattle.tr_surface.specs.TreeSteps.{WindowFacts}
 use Rattle.tr_mail.specs.Deliveries.{is_reshaped}
 use Rattle.tr_machine.specs.Windows.{Window, batch, content}
 use Rattle.tr_machine.specs.States.{State, look}
@@ -38,13 +38,13 @@ abbrev pub taken_over : {C : Type 0} → C → List Paint → Present C → Pres
 taken_over content batch w = record { content = content; batch = w.batch ++ batch }
 
 -- the commands that wait for a window are dropped if its size or the kind of its pixels changes
-abbrev pub refitted : {C : Type 0} → Seen → Seen → LeafId → Present C → Present C
-refitted was is leaf w = if is_reshaped was is leaf then without_batch w else w
+abbrev pub without_old_batch : {C : Type 0} → Seen → Seen → LeafId → Present C → Present C
+without_old_batch was is leaf w = if is_reshaped was is leaf then without_batch w else w
 
 -- the same for the windows of the leaves from this number on
 abbrev pub cleared_from : {C : Type 0} → ℕ → Seen → Seen → List (Present C) → List (Present C)
 cleared_from n was is [] = []
-cleared_from n was is (w ∷ ws) = refitted was is (record { 0 = n }) w ∷ cleared_from (suc n) was is ws
+cleared_from n was is (w ∷ ws) = without_old_batch was is (record { 0 = n }) w ∷ cleared_from (suc n) was is ws
 
 -- the content of a leaf's window, if there is such a leaf
 abbrev pub content_at : {C : Type 0} → List (Present C) → LeafId → Option C
@@ -73,7 +73,7 @@ module _ {C M : Type 0} (client : Ghosts C M) where
   kept_in (Some w) from to = client.keeps w.content from to
 
   -- the kept points and the waiting commands of the windows, for an edit of the tree
-  abbrev pub kept_by : List (Present C) → Keeping
+  abbrev pub kept_by : List (Present C) → WindowFacts
   kept_by ws = record {
     keeps = λ leaf from to. kept_in (slice_get ws leaf.0) from to;
     batch = λ leaf. batch_at ws leaf;

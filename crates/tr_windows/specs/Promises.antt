@@ -71,6 +71,6 @@ module _ {C M : Type 0} (client : Ghosts C M) where
     pub keeps : LosesNothingOf e look w.batch
 
   -- the points that a window keeps when its size changes lie in the window before and after, and have the same colours in both
-  pub record Keeps (look : Look) (w : Present C) : Type 0 where
+  pub record KeepsPoints (look : Look) (w : Present C) : Type 0 where
     pub survives : (from to : Size) → IsWindowSize from → IsWindowSize to →
         Survives (client.keeps w.content from to) from to (client.pic look from w.content) (client.pic look to w.content)

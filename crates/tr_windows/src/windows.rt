@@ -7,7 +7,7 @@ ghost use Rattle.tr_forest.specs.Nodes.{leaf_count};
 ghost use Rattle.tr_journal.specs.Openings.{contents_of};
 ghost use Rattle.tr_machine.specs.States.{changed_at};
 ghost use Rattle.tr_windows.specs.Presents as spec;
-ghost use Rattle.tr_windows.specs.Promises.{AreWindows, FlushesByPainting, IsCovered, Keeps, RepaintsWindow, waiting_in};
+ghost use Rattle.tr_windows.specs.Promises.{AreWindows, FlushesByPainting, IsCovered, KeepsPoints, RepaintsWindow, waiting_in};
 
 use crate::costs::is_covered;
 use crate::exposures::Exposure;
@@ -155,7 +155,7 @@ impl<C: Client> Windows<C> {
         requires leaf { leaf.0 < length self.old }
         requires before { leaf_count was.now.nodes ≡ length self.old }
         requires leaves { leaf_count is.now.nodes ≡ length self.old }
-        ensures { self.new ≡ changed_at leaf.0 (spec.refitted was.now is.now leaf) self.old }
+        ensures { self.new ≡ changed_at leaf.0 (spec.without_old_batch was.now is.now leaf) self.old }
     {
         if self.batch(leaf).is_empty() {
             return;
@@ -230,7 +230,7 @@ impl<C: Client> Windows<C> {
     /// kept when the size changes lie in the window before and after, and have the same colours in both.
     pub fn obeys_keeping(&self)
         ensures { (look : Look) (leaf : LeafId) (w : spec.Present C) →
-            slice_get self.now leaf.0 ≡ Some w → Keeps C.Client look w }
+            slice_get self.now leaf.0 ≡ Some w → KeepsPoints C.Client look w }
     {
         let _windows = &self.windows;
     }

@@ -11,18 +11,14 @@ use Rattle.std.proofs.lemmas.List.Sums.{list_all-from_AllPass}
 use Rattle.std.proofs.lemmas.Simd.{length-chunk, mask_l-mod, trailing_mask_l, run_in_chunk_fails, run_in_chunk_stops, none_from_empty_mask}
 use Rattle.memchr.specs.Find.{IsFirst, Nowhere, NoneBefore, Passes, is_byte}
 use Rattle.tr_base.specs.Lines.{is_printable}
+use Rattle.tr_base.proofs.LaneLemmas.{either_lane}
+use Rattle.tr_base.proofs.BoolLemmas.{zero_by_test, some_by_test}
 use Rattle.tr_words.specs.Answers.{is_unprintable}
 use Rattle.tr_words.proofs.LineLemmas.{same_byte}
 
 -- a test of two numbers, lane by lane
 abbrev below : List ℕ → List ℕ → List ℕ
 below = zip2 (λ a b. cond (ltb a b) 255 0)
-
-either_lane : (s t : Bool) → top 7 (bit_or (cond s 255 0) (cond t 255 0)) ≡ (s || t)
-either_lane true true = refl
-either_lane true false = refl
-either_lane false true = refl
-either_lane false false = refl
 
 unprintable_byte : (b : ℕ) → (ltb b 32 || ltb 126 b) ≡ is_unprintable b
 unprintable_byte b = grind (arith, nat_tests)
@@ -43,14 +39,6 @@ unprintable_bits at xs room =
     let long : length here ≡ 16 = length-chunk at 16 xs room in
     ap (λ ms. mask_l ms % 2 ^ 64) (unprintable_lanes here 16 long)
     ∙ mask_l-mod (map is_unprintable here) 64 (omega (arith, length-map here is_unprintable, long))
-
-none_set : (n : ℕ) → not (n == 0) ≡ false → n ≡ 0
-none_set zero e = refl
-none_set (suc n) e = grind (arith, nat_tests, e)
-
-some_set : (n : ℕ) → not (n == 0) ≡ true → 0 < n
-some_set zero e = grind (arith, nat_tests, e)
-some_set (suc n) e = omega arith
 
 set_lane : (b : Bool) (n m l : ℕ) → 0 < cond b 1 0 + 2 * n → (0 < n → m < l) → cond (not b) (1 + m) 0 < suc l
 set_lane true n m l some next = omega arith
@@ -75,7 +63,7 @@ some_unprintable xs at room some =
     let here = chunk at 16 xs in
     let long : length here ≡ 16 = length-chunk at 16 xs room in
     let r = prefix_len (λ x. not (is_unprintable x)) here in
-    let short : r < length here = some_passes is_unprintable here (some_set _ some) in
+    let short : r < length here = some_passes is_unprintable here (some_by_test _ some) in
     let stops : is_unprintable (get_or xs (at + r) 0) ≡ true = run_in_chunk_stops is_unprintable xs at 16 r 0 room refl (omega arith) in
     list_all_at is_printable xs (at + r) 0 (omega arith) (not-true _ stops)
 
@@ -86,7 +74,7 @@ printable_further xs at n next room none le e so_far =
     record {
       each = λ k lt. elim (cases_lt k n) [
         | inl before ↦ so_far.each k before
-        | inr behind ↦ none_from_empty_mask is_unprintable xs at 16 0 room (none_set _ none) k (omega arith) (omega arith)
+        | inr behind ↦ none_from_empty_mask is_unprintable xs at 16 0 room (zero_by_test _ none) k (omega arith) (omega arith)
       ];
     }
 

@@ -1,32 +1,16 @@
 -- Patches that paint a part of a window. These proofs are in specs/ because an impl's laws may cite nothing else of its crate.
-use Rattle.std.proofs.Common.{◌≡◌, ℕ, Bool, true, false, ◌||◌, List, [], ◌∷◌, refl, sym, subst, ◌∙◌}
+use Rattle.std.proofs.Common.{◌≡◌, ℕ, Bool, true, false, List, [], refl, sym, subst, ◌∙◌}
 use Rattle.std.specs.Prelude.{IfSome, Option}
 use Rattle.tr_base.specs.declared.Point.{Point}
 use Rattle.tr_base.specs.declared.Size.{Size}
 use Rattle.tr_base.specs.Rects.{Edges, has_point, whole_of}
 use Rattle.tr_base.proofs.RectLemmas.{false-true}
 use Rattle.tr_paint.specs.declared.Paint.{Paint}
-use Rattle.tr_paint.specs.Paints.{area}
-use Rattle.tr_paint.specs.Traces.{Look, Base, after, left_by}
+use Rattle.tr_paint.specs.Traces.{Look, after}
 use Rattle.tr_paint.specs.Batches.{touches}
 use Rattle.tr_paint.specs.Patches.{IsPatch}
 use Rattle.tr_paint.specs.Paintings.{IsPainting}
-use Rattle.tr_paint.proofs.TraceLemmas.{after-first}
-
--- neither of two tests holds
-neither : (a b : Bool) → a || b ≡ false → (a ≡ false) × (b ≡ false)
-neither true b h = absurd (false-true (sym h))
-neither false b h = (refl, h)
-
--- a batch doesn't change a point outside the areas of its commands
-pub after-untouched : (look : Look) (base : Base) (batch : List Paint) (q : Point) → base.visible q ≡ true → touches batch q ≡ false →
-    after look base batch q ≡ base.known q
-after-untouched look base [] q seen none = rw seen refl
-after-untouched look base (c ∷ cs) q seen none =
-    let apart = neither (has_point (area c) q) (touches cs q) none in
-    after-first look base c cs q
-    ∙ after-untouched look (left_by look base (c ∷ [])) cs q seen apart.1
-    ∙ rw (apart.0, seen) refl
+use Rattle.tr_paint.proofs.TraceLemmas.{after-untouched}
 
 -- commands that paint a part of the new picture are a patch if the pictures agree outside that part
 pub part_patch : (look : Look) (size : Size) (part : Edges) (batch : List Paint) (old new : Point → ℕ) → IsPainting look part batch new →

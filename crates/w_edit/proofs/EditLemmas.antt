@@ -1,7 +1,7 @@
 -- Lines that take the place of others, and commands that stand before others in a batch.
 use Rattle.std.proofs.Common.{◌≡◌, ℕ, ◌+◌, ◌-◌, ◌≤◌, ◌<◌, List, [], ◌∷◌, ◌++◌, length, take, drop, set, sym, ap, subst, ◌∙◌, refl, arith, append_assoc, length-append, length-take, length-set, take_all}
 use Rattle.std.specs.List.{insert}
-use Rattle.std.specs.Prelude.{Result, Ok, Err, IfOk, OnErr}
+use Rattle.std.specs.Prelude.{Result, IfOk}
 use Rattle.std.proofs.lemmas.List.{set-append_left, take-take, take-append-drop}
 use Rattle.std.proofs.lemmas.Grind.{take-set_at}
 use Rattle.std.proofs.lemmas.Result.{IfOk-weaker}
@@ -78,11 +78,6 @@ front_stays old mid new more grown stays =
     sym (take-take (length old) (length mid) new long)
     ∙ ap (λ (ps : List Paint). take (length old) ps) (stays ∙ grown)
     ∙ take-append_seam old more
-
--- what holds in any case holds where a call fails
-pub on_err : {T E P : Type 0} (r : Result T E) → P → OnErr r P
-on_err (Ok x) holds = tt
-on_err (Err e) holds = holds
 
 -- an edit that makes a content is one that leaves a content
 pub contents_made : {E : Type 0} (x y : Contents) (r : Result Edit E) → IsContents y → IfOk r (λ edit. MakesContents x edit y) →

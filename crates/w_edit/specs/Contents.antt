@@ -4,7 +4,8 @@ use Rattle.tr_base.specs.declared.Event.{Event}
 use Rattle.tr_base.specs.declared.Event.TheVariants.{Key}
 use Rattle.tr_base.specs.Lines.{IsLine, is_printable}
 use Rattle.tr_client.specs.Words.{with_text}
-use Rattle.w_edit.specs.Numbers.{most_lines, most_bytes, IsRowNumber, IsColumn}
+use Rattle.tr_client.specs.Texts.{most_lines}
+use Rattle.w_edit.specs.Numbers.{most_bytes, IsRowNumber, IsColumn}
 use Rattle.w_edit.specs.declared.commands.EditorCmd.{EditorCmd}
 use Rattle.w_edit.specs.declared.commands.EditorCmd.TheVariants.{Insert, Erase, Split, Goto, Copy, Paste}
 

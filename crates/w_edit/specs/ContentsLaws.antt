@@ -10,10 +10,11 @@ use Rattle.tr_base.specs.declared.Event.{Event}
 use Rattle.tr_base.specs.declared.Event.TheVariants.{Key}
 use Rattle.tr_base.specs.Lines.{IsLine, is_printable}
 use Rattle.tr_client.specs.Laws.{IsEvent}
+use Rattle.tr_client.specs.Texts.{most_lines}
 use Rattle.tr_client.proofs.TextLemmas.{line_in_a_row}
 use Rattle.w_edit.specs.declared.commands.EditorCmd.{EditorCmd}
 use Rattle.w_edit.specs.declared.commands.EditorCmd.TheVariants.{Insert, Erase, Split, Goto, Copy, Paste}
-use Rattle.w_edit.specs.Numbers.{most_lines, most_bytes}
+use Rattle.w_edit.specs.Numbers.{most_bytes}
 use Rattle.w_edit.specs.Contents.{Contents, IsContents, line_at, line_of, before, behind, above, below, inserted, erased, joined_above, broken, caret_to, copied, effect, fits, can_join, acts, editor_next, IsEditorCmd, editor_answer}
 
 -- a text cut at the caret: the lines above, the bytes before and behind the caret, and the lines below

@@ -1,9 +1,6 @@
--- The greatest lengths of a text and of a line, and the numbers of rows and columns.
+-- The greatest length of a line, and the numbers of rows and columns.
 use Rattle.std.specs.Prelude.{ℕ, ◌<◌, ◌≤◌}
-
--- the most lines of a text
-abbrev pub most_lines : ℕ
-most_lines = 200
+use Rattle.tr_client.specs.Texts.{most_lines}
 
 -- the most bytes of a line
 abbrev pub most_bytes : ℕ

@@ -1,6 +1,7 @@
 ghost use Rattle.std.specs.Prelude.{◌≡◌, ◌≤◌, ◌<◌, ◌-◌, ◌↔◌, IsTrue, IfOk, List, false};
 ghost use Rattle.std.specs.List.{AllByRecursion};
 ghost use Rattle.tr_base.specs.Lines.{IsLine};
+ghost use Rattle.tr_client.specs.Texts.{most_lines};
 ghost use Rattle.w_edit.specs.declared.commands.EditorCmd.{EditorCmd};
 ghost use Rattle.w_edit.specs.Contents as spec;
 ghost use Rattle.w_edit.specs.Flat.{IsFlatOf, flat_text, flat_after, editor_after};
@@ -12,9 +13,6 @@ use std::alloc::Global;
 use std::marker::Model;
 use tr_base::{LINE, Line, NoMemory};
 use tr_client::{append_lines, same_lines};
-
-/// The most lines of a text.
-pub const MOST_LINES: usize = 200;
 
 /// A text of lines with a caret in it, and a clip. The lines are kept in one block.
 #[derive(Debug, Drop)]
@@ -69,7 +67,7 @@ impl Editor {
     /// The row of the caret: that of a line.
     pub fn row(&self) -> usize
         ensures value { result ≡ self.now.row }
-        ensures limit { result < MOST_LINES }
+        ensures limit { result < most_lines }
     {
         self.row
     }

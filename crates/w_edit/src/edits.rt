@@ -9,11 +9,11 @@ ghost use Rattle.w_edit.specs.Pictures.{editor_patch};
 
 use crate::changes::Edit;
 use crate::commands::EditorCmd;
-use crate::editors::{Editor, MOST_LINES};
+use crate::editors::Editor;
 use crate::rows::{ColumnNumber, RowNumber};
 use std::alloc::Global;
 use tr_base::{Command, LINE, Line, NoMemory, Size};
-use tr_client::line_in_a_row;
+use tr_client::{MOST_LINES, line_in_a_row};
 use tr_paint::Batch;
 
 impl Editor {

@@ -13,12 +13,12 @@ ghost use Rattle.w_edit.specs.Contents as contents;
 ghost use Rattle.w_edit.specs.Pictures as spec;
 
 use crate::commands::EditorCmd;
-use crate::editors::{Editor, MOST_LINES};
+use crate::editors::Editor;
 use crate::places::{cell, lowered, raised, strip};
 use crate::views::View;
 use std::alloc::Global;
 use tr_base::{Line, NoMemory, Op, Rect, Size};
-use tr_client::{PLAIN, begin_of, paint_lines, part_of_window, room, window};
+use tr_client::{MOST_LINES, PLAIN, begin_of, paint_lines, part_of_window, room, window};
 use tr_paint::{Batch, Paint};
 
 impl<'a> View<'a> {

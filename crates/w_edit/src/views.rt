@@ -3,11 +3,12 @@ ghost use Rattle.w_edit.specs.Contents as spec;
 ghost use Rattle.w_edit.specs.Edits.{IsEditOf, edited_contents};
 
 use crate::changes::Edit;
-use crate::editors::{Editor, MOST_LINES};
+use crate::editors::Editor;
 use std::alloc::Global;
 use std::marker::Model;
 use std::slice::from_ref;
 use tr_base::{LINE, Line, NoMemory};
+use tr_client::MOST_LINES;
 
 /// An editor's content, as it is or as an edit makes it. The lines are borrowed in four parts, one after
 /// the other, so that a patch needs no copy of them.

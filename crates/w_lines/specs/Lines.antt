@@ -12,14 +12,10 @@ use Rattle.tr_paint.specs.declared.Paint.TheVariants.{Tint, Text, Scroll}
 use Rattle.tr_paint.specs.Traces.{Look}
 use Rattle.tr_paint.specs.Batches.{batch_of}
 use Rattle.tr_client.specs.Plain.{plain}
-use Rattle.tr_client.specs.Texts.{room, begin_of, colour_in, strips_between, upwards, cleared}
+use Rattle.tr_client.specs.Texts.{room, begin_of, colour_in, strips_between, upwards, cleared, most_lines}
 use Rattle.tr_client.specs.Words.{with_text}
 use Rattle.w_lines.specs.declared.commands.LinesCmd.{LinesCmd}
 use Rattle.w_lines.specs.declared.commands.LinesCmd.TheVariants.{Line, Clear}
-
--- the most lines that are kept
-abbrev pub most_kept_lines : ℕ
-most_kept_lines = 200
 
 -- the last n lines, or all if there are fewer
 abbrev pub newest_lines : ℕ → List (List ℕ) → List (List ℕ)
@@ -27,13 +23,13 @@ newest_lines n lines = drop (length lines - n) lines
 
 -- there are at most 200 lines, and each has at most 80 bytes, all of them printable
 pub record IsLines (lines : List (List ℕ)) : Type 0 where
-  pub few : length lines ≤ most_kept_lines
+  pub few : length lines ≤ most_lines
   pub each : All IsLine lines
 
 -- lines lie in a block after fewer than 200 others that are no longer kept
 pub record IsBlock (stale : ℕ) (block : List (List ℕ)) : Type 0 where
   pub within : stale ≤ length block
-  pub few : stale < most_kept_lines
+  pub few : stale < most_lines
   pub lines : IsLines (drop stale block)
 
 -- the text of a command is a line
@@ -52,7 +48,7 @@ lines_pic look size lines q = colour_in look (newest_lines (room size) lines) q
 
 -- a command adds a line after the others, and only the last 200 lines are kept; or it removes all lines
 abbrev pub lines_next : List (List ℕ) → LinesCmd → List (List ℕ)
-lines_next lines (Line line) = newest_lines most_kept_lines (lines ++ line ∷ [])
+lines_next lines (Line line) = newest_lines most_lines (lines ++ line ∷ [])
 lines_next lines Clear = []
 
 -- a line is written below `above` others
@@ -68,7 +64,7 @@ moved_up size count line =
 
 -- the most lines that a window shows
 abbrev pub most_shown : Size → ℕ
-most_shown size = min (room size) most_kept_lines
+most_shown size = min (room size) most_lines
 
 -- a new line is written below the others; if there is no room, they move upwards; if no line has room, nothing is painted
 abbrev pub line_patch : Size → List (List ℕ) → List ℕ → List Paint

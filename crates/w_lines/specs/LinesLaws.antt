@@ -25,14 +25,14 @@ use Rattle.tr_paint.proofs.PaintingLemmas.{painting_is_patch}
 use Rattle.tr_paint.proofs.RunLemmas.{run_one, run, patch_by_run, makes-left}
 use Rattle.tr_client.specs.Laws.{IsWindowSize, is_flat, IsEvent, Survives}
 use Rattle.tr_client.specs.Plain.{plain}
-use Rattle.tr_client.specs.Texts.{room, strip_of, begin_of, colour_in, strips_between, upwards, cleared}
+use Rattle.tr_client.specs.Texts.{room, strip_of, begin_of, colour_in, strips_between, upwards, cleared, most_lines}
 use Rattle.tr_client.proofs.KeepingLemmas.{survives-meet, survives-nothing}
 use Rattle.tr_client.proofs.FlatLemmas.{flat-whole, meet-nothing}
 use Rattle.tr_client.proofs.StripLemmas.{rows-from, no_columns, scroll-left, cleared-left}
 use Rattle.tr_client.proofs.LineLemmas.{colour-beyond, colour-moved, line-makes, cleared_painting, pixel-colour_in}
 use Rattle.w_lines.specs.declared.commands.LinesCmd.{LinesCmd}
 use Rattle.w_lines.specs.declared.commands.LinesCmd.TheVariants.{Line, Clear}
-use Rattle.w_lines.specs.Lines.{IsLines, IsLinesCmd, most_kept_lines, newest_lines, most_shown, lines_pic, lines_next, written_below, moved_up, line_patch, lines_patch, lines_answer, lines_keeps}
+use Rattle.w_lines.specs.Lines.{IsLines, IsLinesCmd, newest_lines, most_shown, lines_pic, lines_next, written_below, moved_up, line_patch, lines_patch, lines_answer, lines_keeps}
 
 -- writing a line below the others is a patch to the picture with one more line
 written_patch : (look : Look) (size : Size) (lines : List (List ℕ)) (line : List ℕ) →
@@ -110,24 +110,24 @@ last_of-none : (n : ℕ) (lines : List (List ℕ)) → n ≡ 0 → newest_lines 
 last_of-none n lines none = drop_all (length lines - n) lines (omega arith)
 
 -- a window with room for one more line shows it below the others
-shown_more : (n : ℕ) (lines : List (List ℕ)) (line : List ℕ) → length lines < min n most_kept_lines →
-    newest_lines n (newest_lines most_kept_lines (lines ++ line ∷ [])) ≡ lines ++ line ∷ []
+shown_more : (n : ℕ) (lines : List (List ℕ)) (line : List ℕ) → length lines < min n most_lines →
+    newest_lines n (newest_lines most_lines (lines ++ line ∷ [])) ≡ lines ++ line ∷ []
 shown_more n lines line fits =
     ap (λ (all : List (List ℕ)). newest_lines n all)
-    (last_of-all most_kept_lines (lines ++ line ∷ []) (omega (arith, length-append lines (line ∷ []))))
+    (last_of-all most_lines (lines ++ line ∷ []) (omega (arith, length-append lines (line ∷ []))))
     ∙ last_of-all n (lines ++ line ∷ []) (omega (arith, length-append lines (line ∷ [])))
 
 -- a window without room shows it below the others without the first
-shown_full : (n : ℕ) (lines : List (List ℕ)) (line : List ℕ) → 0 < n → min n most_kept_lines ≤ length lines →
-    length lines ≤ most_kept_lines →
-    newest_lines n (newest_lines most_kept_lines (lines ++ line ∷ [])) ≡ drop 1 (newest_lines n lines) ++ line ∷ []
+shown_full : (n : ℕ) (lines : List (List ℕ)) (line : List ℕ) → 0 < n → min n most_lines ≤ length lines →
+    length lines ≤ most_lines →
+    newest_lines n (newest_lines most_lines (lines ++ line ∷ [])) ≡ drop 1 (newest_lines n lines) ++ line ∷ []
 shown_full n lines line some full few =
     let all = lines ++ line ∷ [] in
     let more = length-append lines (line ∷ []) in
-    let rest = length-drop (length all - most_kept_lines) all in
-    let at : length all - most_kept_lines + (length (newest_lines most_kept_lines all) - n) ≡ length lines - n + 1
+    let rest = length-drop (length all - most_lines) all in
+    let at : length all - most_lines + (length (newest_lines most_lines all) - n) ≡ length lines - n + 1
     = omega (arith, more, rest) in
-    drop-drop (length (newest_lines most_kept_lines all) - n) (length all - most_kept_lines) all
+    drop-drop (length (newest_lines most_lines all) - n) (length all - most_lines) all
     ∙ ap (λ i. drop i all) at
     ∙ drop-append-le (length lines - n + 1) lines (line ∷ []) (omega arith)
     ∙ ap (λ (front : List (List ℕ)). front ++ line ∷ []) (sym (drop-drop 1 (length lines - n) lines))
@@ -145,23 +145,23 @@ lines_answers x event valid known = tt
 
 pub lines_contents : (x : List (List ℕ)) (cmd : LinesCmd) → IsLines x → IsLinesCmd cmd → IsLines (lines_next x cmd)
 lines_contents x (Line line) valid known = record {
-  few = omega (arith, length-drop (length (x ++ line ∷ []) - most_kept_lines) (x ++ line ∷ []));
-  each = All-drop IsLine (length (x ++ line ∷ []) - most_kept_lines) (x ++ line ∷ []) (All-push IsLine x line valid.each known);
+  few = omega (arith, length-drop (length (x ++ line ∷ []) - most_lines) (x ++ line ∷ []));
+  each = All-drop IsLine (length (x ++ line ∷ []) - most_lines) (x ++ line ∷ []) (All-push IsLine x line valid.each known);
 }
 lines_contents x Clear valid known = record { few = omega arith; each = All-nil IsLine }
 
 -- the law of patches for one more line
 line_patches : (look : Look) (size : Size) (x : List (List ℕ)) (line : List ℕ) → IsLines x →
-    IsPatch look size (line_patch size x line) (lines_pic look size x) (lines_pic look size (newest_lines most_kept_lines (x ++ line ∷ [])))
+    IsPatch look size (line_patch size x line) (lines_pic look size x) (lines_pic look size (newest_lines most_lines (x ++ line ∷ [])))
 line_patches look size x line valid = by_tests (most_shown size == 0) (nat_lt (length x) (most_shown size)) refl refl
   where
     next : List (List ℕ)
-    next = newest_lines most_kept_lines (x ++ line ∷ [])
+    next = newest_lines most_lines (x ++ line ∷ [])
 
     by_tests : (none fits : Bool) → (most_shown size == 0) ≡ none → nat_lt (length x) (most_shown size) ≡ fits →
         IsPatch look size (cond none [] (cond fits (written_below size (length x) line) (moved_up size (most_shown size) line)))
         (colour_in look (newest_lines (room size) x))
-        (colour_in look (newest_lines (room size) (newest_lines most_kept_lines (x ++ line ∷ []))))
+        (colour_in look (newest_lines (room size) (newest_lines most_lines (x ++ line ∷ []))))
     by_tests true fits is fit =
         let zero : most_shown size ≡ 0 = eqb-true (most_shown size) 0 is in
         let no_room : room size ≡ 0 = omega arith in

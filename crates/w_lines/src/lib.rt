@@ -6,4 +6,4 @@ mod commands;
 mod typescripts;
 
 pub use commands::LinesCmd;
-pub use typescripts::{Lines, MOST_LINES};
+pub use typescripts::Lines;

@@ -14,13 +14,10 @@ use std::alloc::Global;
 use std::marker::Model;
 use tr_base::{Command, Env, Event, Line, NoMemory, Op, Rect, Size, is_printable};
 use tr_client::{
-    Client, PLAIN, append_lines, area_of, begin_of, keeps_nothing, kept_part, paint_lines,
-    part_of_window, room, same_lines, upwards, window,
+    Client, MOST_LINES, PLAIN, append_lines, area_of, begin_of, keeps_nothing, kept_part,
+    paint_lines, part_of_window, room, same_lines, upwards, window,
 };
 use tr_paint::{Batch, Paint};
-
-/// The most lines that are kept.
-pub const MOST_LINES: usize = 200;
 
 /// A window with the last lines of a typescript; its model is their list. They lie in one block, after
 /// lines that are no longer kept. When there are 200 of these, they leave the block, so one more line

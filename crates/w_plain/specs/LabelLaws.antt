@@ -12,7 +12,7 @@ use Rattle.tr_base.specs.declared.Event.{Event}
 use Rattle.tr_base.specs.declared.Event.TheVariants.{Key}
 use Rattle.tr_base.specs.declared.Op.TheVariants.{Bg}
 use Rattle.tr_base.specs.Ops.{IsPixel}
-use Rattle.tr_base.specs.Rects.{Edges, has_point, whole_of, empty_rect}
+use Rattle.tr_base.specs.Rects.{Edges, has_point, whole_of, empty_rect, origin}
 use Rattle.tr_base.specs.Lines.{is_printable}
 use Rattle.tr_paint.specs.declared.Paint.TheVariants.{Tint, Text as Written}
 use Rattle.tr_paint.specs.Paints.{cells_of, text_bit}
@@ -21,7 +21,7 @@ use Rattle.tr_paint.specs.Patches.{IsPatch}
 use Rattle.tr_paint.specs.Paintings.{IsPainting}
 use Rattle.tr_paint.proofs.PaintingLemmas.{painting_alone, painting_pushed, painting_is_patch}
 use Rattle.tr_client.specs.Laws.{IsWindowSize, is_flat, IsEvent, Survives}
-use Rattle.tr_client.specs.Plain.{plain, origin}
+use Rattle.tr_client.specs.Plain.{plain}
 use Rattle.tr_client.proofs.KeepingLemmas.{survives-meet}
 use Rattle.tr_client.proofs.FlatLemmas.{flat-whole, meet-nothing}
 use Rattle.tr_client.proofs.PlainLemmas.{text-makes, meet-inside, pixel-text}

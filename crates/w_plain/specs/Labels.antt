@@ -5,14 +5,14 @@ use Rattle.tr_base.specs.declared.Size.{Size}
 use Rattle.tr_base.specs.declared.Event.{Event}
 use Rattle.tr_base.specs.declared.Event.TheVariants.{Key}
 use Rattle.tr_base.specs.declared.Op.TheVariants.{Bg}
-use Rattle.tr_base.specs.Rects.{Edges, has_point, meet_of, whole_of}
+use Rattle.tr_base.specs.Rects.{Edges, has_point, meet_of, origin, whole_of}
 use Rattle.tr_base.specs.Lines.{IsLine, is_printable}
 use Rattle.tr_paint.specs.declared.Paint.{Paint}
 use Rattle.tr_paint.specs.declared.Paint.TheVariants.{Tint, Text as Written}
 use Rattle.tr_paint.specs.Paints.{cells_of, text_bit}
 use Rattle.tr_paint.specs.Traces.{Look}
 use Rattle.tr_paint.specs.Batches.{batch_of}
-use Rattle.tr_client.specs.Plain.{plain, colour_of, origin}
+use Rattle.tr_client.specs.Plain.{plain, colour_of}
 use Rattle.tr_client.specs.Words.{with_text}
 use Rattle.w_plain.specs.declared.labels.Label.{Label}
 use Rattle.w_plain.specs.declared.labels.LabelCmd.{LabelCmd}

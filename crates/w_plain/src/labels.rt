@@ -1,7 +1,7 @@
 ghost use Rattle.std.specs.Prelude.{◌≡◌, ◌++◌, ◌∷◌, [], ◌<◌, true, length, IfOk};
 ghost use Rattle.tr_base.specs.Lines.{IsLine, is_printable};
+ghost use Rattle.tr_base.specs.Rects.{origin};
 ghost use Rattle.tr_paint.specs.Paints.{IsNearRect};
-ghost use Rattle.tr_client.specs.Plain.{origin};
 ghost use Rattle.w_plain.specs.Labels as spec;
 
 use std::alloc::Global;

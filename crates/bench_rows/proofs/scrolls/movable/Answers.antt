@@ -4,19 +4,9 @@ use Rattle.std.proofs.lemmas.Bool.{and_parts}
 use Rattle.std.proofs.lemmas.Int.{ints}
 use Rattle.tr_base.specs.declared.points.Point.{Point}
 use Rattle.tr_base.specs.declared.sizes.Size.{Size}
-use Rattle.tr_base.specs.Rects.{has_point, Edges, InReach, AreInReach, empty_rect, shifted, rect_of, whole_of}
+use Rattle.tr_base.specs.Rects.{has_point, Edges, InReach, AreInReach, empty_rect, shifted, whole_of}
+use Rattle.tr_base.proofs.RectFacts.{rect_of-in_reach}
 use Rattle.bench_rows.proofs.scrolls.movable.Goals as goal
-
--- The rectangle of a screen stays within reach when it is moved by at most a screen's side.
-rect_in_reach : (w e n s : ℤ) → InReach w → InReach e → InReach n → InReach s → AreInReach (rect_of w e n s)
-rect_in_reach w e n s hw he hn hs = by_test (int_lt w e && int_lt n s)
-  where
-    zero : InReach (pos 0)
-    zero = record { low = omega (arith, ints); high = omega (arith, ints) }
-
-    by_test : (t : Bool) → AreInReach (cond t (record { west = w; east = e; north = n; south = s }) empty_rect)
-    by_test true = record { west = hw; east = he; north = hn; south = hs }
-    by_test false = record { west = zero; east = zero; north = zero; south = zero }
 
 whole_moves : (size : Size) (d : Point) → size.wide ≤ 1024 → size.high ≤ 1024 →
     neg_ℤ (pos 1024) ≤ℤ d.h → d.h ≤ℤ pos 1024 → neg_ℤ (pos 1024) ≤ℤ d.v → d.v ≤ℤ pos 1024 →
@@ -30,11 +20,11 @@ whole_moves size d wide high west east north south = moved (int_lt (pos 0) (pos 
         (let e : Edges = cond t (record { west = pos 0; east = pos size.wide; north = pos 0; south = pos size.high }) empty_rect in
         AreInReach (shifted e d))
     moved true =
-        rect_in_reach (pos 0 +ℤ d.h) (pos size.wide +ℤ d.h) (pos 0 +ℤ d.v) (pos size.high +ℤ d.v)
+        rect_of-in_reach (pos 0 +ℤ d.h) (pos size.wide +ℤ d.h) (pos 0 +ℤ d.v) (pos size.high +ℤ d.v)
         (near d.h 0 (omega arith) west east) (near d.h size.wide wide west east)
         (near d.v 0 (omega arith) north south) (near d.v size.high high north south)
     moved false =
-        rect_in_reach (pos 0 +ℤ d.h) (pos 0 +ℤ d.h) (pos 0 +ℤ d.v) (pos 0 +ℤ d.v)
+        rect_of-in_reach (pos 0 +ℤ d.h) (pos 0 +ℤ d.h) (pos 0 +ℤ d.v) (pos 0 +ℤ d.v)
         (near d.h 0 (omega arith) west east) (near d.h 0 (omega arith) west east)
         (near d.v 0 (omega arith) north south) (near d.v 0 (omega arith) north south)
 

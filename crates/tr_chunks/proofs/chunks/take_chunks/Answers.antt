@@ -1,6 +1,7 @@
 use Rattle.std.proofs.Common.{sym, take, ◌*◌, arith}
+use Rattle.tr_base.specs.Lists.{joined}
 use Rattle.tr_words.specs.Answers.{texts}
-use Rattle.tr_chunks.specs.Chunks.{joined, lines_from}
+use Rattle.tr_chunks.specs.Chunks.{lines_from}
 use Rattle.tr_chunks.proofs.ChunkLemmas.{all_made, all_playable}
 use Rattle.tr_chunks.proofs.chunks.take_chunks.Goals as goal
 

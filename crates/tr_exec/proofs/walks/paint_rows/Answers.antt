@@ -1,10 +1,11 @@
 use Rattle.std.proofs.Common.{◌≡◌, ◌+◌, arith}
+use Rattle.std.proofs.Math.Bool.{and_assoc}
 use Rattle.tr_base.specs.Rects.{has_point}
 use Rattle.tr_screen.specs.Runs.{in_rows}
 use Rattle.tr_screen.proofs.Repainting.{repaints_same}
 use Rattle.tr_repair.specs.Walks.{in_columns, in_row}
 use Rattle.tr_exec.specs.Walks.{in_area}
-use Rattle.tr_exec.proofs.PaintLemmas.{and_assoc, on_sized, row_of_band, row_on, rows_paint}
+use Rattle.tr_exec.proofs.PaintLemmas.{on_sized, row_of_band, row_on, rows_paint}
 use Rattle.tr_exec.proofs.walks.paint_rows.Goals as goal
 
 pub paint_row-requires-clause-on : goal.paint_row-requires-clause-on

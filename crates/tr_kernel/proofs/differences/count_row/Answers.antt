@@ -1,8 +1,9 @@
 use Rattle.std.proofs.Common.{◌≡◌, ◌+◌, ◌*◌, zip, take, length, count_by, count_ones, ap, ◌∙◌, sym, arith, take_all}
 use Rattle.std.proofs.lemmas.List.{length-take-le}
 use Rattle.std.proofs.lemmas.List.Sums.{count_by-le-length, count_by_more_yes, count_by_more_no}
+use Rattle.tr_base.proofs.BoolLemmas.{zero_by_test}
 use Rattle.tr_kernel.specs.Differences.{differ}
-use Rattle.tr_kernel.proofs.PairLemmas.{none_differs, length_pairs, pair_differs, pair_agrees, count_further, no_further}
+use Rattle.tr_kernel.proofs.PairLemmas.{length_pairs, pair_differs, pair_agrees, count_further, no_further}
 use Rattle.tr_kernel.proofs.differences.count_row.Goals as goal
 use Rattle.tr_kernel.proofs.differences.count_row.Goals.{then-a-at, else-a-at, then-differ_from, else-differ_from}
 
@@ -22,7 +23,7 @@ loop-chunk-preserved c =
       | then-differ_from w ↦ w.count-is ∙ rw on at (count_further c.args.a.now c.args.b.now c.requires i (omega arith) _ _
           c.loop-chunk.invariant (ap count_ones w.differences_at.ensures))
       | else-differ_from w ↦ w.count-is ∙ rw on at (no_further c.args.a.now c.args.b.now c.requires i (omega arith) _
-          c.loop-chunk.invariant (none_differs _ (sym c.differ_from.ensures ∙ w.if-differ_from.false)))
+          c.loop-chunk.invariant (zero_by_test _ (sym c.differ_from.ensures ∙ w.if-differ_from.false)))
     ]
 
 pub loop-at-preserved : goal.loop-at-preserved

@@ -1,7 +1,7 @@
 use Rattle.std.proofs.Common.{◌-◌, ◌*◌, arith, sym, ◌∙◌}
 use Rattle.std.proofs.lemmas.Grind.{same_number_lists}
+use Rattle.tr_base.proofs.BoolLemmas.{zero_by_test}
 use Rattle.tr_kernel.proofs.AgreeLemmas.{agree_earlier, highest}
-use Rattle.tr_kernel.proofs.PairLemmas.{none_differs}
 use Rattle.tr_kernel.proofs.differences.last_difference.Goals as goal
 
 pub returns-then-differ_from-clause-found : goal.returns-then-differ_from-clause-found
@@ -12,7 +12,7 @@ returns-then-differ_from-clause-found c =
 
 pub loop-chunk-preserved : goal.loop-chunk-preserved
 loop-chunk-preserved c =
-    agree_earlier c.args.a.now c.args.b.now c.requires ((c.loop-chunk.chunk - 1) * 64) (omega arith) (none_differs _
+    agree_earlier c.args.a.now c.args.b.now c.requires ((c.loop-chunk.chunk - 1) * 64) (omega arith) (zero_by_test _
     (sym c.differ_from.ensures ∙ c.if-differ_from.false)) (c.loop-chunk.chunk * 64)
     (omega arith) c.loop-chunk.invariant
 

@@ -1,4 +1,5 @@
-use Rattle.tr_output.proofs.SendingLemmas.{on_err, sends_all, stopped_all}
+use Rattle.tr_output.proofs.SendingLemmas.{sends_all, stopped_all}
+use Rattle.tr_base.proofs.ResultFacts.{on_err}
 use Rattle.tr_output.proofs.buffers.flush.Goals as goal
 
 pub returns-clause-ok : goal.returns-clause-ok

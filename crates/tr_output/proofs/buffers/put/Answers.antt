@@ -1,4 +1,5 @@
-use Rattle.tr_output.proofs.SendingLemmas.{on_err, on_ok_both, on_err_both, sends_past, sends_twice, stopped_later, stopped_more, stopped_past}
+use Rattle.tr_output.proofs.SendingLemmas.{on_ok_both, on_err_both, sends_past, sends_twice, stopped_later, stopped_more, stopped_past}
+use Rattle.tr_base.proofs.ResultFacts.{on_err}
 use Rattle.tr_output.proofs.buffers.put.Goals as goal
 
 pub returns-in_err-flush-clause-err : goal.returns-in_err-flush-clause-err

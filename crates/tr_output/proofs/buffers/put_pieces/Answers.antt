@@ -1,6 +1,6 @@
 use Rattle.std.proofs.Common.{◌≡◌, ◌<◌, length, vec_len, arith, rules}
+use Rattle.tr_base.proofs.ResultFacts.{on_err}
 use Rattle.tr_output.proofs.PutLemmas.{piece_room, piece_sent, piece_stopped}
-use Rattle.tr_output.proofs.SendingLemmas.{on_err}
 use Rattle.tr_output.proofs.buffers.put_pieces.Goals as goal
 
 pub put_piece-requires-clause-room : goal.put_piece-requires-clause-room

@@ -1,8 +1,9 @@
 use Rattle.std.proofs.Common.{[], ◌++◌, ◌≤◌, ℕ, List, arith, append-nil}
 use Rattle.std.proofs.lemmas.Result.{on_err_weaker}
+use Rattle.tr_base.proofs.ResultFacts.{on_err}
 use Rattle.tr_output.specs.Pieces.{pieces_text}
 use Rattle.tr_output.specs.Sending.{HasStopped}
-use Rattle.tr_output.proofs.SendingLemmas.{on_err, front_of, sends_twice, stopped_later, stopped_more}
+use Rattle.tr_output.proofs.SendingLemmas.{front_of, sends_twice, stopped_later, stopped_more}
 use Rattle.tr_output.proofs.buffers.write_pieces.Goals as goal
 
 pub returns-in_err-put_pieces-clause-err : goal.returns-in_err-put_pieces-clause-err

@@ -1,9 +1,9 @@
 use Rattle.std.proofs.Common.{if◌then◌else◌, ◌∷◌, []}
 use Rattle.std.specs.List.{flat_map}
 use Rattle.std.proofs.lemmas.Result.{on_err_weaker}
+use Rattle.tr_base.proofs.ResultFacts.{on_err}
 use Rattle.tr_journal.specs.declared.Actor.TheVariants.{Player}
 use Rattle.tr_journal.specs.declared.Step.TheVariants.{Sync}
-use Rattle.tr_stage.proofs.SettleLemmas.{on_err}
 use Rattle.tr_run.specs.Runs.{makes, reporting}
 use Rattle.tr_run.proofs.RunLemmas.{DoesSome-after, DoesSome-more}
 use Rattle.tr_parts.proofs.parts.begin_part.Goals as goal

@@ -1,5 +1,5 @@
 use Rattle.std.proofs.lemmas.List.{get_or_default}
-use Rattle.tr_stage.proofs.SettleLemmas.{on_err}
+use Rattle.tr_base.proofs.ResultFacts.{on_err}
 use Rattle.tr_run.proofs.RunLemmas.{Does-none}
 use Rattle.tr_parts.proofs.PlayLemmas.{did_next, did_some, reported_next, reported_none}
 use Rattle.tr_parts.proofs.parts.report_all.Goals as goal

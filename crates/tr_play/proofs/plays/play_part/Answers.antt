@@ -15,7 +15,9 @@ use Rattle.tr_run.specs.Views.{IsNamed}
 use Rattle.tr_parts.specs.Runs.{HasBegunPart}
 use Rattle.tr_parts.specs.Turns.{HasRun, IsPartStep}
 use Rattle.tr_parts.proofs.PlayLemmas.{next_played, run_named}
-use Rattle.tr_play.specs.Plays.{part_of}
+use Rattle.tr_server.proofs.CloseLemmas.{if_differs_weaker}
+use Rattle.tr_play.specs.Begun.{DiffersNext}
+use Rattle.tr_play.specs.Plays.{HasLeft}
 use Rattle.tr_play.proofs.PlayLemmas.{steps_made}
 use Rattle.tr_play.proofs.plays.play_part.Goals as goal
 
@@ -58,7 +60,7 @@ returns-in-Ok-make_side_by_side-clause-ok g c =
     let ran =
     subst (λ (s : StageView _ _). HasRun s n c.args.part.now.steps) c.pause-stage.ensures.stage
     (subst (λ (made : List (Actor × Step _)). HasRun c.pause-stage.result.0 n made) steps c.in-Ok-make_side_by_side.ensures.ok) in
-    next_played g.C.Client widget_words a b c.resume.result c.args.is_later (part_of c.args.part.now)
+    next_played g.C.Client widget_words a b c.resume.result c.args.is_later c.args.part.now
     (subst (λ (queries : List Query). HasBegunPart g.C.Client widget_words a b c.args.is_later queries) reports begun)
     (record {
       mode = begun.reported.adds.mode ∙ begun.sync.mode ∙ c.requires.mode;
@@ -70,3 +72,21 @@ returns-in-Ok-make_side_by_side-clause-ok g c =
       legal = subst (λ (s : StageView _ _). IsLegal g.C.Client s.opening s.journal) (sym c.resume.ensures.stage)
           c.invariant-in-Ok-make_side_by_side.ensures.legal;
     })
+
+pub returns-in-Err-clause-differs : goal.returns-in-Err-clause-differs
+returns-in-Err-clause-differs g c =
+    let reports : c.deref.result.now ≡ c.args.part.now.reports = search rules in
+    let steps : c.deref-2.result.now ≡ c.args.part.now.steps = search rules in
+    let was = c.args.run in
+    let now = c.begin_part.new.run in
+    let later = c.args.is_later in
+    if_differs_weaker c.in-Err.refused (λ d. HasLeft c.pause-stage.result.0 c.deref-2.result.now d)
+    (λ d. DiffersNext g.C.Client widget_words was later c.args.part.now d)
+    (λ d left. record {
+      run = now;
+      begun = subst (λ (queries : List Query). HasBegunPart g.C.Client widget_words was now later queries) reports c.in-Ok.ensures.ok;
+      legal = subst (λ (s : StageView _ _). IsLegal g.C.Client s.opening s.journal) c.stage.ensures c.invariant.ensures.legal;
+      left = subst (λ (s : StageView _ _). HasLeft s c.args.part.now.steps d) c.pause-stage.ensures.stage
+          (subst (λ (made : List (Actor × Step _)). HasLeft c.pause-stage.result.0 made d) steps left);
+    })
+    c.in-Err.ensures.differs

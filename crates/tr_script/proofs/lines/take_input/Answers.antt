@@ -1,6 +1,7 @@
 use Rattle.std.proofs.Common.{◌≡◌, [], Ok}
+use Rattle.tr_base.specs.Lists.{first_true}
 use Rattle.tr_grammar.specs.Forms.{forms, form_of}
-use Rattle.tr_grammar.specs.Faults.{first_of, line_faults}
+use Rattle.tr_grammar.specs.Faults.{line_faults}
 use Rattle.tr_grammar.specs.Scripts.{after_meaning}
 use Rattle.tr_grammar.specs.Words.{words_of}
 use Rattle.tr_journal.specs.declared.Actor.TheVariants as actors
@@ -20,7 +21,7 @@ returns c =
     let form = form_of reader.version words in
     let m : Meaning = meanings.Step actors.Desk c.step_of-step.result in
     let read : Reads reader forms words (Ok m) = rw c.step_of-step.ensures c.requires in
-    let fault_is : words_fault reader c.args.number words ≡ first_of (line_faults reader c.args.number m) =
+    let fault_is : words_fault reader c.args.number words ≡ first_true (line_faults reader c.args.number m) =
     fault_behind reader c.args.number form words m read.0 read.1
     in
     let next_is : after_words reader words ≡ after_meaning reader [] m = after_said reader form words m read.1 in

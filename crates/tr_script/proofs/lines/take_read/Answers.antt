@@ -1,6 +1,7 @@
 use Rattle.std.proofs.Common.{◌≡◌, ℕ, List, Ok, sym, ap, ◌∙◌, rules}
+use Rattle.tr_base.specs.Lists.{first_true}
 use Rattle.tr_grammar.specs.Forms.{forms, form_of}
-use Rattle.tr_grammar.specs.Faults.{first_of, line_faults}
+use Rattle.tr_grammar.specs.Faults.{line_faults}
 use Rattle.tr_grammar.specs.Scripts.{after_meaning}
 use Rattle.tr_words.specs.Answers.{texts}
 use Rattle.tr_script.specs.Reading.{Reads, words_fault, after_words}
@@ -16,7 +17,7 @@ said : (c : goal.After-take_meaning) → Reads c.args.reader.now forms (texts c.
 said c = rw c.in-Ok.is at c.requires
 
 fault_is : (c : goal.After-take_meaning) →
-    words_fault c.args.reader.now c.args.number (texts c.args.words.now) ≡ first_of (line_faults c.args.reader.now c.args.number c.in-Ok.meaning)
+    words_fault c.args.reader.now c.args.number (texts c.args.words.now) ≡ first_true (line_faults c.args.reader.now c.args.number c.in-Ok.meaning)
 fault_is c =
     let reader = c.args.reader.now in
     let words = texts c.args.words.now in

@@ -12,7 +12,7 @@ use Rattle.tr_journal.specs.Openings.{tree_of}
 use Rattle.tr_journal.specs.Steps.{IsQuery}
 use Rattle.tr_widget.specs.declared.WidgetCmd.{WidgetCmd}
 use Rattle.tr_widget.specs.Widgets.{widget_words}
-use Rattle.tr_grammar.specs.States.{Part}
+use Rattle.tr_journal.specs.Parts.{Part}
 use Rattle.tr_run.specs.Runs.{makes, reporting}
 use Rattle.tr_stage.specs.Stages.{state}
 use Rattle.tr_serial.specs.Streams.{Mirrors}
@@ -24,20 +24,20 @@ use Rattle.tr_serial.proofs.mirrors.mirror_part.Goals as goal
 pub mirror_all-requires-clause-queries : goal.mirror_all-requires-clause-queries
 mirror_all-requires-clause-queries g c = λ κs lives.
     let t = (tree_of c.args.run.now.stage.opening).nodes in
-    let reports = subst (λ (p : Part). All (IsQuery t) p.reports) (sym c.part.view_is) c.requires.playable.reports in
+    let reports = subst (λ (p : Part WidgetCmd). All (IsQuery t) p.reports) (sym c.part.view_is) c.requires.playable.reports in
     let lent = subst (λ (queries : List Query). All (IsQuery t) queries) (sym c.deref.ensures.value) reports in
     subst (λ (opened : List (Item _)). All (IsQuery (tree_of opened).nodes) c.deref.result.now) (sym c.in_ok-begin.ensures.opening) lent
 
 pub mirror_all-requires-clause-few : goal.mirror_all-requires-clause-few
 mirror_all-requires-clause-few g c = λ κs lives.
     let lent : length c.deref.result.now ≡ length c.args.part.reports =
-    ap (λ (queries : List Query). length queries) c.deref.ensures.value ∙ ap (λ (p : Part). length p.reports) c.part.view_is in
+    ap (λ (queries : List Query). length queries) c.deref.ensures.value ∙ ap (λ (p : Part WidgetCmd). length p.reports) c.part.view_is in
     omega (arith, c.requires.few)
 
 pub make_all-requires-clause-own : goal.make_all-requires-clause-own
 make_all-requires-clause-own g c = λ κs lives.
     let t = (tree_of c.args.run.now.stage.opening).nodes in
-    let part = subst (λ (p : Part). AreReady t p.steps) (sym c.part.view_is) (ready t c.args.part c.requires.playable) in
+    let part = subst (λ (p : Part WidgetCmd). AreReady t p.steps) (sym c.part.view_is) (ready t c.args.part c.requires.playable) in
     let begun = subst (λ (opened : List (Item _)). AreReady (tree_of opened).nodes c.part.inside.steps.items) (sym c.in_ok-begin.ensures.opening) part in
     let now = subst (λ (opened : List (Item _)). AreReady (tree_of opened).nodes c.part.inside.steps.items)
     (sym c.in_ok-mirror_all.ensures.mirrors.did.opening) begun in
@@ -46,7 +46,7 @@ make_all-requires-clause-own g c = λ κs lives.
 pub make_all-requires-clause-other : goal.make_all-requires-clause-other
 make_all-requires-clause-other g c = λ κs lives.
     let t = (tree_of c.args.run.now.stage.opening).nodes in
-    let part = subst (λ (p : Part). AreReady t p.steps) (sym c.part.view_is) (ready t c.args.part c.requires.playable) in
+    let part = subst (λ (p : Part WidgetCmd). AreReady t p.steps) (sym c.part.view_is) (ready t c.args.part c.requires.playable) in
     let begun = subst (λ (opened : List (Item _)). AreReady (tree_of opened).nodes c.part.inside.steps.items) (sym c.in_ok-begin.ensures.opening) part in
     let now = subst (λ (opened : List (Item _)). AreReady (tree_of opened).nodes c.part.inside.steps.items)
     (sym c.in_ok-mirror_all.ensures.mirrors.did.opening) begun in
@@ -54,7 +54,7 @@ make_all-requires-clause-other g c = λ κs lives.
 
 pub returns-clause-mirrors : goal.returns-clause-mirrors
 returns-clause-mirrors g c =
-    let of_reports : List Query → Part = λ queries. record { reports = queries; steps = c.part.inside.steps.items } in
+    let of_reports : List Query → Part WidgetCmd = λ queries. record { reports = queries; steps = c.part.inside.steps.items } in
     let is = ap of_reports c.deref.ensures.value ∙ c.part.view_is in
     let first = cond c.args.is_later (makes Player Sync ∷ []) [] in
     let reports = flat_map reporting c.deref.result.now in
@@ -66,10 +66,10 @@ returns-clause-mirrors g c =
     let now = c.make_all.new.run in
     let s = c.args.stream.now in
     let t = c.mirror_all.new.stream in
-    let part = subst (λ (p : Part). AreReady (tree_of was.stage.opening).nodes p.steps) (sym c.part.view_is)
+    let part = subst (λ (p : Part WidgetCmd). AreReady (tree_of was.stage.opening).nodes p.steps) (sym c.part.view_is)
     (ready (tree_of was.stage.opening).nodes c.args.part c.requires.playable) in
     on_ok_weaker c.make_all.result
-    (λ made. subst (λ (p : Part). Mirrors client widget_words was now (cues_of c.args.is_later p) s t) is
+    (λ made. subst (λ (p : Part WidgetCmd). Mirrors client widget_words was now (cues_of c.args.is_later p) s t) is
     (mirrors_more client widget_words was begun now first (reports ++ steps) (first ++ (reports ++ steps)) s s t
     (mirrors_none client widget_words was begun first s c.in_ok-begin.ensures (begin_none client widget_words (state client was.stage) c.args.is_later))
     (mirrors_more client widget_words begun reported now reports steps (reports ++ steps) s t t c.in_ok-mirror_all.ensures.mirrors
@@ -82,5 +82,5 @@ returns-clause-mirrors g c =
 pub returns-clause-count : goal.returns-clause-count
 returns-clause-count g c =
     let lent : length c.deref.result.now ≡ length c.args.part.reports =
-    ap (λ (queries : List Query). length queries) c.deref.ensures.value ∙ ap (λ (p : Part). length p.reports) c.part.view_is in
+    ap (λ (queries : List Query). length queries) c.deref.ensures.value ∙ ap (λ (p : Part WidgetCmd). length p.reports) c.part.view_is in
     on_ok_weaker c.make_all.result (λ made. omega (arith, c.in_ok-mirror_all.ensures.count)) c.make_all.ensures

@@ -3,10 +3,11 @@ use Rattle.std.proofs.lemmas.Iterator.Adapters.{YieldsList-from_vec}
 use Rattle.std.proofs.lemmas.Iterator.Consumers.{YieldsList-turn}
 use Rattle.std.proofs.lemmas.List.{length_push}
 use Rattle.std.proofs.lemmas.List.Sums.{sum_by-drop_more}
+use Rattle.tr_widget.specs.declared.WidgetCmd.{WidgetCmd}
 use Rattle.tr_journal.specs.declared.Item.{Item}
 use Rattle.tr_journal.specs.Openings.{tree_of}
 use Rattle.tr_widget.specs.Widgets.{widget_words}
-use Rattle.tr_grammar.specs.States.{Part}
+use Rattle.tr_journal.specs.Parts.{Part}
 use Rattle.tr_grammar.specs.Scripts.{IsPlayablePart}
 use Rattle.tr_serial.specs.Outputs.{cues}
 use Rattle.tr_serial.specs.Screens.{report_count}
@@ -15,11 +16,11 @@ use Rattle.tr_serial.proofs.StreamLemmas.{mirrors_more}
 use Rattle.tr_serial.proofs.mirrors.mirror_parts.Goals as goal
 
 -- the reports of the parts to come are those of the next one, and of those behind it
-reports_next : (parts : List Part) (k : ℕ) (part : Part) → k < length parts → part ≡ get_or parts k part →
+reports_next : (parts : List (Part WidgetCmd)) (k : ℕ) (part : Part WidgetCmd) → k < length parts → part ≡ get_or parts k part →
     report_count (drop k parts) ≡ length part.reports + report_count (drop (k + 1) parts)
 reports_next parts k part within is =
-    sum_by-drop_more (λ (p : Part). length p.reports) parts k part within
-    ∙ ap (λ (p : Part). length p.reports + report_count (drop (k + 1) parts)) (sym is)
+    sum_by-drop_more (λ (p : Part WidgetCmd). length p.reports) parts k part within
+    ∙ ap (λ (p : Part WidgetCmd). length p.reports + report_count (drop (k + 1) parts)) (sym is)
 
 pub mirror_part-requires-clause-playable : goal.mirror_part-requires-clause-playable
 mirror_part-requires-clause-playable g c = λ κs lives.
@@ -28,7 +29,7 @@ mirror_part-requires-clause-playable g c = λ κs lives.
     let turn = YieldsList-turn items c.loop-part.yielded c.loop-part.part-iterator c.loop-part.yielded_by c.next.result c.next.new.self
     c.in-Some.part c.in-Some.is c.next.ensures.steps in
     subst (λ (opened : List (Item _)). IsPlayablePart (tree_of opened).nodes c.in-Some.part) (sym c.loop-part.invariant.mirrors.did.opening)
-    (subst (λ (p : Part). IsPlayablePart (tree_of c.args.run.now.stage.opening).nodes p) (sym turn.1)
+    (subst (λ (p : Part WidgetCmd). IsPlayablePart (tree_of c.args.run.now.stage.opening).nodes p) (sym turn.1)
     (c.requires.playable (length c.loop-part.yielded) c.in-Some.part turn.0))
 
 pub mirror_part-requires-clause-few : goal.mirror_part-requires-clause-few

@@ -2,10 +2,11 @@ use Rattle.std.proofs.Common.{◌+◌, List, ◌++◌, length, take, sym, ap, su
 use Rattle.std.proofs.lemmas.Iterator.Adapters.{YieldsList-from_vec}
 use Rattle.std.proofs.lemmas.Iterator.Consumers.{YieldsList-turn}
 use Rattle.std.proofs.lemmas.List.{length_push}
+use Rattle.tr_widget.specs.declared.WidgetCmd.{WidgetCmd}
 use Rattle.tr_journal.specs.declared.Item.{Item}
 use Rattle.tr_journal.specs.Openings.{tree_of}
 use Rattle.tr_widget.specs.Widgets.{widget_words}
-use Rattle.tr_grammar.specs.States.{Part}
+use Rattle.tr_journal.specs.Parts.{Part}
 use Rattle.tr_grammar.specs.Scripts.{IsPlayablePart}
 use Rattle.tr_serial.specs.Outputs.{cues}
 use Rattle.tr_serial.proofs.CueLemmas.{cues_next, cues_of, goes_on, is_later_next}
@@ -18,7 +19,7 @@ play_part-requires-clause-playable g c = λ κs lives.
     let turn = YieldsList-turn items c.loop-part.yielded c.loop-part.part-iterator c.loop-part.yielded_by c.next.result c.next.new.self
     c.in-Some.part c.in-Some.is c.next.ensures.steps in
     subst (λ (opened : List (Item _)). IsPlayablePart (tree_of opened).nodes c.in-Some.part) (sym c.loop-part.invariant.did.opening)
-    (subst (λ (p : Part). IsPlayablePart (tree_of c.args.run.now.stage.opening).nodes p) (sym turn.1)
+    (subst (λ (p : Part WidgetCmd). IsPlayablePart (tree_of c.args.run.now.stage.opening).nodes p) (sym turn.1)
     (c.requires.playable (length c.loop-part.yielded) c.in-Some.part turn.0))
 
 pub loop-part-preserved : goal.loop-part-preserved

@@ -2,7 +2,7 @@ use Rattle.std.proofs.Common.{◌≡◌, Bool, true, false, Ok, length, refl, su
 use Rattle.std.proofs.lemmas.Grind.{common_steps}
 use Rattle.tr_session.specs.Calls.{change_of_sink, change_of_source}
 use Rattle.tr_session.specs.Insides.{session_view}
-use Rattle.tr_session.specs.Turns.{Serving, Turns}
+use Rattle.tr_session.specs.Turns.{Serving, TakesOneTurn}
 use Rattle.tr_session.proofs.ServedLemmas.{ends_after, ends_late, ends_with, goes_on, none_fails, starts, stops_with}
 use Rattle.tr_session.proofs.serving.take_turns.Goals as goal
 
@@ -33,7 +33,7 @@ loop-turns-preserved g c =
     let b : Serving = record { session = session_view c.turn.new.session; arrivals = c.turn.new.arrivals; waiting = c.turn.new.waiting.items } in
     let counted = c.loop-turns.invariant.0 in
     let on : c.in-Ok.goes_on ≡ true = first_of (search rules, grind (arith, common_steps)) in
-    let turned = subst (λ (goes : Bool). Turns a next_from (Ok goes) next b) on c.in-Ok.ensures.turned in
+    let turned = subst (λ (goes : Bool). TakesOneTurn a next_from (Ok goes) next b) on c.in-Ok.ensures.turned in
     (goes_on from next_from to next a b c.loop-turns.turns counted refl refl turned, c.in-Ok.ensures.holds, c.in-Ok.ensures.room, omega arith, omega arith)
 
 pub returns-then-not-goes_on-clause-served : goal.returns-then-not-goes_on-clause-served
@@ -46,7 +46,7 @@ returns-then-not-goes_on-clause-served g c =
     let b : Serving = record { session = session_view c.turn.new.session; arrivals = c.turn.new.arrivals; waiting = c.turn.new.waiting.items } in
     let counted = c.loop-turns.invariant.0 in
     let off : c.in-Ok.goes_on ≡ false = first_of (search rules, grind (arith, common_steps)) in
-    let turned = subst (λ (goes : Bool). Turns a next_from (Ok goes) next b) off c.in-Ok.ensures.turned in
+    let turned = subst (λ (goes : Bool). TakesOneTurn a next_from (Ok goes) next b) off c.in-Ok.ensures.turned in
     let ending = ends_with from next_from to next a b c.loop-turns.turns counted refl refl turned in
     ends_after (change_of_source g.S.Source c.args.source.now c.turn.new.source) (change_of_sink g.K.Sink c.args.sink.now c.turn.new.sink)
     (change_of_sink g.K.Sink c.turn.new.sink c.write_waiting.new.sink) b c.write_waiting.result ending refl c.write_waiting.ensures.memory

@@ -1,7 +1,7 @@
 use Rattle.std.proofs.Common.{◌≤◌}
 use Rattle.tr_session.specs.Calls.{change_of_sink, change_of_source}
-use Rattle.tr_session.specs.Insides.{HoldsTogether, session_view}
-use Rattle.tr_session.specs.Turns.{HasRoom}
+use Rattle.tr_session.specs.Insides.{PartsAgree, session_view}
+use Rattle.tr_session.specs.Turns.{HasRoomForAnswers}
 use Rattle.tr_session.proofs.ServedLemmas.{IsCounted}
 use Rattle.tr_session.proofs.serving.take_turns.Given as goal
 
@@ -10,7 +10,7 @@ abbrev pub invariant-loop-turns : goal.invariant-loop-turns
 invariant-loop-turns g l =
     IsCounted (change_of_source g.S.Source l.fn.source l.source) (change_of_sink g.K.Sink l.fn.sink l.sink)
     (record { session = session_view l.session; arrivals = l.arrivals; waiting = l.waiting.items }) l.turns
-    × HoldsTogether l.session
-    × HasRoom l.waiting (g.K.Sink.room l.sink)
+    × PartsAgree l.session
+    × HasRoomForAnswers l.waiting (g.K.Sink.room l.sink)
     × (g.S.Source.faults l.fn.source ≤ g.S.Source.faults l.source)
     × (g.K.Sink.faults l.fn.sink ≤ g.K.Sink.faults l.sink)

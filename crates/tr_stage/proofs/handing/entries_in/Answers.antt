@@ -2,7 +2,7 @@ use Rattle.std.proofs.Common.{◌≡◌, ◌<◌, ◌+◌, ◌∷◌, [], ◌++�
 use Rattle.std.proofs.lemmas.Iterator.Adapters.{YieldsList-from_vec}
 use Rattle.std.proofs.lemmas.Iterator.Consumers.{YieldsList-turn}
 use Rattle.std.proofs.lemmas.List.{length_push}
-use Rattle.tr_machine.specs.Handing.{act_entries}
+use Rattle.tr_machine.specs.CommandSteps.{act_entries}
 use Rattle.tr_stage.proofs.HandingLemmas.{entries_pushed}
 use Rattle.tr_stage.proofs.handing.entries_in.Goals as goal
 

@@ -1,6 +1,6 @@
 use Rattle.std.proofs.Common.{◌≡◌, ◌≤◌, length, take}
 use Rattle.std.specs.Prelude.{vec_capacity}
-use Rattle.tr_machine.specs.Handing.{act_entries}
+use Rattle.tr_machine.specs.CommandSteps.{act_entries}
 use Rattle.tr_stage.proofs.handing.entries_in.Given as goal
 
 abbrev pub invariant-loop-cmd : goal.invariant-loop-cmd

@@ -1,7 +1,7 @@
 use Rattle.std.proofs.Common.{[], ◌∷◌, ◌++◌, sym, ap, ap₂, ◌∙◌}
 use Rattle.tr_levels.specs.declared.Level.TheVariants.{Win}
 use Rattle.tr_journal.specs.declared.steps.Step.TheVariants.{Act}
-use Rattle.tr_machine.specs.Handing.{act_entry}
+use Rattle.tr_machine.specs.CommandSteps.{act_entry}
 use Rattle.tr_stage.proofs.HandingLemmas.{entries_more}
 use Rattle.tr_stage.proofs.handing.entries_of.Goals as goal
 

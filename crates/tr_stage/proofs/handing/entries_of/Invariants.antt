@@ -1,5 +1,5 @@
 use Rattle.std.proofs.Common.{◌≡◌, take}
-use Rattle.tr_machine.specs.Handing.{act_entries}
+use Rattle.tr_machine.specs.CommandSteps.{act_entries}
 use Rattle.tr_stage.proofs.handing.entries_of.Given as goal
 
 abbrev pub invariant-loop-k : goal.invariant-loop-k

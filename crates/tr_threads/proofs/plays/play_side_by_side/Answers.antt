@@ -3,7 +3,8 @@ use Rattle.std.specs.Prelude.{All}
 use Rattle.tr_journal.specs.declared.items.Item.{Item}
 use Rattle.tr_journal.specs.Openings.{tree_of}
 use Rattle.tr_widget.specs.declared.Widget.{Widget}
-use Rattle.tr_grammar.specs.States.{Part}
+use Rattle.tr_widget.specs.declared.WidgetCmd.{WidgetCmd}
+use Rattle.tr_journal.specs.Parts.{Part}
 use Rattle.tr_grammar.specs.Scripts.{IsPlayablePart, Script}
 use Rattle.tr_threads.proofs.ThreadLemmas.{played_by}
 use Rattle.tr_threads.proofs.plays.play_side_by_side.Goals as goal
@@ -14,7 +15,7 @@ play-requires-clause-playable g c κs within =
     let opens : c.in-Ok-start.run'.stage.opening ≡ s.opening =
     cc (c.in-Ok-start.ensures.opening, c.in-Ok.ensures, ap (λ (x : Script). x.opening) c.script.view_is) in
     let parts : c.deref.result.now ≡ s.parts = cc (c.deref.ensures.value, ap (λ (x : Script). x.parts) c.script.view_is) in
-    subst (λ (ps : List Part). All (IsPlayablePart (tree_of c.in-Ok-start.run'.stage.opening).nodes) ps) (sym parts)
+    subst (λ (ps : List (Part WidgetCmd)). All (IsPlayablePart (tree_of c.in-Ok-start.run'.stage.opening).nodes) ps) (sym parts)
     (subst (λ (items : List (Item Widget)). All (IsPlayablePart (tree_of items).nodes) s.parts) (sym opens) c.requires.playable.parts)
 
 pub returns-clause-ok : goal.returns-clause-ok

@@ -1,10 +1,10 @@
 use Rattle.std.proofs.Common.{[], ◌∷◌, ◌++◌, ap, ◌∙◌, inl, inr, refl}
+use Rattle.tr_base.proofs.ResultFacts.{on_err}
 use Rattle.tr_levels.specs.declared.Level.TheVariants.{Mu}
 use Rattle.tr_journal.specs.declared.steps.Actor.TheVariants.{Player}
 use Rattle.tr_journal.specs.declared.steps.Step.TheVariants.{Report}
 use Rattle.tr_machine.specs.Replays.{line_of_step}
 use Rattle.tr_stage.specs.Stages.{StageView, state}
-use Rattle.tr_stage.proofs.SettleLemmas.{on_err}
 use Rattle.tr_run.proofs.RunLemmas.{made_adds}
 use Rattle.tr_run.proofs.runs.Run.answer.Goals as goal
 

@@ -1,5 +1,5 @@
-use Rattle.tr_stage.proofs.SettleLemmas.{on_err}
 use Rattle.tr_run.proofs.RunLemmas.{dumps, dumps_some, settles_some}
+use Rattle.tr_base.proofs.ResultFacts.{on_err}
 use Rattle.tr_run.proofs.runs.Run.dump.Goals as goal
 
 pub returns-clause-ok : goal.returns-clause-ok

@@ -1,5 +1,5 @@
 use Rattle.std.proofs.Common.{◌&&◌, not, sym, ap, subst, ◌∙◌, inl}
-use Rattle.tr_stage.proofs.SettleLemmas.{on_err}
+use Rattle.tr_base.proofs.ResultFacts.{on_err}
 use Rattle.tr_run.specs.Texts.{is_check}
 use Rattle.tr_stage.specs.Stages.{is_note}
 use Rattle.tr_run.specs.Views.{RunView}

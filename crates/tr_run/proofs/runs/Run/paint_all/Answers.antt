@@ -2,9 +2,9 @@ use Rattle.std.proofs.Common.{ap, ◌∙◌, length}
 use Rattle.std.proofs.lemmas.Iterator.Adapters.{YieldsList-from_vec}
 use Rattle.std.proofs.lemmas.Iterator.Consumers.{YieldsList-turn}
 use Rattle.std.proofs.lemmas.List.{length_push}
+use Rattle.tr_base.proofs.ResultFacts.{on_err}
 use Rattle.tr_journal.specs.Openings.{tree_of}
 use Rattle.tr_journal.specs.Steps.{stated}
-use Rattle.tr_stage.proofs.SettleLemmas.{on_err}
 use Rattle.tr_run.proofs.LineLemmas.{under_lock}
 use Rattle.tr_run.proofs.RunLemmas.{paints_more, paints_some}
 use Rattle.tr_run.proofs.runs.Run.paint_all.Goals as goal

@@ -1,11 +1,12 @@
 use Rattle.std.proofs.Common.{◌≡◌, [], ◌∷◌, ◌++◌, ap, subst, ◌∙◌}
+use Rattle.tr_base.proofs.ResultFacts.{on_err}
 use Rattle.tr_levels.specs.declared.Level.TheVariants.{Mu}
 use Rattle.tr_journal.specs.declared.steps.Actor.TheVariants.{Painter}
 use Rattle.tr_machine.specs.Replays.{lines_of_steps}
-use Rattle.tr_machine.specs.Settling.{settling, settling_lines}
+use Rattle.tr_machine.specs.SettleSteps.{settling, settling_lines}
 use Rattle.tr_stage.specs.Stages.{state}
 use Rattle.tr_stage.specs.Standings.{Stands}
-use Rattle.tr_stage.proofs.SettleLemmas.{on_err, settled_is, settled_screen}
+use Rattle.tr_stage.proofs.SettleLemmas.{settled_is, settled_screen}
 use Rattle.tr_run.specs.Views.{AddsSome, RunView}
 use Rattle.tr_run.proofs.RunLemmas.{some-more, some-none}
 use Rattle.tr_run.proofs.runs.Run.settle.Goals as goal

@@ -1,10 +1,10 @@
 use Rattle.std.proofs.Common.{[], ◌∷◌, ap, subst, refl, ◌∙◌}
 use Rattle.std.specs.Prelude.{OnErr, OnOk}
+use Rattle.tr_base.proofs.ResultFacts.{on_err}
 use Rattle.tr_levels.specs.declared.Level.TheVariants.{Mu}
 use Rattle.tr_machine.specs.Replays.{under}
-use Rattle.tr_machine.specs.Sharing.{flushing}
+use Rattle.tr_machine.specs.SharedRepaints.{flushing}
 use Rattle.tr_stage.specs.Stages.{state}
-use Rattle.tr_stage.proofs.SettleLemmas.{on_err}
 use Rattle.tr_server.specs.Shares.{HasBegun, HasMade}
 use Rattle.tr_server.proofs.MadeLemmas.{begun_none}
 use Rattle.tr_server.proofs.locked.Locked.flush_all.Goals as goal

@@ -4,13 +4,13 @@ use Rattle.std.proofs.lemmas.Iterator.Adapters.{YieldsList-from_vec}
 use Rattle.std.proofs.lemmas.Iterator.Consumers.{YieldsList-end, YieldsList-turn}
 use Rattle.std.proofs.lemmas.List.{length_push, take_all}
 use Rattle.std.proofs.lemmas.List.Elements.{All-get_or}
+use Rattle.tr_base.proofs.ResultFacts.{on_err}
 use Rattle.tr_forest.specs.Nodes.{Nodes}
 use Rattle.tr_levels.specs.declared.Level.TheVariants.{Mu}
 use Rattle.tr_journal.specs.declared.steps.Step.{Step}
 use Rattle.tr_journal.specs.Openings.{tree_of}
 use Rattle.tr_machine.specs.Replays.{under}
 use Rattle.tr_stage.specs.Stages.{IsPainters, line}
-use Rattle.tr_stage.proofs.SettleLemmas.{on_err}
 use Rattle.tr_server.specs.Shares.{HasMade}
 use Rattle.tr_server.proofs.MadeLemmas.{made_more, made_one, made_same, under_length}
 use Rattle.tr_server.proofs.ShareLemmas.{map_at}

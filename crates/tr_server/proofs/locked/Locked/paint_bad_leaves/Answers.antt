@@ -1,6 +1,6 @@
 use Rattle.std.proofs.Common.{ap, length, map, subst, ◌∙◌}
 use Rattle.std.proofs.lemmas.Result.{IfOk-weaker}
-use Rattle.tr_machine.specs.Sharing.{all_bad_leaves}
+use Rattle.tr_machine.specs.SharedRepaints.{all_bad_leaves}
 use Rattle.tr_stage.specs.Stages.{state}
 use Rattle.tr_server.specs.Shares.{ArePaintedShares, share_of}
 use Rattle.tr_server.proofs.ShareLemmas.{painted_all, ready_bad}

@@ -1,5 +1,5 @@
 use Rattle.std.proofs.Common.{refl}
-use Rattle.tr_stage.proofs.SettleLemmas.{on_err}
+use Rattle.tr_base.proofs.ResultFacts.{on_err}
 use Rattle.tr_server.proofs.MadeLemmas.{begun_none}
 use Rattle.tr_server.proofs.locked.Locked.paint_shares.Goals as goal
 

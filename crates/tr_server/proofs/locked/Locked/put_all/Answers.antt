@@ -2,12 +2,12 @@ use Rattle.std.proofs.Common.{[], ◌∷◌, length, ap, subst, ◌∙◌, arith
 use Rattle.std.proofs.lemmas.Iterator.Adapters.{YieldsList-from_vec}
 use Rattle.std.proofs.lemmas.Iterator.Consumers.{YieldsList-end, YieldsList-turn}
 use Rattle.std.proofs.lemmas.List.{length_push, take_all}
+use Rattle.tr_base.proofs.ResultFacts.{on_err}
 use Rattle.tr_levels.specs.declared.Level.TheVariants.{Share}
 use Rattle.tr_journal.specs.declared.steps.Step.TheVariants.{Repaint}
-use Rattle.tr_machine.specs.Sharing.{all_bad_leaves, at_shares}
-use Rattle.tr_machine.proofs.SharingLemmas.{bad_apart}
+use Rattle.tr_machine.specs.SharedRepaints.{all_bad_leaves, at_shares}
+use Rattle.tr_machine.proofs.SharedRepaintLemmas.{bad_apart}
 use Rattle.tr_stage.specs.Stages.{state}
-use Rattle.tr_stage.proofs.SettleLemmas.{on_err}
 use Rattle.tr_stage.proofs.SharedLemmas.{painted_at, painted_length, put_idle, put_ready, put_within}
 use Rattle.tr_server.specs.Shares.{HasMade}
 use Rattle.tr_server.proofs.MadeLemmas.{made_more, made_one, made_same, shares_length}

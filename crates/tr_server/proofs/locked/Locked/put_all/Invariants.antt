@@ -1,5 +1,5 @@
 use Rattle.std.proofs.Common.{◌≡◌, length, take}
-use Rattle.tr_machine.specs.Sharing.{all_bad_leaves, at_shares}
+use Rattle.tr_machine.specs.SharedRepaints.{all_bad_leaves, at_shares}
 use Rattle.tr_stage.specs.Stages.{state}
 use Rattle.tr_server.specs.Shares.{HasMade}
 use Rattle.tr_server.proofs.locked.Locked.put_all.Given as goal

@@ -1,9 +1,9 @@
 use Rattle.std.proofs.Common.{◌∷◌, [], ◌∙◌}
+use Rattle.tr_base.proofs.ResultFacts.{on_err}
 use Rattle.tr_levels.specs.declared.Level.TheVariants.{Mu}
 use Rattle.tr_machine.specs.Replays.{under}
-use Rattle.tr_machine.specs.Sharing.{flushing}
+use Rattle.tr_machine.specs.SharedRepaints.{flushing}
 use Rattle.tr_stage.specs.Stages.{state}
-use Rattle.tr_stage.proofs.SettleLemmas.{on_err}
 use Rattle.tr_stage.proofs.SharedLemmas.{AreShared, shared_good, shared_idle, shared_screen}
 use Rattle.tr_server.proofs.MadeLemmas.{begun_more, made_actor}
 use Rattle.tr_server.proofs.ShareLemmas.{are_shared, begun_frames, begun_shares, flushed_none, made_sharing}

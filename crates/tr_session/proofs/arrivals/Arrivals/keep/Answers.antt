@@ -1,7 +1,7 @@
 use Rattle.std.proofs.Common.{◌≡◌, ◌-◌, ◌≤◌, ◌++◌, length, min, take, drop, sym, ap, subst, ◌∙◌, rules, arith}
 use Rattle.std.specs.Prelude.{slice_range}
 use Rattle.std.proofs.lemmas.Grind.{common_steps}
-use Rattle.tr_session.specs.Arrivals.{ArrivalsView, front_of}
+use Rattle.tr_session.specs.Arrivals.{ArrivalsView, first_bytes}
 use Rattle.tr_session.proofs.ArrivalLemmas.{front_kept, range_behind, range_within}
 use Rattle.tr_session.proofs.arrivals.Arrivals.keep.Goals as goal
 
@@ -14,7 +14,7 @@ returns-clause-begun c =
     let added : c.extend_from_slice.new.self.items ≡ i.line.items ++ take c.min-kept.result rest = first_of (search rules, grind (arith, common_steps)) in
     added
     ∙ front_kept i.line.items rest c.args.count c.min-kept.result few is
-    ∙ ap (λ (v : ArrivalsView). front_of (v.begun ++ take c.args.count v.rest)) c.self.view_is
+    ∙ ap (λ (v : ArrivalsView). first_bytes (v.begun ++ take c.args.count v.rest)) c.self.view_is
 
 pub returns-clause-rest : goal.returns-clause-rest
 returns-clause-rest c =

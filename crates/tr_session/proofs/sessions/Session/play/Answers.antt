@@ -3,10 +3,10 @@ use Rattle.tr_session.specs.declared.scripts.Script.{Script}
 use Rattle.tr_session.specs.declared.sessions.Session.{Session}
 use Rattle.tr_session.specs.declared.errors.Unanswered.{Unanswered}
 use Rattle.tr_session.specs.declared.sorts.LineSort.{LineSort}
-use Rattle.tr_session.specs.Answering.{Tells, behind_sort, sort_ends_steps, is_end, sort_of, tried_by}
+use Rattle.tr_session.specs.Answering.{Tells, behind_sort, sort_ends_steps, is_end, meaning_sort, tried_by}
 use Rattle.tr_session.specs.Insides.{session_view}
 use Rattle.tr_session.specs.Lines.{sync_lines}
-use Rattle.tr_session.specs.Playing.{Follows, PlayedView}
+use Rattle.tr_session.specs.Playing.{FollowsLine, PlayedView}
 use Rattle.tr_session.proofs.PlayedLemmas.{PlaysLine, err_holds, err_takes, played_holds, played_takes, stages, tells_err, untold_takes}
 use Rattle.tr_session.proofs.TakenLemmas.{plain_if_taken}
 use Rattle.tr_session.proofs.sessions.Session.play.Goals as goal
@@ -24,7 +24,7 @@ returns-in-Ok-tell c =
     let n : Session = c.follow-result.new.self in
     let outcome = n.outcome.items in
     let j : Session = record { alloc = n.alloc; arena = n.arena; script = c.keep.new.self; played = n.played; cuts = n.cuts; outcome = n.outcome } in
-    let R : PlayedView → PlayedView → Type 0 = λ p q. Follows p q said c.needs_sync-needs_sync.result f [] outcome in
+    let R : PlayedView → PlayedView → Type 0 = λ p q. FollowsLine p q said c.needs_sync-needs_sync.result f [] outcome in
     let st = stages i.played n.played R c.follow-result.ensures.followed in
     let needs = c.needs_sync-needs_sync.ensures ∙ ap (λ (t : LineSort). i.script.is_behind_step && sort_ends_steps t) c.sort_of-sort.ensures in
     let plays : PlaysLine i j line said st.p st.q f outcome = record {
@@ -34,7 +34,7 @@ returns-in-Ok-tell c =
       means = c.in_ok-said.ensures.meaning;
       was = st.was;
       now = st.now;
-      follows = subst (λ (b : Bool). Follows st.p st.q said b f [] outcome) needs st.rel;
+      follows = subst (λ (b : Bool). FollowsLine st.p st.q said b f [] outcome) needs st.rel;
       reader = c.keep.ensures.reader ∙ c.keep_sync.ensures.reader ∙ ap (λ (s : Script). s.reader) c.follow-result.ensures.script;
       cuts = c.follow-result.ensures.cuts;
     } in
@@ -47,9 +47,9 @@ returns-in-Ok-tell c =
     let synced_ended = c.keep_sync.ensures.ended ∙ ap (λ (s : Script). s.has_ended) c.follow-result.ensures.script in
     let lines = c.keep.ensures.lines ∙ ap (λ (ls : List (List ℕ)). ls ++ line ∷ []) synced_lines in
     let behind = c.keep.ensures.behind ∙ ap (λ (t : LineSort). behind_sort t c.keep_sync.new.self.is_behind_step) c.sort_of-sort.ensures
-    ∙ ap (λ (b : Bool). behind_sort (sort_of said) b) synced_behind in
+    ∙ ap (λ (b : Bool). behind_sort (meaning_sort said) b) synced_behind in
     let ended = c.keep.ensures.ended ∙ ap (λ (t : LineSort). c.keep_sync.new.self.has_ended || is_end t) c.sort_of-sort.ensures
-    ∙ ap (λ (b : Bool). b || is_end (sort_of said)) synced_ended in
+    ∙ ap (λ (b : Bool). b || is_end (meaning_sort said)) synced_ended in
     let tells = subst (λ (t : LineSort). Tells t outcome f.text c.tell.new.reply (Ok tt)) c.sort_of-sort.ensures
     (subst (λ (o : List ℕ). Tells c.sort_of-sort.result o f.text c.tell.new.reply (Ok tt)) c.deref.ensures.value c.in-Ok-tell.ensures) in
     record {
@@ -67,7 +67,7 @@ returns-in-Err-tell-clause-takes c =
     let n : Session = c.follow-result.new.self in
     let outcome = n.outcome.items in
     let j : Session = record { alloc = n.alloc; arena = n.arena; script = n.script; played = n.played; cuts = n.cuts; outcome = n.outcome } in
-    let R : PlayedView → PlayedView → Type 0 = λ p q. Follows p q said c.needs_sync-needs_sync.result f [] outcome in
+    let R : PlayedView → PlayedView → Type 0 = λ p q. FollowsLine p q said c.needs_sync-needs_sync.result f [] outcome in
     let st = stages i.played n.played R c.follow-result.ensures.followed in
     let needs = c.needs_sync-needs_sync.ensures ∙ ap (λ (t : LineSort). i.script.is_behind_step && sort_ends_steps t) c.sort_of-sort.ensures in
     let plays : PlaysLine i j line said st.p st.q f outcome = record {
@@ -77,7 +77,7 @@ returns-in-Err-tell-clause-takes c =
       means = c.in_ok-said.ensures.meaning;
       was = st.was;
       now = st.now;
-      follows = subst (λ (b : Bool). Follows st.p st.q said b f [] outcome) needs st.rel;
+      follows = subst (λ (b : Bool). FollowsLine st.p st.q said b f [] outcome) needs st.rel;
       reader = ap (λ (s : Script). s.reader) c.follow-result.ensures.script;
       cuts = c.follow-result.ensures.cuts;
     } in
@@ -100,7 +100,7 @@ returns-in-Err c =
     let n : Session = c.follow-result.new.self in
     let outcome = n.outcome.items in
     let j : Session = record { alloc = n.alloc; arena = n.arena; script = n.script; played = n.played; cuts = n.cuts; outcome = n.outcome } in
-    let R : PlayedView → PlayedView → Type 0 = λ p q. Follows p q said c.needs_sync-needs_sync.result f [] outcome in
+    let R : PlayedView → PlayedView → Type 0 = λ p q. FollowsLine p q said c.needs_sync-needs_sync.result f [] outcome in
     let st = stages i.played n.played R c.follow-result.ensures.followed in
     let needs = c.needs_sync-needs_sync.ensures ∙ ap (λ (t : LineSort). i.script.is_behind_step && sort_ends_steps t) c.sort_of-sort.ensures in
     let plays : PlaysLine i j line said st.p st.q f outcome = record {
@@ -110,7 +110,7 @@ returns-in-Err c =
       means = c.in_ok-said.ensures.meaning;
       was = st.was;
       now = st.now;
-      follows = subst (λ (b : Bool). Follows st.p st.q said b f [] outcome) needs st.rel;
+      follows = subst (λ (b : Bool). FollowsLine st.p st.q said b f [] outcome) needs st.rel;
       reader = ap (λ (s : Script). s.reader) c.follow-result.ensures.script;
       cuts = c.follow-result.ensures.cuts;
     } in

@@ -1,4 +1,4 @@
-use Rattle.tr_machine.specs.Sharing.{bad_leaves}
+use Rattle.tr_machine.specs.SharedRepaints.{bad_leaves}
 use Rattle.tr_stage.specs.Sharing.{ArePainted}
 use Rattle.tr_stage.specs.Stages.{state}
 use Rattle.tr_stage.proofs.stages.Stage.add_each_bad.Given as goal

@@ -1,5 +1,5 @@
 use Rattle.std.proofs.Common.{◌≡◌, subst}
-use Rattle.tr_machine.specs.Sharing as spec
+use Rattle.tr_machine.specs.SharedRepaints as spec
 use Rattle.tr_stage.specs.Stages.{state}
 use Rattle.tr_stage.proofs.SettleLemmas.{bad_visible}
 use Rattle.tr_stage.proofs.stages.Stage.has_bad.Goals as goal

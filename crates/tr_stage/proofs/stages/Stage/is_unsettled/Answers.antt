@@ -1,5 +1,5 @@
 use Rattle.std.proofs.Common.{◌≡◌, subst, true, arith}
-use Rattle.tr_machine.specs.Settling.{is_unsettled}
+use Rattle.tr_machine.specs.SettleSteps.{is_unsettled}
 use Rattle.tr_stage.specs.Stages.{state}
 use Rattle.tr_stage.proofs.SettleLemmas.{bad_visible, empty_batch, some_batch, unsettled_quiet, unsettled_waits, windows_of}
 use Rattle.tr_stage.proofs.stages.Stage.is_unsettled.Goals as goal

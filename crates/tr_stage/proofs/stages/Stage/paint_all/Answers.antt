@@ -4,13 +4,14 @@ use Rattle.std.proofs.lemmas.Iterator.Adapters.{YieldsList-from_vec}
 use Rattle.std.proofs.lemmas.Iterator.Consumers.{YieldsList-turn}
 use Rattle.std.proofs.lemmas.List.{append-nil, length_push}
 use Rattle.std.proofs.lemmas.List.Elements.{All-get_or}
+use Rattle.tr_base.proofs.ResultFacts.{on_err}
 use Rattle.tr_forest.specs.Nodes.{Nodes}
 use Rattle.tr_levels.specs.declared.Level.TheVariants.{Mu}
 use Rattle.tr_journal.specs.declared.steps.Actor.TheVariants.{Painter}
 use Rattle.tr_journal.specs.declared.steps.Step.{Step}
 use Rattle.tr_journal.specs.Openings.{tree_of}
 use Rattle.tr_stage.specs.Stages.{IsPainters, state}
-use Rattle.tr_stage.proofs.SettleLemmas.{lines_first, on_err, painted_more}
+use Rattle.tr_stage.proofs.SettleLemmas.{lines_first, painted_more}
 use Rattle.tr_stage.proofs.stages.Stage.paint_all.Goals as goal
 
 -- each of the painter's steps is one of them

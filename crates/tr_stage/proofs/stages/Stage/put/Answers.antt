@@ -7,7 +7,7 @@ use Rattle.tr_machine.specs.Replays.{replay}
 use Rattle.tr_journal.specs.declared.steps.Step.TheVariants.{Repaint}
 use Rattle.tr_machine.specs.States.{leaf_batch}
 use Rattle.tr_stage.specs.Stages.{Parts, StageView, state}
-use Rattle.tr_machine.specs.Sharing.{IsPaintedOf}
+use Rattle.tr_machine.specs.SharedRepaints.{IsPaintedOf}
 use Rattle.tr_stage.proofs.DeviceLemmas.{Before, IsMaking}
 use Rattle.tr_stage.proofs.PaintLemmas.{leaf_within}
 use Rattle.tr_stage.proofs.SharingLemmas.{part_visible, put_made}

@@ -1,7 +1,7 @@
 use Rattle.std.proofs.Common.{◌≡◌, length, sym, ◌∙◌, arith}
 use Rattle.tr_stage.specs.Stages.{state}
 use Rattle.tr_stage.proofs.SettleLemmas.{windows_of}
-use Rattle.tr_machine.proofs.SharingLemmas.{flush_less, flush_more}
+use Rattle.tr_machine.proofs.SharedRepaintLemmas.{flush_less, flush_more}
 use Rattle.tr_stage.proofs.SharedLemmas.{flushes_done, flushing_painters}
 use Rattle.tr_stage.proofs.stages.Stage.steps_to_flush.Goals.{then-waits+in_ok-push, else-waits}
 use Rattle.tr_stage.proofs.stages.Stage.steps_to_flush.Goals as goal

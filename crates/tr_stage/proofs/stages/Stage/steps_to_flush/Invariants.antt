@@ -1,5 +1,5 @@
 use Rattle.std.proofs.Common.{◌≡◌}
-use Rattle.tr_machine.specs.Sharing.{flushes_below}
+use Rattle.tr_machine.specs.SharedRepaints.{flushes_below}
 use Rattle.tr_stage.specs.Stages.{state}
 use Rattle.tr_stage.proofs.stages.Stage.steps_to_flush.Given as goal
 

@@ -1,8 +1,8 @@
 use Rattle.std.proofs.Common.{◌≡◌, subst, sym, ◌∙◌}
-use Rattle.tr_machine.specs.Settling.{is_frame_bad}
+use Rattle.tr_machine.specs.SettleSteps.{is_frame_bad}
 use Rattle.tr_stage.specs.Stages.{state}
 use Rattle.tr_stage.proofs.SettleLemmas.{frame_bad}
-use Rattle.tr_machine.proofs.SharingLemmas.{frame_more, frame_less}
+use Rattle.tr_machine.proofs.SharedRepaintLemmas.{frame_more, frame_less}
 use Rattle.tr_stage.proofs.stages.Stage.steps_to_frame.Goals.{then-branch+in_ok-push, else-branch}
 use Rattle.tr_stage.proofs.stages.Stage.steps_to_frame.Goals as goal
 

@@ -1,5 +1,5 @@
 use Rattle.std.proofs.Common.{◌≡◌, length, subst, sym, ◌∙◌, arith}
-use Rattle.tr_machine.specs.Settling.{is_frame_bad, settling}
+use Rattle.tr_machine.specs.SettleSteps.{is_frame_bad, settling}
 use Rattle.tr_stage.specs.Stages.{state}
 use Rattle.tr_stage.proofs.SettleLemmas.{frame_bad, repaint_less, repaint_more, repaints_done, settling_framed, settling_painters, settling_unframed, windows_of}
 use Rattle.tr_stage.proofs.stages.Stage.steps_to_settle.Given.{Over}

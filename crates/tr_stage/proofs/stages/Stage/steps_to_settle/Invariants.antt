@@ -1,5 +1,5 @@
 use Rattle.std.proofs.Common.{◌≡◌}
-use Rattle.tr_machine.specs.Settling.{repaints_below}
+use Rattle.tr_machine.specs.SettleSteps.{repaints_below}
 use Rattle.tr_stage.specs.Stages.{state}
 use Rattle.tr_stage.proofs.stages.Stage.steps_to_settle.Given as goal
 

@@ -4,8 +4,8 @@ use Rattle.tr_spot.specs.Leaves.{leaf_size}
 use Rattle.tr_journal.specs.Openings.{tree_of}
 use Rattle.tr_journal.specs.Journals.{silent}
 use Rattle.tr_machine.specs.States.{leaf_batch, content_of}
-use Rattle.tr_machine.specs.Handing.{act_entries}
-use Rattle.tr_machine.proofs.HandingLemmas.{handed_lines}
+use Rattle.tr_machine.specs.CommandSteps.{act_entries}
+use Rattle.tr_machine.proofs.CommandStepLemmas.{handed_lines}
 use Rattle.tr_stage.specs.Stages.{StageView, state}
 use Rattle.tr_stage.proofs.PartLemmas.{batch_at_leaf, has_window}
 use Rattle.tr_stage.proofs.HandingLemmas.{entries_quiet, ready_at, takes_over}

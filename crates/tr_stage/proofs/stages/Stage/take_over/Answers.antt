@@ -6,8 +6,8 @@ use Rattle.tr_paint.specs.Traces.{look_of}
 use Rattle.tr_paint.specs.Patches.{IsPatch}
 use Rattle.tr_journal.specs.Journals.{silent}
 use Rattle.tr_machine.specs.States.{content_of}
-use Rattle.tr_machine.specs.Handing.{act_entries}
-use Rattle.tr_machine.proofs.HandingLemmas.{handed_lines}
+use Rattle.tr_machine.specs.CommandSteps.{act_entries}
+use Rattle.tr_machine.proofs.CommandStepLemmas.{handed_lines}
 use Rattle.tr_stage.specs.Stages.{StageView, state}
 use Rattle.tr_stage.proofs.PartLemmas.{has_window}
 use Rattle.tr_stage.proofs.HandingLemmas.{entries_quiet, ready_at, takes_over}

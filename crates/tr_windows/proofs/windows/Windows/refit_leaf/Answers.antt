@@ -2,7 +2,7 @@ use Rattle.std.proofs.Common.{◌≡◌, Bool, true, false, cond, List, [], refl
 use Rattle.tr_paint.specs.declared.Paint.{Paint}
 use Rattle.tr_mail.specs.Deliveries.{is_reshaped}
 use Rattle.tr_machine.proofs.ListLemmas.{unchanged}
-use Rattle.tr_windows.specs.Presents.{Present, batch_at, without_batch, refitted}
+use Rattle.tr_windows.specs.Presents.{Present, batch_at, without_batch, without_old_batch}
 use Rattle.tr_windows.proofs.ChangeLemmas.{unchanged_at}
 use Rattle.tr_windows.proofs.windows.Windows.refit_leaf.Goals as goal
 
@@ -14,10 +14,10 @@ idle false w none = refl
 pub returns-then-is_empty : goal.returns-then-is_empty
 returns-then-is_empty g c =
     let none : batch_at c.args.self.now c.args.leaf ≡ [] = sym c.batch.ensures ∙ c.is_empty.ensures.0 c.if-is_empty.true in
-    sym (unchanged_at (refitted c.args.was.now c.args.is.now c.args.leaf) c.args.self.now c.args.leaf.0
+    sym (unchanged_at (without_old_batch c.args.was.now c.args.is.now c.args.leaf) c.args.self.now c.args.leaf.0
     (λ w at. idle (is_reshaped c.args.was.now c.args.is.now c.args.leaf) w (rw at at none)))
 
 pub returns-else-is_reshaped : goal.returns-else-is_reshaped
 returns-else-is_reshaped g c =
     let same : is_reshaped c.args.was.now c.args.is.now c.args.leaf ≡ false = sym c.is_reshaped.ensures ∙ c.if-is_reshaped.false in
-    sym (unchanged (refitted c.args.was.now c.args.is.now c.args.leaf) c.args.self.now c.args.leaf.0 (λ w. rw same refl))
+    sym (unchanged (without_old_batch c.args.was.now c.args.is.now c.args.leaf) c.args.self.now c.args.leaf.0 (λ w. rw same refl))

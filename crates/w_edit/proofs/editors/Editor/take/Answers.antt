@@ -1,9 +1,9 @@
 use Rattle.std.proofs.Common.{List, [], length, take, ap, ◌∙◌}
 use Rattle.std.proofs.Math.Seq.{take-append_seam}
 use Rattle.tr_base.specs.declared.Kind.TheVariants.{Mono}
+use Rattle.tr_base.proofs.ResultFacts.{on_err}
 use Rattle.tr_paint.specs.declared.Paint.{Paint}
 use Rattle.tr_paint.specs.Traces.{look_of}
-use Rattle.w_edit.proofs.EditLemmas.{on_err}
 use Rattle.w_edit.proofs.editors.Editor.take.Goals as goal
 
 pub returns-clause-patch : goal.returns-clause-patch

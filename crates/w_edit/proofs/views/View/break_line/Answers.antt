@@ -1,4 +1,5 @@
-use Rattle.w_edit.proofs.EditLemmas.{front_stays, on_err}
+use Rattle.w_edit.proofs.EditLemmas.{front_stays}
+use Rattle.tr_base.proofs.ResultFacts.{on_err}
 use Rattle.w_edit.proofs.views.View.break_line.Goals as goal
 
 pub returns-in_err-put-clause-err : goal.returns-in_err-put-clause-err

@@ -21,7 +21,7 @@ use Rattle.tr_machine.specs.Windows.{Window, Command, with_change}
 use Rattle.tr_machine.specs.States.{State, changed_at, with_window}
 use Rattle.tr_machine.specs.Paintings.{acted}
 use Rattle.tr_machine.specs.Replays.{IsLegalFrom, line_of_step, lines_by, replay_from}
-use Rattle.tr_machine.specs.Handing.{act_entries, act_steps}
+use Rattle.tr_machine.specs.CommandSteps.{act_entries, act_steps}
 use Rattle.tr_machine.proofs.ListLemmas.{changed_at-twice, unchanged}
 
 -- ---- levels

@@ -18,7 +18,7 @@ use Rattle.tr_machine.specs.States.{State, leaf_batch}
 use Rattle.tr_machine.specs.Paintings.{is_visible}
 use Rattle.tr_machine.specs.Pictures.{want}
 use Rattle.tr_machine.specs.Replays.{after_steps, lines_by, under}
-use Rattle.tr_machine.specs.Settling.{frame_steps}
+use Rattle.tr_machine.specs.SettleSteps.{frame_steps}
 
 -- the region has the leaf's bad visible points, and each of the pixels is the colour that its point must have
 pub record IsPaintedOf {C M : Type 0} (client : Ghosts C M) (m : State C M) (leaf : LeafId) (part : List Edges) (pixels : List ℕ) :
@@ -70,6 +70,6 @@ module _ {C M : Type 0} (client : Ghosts C M) where
   -- only its share held, then the frames are painted, if a point of one is bad
   abbrev pub sharing : State C M → List (List Level × Step M)
   sharing m =
-      let flushed = after_steps client m (flushing m) in
-      let shown = repainted_each flushed (all_bad_leaves flushed) in
-      under (Mu ∷ []) (flushing m) ++ (at_shares (all_bad_leaves flushed) ++ under (Mu ∷ []) (frame_steps shown))
+      let after_flushes = after_steps client m (flushing m) in
+      let after_repaints = repainted_each after_flushes (all_bad_leaves after_flushes) in
+      under (Mu ∷ []) (flushing m) ++ (at_shares (all_bad_leaves after_flushes) ++ under (Mu ∷ []) (frame_steps after_repaints))

@@ -30,8 +30,8 @@ use Rattle.tr_machine.specs.States.{State, batch_in, leaf_batch, content_of, win
 use Rattle.tr_machine.specs.Paintings.{flushed, is_visible, repainted}
 use Rattle.tr_machine.specs.Pictures.{want}
 use Rattle.tr_machine.specs.Replays.{after_steps, replay, replay_from}
-use Rattle.tr_machine.specs.Settling.{frame_steps, is_frame_bad}
-use Rattle.tr_machine.specs.Sharing.{IsPaintedOf, all_bad_leaves, bad_leaves, flushes_below, flushing, has_bad, repainted_each, share_lines, waits}
+use Rattle.tr_machine.specs.SettleSteps.{frame_steps, is_frame_bad}
+use Rattle.tr_machine.specs.SharedRepaints.{IsPaintedOf, all_bad_leaves, bad_leaves, flushes_below, flushing, has_bad, repainted_each, share_lines, waits}
 use Rattle.tr_machine.proofs.FlushLemmas.{one_leaf}
 use Rattle.tr_machine.proofs.JournalLemmas.{after_steps-append, replay-append}
 use Rattle.tr_machine.proofs.ListLemmas.{window_here, window_there}
