@@ -62,7 +62,6 @@ pub(crate) fn session<C: Client, L: Session<C::Cmd>, R: Threads + Wait + Sync, G
     let is_whole = are_whole(&passes.workers, lists);
     let closed = server.close(workers.rt, passes);
     if !is_whole {
-        // Written out, since the prover takes apart a value that is dropped implicitly.
         drop(closed);
         return Err(CloseRefused::NoMemory);
     }

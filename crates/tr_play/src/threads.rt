@@ -17,12 +17,11 @@ use std::sync::ledger::Blank;
 use std::thread::Threads;
 use tr_client::Client;
 use tr_journal::{Actor, Step};
-use tr_parts::stands;
 use tr_server::CloseRefused;
 use tr_stage::Stage;
 
 /// The shared data of all workers: the right to start threads and to wait, the allocator, and the gate, which
-/// is called before each step of a client or of the desk.
+/// is called before each step of a client or of the desk; if it is open, before commands alone.
 #[derive(Drop)]
 pub struct Workers<'a, R, G> {
     pub rt: &'a R,
@@ -61,11 +60,10 @@ pub(crate) fn make_side_by_side<C: Client, R: Threads + Wait + Sync, G: Gate + S
         return Err(CloseRefused::NoMemory);
     };
     let blank = Blank::new(2 * u64::from(leaves) + 3);
-    // Tells the prover, before and after, the laws of the stage.
-    stands(&stage);
+    stage.invariant();
     match session::<C, Brand, R, G>(workers, blank, stage, &lists, steps.len()) {
         Ok(stage) => {
-            stands(&stage);
+            stage.invariant();
             Ok(stage)
         }
         Err(refused) => Err(refused),
