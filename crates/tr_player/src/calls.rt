@@ -23,6 +23,7 @@ ghost use Rattle.tr_player.specs.Responses.{IsResponse};
 use crate::responses::{Response, response_by_threads, response_on_one_thread};
 use crate::statuses::Status;
 use std::alloc::Global;
+use std::mem;
 use std::sync::Wait;
 use std::thread::Threads;
 use tr_base::NoMemory;
@@ -56,6 +57,20 @@ impl Outcome {
             differs,
         } = self;
         drop((stage, differs));
+        status
+    }
+
+    /// The status that a program ends with. The stage and the difference aren't freed, block by block: the
+    /// system takes back the memory of a program that ends.
+    pub fn end(self) -> u8
+        ensures { result ≡ self.status }
+    {
+        let Outcome {
+            status,
+            stage,
+            differs,
+        } = self;
+        mem::forget((stage, differs));
         status
     }
 

@@ -84,7 +84,7 @@ pub fn run<R: Threads + Wait + Sync, S: Source, K: Sink>(
         Ok(all) => match after_name(alloc, all) {
             Ok(words) => {
                 let outcome = trestle_call(rt, alloc, &words, source, sink, &OpenGate);
-                ExitCode::from(outcome.into_status())
+                ExitCode::from(outcome.end())
             }
             Err(_) => ExitCode::from(Status::NoMemory.code()),
         },

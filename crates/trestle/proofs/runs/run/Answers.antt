@@ -20,18 +20,18 @@ use Rattle.trestle.proofs.runs.run.Goals as goal
 pub returns-in-Ok-after_name-clause-answered : goal.returns-in-Ok-after_name-clause-answered
 returns-in-Ok-after_name-clause-answered g c =
     of_heard _ c.args.all c.in-Ok.all c.deref.result.now c.in-Ok.is (c.deref.ensures.value ∙ c.in-Ok-after_name.ensures)
-    (c.trestle_call-outcome.result, sym (c.from.ensures ∙ c.into_status.ensures), c.trestle_call-outcome.ensures.answered)
+    (c.trestle_call-outcome.result, sym (c.from.ensures ∙ c.end.ensures), c.trestle_call-outcome.ensures.answered)
 
 pub returns-in-Ok-after_name-clause-usage : goal.returns-in-Ok-after_name-clause-usage
 returns-in-Ok-after_name-clause-usage g c =
-    let status : exit_status c.from.result ≡ c.trestle_call-outcome.result.status = c.from.ensures ∙ c.into_status.ensures in
+    let status : exit_status c.from.result ≡ c.trestle_call-outcome.result.status = c.from.ensures ∙ c.end.ensures in
     of_heard (λ words. Yields (exit_status c.from.result) ((exit_status c.from.result ≡ 2) ↔ (command_of words ≡ None))) c.args.all c.in-Ok.all
     c.deref.result.now c.in-Ok.is (c.deref.ensures.value ∙ c.in-Ok-after_name.ensures)
     (subst (λ (n : ℕ). Yields n ((n ≡ 2) ↔ (command_of (texts_of c.deref.result.now) ≡ None))) (sym status) c.trestle_call-outcome.ensures.usage)
 
 pub returns-in-Ok-after_name-clause-refused : goal.returns-in-Ok-after_name-clause-refused
 returns-in-Ok-after_name-clause-refused g c =
-    let status : exit_status c.from.result ≡ c.trestle_call-outcome.result.status = c.from.ensures ∙ c.into_status.ensures in
+    let status : exit_status c.from.result ≡ c.trestle_call-outcome.result.status = c.from.ensures ∙ c.end.ensures in
     let left = g.S.Source.left c.args.source.now in
     of_heard (λ words. Yields (exit_status c.from.result) (exit_status c.from.result ≢ 4 → OfScriptRead (command_of words) left
     (λ command bytes. (exit_status c.from.result ≡ 3) ↔ IsSome (refusal_for command bytes)))) c.args.all c.in-Ok.all
@@ -47,7 +47,7 @@ returns-in-Ok-after_name-clause-output g c =
     of_heard (λ words. exit_status c.from.result ≡ 0 → OfOneThread (command_of words) left
     (λ command bytes. Grew was now (text_for command (script_of bytes)))) c.args.all c.in-Ok.all
     c.deref.result.now c.in-Ok.is (c.deref.ensures.value ∙ c.in-Ok-after_name.ensures)
-    (λ e. c.trestle_call-outcome.ensures.output (sym (c.from.ensures ∙ c.into_status.ensures) ∙ e))
+    (λ e. c.trestle_call-outcome.ensures.output (sym (c.from.ensures ∙ c.end.ensures) ∙ e))
 
 pub returns-in-Ok-after_name-clause-threads : goal.returns-in-Ok-after_name-clause-threads
 returns-in-Ok-after_name-clause-threads g c =
@@ -55,11 +55,11 @@ returns-in-Ok-after_name-clause-threads g c =
     let to = sink_change g.K.Sink c.args.sink.now c.trestle_call-outcome.new.sink in
     of_heard (λ words. exit_status c.from.result ≡ 0 → OfThreads (command_of words) left (λ bytes. IsPrinted (script_of bytes) to)) c.args.all
     c.in-Ok.all c.deref.result.now c.in-Ok.is (c.deref.ensures.value ∙ c.in-Ok-after_name.ensures)
-    (λ e. threads_written _ _ _ _ c.trestle_call-outcome.ensures.answered (sym (c.from.ensures ∙ c.into_status.ensures) ∙ e))
+    (λ e. threads_written _ _ _ _ c.trestle_call-outcome.ensures.answered (sym (c.from.ensures ∙ c.end.ensures) ∙ e))
 
 pub returns-in-Ok-after_name-clause-faulty : goal.returns-in-Ok-after_name-clause-faulty
 returns-in-Ok-after_name-clause-faulty g c =
-    let status : exit_status c.from.result ≡ c.trestle_call-outcome.result.status = c.from.ensures ∙ c.into_status.ensures in
+    let status : exit_status c.from.result ≡ c.trestle_call-outcome.result.status = c.from.ensures ∙ c.end.ensures in
     let left = g.S.Source.left c.args.source.now in
     of_heard (λ words. Yields (exit_status c.from.result) (exit_status c.from.result ≢ 4 → OfStreamRead (command_of words) left
     (λ bytes. (exit_status c.from.result ≡ 3) ↔ IsSome (first_fault bytes)))) c.args.all c.in-Ok.all
@@ -75,7 +75,7 @@ returns-in-Ok-after_name-clause-shown g c =
     of_heard (λ words. exit_status c.from.result ≡ 0 → OfStreamRead (command_of words) left
     (λ bytes. Grew was now (shown_text bytes))) c.args.all c.in-Ok.all
     c.deref.result.now c.in-Ok.is (c.deref.ensures.value ∙ c.in-Ok-after_name.ensures)
-    (λ e. c.trestle_call-outcome.ensures.shown (sym (c.from.ensures ∙ c.into_status.ensures) ∙ e))
+    (λ e. c.trestle_call-outcome.ensures.shown (sym (c.from.ensures ∙ c.end.ensures) ∙ e))
 
 pub returns-in-Ok-after_name-clause-summed_up : goal.returns-in-Ok-after_name-clause-summed_up
 returns-in-Ok-after_name-clause-summed_up g c =
@@ -86,7 +86,7 @@ returns-in-Ok-after_name-clause-summed_up g c =
     of_heard (λ words. exit_status c.from.result ≡ 0 → OfNumber (command_of words) writes) c.args.all c.in-Ok.all
     c.deref.result.now c.in-Ok.is (c.deref.ensures.value ∙ c.in-Ok-after_name.ensures)
     (λ e. first_of_number (command_of (texts_of c.deref.result.now)) writes plays
-    (c.trestle_call-outcome.ensures.summed_up (sym (c.from.ensures ∙ c.into_status.ensures) ∙ e)))
+    (c.trestle_call-outcome.ensures.summed_up (sym (c.from.ensures ∙ c.end.ensures) ∙ e)))
 
 pub returns-in-Ok-after_name-clause-complete : goal.returns-in-Ok-after_name-clause-complete
 returns-in-Ok-after_name-clause-complete g c =
@@ -96,7 +96,7 @@ returns-in-Ok-after_name-clause-complete g c =
     let ends : ℕ → Type 0 = λ n. (n ≡ 0) ⊎ (n ≡ 6) in
     of_heard (λ words. IsAllowed (command_of words) left → (reads → ⊥) → (writes → ⊥) → ends (exit_status c.from.result)) c.args.all c.in-Ok.all
     c.deref.result.now c.in-Ok.is (c.deref.ensures.value ∙ c.in-Ok-after_name.ensures)
-    (λ allowed no_read no_write. subst ends (sym (c.from.ensures ∙ c.into_status.ensures)) (c.trestle_call-outcome.ensures.complete allowed no_read no_write))
+    (λ allowed no_read no_write. subst ends (sym (c.from.ensures ∙ c.end.ensures)) (c.trestle_call-outcome.ensures.complete allowed no_read no_write))
 
 -- ---- memory was wanted for the arguments: nothing is read or written
 
