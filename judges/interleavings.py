@@ -26,7 +26,7 @@ sys.path[:0] = [str(TOP / "judges"), str(TOP / "tools")]
 
 from model.drawing import Pen  # noqa: E402
 from model.reader import refusal_of  # noqa: E402
-from model.threads import Cut, Ended, Judged, Part, judge, text_of  # noqa: E402
+from model.threads import Cut, Ended, FEW_STEPS, Judged, Part, judge, text_of  # noqa: E402
 
 # So many seconds a run may take, on a busy machine too. A run that waits for ever shows by this alone.
 PATIENCE = 120
@@ -118,6 +118,18 @@ class Scene:
                 steps.append((f"leaf:{name}".encode(), self.of_client(name, widget).encode()))
         return Part([self.report().encode() for _ in range(draw.randint(0, 3))], steps)
 
+    def lonely(self) -> Part:
+        """A part in which one client, or the desk, has so many steps that one thread makes them."""
+        draw = self.draw
+        steps: List[Tuple[bytes, bytes]] = []
+        name, widget = draw.choice([("", ""), *self.leaves])
+        for _ in range(draw.randint(FEW_STEPS + 1, FEW_STEPS + 100)):
+            if widget:
+                steps.append((f"leaf:{name}".encode(), self.of_client(name, widget).encode()))
+            else:
+                steps.append((b"desk", self.of_desk().encode()))
+        return Part([], steps)
+
 
 def drawn(number: int) -> bytes:
     """The script of a number: every other one is drawn as those of judges/model are, with short parts and much to hear of."""
@@ -126,9 +138,11 @@ def drawn(number: int) -> bytes:
 
 
 def long_script(scene: Scene) -> bytes:
-    """The script of a scene, with some long parts."""
+    """The script of a scene, with some long parts. In one of ten a last part has the steps of one actor alone."""
     opening = [line.encode() for line in scene.opening()]
     parts = [scene.part() for _ in range(scene.draw.randint(1, 4))]
+    if scene.draw.random() < 0.1:
+        parts.append(scene.lonely())
     # (reports stand before the steps of their part, so the last steps need one part more)
     return text_of(Cut(opening, [*parts, Part([], [])]))
 
