@@ -6,13 +6,14 @@
 # Each of ROUNDS (3 if left out) plays both, in an order by chance. A line has the best round of each word, the ratio of the
 # best rounds, the ratio of the means of all rounds, and the aim for the latter, where there is one: for four processors.
 # PROGRAM is a built trestle; where it is left out, the launcher proves and builds it. It wants date with %N. The first line
-# tells how many processors there are.
+# tells how many processors there are. Under `taskset -c 0` there is one, and each aim is 1.1. The last line has the greatest
+# ratio of the means.
 #
 # `desktop` has seven windows, of five a command each in turn, moves and a change of the screen. `eight` has eight windows with
 # 4,000 figures or lines each, and a flush after each 25th; of `alone` one of these windows has its lines, and the others have
-# none: what its worker takes by itself, and so what all eight take at least. `waiting` is `eight` without a flush, so that by
-# serial all of it waits for the dump. `parts` has 991 parts, in each a line by each of two clients. The other workloads of
-# bench/workloads.sh have one client or none, and the painter beside it.
+# none: a long part of one client, which one thread makes in order. `waiting` is `eight` without a flush, so that by serial all
+# of it waits for the dump. `parts` has 991 parts, in each a line by each of two clients. In most of the other workloads, those
+# of bench/workloads.sh, one actor has all steps.
 set -eu
 case ${1-} in
     -h | --help) sed -n '2,/^[^#]/s/^# \{0,1\}//p' "$0"; exit ;;
@@ -76,6 +77,7 @@ timed() {
 
 # measure NAME AIM: the script of this name by both words, and whether the aim is reached.
 measure() {
+    [ "$processors" -gt 1 ] || set -- "$1" 1.1
     round=0
     while [ "$round" -lt "$rounds" ]; do
         chance=$((chance * 40014 % 2147483563))
@@ -85,11 +87,12 @@ measure() {
             echo "$word $taken"
         done
         round=$((round + 1))
-    done | awk -v name="$1" -v aim="$2" '
+    done | awk -v name="$1" -v aim="$2" -v file="$folder/means" '
         { sum[$1] += $2; if (!($1 in least) || $2 < least[$1]) least[$1] = $2 }
         END {
             if (!("play" in sum)) exit 1
             means = sum["play"] / sum["serial"]
+            print name, means >>file
             note = aim == "" ? "" : sprintf(" aim=%s%s", aim, means <= aim ? "" : " missed")
             printf "%-10s serial ms=%.1f play ms=%.1f ratio=%.2f means=%.2f%s\n", name, least["serial"] / 1e6,
                 least["play"] / 1e6, least["play"] / least["serial"], means, note
@@ -98,7 +101,9 @@ measure() {
 }
 
 chance=12345
-echo "processors $(getconf _NPROCESSORS_ONLN)"
+# (nproc counts those that taskset leaves)
+processors=$(nproc)
+echo "processors $processors"
 write eight 8 4000 25
 measure eight 0.6
 write waiting 8 4000 0
@@ -113,3 +118,4 @@ for workload in 'desktop 1000 1.0' 'typescript 40000 0.85' 'unseen 45000 0.85' '
     "$top/bench/workloads.sh" --write "$1" "$2" >"$folder/$1"
     measure "$1" "${3-}"
 done
+awk '$2 > most { most = $2; name = $1 } END { printf "greatest of means=%.2f %s\n", most, name }' "$folder/means"
