@@ -40,14 +40,17 @@ dump
 end
 """
 
+# More steps of one client than `play` makes by a session: one thread makes them in order.
+ALONE = "\n".join(["trestle 1", "screen 1 1 map8", "leaf a 1 1 1 1 1 1 solid 7", "root a", "begin", *["@a tint 8"] * 1001, "sync", "dump", "end", ""])
+
 
 def demos() -> Iterator[str]:
     """The demos, by their names."""
     return (file.stem for file in sorted((TOP / "demos").glob("*.txt")))
 
 
-# What is called: the words, and what is read, which is a demo, `LINES`, `DESKTOP` of model.desktop, what `mirror` writes of
-# a demo, or nothing. What `play` plays here doesn't hang on the order of its threads.
+# What is called: the words, and what is read, which is a demo, `LINES`, `ALONE`, `DESKTOP` of model.desktop, what `mirror`
+# writes of a demo, or nothing. What `play` plays here doesn't hang on the order of its threads.
 CALLS: List[Tuple[str, str]] = [
     ("serial", "LINES"),
     *(("serial", demo) for demo in demos()),
@@ -55,6 +58,7 @@ CALLS: List[Tuple[str, str]] = [
     ("play", "desktop"),
     ("play", "pages"),
     ("play", "DESKTOP"),
+    ("play", "ALONE"),
     ("mirror", "first"),
     ("show", "mirror first"),
     ("gen 1", ""),
@@ -62,7 +66,7 @@ CALLS: List[Tuple[str, str]] = [
 
 
 # What isn't a demo.
-GIVEN = {"": b"", "LINES": LINES.encode("ascii"), "DESKTOP": desktop()}
+GIVEN = {"": b"", "LINES": LINES.encode("ascii"), "ALONE": ALONE.encode("ascii"), "DESKTOP": desktop()}
 
 
 class Call(NamedTuple):
