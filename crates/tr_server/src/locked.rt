@@ -464,7 +464,8 @@ fn fit_if<C: Client>(
     }
 }
 
-/// Whether commands were prepared over this content, for this font, size and kind.
+/// Whether commands were prepared over this content, for this font, size and kind. The cheapest facts are
+/// compared first. The font is compared last: it never changes, and only the contract asks for it.
 fn is_current<C: Client>(
     prepared: &Prepared<C>,
     content: &C,
@@ -477,14 +478,14 @@ fn is_current<C: Client>(
     ensures size { IsTrue result → prepared.now.size ≡ size }
     ensures kind { IsTrue result → prepared.now.kind ≡ kind }
 {
-    if !prepared.from.same(content) {
-        return false;
-    }
-    if !prepared.font.same(font) {
-        return false;
-    }
     if prepared.size != size {
         return false;
     }
-    prepared.kind == kind
+    if prepared.kind != kind {
+        return false;
+    }
+    if !prepared.from.same(content) {
+        return false;
+    }
+    prepared.font.same(font)
 }
