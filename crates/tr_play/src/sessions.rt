@@ -1,7 +1,7 @@
 ghost use Rattle.std.specs.Prelude.{◌≡◌, ℕ, ◌+◌, ◌*◌, ◌<◌, ◌↔◌, [], All, IfOk, IfErr, IsTrue, length, vec_len, slice_index_or};
 ghost use Rattle.std.specs.Thread.{IsSync};
 ghost use Rattle.tr_journal.specs.Differences.{Matches, account_of};
-ghost use Rattle.tr_journal.specs.Openings.{tree_of};
+ghost use Rattle.tr_journal.specs.Openings.{font_of, tree_of};
 ghost use Rattle.tr_server.specs.Closing.{IfDiffers};
 ghost use Rattle.tr_server.specs.Sessions.{HasIds};
 ghost use Rattle.tr_play.specs.Sessions.{AreWhole, IsLeft, IsWhole};
@@ -40,6 +40,7 @@ pub(crate) fn session<C: Client, L: Session<C::Cmd>, R: Threads + Wait + Sync, G
     requires ids { HasIds L.nodes L.leaves stage.opening }
     requires entries { length stage.journal ≡ L.entries }
     requires kept { stage.journal ≡ L.kept }
+    requires font { font_of stage.opening ≡ L.font }
     requires count { length lists.now.leaves ≡ L.leaves }
     requires player { lists.now.player ≡ [] }
     requires ready { AreReady (tree_of stage.opening).nodes lists.now }

@@ -27,14 +27,16 @@ impl<C: Client, L: Session<C::Cmd>> Model for Basket<C, L> {
     ghost view = { λ b. b.book };
 
     ghost invariant = { λ b. (b.share.parts ≡ 1) × (b.share.amount ≡ b.book.handed)
-        × IfSome b.drawn (λ d. IsDrawnOf C.Client b.book.prepared d.sketch) };
+        × IfSome b.drawn (λ d. IsDrawnOf C.Client b.book.prepared d.sketch)
+        × (b.book.prepared.font ≡ L.font) };
 }
 
 impl<C: Client, L: Session<C::Cmd>> Basket<C, L> {
-    /// A book from which no command was handed over.
+    /// A book for the session's font, from which no command was handed over.
     pub(crate) fn new(book: Book<C>, share: Share<L>) -> Basket<C, L>
         requires share { (share.parts ≡ 1) × (share.amount ≡ 0) }
         requires book { book.handed ≡ 0 }
+        requires font { book.prepared.font ≡ L.font }
         ensures { result ≡ book }
     {
         Basket {

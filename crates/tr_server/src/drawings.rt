@@ -19,6 +19,7 @@ pub(crate) struct Drawn<C: Client> {
     pub(crate) sketch: Sketch<C>,
     pub(crate) spare: Prepared<C>,
     pub(crate) ghost none: { spare.commands.items ≡ [] },
+    pub(crate) ghost font: { spare.font ≡ sketch.font },
 }
 
 /// The drawing of prepared commands: none if they touch no point or too many, or if memory runs out.
@@ -58,7 +59,8 @@ fn is_large(size: Size, clip: &Rect) -> bool
 
 /// No commands, prepared over the content after these commands.
 fn spare_of<C: Client>(alloc: Global, prepared: &Prepared<C>) -> Result<Prepared<C>, NoMemory>
-    ensures { IfOk result (λ p. p.commands.items ≡ []) }
+    ensures none { IfOk result (λ p. p.commands.items ≡ []) }
+    ensures font { IfOk result (λ p. p.font ≡ prepared.now.font) }
 {
     let left = prepared.to.copy(alloc)?;
     Prepared::fresh(alloc, left, &prepared.font, prepared.size, prepared.kind)

@@ -2,7 +2,7 @@ ghost use Rattle.std.specs.Prelude.{◌≡◌, ◌+◌, ◌<◌, ◌≤◌, ◌+
 ghost use Rattle.tr_forest.specs.Nodes.{leaf_count};
 ghost use Rattle.tr_spot.specs.Leaves.{leaf_size};
 ghost use Rattle.tr_journal.specs.declared.Actor.TheVariants.{Leaf};
-ghost use Rattle.tr_journal.specs.Openings.{tree_of};
+ghost use Rattle.tr_journal.specs.Openings.{font_of, tree_of};
 ghost use Rattle.tr_journal.specs.Steps.{IsFor, IsOwn};
 ghost use Rattle.tr_machine.specs.States.{content_of};
 ghost use Rattle.tr_stage.specs.Making.{Makes};
@@ -20,7 +20,7 @@ use crate::sessions::Session;
 use std::alloc::Global;
 use std::marker::Model;
 use std::sync::ledger::{Book as Total, Share};
-use tr_base::{Font, Kind, LeafId, NoMemory, Size};
+use tr_base::{Kind, LeafId, NoMemory, Size};
 use tr_book::Book;
 use tr_client::{Client, Prepared};
 use tr_journal::{Attempt, Reply, Step};
@@ -40,6 +40,7 @@ pub(crate) struct Locked<C: Client, L: Session<C::Cmd>> {
 
 impl<C: Client, L: Session<C::Cmd>> Model for Locked<C, L> {
     ghost use Rattle.std.specs.Prelude.{◌≡◌, ◌+◌, length, take};
+    ghost use Rattle.tr_journal.specs.Openings.{font_of};
     ghost use Rattle.tr_stage.specs.Stages.{StageView};
     ghost use Rattle.tr_server.specs.Sessions.{HasIds};
 
@@ -48,7 +49,8 @@ impl<C: Client, L: Session<C::Cmd>> Model for Locked<C, L> {
     ghost view = { λ k. k.stage };
 
     ghost invariant = { λ k. (L.entries + k.counted.total ≡ length k.stage.journal)
-        × HasIds L.nodes L.leaves k.stage.opening × (take L.entries k.stage.journal ≡ L.kept) };
+        × HasIds L.nodes L.leaves k.stage.opening × (take L.entries k.stage.journal ≡ L.kept)
+        × (font_of k.stage.opening ≡ L.font) };
 }
 
 impl<C: Client, L: Session<C::Cmd>> Locked<C, L> {
@@ -57,6 +59,7 @@ impl<C: Client, L: Session<C::Cmd>> Locked<C, L> {
         requires counted { L.entries + counted.total ≡ length stage.journal }
         requires ids { HasIds L.nodes L.leaves stage.opening }
         requires kept { take L.entries stage.journal ≡ L.kept }
+        requires font { font_of stage.opening ≡ L.font }
         ensures { result ≡ stage }
     {
         Locked {
@@ -72,6 +75,7 @@ impl<C: Client, L: Session<C::Cmd>> Locked<C, L> {
         ensures stands { Stands C.Client self.now }
         ensures leaves { length (state C.Client self.now).windows
             ≡ leaf_count (tree_of self.now.opening).nodes }
+        ensures font { (state C.Client self.now).font ≡ L.font }
     {
         let _stage = self.stage();
         self.stage.invariant();
@@ -252,6 +256,7 @@ impl<C: Client, L: Session<C::Cmd>> Locked<C, L> {
         if basket.waiting() == 0 {
             return Ok(None);
         }
+        self.invariant();
         let Some(Drawn { sketch, spare }) = basket.drawn.take() else {
             self.hand_over_copies(leaf, basket)?;
             return Ok(None);
@@ -281,6 +286,7 @@ impl<C: Client, L: Session<C::Cmd>> Locked<C, L> {
         ensures err_levels { OnErr result (basket.new.levels ≡ basket.old.levels) }
         ensures err_handed { OnErr result (basket.new.handed ≡ basket.old.handed) }
     {
+        self.invariant();
         // The drawing may show an old content.
         drop(basket.drawn.take());
         self.counted.audit(&mut basket.share);
@@ -310,6 +316,7 @@ impl<C: Client, L: Session<C::Cmd>> Locked<C, L> {
     ) -> Result<(), NoMemory>
         requires leaf { leaf.0 < leaf_count (tree_of self.old.opening).nodes }
         requires spare { spare.commands.items ≡ [] }
+        requires spare_font { spare.font ≡ L.font }
         requires from { content_of C.Client (state C.Client self.old) leaf
             ≡ Some basket.old.prepared.from }
         requires font { basket.old.prepared.font ≡ (state C.Client self.old).font }
@@ -392,10 +399,24 @@ impl<C: Client, L: Session<C::Cmd>> Locked<C, L> {
         let is_changed = may_change(&step);
         let reply = self.step_with(pass, level, step, (leaf, sketch))?;
         pass.posted = 0;
+        self.fit_if(is_changed, leaf, basket);
+        Ok(reply)
+    }
+
+    /// After a step of the leaf's client. If it may have changed the content, the client's next commands are
+    /// prepared over the new content. If memory runs out, they are prepared again when they are handed over.
+    fn fit_if(&self, is_changed: bool, leaf: LeafId, basket: &mut Basket<C, L>)
+        requires leaf { leaf.0 < leaf_count (tree_of self.now.opening).nodes }
+        ensures commands { basket.new.prepared.commands ≡ basket.old.prepared.commands }
+        ensures levels { basket.new.levels ≡ basket.old.levels }
+        ensures handed { basket.new.handed ≡ basket.old.handed }
+    {
+        self.invariant();
         // A drawing of no commands shows the content before the step.
         drop(basket.drawn.take());
-        fit_if(is_changed, self.alloc, &self.stage, leaf, &mut basket.book);
-        Ok(reply)
+        if is_changed {
+            let _ = fit(self.alloc, &self.stage, leaf, &mut basket.book);
+        }
     }
 }
 
@@ -404,18 +425,18 @@ fn may_change<M>(step: &Step<M>) -> bool {
     matches!(step, Step::Act { .. } | Step::Take { .. })
 }
 
-/// Whether commands are prepared over the leaf's present content.
+/// Whether commands are prepared over the leaf's present content, for its size and the screen's kind. Their
+/// font is the stage's, by the invariants of both locks.
 fn fits<C: Client>(stage: &Stage<C>, leaf: LeafId, prepared: &Prepared<C>) -> bool
     requires leaf { leaf.0 < leaf_count (tree_of stage.now.opening).nodes }
     ensures from { IsTrue result → content_of C.Client (state C.Client stage.now) leaf
         ≡ Some prepared.now.from }
-    ensures font { IsTrue result → prepared.now.font ≡ (state C.Client stage.now).font }
     ensures size { IsTrue result → prepared.now.size ≡ leaf_size (state C.Client stage.now).tree leaf }
     ensures kind { IsTrue result → prepared.now.kind ≡ (state C.Client stage.now).tree.kind }
 {
     let content = stage.content(leaf);
     let kind = stage.tree().kind();
-    is_current(prepared, content, stage.font(), stage.leaf_size(leaf), kind)
+    is_current(prepared, content, stage.leaf_size(leaf), kind)
 }
 
 /// Prepares a book's commands over the leaf's present content, unless they are prepared over it already.
@@ -426,9 +447,10 @@ fn fit<C: Client>(
     book: &mut Book<C>,
 ) -> Result<(), NoMemory>
     requires leaf { leaf.0 < leaf_count (tree_of stage.now.opening).nodes }
+    requires font { book.old.prepared.font ≡ (state C.Client stage.now).font }
     ensures from { OnOk result (content_of C.Client (state C.Client stage.now) leaf
         ≡ Some book.new.prepared.from) }
-    ensures font { OnOk result (book.new.prepared.font ≡ (state C.Client stage.now).font) }
+    ensures font { book.new.prepared.font ≡ (state C.Client stage.now).font }
     ensures size { OnOk result (book.new.prepared.size ≡ leaf_size (state C.Client stage.now).tree leaf) }
     ensures kind { OnOk result (book.new.prepared.kind ≡ (state C.Client stage.now).tree.kind) }
     ensures commands { book.new.prepared.commands ≡ book.old.prepared.commands }
@@ -436,45 +458,18 @@ fn fit<C: Client>(
     ensures handed { book.new.handed ≡ book.old.handed }
 {
     let content = stage.content(leaf);
-    let font = stage.font();
     let size = stage.leaf_size(leaf);
     let kind = stage.tree().kind();
-    if !is_current(book.prepared(), content, font, size, kind) {
-        book.refit(content.copy(alloc)?, font, size, kind)?;
+    if !is_current(book.prepared(), content, size, kind) {
+        book.refit(content.copy(alloc)?, stage.font(), size, kind)?;
     }
     Ok(())
 }
 
-/// The same if the content may have changed, so that the client's next commands are prepared over the new
-/// content. If memory runs out, they are prepared again when they are handed over.
-fn fit_if<C: Client>(
-    is_changed: bool,
-    alloc: Global,
-    stage: &Stage<C>,
-    leaf: LeafId,
-    book: &mut Book<C>,
-)
-    requires leaf { leaf.0 < leaf_count (tree_of stage.now.opening).nodes }
-    ensures commands { book.new.prepared.commands ≡ book.old.prepared.commands }
-    ensures levels { book.new.levels ≡ book.old.levels }
-    ensures handed { book.new.handed ≡ book.old.handed }
-{
-    if is_changed {
-        let _ = fit(alloc, stage, leaf, book);
-    }
-}
-
-/// Whether commands were prepared over this content, for this font, size and kind. The cheapest facts are
-/// compared first. The font is compared last: it never changes, and only the contract asks for it.
-fn is_current<C: Client>(
-    prepared: &Prepared<C>,
-    content: &C,
-    font: &Font,
-    size: Size,
-    kind: Kind,
-) -> bool
+/// Whether commands were prepared over this content, for this size and kind. The cheapest facts are compared
+/// first.
+fn is_current<C: Client>(prepared: &Prepared<C>, content: &C, size: Size, kind: Kind) -> bool
     ensures from { IsTrue result → prepared.now.from ≡ content.now }
-    ensures font { IsTrue result → prepared.now.font ≡ font.now }
     ensures size { IsTrue result → prepared.now.size ≡ size }
     ensures kind { IsTrue result → prepared.now.kind ≡ kind }
 {
@@ -484,8 +479,5 @@ fn is_current<C: Client>(
     if prepared.kind != kind {
         return false;
     }
-    if !prepared.from.same(content) {
-        return false;
-    }
-    prepared.font.same(font)
+    prepared.from.same(content)
 }

@@ -2,8 +2,9 @@ ghost use Rattle.std.specs.Prelude.{◌≡◌, ◌+◌, ◌*◌, ◌<◌, ◌≤
 ghost use Rattle.tr_forest.specs.Nodes.{leaf_count};
 ghost use Rattle.tr_journal.specs.declared.Actor.TheVariants.{Player};
 ghost use Rattle.tr_journal.specs.declared.Step.{Step};
-ghost use Rattle.tr_journal.specs.Openings.{tree_of};
+ghost use Rattle.tr_journal.specs.Openings.{font_of, tree_of};
 ghost use Rattle.tr_journal.specs.Steps.{AreAsMany, IsStep};
+ghost use Rattle.tr_stage.specs.Stages.{state};
 ghost use Rattle.tr_server.specs.Passes.{AreFresh, fresh_pass};
 ghost use Rattle.tr_server.specs.Servers.{AreLeavesInOrder};
 ghost use Rattle.tr_server.specs.Sessions.{HasIds};
@@ -72,6 +73,7 @@ impl<C: Client, L: Session<C::Cmd>> Server<C, L> {
         requires ids { HasIds L.nodes L.leaves stage.opening }
         requires entries { length stage.journal ≡ L.entries }
         requires kept { stage.journal ≡ L.kept }
+        requires font { font_of stage.opening ≡ L.font }
         ensures opening { IfOk result (λ r. r.0.opening ≡ stage.opening) }
         ensures kept { IfOk result (λ r. r.0.kept ≡ stage.journal) }
         ensures workers { IfOk result (λ r. AreFresh L.leaves r.1.workers.items) }
@@ -178,6 +180,7 @@ fn windows_and_passes<C: Client, L: Session<C::Cmd>>(
     mut all: Share<L>,
 ) -> Result<(Vec<Window<C, L>>, Passes<C, L>), NoMemory>
     requires ids { HasIds L.nodes L.leaves stage.now.opening }
+    requires font { font_of stage.now.opening ≡ L.font }
     requires parts { all.parts ≡ 2 * L.leaves + 3 }
     requires none { all.amount ≡ 0 }
     ensures windows { IfOk result (λ r. AreLeavesInOrder L.leaves r.0.items) }
@@ -203,12 +206,14 @@ fn windows_of<C: Client, L: Session<C::Cmd>>(
 ) -> Result<Vec<Window<C, L>>, NoMemory>
     requires leaves { leaves ≡ leaf_count (tree_of stage.now.opening).nodes }
     requires named { leaves ≡ L.leaves }
+    requires font { font_of stage.now.opening ≡ L.font }
     requires parts { leaves < all.old.parts }
     requires none { all.old.amount ≡ 0 }
     ensures windows { IfOk result (λ v. AreLeavesInOrder leaves v.items) }
     ensures parts { OnOk result (all.new.parts + leaves ≡ all.old.parts) }
     ensures none { all.new.amount ≡ 0 }
 {
+    stage.invariant();
     let mut windows = Vec::with_capacity(alloc, usize::from(leaves))?;
     for n in 0..leaves {
         let leaf = LeafId(n);
@@ -222,7 +227,8 @@ fn windows_of<C: Client, L: Session<C::Cmd>>(
 /// A book for a leaf, from which no command was handed over, with no commands over its present content.
 fn book_of<C: Client>(alloc: Global, stage: &Stage<C>, leaf: LeafId) -> Result<Book<C>, NoMemory>
     requires { leaf.0 < leaf_count (tree_of stage.now.opening).nodes }
-    ensures { IfOk result (λ b. b.handed ≡ 0) }
+    ensures handed { IfOk result (λ b. b.handed ≡ 0) }
+    ensures font { IfOk result (λ b. b.prepared.font ≡ (state C.Client stage.now).font) }
 {
     let content = stage.content(leaf).copy(alloc)?;
     let kind = stage.tree().kind();

@@ -5,9 +5,9 @@ use std::marker::Brand;
 use std::sync::ledger::Ledger;
 
 /// The name of one session. It serves contracts alone: its numbers are those of the opening's nodes and
-/// leaves, and of the journal's entries at the session's start, and `kept` has these entries. A function that
-/// is generic in it runs one session. The caller calls the function with `Brand`, and defines these members
-/// in its call.
+/// leaves, and of the journal's entries at the session's start; `kept` has these entries, and `font` is the
+/// opening's font. A function that is generic in it runs one session. The caller calls the function with
+/// `Brand`, and defines these members in its call.
 pub trait Session<M>: Ledger + Send + Sync {
     ghost nodes: { ℕ };
 
@@ -16,6 +16,8 @@ pub trait Session<M>: Ledger + Send + Sync {
     ghost entries: { ℕ };
 
     ghost kept: { List (JournalLine M) };
+
+    ghost font: { List (List ℕ) };
 }
 
 impl<M> Session<M> for Brand {
@@ -26,4 +28,6 @@ impl<M> Session<M> for Brand {
     ghost entries = { 0 };
 
     ghost kept = { [] };
+
+    ghost font = { [] };
 }

@@ -1,5 +1,6 @@
 //! A session in which a test makes calls.
 ghost use Rattle.std.specs.Prelude.{◌≡◌, ◌+◌, ◌*◌, length, vec_len};
+ghost use Rattle.tr_journal.specs.Openings.{font_of};
 ghost use Rattle.tr_server.specs.Sessions.{HasIds};
 
 use super::beside::act_beside;
@@ -91,6 +92,7 @@ fn session<C: Coloured, L: Session<C::Cmd>, R: Threads + Wait + Sync + Abort + A
     requires ids { HasIds L.nodes L.leaves stage.opening }
     requires entries { length stage.journal ≡ L.entries }
     requires kept { stage.journal ≡ L.kept }
+    requires font { font_of stage.opening ≡ L.font }
 {
     let (server, passes) = made(rt, Server::<C, L>::start(rt.alloc(), blank, stage));
     make_and_close(rt, trial, server, passes)

@@ -1,6 +1,6 @@
 use Rattle.std.proofs.Common.{length}
 use Rattle.tr_forest.specs.Nodes.{leaf_count}
-use Rattle.tr_journal.specs.Openings.{tree_of}
+use Rattle.tr_journal.specs.Openings.{font_of, tree_of}
 use Rattle.tr_server_tests.proofs.sessions.played_on.Given as goal
 
 -- the session's ledger
@@ -14,4 +14,5 @@ ghosts-session-L-Session g a = record {
   leaves = leaf_count (tree_of a.stage.opening).nodes;
   entries = length a.stage.journal;
   kept = a.stage.journal;
+  font = font_of a.stage.opening;
 }

@@ -35,4 +35,5 @@ invariant_of-self-2 g c =
       rw c.take_all.ensures.opening c.self.invariant.1,
       kept_more g.L.Session.entries c.self.inside.counted.total c.self.inside.stage.journal c.take_all.new.self.journal _ g.L.Session.kept
           c.self.invariant.0 c.in_default.ensures.ok c.self.invariant.2,
+      rw c.take_all.ensures.opening c.self.invariant.3,
     )

@@ -33,4 +33,5 @@ invariant_of-self-2 g c =
       rw c.take_over-taken.ensures.opening c.self.invariant.1,
       kept_more g.L.Session.entries c.self.inside.counted.total c.self.inside.stage.journal c.take_over-taken.new.self.journal _ g.L.Session.kept
           c.self.invariant.0 c.in-Ok.ensures.ok c.self.invariant.2,
+      rw c.take_over-taken.ensures.opening c.self.invariant.3,
     )

@@ -1,9 +1,15 @@
 use Rattle.std.proofs.Common.{◌≡◌, Some, length, sym, ap, subst, ◌∙◌}
 use Rattle.tr_book.specs.Books.{BookView, PreparedView}
-use Rattle.tr_stage.specs.Stages.{StageView}
+use Rattle.tr_stage.specs.Stages.{StageView, state}
 use Rattle.tr_server.specs.Drawings.{IsDrawnOf}
 use Rattle.tr_server.proofs.DrawLemmas.{IsDrawnAt, sketch_stands}
 use Rattle.tr_server.proofs.locked.Locked.hand_over_drawn.Goals as goal
+
+pub hand_over_all-requires-clause-spare_font : goal.hand_over_all-requires-clause-spare_font
+hand_over_all-requires-clause-spare_font g c κs within =
+    let sketch = c.in-Some.field-0.sketch in
+    let drawn : IsDrawnOf g.C.Client c.basket.inside.book.prepared sketch = rw (sym c.take.ensures.value ∙ c.in-Some.is) at c.basket.invariant.2 in
+    c.in-Some.field-0.font ∙ drawn.font ∙ c.basket.invariant.3
 
 pub returns-then-fits-clause-sketch : goal.returns-then-fits-clause-sketch
 returns-then-fits-clause-sketch g c =
@@ -16,7 +22,8 @@ returns-then-fits-clause-sketch g c =
     (subst (λ (s : StageView _ _). IsDrawnAt g.C.Client s c.args.leaf book.prepared sketch) c.self.view_is (record {
       drawn = drawn;
       from = c.fits.ensures.from c.if-fits.true ∙ ap (λ (p : PreparedView _ _). Some p.from) c.prepared.ensures;
-      font = sym (ap (λ (p : PreparedView _ _). p.font) c.prepared.ensures) ∙ c.fits.ensures.font c.if-fits.true;
+      font = c.basket.invariant.3 ∙ sym c.invariant.ensures.font
+          ∙ ap (λ (s : StageView _ _). (state g.C.Client s).font) (sym c.self.view_is);
       size = sym (ap (λ (p : PreparedView _ _). p.size) c.prepared.ensures) ∙ c.fits.ensures.size c.if-fits.true;
       kind = sym (ap (λ (p : PreparedView _ _). p.kind) c.prepared.ensures) ∙ c.fits.ensures.kind c.if-fits.true;
     }))
