@@ -17,7 +17,7 @@
 #           again. PROGRAM is a linked program of tests; where it is left out, `rt test` proves and builds it.
 # steps     Two stages side by side (bench/twins) play a script with each sort of step, and where a step of the first wants
 #           memory it is compared with the second, field by field. The growths of the numbers FIRST to LAST are refused,
-#           one in each run, or from FIRST on, or all of them: some 1,800 in each of two ways, in 12 minutes of the
+#           one in each run, or from FIRST on, or all of them: some 2,300 and 2,500 in two ways, in 12 minutes of the
 #           processor. The twins are not proved, only linked by `rt try`, with its checks, in a minute of the processor. It
 #           keeps no program, so theirs is taken out of its folder while it counts the growths.
 #
