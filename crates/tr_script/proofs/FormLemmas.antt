@@ -11,7 +11,7 @@ use Rattle.std.proofs.lemmas.Option.{none-some}
 use Rattle.tr_grammar.specs.declared.Meaning.{Meaning}
 use Rattle.tr_grammar.specs.declared.LineRefused.{LineRefused}
 use Rattle.tr_grammar.specs.States.{SoFar}
-use Rattle.tr_grammar.specs.Forms.{Form, among, fields, has_form, is_known, is_second, node_forms, leaf_forms, act_forms, forms}
+use Rattle.tr_grammar.specs.Forms.{Form, AddLine, among, fields, has_form, is_known, is_second, node_forms, leaf_forms, act_forms, forms}
 use Rattle.tr_words.specs.Answers.{texts}
 use Rattle.tr_words.specs.declared.LeafWords.{LeafWords}
 use Rattle.tr_script.specs.declared.act_lines.ActLine.{ActLine}
@@ -191,6 +191,11 @@ pub at_act : (v : ℕ) (leaf : List ℕ) (ws : List (List ℕ)) → among v form
 at_act v leaf ws =
     not_first v (node_forms ++ leaf_forms) (act_forms ++ plain_forms) ((64 ∷ leaf) ∷ ws) (rw (and-false (is_second v)) refl)
     ∙ only_first v act_forms plain_forms ((64 ∷ leaf) ∷ ws) refl
+
+-- one that adds a text to a leaf's lines
+pub at_added : (v : ℕ) (leaf : List ℕ) (ws : List (List ℕ)) →
+    among v forms ((64 ∷ leaf) ∷ codes "line" ∷ ws) ≡ among v (AddLine ∷ []) ((64 ∷ leaf) ∷ codes "line" ∷ ws)
+at_added v leaf ws = at_act v leaf (codes "line" ∷ ws) ∙ refl
 
 -- any other line
 pub at_plain : (v : ℕ) (w : List ℕ) (ws : List (List ℕ)) → bytes_eq w (codes "node") ≡ false → bytes_eq w (codes "leaf") ≡ false →

@@ -1,5 +1,5 @@
 //! The reading of a line.
-ghost use Rattle.std.specs.Prelude.{◌≡◌, ◌<◌, ◌⊎◌, [], ◌∷◌, true, false, Some, None, Ok, IfOk, IfErr, IfSome, OnOk, OnErr};
+ghost use Rattle.std.specs.Prelude.{◌≡◌, ◌<◌, ◌⊎◌, [], ◌∷◌, codes, true, false, Some, None, Ok, IfOk, IfErr, IfSome, OnOk, OnErr};
 ghost use Rattle.std.specs.List.{AllPass};
 ghost use Rattle.tr_base.specs.Lines.{is_printable};
 ghost use Rattle.tr_base.specs.Lists.{first_true};
@@ -28,7 +28,7 @@ use crate::refusals::NO_FORM;
 use crate::report_lines::{
     read_dump, read_end, read_inbox, read_journal, read_peek, read_sync, read_where,
 };
-use crate::widget_lines::{read_line, read_rect, read_swap, read_undo};
+use crate::widget_lines::{read_added, read_rect, read_swap, read_undo};
 use std::alloc::Global;
 use tr_base::NoMemory;
 use tr_grammar::{Code, LineRefused, Meaning};
@@ -245,7 +245,7 @@ fn take_read<'a>(
 }
 
 /// Takes the words of a line of a leaf's actor: the first one is an @ and the leaf's name, and `rest` has
-/// the others. The most common figures, and lines of text, have arms of their own.
+/// the others. The most common figures have arms of their own.
 fn take_act<'a>(
     reader: &mut Reader<'a>,
     number: usize,
@@ -262,10 +262,6 @@ fn take_act<'a>(
     match rest {
         [] => take_read(reader, number, words, Err(NO_FORM)),
         [act, values @ ..] => match *act {
-            "line" => {
-                let read = read_line(reader, leaf, values, line);
-                take_read(reader, number, words, read)
-            }
             "undo" => {
                 let read = read_undo(reader, leaf, values);
                 take_read(reader, number, words, read)
@@ -396,8 +392,47 @@ fn input_of(reader: &Reader, line: &str) -> Option<Input>
     }
 }
 
-/// Takes a line that isn't silent. A line of an input device, the most common of all, is taken without a list
-/// of its words, which spares some 270 instructions.
+/// The name of a leaf, without its @, and the text that the line adds to its lines, if the line does this.
+#[inline(always)]
+fn added_of(line: &str) -> Option<(&str, &str)>
+    requires { AllPass is_printable line.now }
+    ensures words { IfSome result (λ p.
+        words_of line.now ≡ (64 ∷ p.0.now) ∷ codes "line" ∷ words_of p.1.now) }
+    ensures printable { IfSome result (λ p. AllPass is_printable p.1.now) }
+{
+    // Only the lines that may be meant are searched for a space.
+    let [b'@', ..] = line.as_bytes() else {
+        return None;
+    };
+    let (first, values) = at_space(line)?;
+    let leaf = first.strip_prefix('@')?;
+    let (act, added) = at_space(values)?;
+    match act {
+        "line" => Some((leaf, added)),
+        _ => None,
+    }
+}
+
+/// Takes a line that adds a text to a leaf's lines. The leaf's name is without its @.
+#[inline(always)]
+fn take_added(
+    reader: &mut Reader,
+    number: usize,
+    leaf: &str,
+    added: &str,
+) -> Result<(), LineRefused>
+    requires { AllPass is_printable added.now }
+    ensures { let words = (64 ∷ leaf.now) ∷ codes "line" ∷ words_of added.now in
+        TakesWords reader.old number words reader.new result }
+{
+    match read_added(reader, leaf, added) {
+        Ok(meaning) => take_meaning(reader, number, "line", meaning),
+        Err(e) => Err(e),
+    }
+}
+
+/// Takes a line that isn't silent. A line of an input device, and one that adds a text to a leaf's lines, are
+/// the most common of all. They are taken without a list of their words.
 fn take_text<'a>(
     alloc: Global,
     reader: &mut Reader<'a>,
@@ -408,6 +443,9 @@ fn take_text<'a>(
     requires { AllPass is_printable line.now }
     ensures { TakesWords reader.old number (words_of line.now) reader.new result }
 {
+    if let Some((leaf, added)) = added_of(line) {
+        return take_added(reader, number, leaf, added);
+    }
     match input_of(reader, line) {
         Some(input) => take_input(reader, number, line, input),
         None => {

@@ -129,8 +129,20 @@ fn read_text(
     Ok(acting(leaf, WidgetCmd::Label(LabelCmd::Text(text))))
 }
 
+/// The command that adds a text to a leaf's lines. The leaf's name is without its @.
 #[inline(always)]
-pub fn read_line(
+pub fn read_added(reader: &Reader, leaf: &str, added: &str) -> Result<Meaning, LineRefused>
+    requires { AllPass is_printable added.now }
+    ensures { Reads reader.now (AddLine ∷ [])
+        ((64 ∷ leaf.now) ∷ codes "line" ∷ words_of added.now) result }
+{
+    reader.in_steps()?;
+    let text = text(reader.alloc(), added)?;
+    let leaf = leaf_of(reader, leaf)?;
+    Ok(acting(leaf, WidgetCmd::Lines(LinesCmd::Line(text))))
+}
+
+fn read_line(
     reader: &Reader,
     leaf: &str,
     _values: &[&str],

@@ -1,7 +1,7 @@
 use Rattle.std.proofs.Common.{ℕ, List, [], ◌∷◌, ◌-◌, length, take, drop, refl, ◌∙◌, ap}
 use Rattle.std.specs.Prelude.{codes}
 use Rattle.std.proofs.Math.Bool.{and-false}
-use Rattle.tr_grammar.specs.Forms.{forms, act_forms, is_second, AddLine, Undo, AddRect, AddSwap}
+use Rattle.tr_grammar.specs.Forms.{forms, act_forms, is_second, Undo, AddRect, AddSwap}
 use Rattle.tr_words.specs.Answers.{texts}
 use Rattle.tr_script.proofs.FormLemmas.{one_word, no_word, reads_by, reads_words, by_word, at_act}
 use Rattle.tr_script.proofs.lines.take_act.Goals as goal
@@ -16,25 +16,6 @@ take_read-requires-in_default c =
     let rest = texts c.args.rest.now in
     reads_words reader forms (texts c.args.words.now) ((64 ∷ leaf) ∷ rest) c.read_at-read.result c.requires.words
     (reads_by reader forms act_forms ((64 ∷ leaf) ∷ rest) c.read_at-read.result (at_act reader.version leaf rest) c.read_at-read.ensures)
-
-pub read_line-read-requires-clause-line : goal.read_line-read-requires-clause-line
-read_line-read-requires-clause-line c =
-    let rest = c.args.rest.now in
-    let line = λ (ws : List (List ℕ)). (64 ∷ c.args.leaf.now) ∷ ws in
-    let values = texts (take (length rest - 1) (drop 1 rest)) in
-    c.requires.line ∙ c.requires.words ∙ ap line (one_word rest no_word c.in-len1-up.len_at_least)
-    ∙ ap (λ (act : List ℕ). line (act ∷ values)) c.in-line.is
-
-pub take_read-requires-in-line : goal.take_read-requires-in-line
-take_read-requires-in-line c =
-    let reader = c.args.reader.now in
-    let leaf = c.args.leaf.now in
-    let rest = c.args.rest.now in
-    let values = texts (take (length rest - 1) (drop 1 rest)) in
-    let shown = c.requires.words ∙ ap (λ (ws : List (List ℕ)). (64 ∷ leaf) ∷ ws) (one_word rest no_word c.in-len1-up.len_at_least) in
-    reads_words reader forms (texts c.args.words.now) _ c.read_line-read.result shown
-    (by_word reader forms (AddLine ∷ []) (λ (act : List ℕ). (64 ∷ leaf) ∷ act ∷ values) _ (codes "line") c.read_line-read.result c.in-line.is
-    (at_act reader.version leaf (codes "line" ∷ values) ∙ refl) c.read_line-read.ensures)
 
 pub take_read-requires-in-undo : goal.take_read-requires-in-undo
 take_read-requires-in-undo c =
