@@ -1,5 +1,5 @@
 -- What lies in the least rectangle round two.
-use Rattle.std.proofs.Common.{◌≡◌, ◌≢◌, ℤ, pos, ◌-ℤ◌, Bool, true, false, cond, ◌&&◌, refl, sym, ap, ◌∙◌, arith}
+use Rattle.std.proofs.Common.{◌≡◌, ◌≢◌, ℤ, pos, ◌-ℤ◌, ◌≤ℤ◌, Bool, true, false, cond, ◌&&◌, refl, sym, ap, ◌∙◌, arith}
 use Rattle.std.specs.Prelude.{int_lt}
 use Rattle.std.specs.Int.{int_min, int_max}
 use Rattle.std.proofs.lemmas.Int.{ints, clamps}
@@ -71,3 +71,14 @@ round-least a b e one other alls others q h =
     (and_parts _ _ p.0).0 (and_parts _ _ p.1).0 (and_parts _ _ r.0).0 (and_parts _ _ r.1).0 here.0)
     (between-least a.north b.north a.south b.south e.north e.south q.v
     (and_parts _ _ p.0).1 (and_parts _ _ p.1).1 (and_parts _ _ r.0).1 (and_parts _ _ r.1).1 here.1)
+
+-- an interval within another has no other coordinates
+between-wider : (low high a b x : ℤ) → low ≤ℤ a → b ≤ℤ high → between a b x ≡ true → between low high x ≡ true
+between-wider low high a b x p r h = grind (arith, ints)
+
+-- a rectangle has all points of another whose edges lie within its own
+pub within-all : (outer inner : Edges) → outer.west ≤ℤ inner.west → inner.east ≤ℤ outer.east →
+    outer.north ≤ℤ inner.north → inner.south ≤ℤ outer.south → HasAll outer (has_point inner)
+within-all outer inner west east north south = λ q h.
+    let both = and_parts (between inner.west inner.east q.h) (between inner.north inner.south q.v) h in
+    and_from _ _ (between-wider _ _ _ _ q.h west east both.0) (between-wider _ _ _ _ q.v north south both.1)

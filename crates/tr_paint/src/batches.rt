@@ -8,7 +8,7 @@ ghost use Rattle.tr_paint.specs.Views.{viewed};
 ghost use Rattle.tr_paint.specs.CommandLists.{IsNoText};
 
 use crate::command_lists::CommandList;
-use crate::paints::{Paint, cells};
+use crate::paints::{Paint, part_in_cells};
 use crate::sums::{Scrolls, Sums, sums_of};
 use crate::views::PaintView;
 use std::alloc::Global;
@@ -57,60 +57,126 @@ impl Batch {
     {
         // Most callers name the sort of their command, so their copies of this call need one arm.
         match paint {
-            Paint::Tint { clip, op } => self.push_tint(clip, op),
+            Paint::Tint { clip, op } => self.push_tint(&clip, &op),
             Paint::Text {
                 ops,
                 clip,
                 at,
                 text,
-            } => self.push_text(ops, clip, at, text),
-            Paint::Scroll { clip, delta } => self.push_scroll(clip, delta),
+            } => self.push_text(&ops, &clip, at, text),
+            Paint::Scroll { clip, delta } => self.push_scroll(&clip, delta),
             whole => self.push_whole(whole),
         }
     }
 
-    /// The same for a tint.
-    fn push_tint(&mut self, clip: Rect, op: Op) -> Result<(), NoMemory>
-        requires { IsNearRect clip }
-        ensures ok { OnOk result (self.new ≡ self.old ++ spec.kept (Paint.Tint clip op)) }
+    /// The same for a tint. Most commands repeat the last one of their sort and touch no point outside the
+    /// hull, so this case is tried first.
+    fn push_tint(&mut self, clip: &Rect, op: &Op) -> Result<(), NoMemory>
+        requires { IsNearRect clip.now }
+        ensures ok { OnOk result (self.new ≡ self.old ++ spec.kept (Paint.Tint clip.now op.now)) }
+        ensures err { OnErr result (self.new ≡ self.old) }
+    {
+        if !self.sums.has_points_of(clip) {
+            return self.push_new_tint(clip, op);
+        }
+        if !self.commands.repeat_tint(clip, op) {
+            return self.push_new_tint(clip, op);
+        }
+        self.sums.add_within(clip, 1);
+        Ok(())
+    }
+
+    /// The same for a tint that may be a new one.
+    #[inline(never)] // so that a tint that repeats another doesn't pay for it
+    fn push_new_tint(&mut self, clip: &Rect, op: &Op) -> Result<(), NoMemory>
+        requires { IsNearRect clip.now }
+        ensures ok { OnOk result (self.new ≡ self.old ++ spec.kept (Paint.Tint clip.now op.now)) }
         ensures err { OnErr result (self.new ≡ self.old) }
     {
         if clip.is_empty() {
             return Ok(());
         }
-        self.commands.push_tint(clip, op)?;
-        self.sums.add_still(&clip, 1);
+        self.commands.push_tint(*clip, *op)?;
+        self.sums.add_still(clip, 1);
         Ok(())
     }
 
     /// The same for a text.
-    fn push_text(&mut self, ops: Pair, clip: Rect, at: Point, text: Line) -> Result<(), NoMemory>
-        requires clip { IsNearRect clip }
+    fn push_text(&mut self, ops: &Pair, clip: &Rect, at: Point, text: Line) -> Result<(), NoMemory>
+        requires clip { IsNearRect clip.now }
         requires at { IsNearPoint at }
-        ensures ok { OnOk result (self.new ≡ self.old ++ spec.kept (Paint.Text ops clip at text)) }
+        ensures ok { OnOk result (self.new ≡ self.old ++ spec.kept (Paint.Text ops.now clip.now at text)) }
         ensures err { OnErr result (self.new ≡ self.old) }
     {
-        let area = clip.meet(&cells(at, &text));
+        let area = part_in_cells(clip, at, &text);
+        if !self.sums.has_points_of(&area) {
+            return self.push_new_text(ops, clip, at, text);
+        }
+        match self.commands.repeat_text(ops, clip, at, text) {
+            Ok(()) => {
+                self.sums.add_within(&area, 3);
+                Ok(())
+            }
+            Err(text) => self.push_new_text(ops, clip, at, text),
+        }
+    }
+
+    /// The same for a text that may have a new command.
+    #[inline(never)] // so that a text that shares a command doesn't pay for it
+    fn push_new_text(
+        &mut self,
+        ops: &Pair,
+        clip: &Rect,
+        at: Point,
+        text: Line,
+    ) -> Result<(), NoMemory>
+        requires clip { IsNearRect clip.now }
+        requires at { IsNearPoint at }
+        ensures ok { OnOk result (self.new ≡ self.old ++ spec.kept (Paint.Text ops.now clip.now at text)) }
+        ensures err { OnErr result (self.new ≡ self.old) }
+    {
+        let area = part_in_cells(clip, at, &text);
         if area.is_empty() {
             return Ok(());
         }
-        self.commands.push_text(ops, clip, at, text)?;
+        self.commands.push_text(*ops, *clip, at, text)?;
         self.sums.add_still(&area, 3);
         Ok(())
     }
 
     /// The same for a scroll.
-    fn push_scroll(&mut self, clip: Rect, delta: Point) -> Result<(), NoMemory>
-        requires clip { IsNearRect clip }
+    fn push_scroll(&mut self, clip: &Rect, delta: Point) -> Result<(), NoMemory>
+        requires clip { IsNearRect clip.now }
         requires delta { IsNearPoint delta }
-        ensures ok { OnOk result (self.new ≡ self.old ++ spec.kept (Paint.Scroll clip delta)) }
+        ensures ok { OnOk result (self.new ≡ self.old ++ spec.kept (Paint.Scroll clip.now delta)) }
+        ensures err { OnErr result (self.new ≡ self.old) }
+    {
+        if !self.sums.has_points_of(clip) {
+            return self.push_new_scroll(clip, delta);
+        }
+        if !self.sums.has_scrolls_like(clip, delta) {
+            return self.push_new_scroll(clip, delta);
+        }
+        if !self.commands.repeat_scroll(clip, delta) {
+            return self.push_new_scroll(clip, delta);
+        }
+        self.sums.add_within(clip, 2);
+        Ok(())
+    }
+
+    /// The same for a scroll that may be a new one.
+    #[inline(never)] // so that a scroll that repeats another doesn't pay for it
+    fn push_new_scroll(&mut self, clip: &Rect, delta: Point) -> Result<(), NoMemory>
+        requires clip { IsNearRect clip.now }
+        requires delta { IsNearPoint delta }
+        ensures ok { OnOk result (self.new ≡ self.old ++ spec.kept (Paint.Scroll clip.now delta)) }
         ensures err { OnErr result (self.new ≡ self.old) }
     {
         if clip.is_empty() {
             return Ok(());
         }
-        self.commands.push_scroll(clip, delta)?;
-        self.sums.add_scroll(&clip, delta);
+        self.commands.push_scroll(*clip, delta)?;
+        self.sums.add_scroll(clip, delta);
         Ok(())
     }
 

@@ -1,10 +1,11 @@
-ghost use Rattle.std.specs.Prelude.{◌≡◌, ◌<◌, ◌++◌, ◌∷◌, [], length, slice_get, take, Some, OnOk, OnErr};
+ghost use Rattle.std.specs.Prelude.{◌≡◌, ◌<◌, ◌++◌, ◌∷◌, [], length, slice_get, take, Some, IsTrue, false, IfErr, OnOk, OnErr, vec_len, vec_capacity};
 ghost use Rattle.tr_paint.specs.Views.{viewed};
 ghost use Rattle.tr_paint.specs.CommandLists.{IsNoText};
 
 use crate::paints::Paint;
 use crate::places::{
-    MOST_KEPT, Places, TextAt, place_of_scroll, place_of_text, place_of_tint, store, view_of,
+    MOST_KEPT, Places, TextAt, is_scroll_at, is_text_at, is_tint_at, place_of_scroll,
+    place_of_text, place_of_tint, store, view_of,
 };
 use crate::views::PaintView;
 use std::alloc::Global;
@@ -70,6 +71,68 @@ impl CommandList {
         let command = place_of_tint(&mut self.stored, self.tint, clip, op)?;
         self.tint = command;
         self.places.push_reserved(Places { command, text: 0 });
+        Ok(())
+    }
+
+    /// Appends a tint if it repeats the last one and there is room, and tells whether it did.
+    #[inline(always)]
+    pub fn repeat_tint(&mut self, clip: &Rect, op: &Op) -> bool
+        ensures some { IsTrue result → self.new ≡ self.old ++ Paint.Tint clip.now op.now ∷ [] }
+        ensures none { result ≡ false → self.new ≡ self.old }
+    {
+        if !has_room(&self.places) || !is_tint_at(&self.stored, self.tint, clip, op) {
+            return false;
+        }
+        self.places.push_reserved(Places {
+            command: self.tint,
+            text: 0,
+        });
+        true
+    }
+
+    /// Appends a scroll if it repeats the last one and there is room, and tells whether it did.
+    #[inline(always)]
+    pub fn repeat_scroll(&mut self, clip: &Rect, delta: Point) -> bool
+        ensures some { IsTrue result → self.new ≡ self.old ++ Paint.Scroll clip.now delta ∷ [] }
+        ensures none { result ≡ false → self.new ≡ self.old }
+    {
+        if !has_room(&self.places) || !is_scroll_at(&self.stored, self.scroll, clip, delta) {
+            return false;
+        }
+        self.places.push_reserved(Places {
+            command: self.scroll,
+            text: 0,
+        });
+        true
+    }
+
+    /// Appends a text if it has the operations and the clip of the last one and there is room. Otherwise it
+    /// comes back.
+    #[inline(always)]
+    pub fn repeat_text(
+        &mut self,
+        ops: &Pair,
+        clip: &Rect,
+        at: Point,
+        text: Line,
+    ) -> Result<(), Line>
+        ensures ok { OnOk result (self.new ≡ self.old ++ Paint.Text ops.now clip.now at text ∷ []) }
+        ensures err { OnErr result (self.new ≡ self.old) }
+        ensures back { IfErr result (λ t. t ≡ text) }
+    {
+        let next = self.texts.len();
+        if next >= MOST_KEPT
+            || !has_room(&self.texts)
+            || !has_room(&self.places)
+            || !is_text_at(&self.stored, self.text, ops, clip)
+        {
+            return Err(text);
+        }
+        self.texts.push_reserved(TextAt { at, text });
+        self.places.push_reserved(Places {
+            command: self.text,
+            text: next as u32,
+        });
         Ok(())
     }
 
@@ -171,4 +234,12 @@ impl CommandList {
     {
         self.places.truncate(count);
     }
+}
+
+/// Whether a list has room for one more element.
+#[inline(always)]
+fn has_room<T: Drop>(list: &Vec<T>) -> bool
+    ensures { IsTrue result → vec_len list.now < vec_capacity list.now }
+{
+    list.len() < list.capacity()
 }

@@ -1,4 +1,4 @@
-ghost use Rattle.std.specs.Prelude.{◌≢◌};
+ghost use Rattle.std.specs.Prelude.{◌≢◌, ◌≤ℤ◌, IsTrue};
 ghost use Rattle.tr_base.specs.Rects.{Edges, empty_rect, has_point};
 ghost use Rattle.tr_paint.specs.Hulls.{HasAll};
 
@@ -37,4 +37,20 @@ fn least_round(a: &Rect, b: &Rect) -> Rect
         lesser(a.north(), b.north()),
         greater(a.south(), b.south()),
     )
+}
+
+/// Whether the edges of one rectangle lie within those of another.
+#[inline(always)]
+pub(crate) fn is_within(inner: &Rect, outer: &Rect) -> bool
+    ensures { IsTrue result → HasAll outer.now (has_point inner.now) }
+{
+    lies_within(inner.west(), inner.east(), outer.west(), outer.east())
+        && lies_within(inner.north(), inner.south(), outer.north(), outer.south())
+}
+
+/// Whether an interval lies within another one.
+fn lies_within(first: i32, last: i32, low: i32, high: i32) -> bool
+    ensures { IsTrue result → (low ≤ℤ first) × (last ≤ℤ high) }
+{
+    low <= first && last <= high
 }

@@ -1,11 +1,12 @@
 ghost use Rattle.std.specs.Prelude.{◌≡◌, ◌*◌, ◌≤ℤ◌, pos, length};
+ghost use Rattle.tr_base.specs.Rects.{meet_of};
 ghost use Rattle.tr_paint.specs.Paints as spec;
 ghost use Rattle.tr_paint.specs.Views.{viewed};
 
 use crate::pictures::SharedPixmap;
 use crate::views::PaintView;
 use std::mem::size_of;
-use tr_base::{Line, Op, Pair, Point, Rect, Tile, moved, opaque};
+use tr_base::{Line, Op, Pair, Point, Rect, Tile, greater, lesser, moved, opaque};
 
 /// The greatest distance of a paint command's coordinate from 0.
 pub const NEAR: i32 = 16_384;
@@ -136,14 +137,19 @@ pub(crate) fn are_opaque(ops: Pair) -> bool
     opaque(ops.zero) && opaque(ops.one)
 }
 
-/// The cells of a text that begins at a point.
-pub(crate) fn cells(at: Point, text: &Line) -> Rect
+/// The part of a clip in the cells of a text that begins at a point.
+pub(crate) fn part_in_cells(clip: &Rect, at: Point, text: &Line) -> Rect
     requires { spec.IsNearPoint at }
-    ensures { result ≡ spec.cells_of at (length text.now) }
+    ensures { result ≡ meet_of clip.now (spec.cells_of at (length text.now)) }
 {
     let east = moved(at.h, wide_of(text));
     let south = moved(at.v, CELL);
-    Rect::edges(at.h, east, at.v, south)
+    Rect::edges(
+        greater(clip.west(), at.h),
+        lesser(clip.east(), east),
+        greater(clip.north(), at.v),
+        lesser(clip.south(), south),
+    )
 }
 
 /// The total width of a text's cells.

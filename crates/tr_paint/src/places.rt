@@ -42,15 +42,16 @@ pub(crate) fn place_of_tint(
     ensures ok { IfOk result (λ k. spec.IsStoredAt stored.old.items stored.new.items (Paint.Tint clip op) k) }
     ensures err { OnErr result (stored.new.items ≡ stored.old.items) }
 {
-    if is_tint_at(stored, hint, &clip, op) {
+    if is_tint_at(stored, hint, &clip, &op) {
         return Ok(hint);
     }
     store(stored, Paint::Tint { clip, op })
 }
 
 /// Whether the command at a place is this tint.
-fn is_tint_at(stored: &[Paint], k: u32, clip: &Rect, op: Op) -> bool
-    ensures { IsTrue result → spec.IsStoredAt stored.now stored.now (Paint.Tint clip.now op) k }
+#[inline(always)]
+pub(crate) fn is_tint_at(stored: &[Paint], k: u32, clip: &Rect, op: &Op) -> bool
+    ensures { IsTrue result → spec.IsStoredAt stored.now stored.now (Paint.Tint clip.now op.now) k }
 {
     let k = k as usize;
     if k >= stored.len() {
@@ -60,11 +61,11 @@ fn is_tint_at(stored: &[Paint], k: u32, clip: &Rect, op: Op) -> bool
 }
 
 /// Whether a command is this tint.
-fn is_tint(paint: &Paint, clip: &Rect, op: Op) -> bool
-    ensures { IsTrue result → paint.now ≡ Paint.Tint clip.now op }
+fn is_tint(paint: &Paint, clip: &Rect, op: &Op) -> bool
+    ensures { IsTrue result → paint.now ≡ Paint.Tint clip.now op.now }
 {
     match paint {
-        Paint::Tint { clip: c, op: o } => is_same_rect(c, clip) && *o == op,
+        Paint::Tint { clip: c, op: o } => is_same_rect(c, clip) && o == op,
         _ => false,
     }
 }
@@ -87,7 +88,8 @@ pub(crate) fn place_of_scroll(
 }
 
 /// Whether the command at a place is this scroll.
-fn is_scroll_at(stored: &[Paint], k: u32, clip: &Rect, delta: Point) -> bool
+#[inline(always)]
+pub(crate) fn is_scroll_at(stored: &[Paint], k: u32, clip: &Rect, delta: Point) -> bool
     ensures { IsTrue result → spec.IsStoredAt stored.now stored.now (Paint.Scroll clip.now delta) k }
 {
     let k = k as usize;
@@ -121,7 +123,7 @@ pub(crate) fn place_of_text(
         spec.IsStoredAt stored.old.items stored.new.items (Paint.Text ops clip at text.now) k) }
     ensures err { OnErr result (stored.new.items ≡ stored.old.items) }
 {
-    if is_text_at(stored, hint, ops, &clip) {
+    if is_text_at(stored, hint, &ops, &clip) {
         return Ok(hint);
     }
     let text = text.copy()?;
@@ -137,9 +139,10 @@ pub(crate) fn place_of_text(
 }
 
 /// Whether the command at a place is a text with these operations and this clip.
-fn is_text_at(stored: &[Paint], k: u32, ops: Pair, clip: &Rect) -> bool
+#[inline(always)]
+pub(crate) fn is_text_at(stored: &[Paint], k: u32, ops: &Pair, clip: &Rect) -> bool
     ensures { (at : Point) (text : List ℕ) → IsTrue result →
-        spec.IsStoredAt stored.now stored.now (Paint.Text ops clip.now at text) k }
+        spec.IsStoredAt stored.now stored.now (Paint.Text ops.now clip.now at text) k }
 {
     let k = k as usize;
     if k >= stored.len() {
@@ -149,9 +152,9 @@ fn is_text_at(stored: &[Paint], k: u32, ops: Pair, clip: &Rect) -> bool
 }
 
 /// Whether a command is a text with these operations and this clip.
-fn is_text(paint: &Paint, ops: Pair, clip: &Rect) -> bool
+fn is_text(paint: &Paint, ops: &Pair, clip: &Rect) -> bool
     ensures { (at : Point) (text : List ℕ) → IsTrue result →
-        spec.DiffersInTextAlone paint.now (Paint.Text ops clip.now at text) }
+        spec.DiffersInTextAlone paint.now (Paint.Text ops.now clip.now at text) }
 {
     match paint {
         Paint::Text {
@@ -160,14 +163,14 @@ fn is_text(paint: &Paint, ops: Pair, clip: &Rect) -> bool
             // The proof names these two.
             at: _at,
             text: _text,
-        } => is_pair(*o, ops) && is_same_rect(c, clip),
+        } => is_pair(o, ops) && is_same_rect(c, clip),
         _ => false,
     }
 }
 
 /// Whether both are the same operations. So the prover sees what `==` of them tells.
-fn is_pair(a: Pair, b: Pair) -> bool
-    ensures { IsTrue result → a ≡ b }
+fn is_pair(a: &Pair, b: &Pair) -> bool
+    ensures { IsTrue result → a.now ≡ b.now }
 {
     a == b
 }

@@ -1,12 +1,14 @@
-ghost use Rattle.std.specs.Prelude.{◌≡◌, false, ◌||◌, ◌++◌, ◌∷◌, [], List};
+ghost use Rattle.std.specs.Prelude.{◌≡◌, ◌≢◌, ◌≤◌, IsTrue, false, ◌||◌, ◌++◌, ◌∷◌, [], List};
+ghost use Rattle.tr_base.specs.Rects.{IsRect, empty_rect, has_point, sides_of};
 ghost use Rattle.tr_paint.specs.declared.paints.Paint.{Paint};
 ghost use Rattle.tr_paint.specs.Paints.{IsNearPaint, IsNearPoint, IsNearRect, area as area_of};
 ghost use Rattle.tr_paint.specs.Batches.{IsBatch};
+ghost use Rattle.tr_paint.specs.Hulls.{HasAll};
 ghost use Rattle.tr_paint.specs.Views.{viewed};
 ghost use Rattle.tr_paint.specs.Sums as spec;
 
 use crate::command_lists::CommandList;
-use crate::hulls::hull;
+use crate::hulls::{hull, is_within};
 use crate::paints::Paint;
 use crate::views::PaintView;
 use tr_base::{Point, Rect};
@@ -72,6 +74,43 @@ impl Sums {
             .saturating_add(points_in(touched).saturating_mul(weight));
     }
 
+    /// Whether a rectangle has a point and the hull has all of its points.
+    #[inline(always)]
+    pub fn has_points_of(&self, area: &Rect) -> bool
+        ensures rect { IsRect area.now }
+        ensures some { IsTrue result → area.now ≢ empty_rect }
+        ensures all { IsTrue result → HasAll self.now.hull (has_point area.now) }
+    {
+        !area.is_empty() && is_within(area, &self.hull)
+    }
+
+    /// Whether the summary says that each scroll is this one.
+    #[inline(always)]
+    pub fn has_scrolls_like(&self, clip: &Rect, delta: Point) -> bool
+        ensures { IsTrue result → self.now.scrolls ≡ Scrolls.Alike clip.now delta }
+    {
+        match &self.scrolls {
+            Scrolls::Alike { clip: c, delta: d } => c == clip && *d == delta,
+            _ => false,
+        }
+    }
+
+    /// Adds a command that touches these points of the hull and has this weight. It isn't a spoil, and the
+    /// summary of the scrolls allows it.
+    #[inline(always)]
+    pub fn add_within(&mut self, touched: &Rect, weight: u64)
+        requires weight { weight ≤ 3 }
+        requires within { HasAll self.old.hull (has_point touched.now) }
+        ensures { (front : List Paint) (c : Paint) → touched.now ≡ area_of c → weight ≡ spec.weight c →
+            spec.is_spoil c ≡ false → spec.IsOneOf self.old.scrolls c →
+            spec.AreSums self.old front → spec.AreSums self.new (front ++ c ∷ []) }
+    {
+        let (wide, high) = sides(touched);
+        self.cost = self
+            .cost
+            .saturating_add(u64::from(wide) * u64::from(high) * weight);
+    }
+
     /// Adds a scroll.
     pub fn add_scroll(&mut self, clip: &Rect, delta: Point)
         requires clip { IsNearRect clip.now }
@@ -105,8 +144,21 @@ pub(crate) fn sums_of(commands: &CommandList) -> Sums
 pub fn points_in(rect: &Rect) -> u64
     ensures { result ≡ spec.points_in rect.now }
 {
-    let (wide, high) = rect.size();
+    let (wide, high) = sides(rect);
     u64::from(wide) * u64::from(high)
+}
+
+/// The number of points side by side, and the number of rows. The size of `Rect` takes absolute values.
+fn sides(rect: &Rect) -> (u32, u32)
+    ensures value { result ≡ sides_of rect.now }
+    ensures wide { result.0 ≤ 2_097_152 }
+    ensures high { result.1 ≤ 2_097_152 }
+{
+    rect.invariant();
+    (
+        (rect.east() - rect.west()) as u32,
+        (rect.south() - rect.north()) as u32,
+    )
 }
 
 /// The measured cost of a point of a command's area, relative to the cost of a filled point.

@@ -2,7 +2,7 @@ ghost use Rattle.std.specs.Prelude.{◌≡◌, IfOk};
 ghost use Rattle.tr_paint.specs.Paints as spec;
 ghost use Rattle.tr_paint.specs.Views.{viewed};
 
-use crate::paints::{Paint, are_opaque, cells};
+use crate::paints::{Paint, are_opaque, part_in_cells};
 use crate::pictures::SharedPixmap;
 use tr_base::{Line, NoMemory, Op, Pair, Point, Rect, Tile, opaque, whole};
 
@@ -55,7 +55,7 @@ impl PaintView<'_> {
             PaintView::Pixels { clip, src, delta } => {
                 clip.meet(&whole(src.pixmap().size()).shift(delta))
             }
-            PaintView::Text { clip, at, text, .. } => clip.meet(&cells(at, text)),
+            PaintView::Text { clip, at, text, .. } => part_in_cells(&clip, at, text),
         }
     }
 

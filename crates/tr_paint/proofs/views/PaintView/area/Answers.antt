@@ -14,4 +14,4 @@ pub returns-in-Pixels-clause-near : goal.returns-in-Pixels-clause-near
 returns-in-Pixels-clause-near c = rw c.meet.ensures.edges (near-meet _ _ (rw c.in-Pixels.is at c.requires).0)
 
 pub returns-in-Text-clause-near : goal.returns-in-Text-clause-near
-returns-in-Text-clause-near c = rw c.meet-in-Text.ensures.edges (near-meet _ _ (rw c.in-Text.is at c.requires).0)
+returns-in-Text-clause-near c = rw c.part_in_cells.ensures (near-meet _ _ (rw c.in-Text.is at c.requires).0)

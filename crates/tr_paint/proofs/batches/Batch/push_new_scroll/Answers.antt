@@ -1,0 +1,17 @@
+use Rattle.std.proofs.Common.{◌≡◌, true, refl}
+use Rattle.tr_base.proofs.RectLemmas.{false-true}
+use Rattle.tr_paint.specs.declared.paints.Paint.{Paint}
+use Rattle.tr_paint.specs.declared.paints.Paint.TheVariants.{Scroll}
+use Rattle.tr_paint.specs.Paints.{has_area}
+use Rattle.tr_paint.proofs.SumLemmas.{batch-append, full-area}
+use Rattle.tr_paint.proofs.batches.Batch.push_new_scroll.Goals as goal
+
+pub invariant_of-self-2 : goal.invariant_of-self-2
+invariant_of-self-2 c =
+    let paint : Paint = Scroll c.args.clip.now c.args.delta in
+    let some : has_area paint ≡ true =
+    full-area paint c.args.clip.now refl c.is_empty.ensures.invariant (λ e. false-true (c.if-is_empty.ensures.value.1 e)) in
+    rw c.in_ok-push_scroll.ensures.ok (record {
+      batch = batch-append _ _ c.self.invariant.batch (record { near = (c.requires.clip, c.requires.delta); some = some }, tt);
+      known = c.add_scroll.ensures _ c.self.invariant.known;
+    })
