@@ -52,6 +52,7 @@ impl<M: Drop> Journal<M> {
 
     /// Appends an entry, with the deliveries of its step. If memory runs out, the journal keeps the same
     /// lines.
+    #[inline(always)]
     pub fn push(&mut self, entry: Entry<M>, sent: &[Delivery]) -> Result<(), NoMemory>
         requires counted { entry.reply.sent ≡ length sent.now }
         ensures ok { OnOk result
@@ -93,6 +94,7 @@ impl<M: Drop> Journal<M> {
 
     /// Appends an entry for which room was reserved, with the deliveries of its step: at most 32 for each
     /// entry with reserved room. Nothing is allocated.
+    #[inline(always)]
     pub fn push_reserved(&mut self, entry: Entry<M>, sent: &[Delivery])
         requires spare { 0 < self.old.spare }
         requires counted { entry.reply.sent ≡ length sent.now }

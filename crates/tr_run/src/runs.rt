@@ -147,6 +147,7 @@ impl<'a, C: Client, N: NameOf> Run<'a, C, N> {
 
     /// An actor makes a step other than a report, holding exactly the step's levels. For want of memory
     /// nothing changes; but in a check the step may be made, and the text of the screen's lag be missing.
+    #[inline(always)]
     pub fn make(&mut self, actor: Actor, step: Step<C::Cmd>) -> Result<(), NoMemory>
         requires own { IsOwn (tree_of self.old.stage.opening).nodes actor step }
         requires other { is_report step ≡ false }
@@ -227,6 +228,7 @@ impl<'a, C: Client, N: NameOf> Run<'a, C, N> {
     }
 
     /// An actor makes a step, holding exactly the step's levels. It adds no text.
+    #[inline(always)]
     fn add(&mut self, actor: Actor, step: Step<C::Cmd>) -> Result<(), NoMemory>
         requires own { IsOwn (tree_of self.old.stage.opening).nodes actor step }
         ensures made { MakesWithoutReply C.Client self.old.stage self.new.stage actor

@@ -22,6 +22,7 @@ use tr_windows::Windows;
 
 impl<C: Client> Stage<C> {
     /// A command changes the content of a leaf, and its paint commands wait.
+    #[inline(always)]
     pub(crate) fn act(&mut self, by: &By, leaf: LeafId, cmd: C::Cmd) -> Result<Reply, NoMemory>
         requires allowed { let t = (tree_of self.old.opening).nodes in
             IsFor t by.now.actor by.now.level (Step.Act leaf cmd) }

@@ -16,6 +16,7 @@ pub(crate) struct By {
 
 impl By {
     /// The entry of a step that was made, with its answer and the number of events that it sent.
+    #[inline(always)]
     pub fn entry<M>(&self, step: Step<M>, answer: Answer, sent: usize) -> Entry<M>
         requires { sent ≤ 64 }
         ensures { result ≡ record {
@@ -36,6 +37,7 @@ impl By {
 }
 
 /// Adds a line; its room was reserved. Answers its reply, which has a copy of the answer.
+#[inline(always)]
 pub(crate) fn write<M: Command>(
     journal: &mut Journal<M>,
     entry: Entry<M>,
