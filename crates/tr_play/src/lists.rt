@@ -40,6 +40,11 @@ impl<'a, M: Command> PartLists<'a, M> {
         self.places.count(actor)
     }
 
+    /// The number of actors with steps.
+    pub(crate) fn busy_actors(&self) -> usize {
+        self.places.busy_actors()
+    }
+
     /// The steps of an actor.
     pub(crate) fn of(&self, actor: Actor) -> List<'_, M>
         requires { HasList (length self.now.leaves) actor }

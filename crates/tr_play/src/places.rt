@@ -63,6 +63,15 @@ impl Places {
         }
     }
 
+    /// The number of actors with steps.
+    pub(crate) fn busy_actors(&self) -> usize {
+        let mut busy = one_if_busy(&self.desk).saturating_add(one_if_busy(&self.player));
+        for row in &self.leaves {
+            busy = busy.saturating_add(one_if_busy(row));
+        }
+        busy
+    }
+
     /// The places of an actor's steps.
     pub(crate) fn of(&self, actor: Actor) -> &[u32]
         requires { HasList (length self.now.leaves) actor }
@@ -115,6 +124,11 @@ impl Row {
     {
         &self.places
     }
+}
+
+/// 1 if the row has a place, else 0.
+fn one_if_busy(row: &Row) -> usize {
+    if row.places().is_empty() { 0 } else { 1 }
 }
 
 /// This number of rows without a place.

@@ -84,18 +84,23 @@ fn all_at_work<C: Client, L: Session<C::Cmd>, R: Threads + Wait + Sync, G: Gate 
     ensures taken { (i : ℕ) (d : _) → i < vec_len workers.old →
         HasTaken lists.now (slice_index_or workers.old.items i d) (slice_index_or workers.new.items i d) }
 {
-    let lanes = lanes_of(context);
+    let lanes = lanes_of(context, lists);
     all_work(context, lists, steps, lanes, workers.as_mut_slice());
 }
 
 /// The number of threads for all workers but the painter. Behind a gate that isn't open each of them has its
 /// own, since one may wait there for another. More threads than processors only take the lock from each
-/// other; but two of the workers never share the only thread.
+/// other; but two of the workers never share the only thread. Where no more actors have steps, nobody asks
+/// for the number of processors: the system's answer would take longer than a short part.
 fn lanes_of<C: Client, L: Session<C::Cmd>, R: Threads + Wait, G: Gate>(
     context: &Context<'_, C, L, R, G>,
+    lists: &PartLists<'_, C::Cmd>,
 ) -> usize {
     if !context.gate.is_open() {
         return usize::MAX;
+    }
+    if lists.busy_actors() <= LEAST_LANES {
+        return LEAST_LANES;
     }
     match thread::available_parallelism(context.rt) {
         Ok(processors) => processors.get().max(LEAST_LANES),
