@@ -59,19 +59,17 @@ abbrev pub fate_text : Bool → List ℕ
 fate_text true = codes " dropped "
 fate_text false = codes " "
 
--- the name of a delivery's leaf, its fate, and its event; only private contracts cite this definition
+-- the name of a delivery's leaf, its fate, and its event
 abbrev pub sent_event : Names → Delivery → List ℕ
 sent_event names delivery = leaf_name names delivery.leaf ++ fate_text delivery.dropped ++ event_text delivery.event
 
 -- a delivery of a step; it follows the answer
 abbrev pub delivery_text : Names → Delivery → List ℕ
-delivery_text names delivery =
-    codes "; " ++ leaf_name names delivery.leaf ++ fate_text delivery.dropped ++ event_text delivery.event
+delivery_text names delivery = codes "; " ++ sent_event names delivery
 
 -- a delivery on a line of its own
 abbrev pub sent_line : Names → Delivery → List ℕ
-sent_line names delivery =
-    leaf_name names delivery.leaf ++ fate_text delivery.dropped ++ event_text delivery.event ++ codes "\n"
+sent_line names delivery = sent_event names delivery ++ codes "\n"
 
 -- the outcome of a step: its answer, and its deliveries, each on a line
 abbrev pub outcome_text : {M : Type 0} → Names → JournalLine M → List ℕ
