@@ -12,7 +12,7 @@ use Rattle.tr_journal.specs.Lists.{ListsView, list_of}
 use Rattle.tr_parts.specs.Turns.{IsPartStep}
 use Rattle.tr_server.specs.Passes.{PassView}
 
--- the actor has a thread of its own, in a part with this number of leaves
+-- the actor is a worker, in a part with this number of leaves
 abbrev pub IsWorker : ℕ → Actor → Type 0
 IsWorker leaves (actors.Leaf leaf) = leaf.0 < leaves
 IsWorker leaves actors.Desk = ⊤

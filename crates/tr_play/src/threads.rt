@@ -21,7 +21,7 @@ use tr_server::CloseRefused;
 use tr_stage::Stage;
 
 /// The shared data of all workers: the right to start threads and to wait, the allocator, and the gate, which
-/// is called before each step of a client or of the desk; if it is open, before commands alone.
+/// is called before each step of a client or of the desk; if it is open, perhaps before commands alone.
 #[derive(Drop)]
 pub struct Workers<'a, R, G> {
     pub rt: &'a R,
