@@ -47,19 +47,6 @@ pub struct Outcome {
 }
 
 impl Outcome {
-    /// The status alone: stage and difference are dropped.
-    pub fn into_status(self) -> u8
-        ensures { result ≡ self.status }
-    {
-        let Outcome {
-            status,
-            stage,
-            differs,
-        } = self;
-        drop((stage, differs));
-        status
-    }
-
     /// The status that a program ends with. The stage and the difference aren't freed, block by block: the
     /// system takes back the memory of a program that ends.
     pub fn end(self) -> u8
