@@ -24,7 +24,7 @@ use Rattle.tr_stage.specs.Stages.{StageView, is_note, state}
 use Rattle.tr_run.specs.declared.modes.Mode.{Mode}
 use Rattle.tr_run.specs.declared.modes.Mode.TheVariants.{Serial, Check, Gen}
 use Rattle.tr_run.specs.Runs.{Cue, makes, settles, cue_lines, reporting, run_lines}
-use Rattle.tr_run.specs.Texts.{is_check, lag_line, told_text, sum_after, sum_from, texts_from, written}
+use Rattle.tr_run.specs.Texts.{is_check, lag_line, told_text, sum_after, sum_from, texts_from, text_of_step}
 use Rattle.tr_run.specs.Views.{AddsLines, AddsSome, AddsUntold, Does, DoesSome, IsUnchanged, RunView, StopsAtLine, TellsUnmade}
 
 module _ {C M : Type 0} (client : Ghosts C M) where
@@ -46,7 +46,7 @@ module _ {C M : Type 0} (client : Ghosts C M) where
       ap (λ (ls : List (JournalLine M)). texts_from client words names mode ls m ys) (sym (append-nil earlier))
   texts_from-append words names mode earlier m (x ∷ xs) ys =
       let after : State C M = next client m x.entry.step in
-      let now : List ℕ = written client words names mode earlier m x.entry.step in
+      let now : List ℕ = text_of_step client words names mode earlier m x.entry.step in
       let some : List ℕ = texts_from client words names mode (earlier ++ x ∷ []) after xs in
       ap (λ (t : List ℕ). now ++ t) (texts_from-append words names mode (earlier ++ x ∷ []) after xs ys)
       ∙ sym (append_assoc now some (texts_from client words names mode ((earlier ++ x ∷ []) ++ xs) (replay_from client after xs) ys))
@@ -145,7 +145,7 @@ module _ {C M : Type 0} (client : Ghosts C M) where
     pub names : b.names ≡ a.names
     pub mode : b.mode ≡ a.mode
     pub journal : b.stage.journal ≡ a.stage.journal ++ line_of_step client (state client a.stage) actor (stated step) step ∷ []
-    pub text : b.text ≡ a.text ++ written client words a.names a.mode a.stage.journal (state client a.stage) step
+    pub text : b.text ≡ a.text ++ text_of_step client words a.names a.mode a.stage.journal (state client a.stage) step
     pub sum : b.sum ≡ sum_after client a.mode (state client a.stage) a.sum step
 
   -- its line was added
@@ -157,7 +157,7 @@ module _ {C M : Type 0} (client : Ghosts C M) where
     mode = made.mode;
     journal = made.journal;
     text = made.text
-        ∙ ap (λ (t : List ℕ). a.text ++ t) (sym (append-nil (written client words a.names a.mode a.stage.journal (state client a.stage) step)));
+        ∙ ap (λ (t : List ℕ). a.text ++ t) (sym (append-nil (text_of_step client words a.names a.mode a.stage.journal (state client a.stage) step)));
     sum = made.sum;
   }
 
@@ -185,11 +185,11 @@ module _ {C M : Type 0} (client : Ghosts C M) where
   sum_after-other mode m sum step h = refl
 
   -- where it is told how far the screen lags behind, just this is written
-  pub written-lag : (words : M → List ℕ) (names : Names) (mode : Mode) (lines : List (JournalLine M)) (m : State C M) (step : Step M) →
+  pub text_of_step-lag : (words : M → List ℕ) (names : Names) (mode : Mode) (lines : List (JournalLine M)) (m : State C M) (step : Step M) →
       is_report step ≡ false → (is_check mode && not (is_note step)) ≡ true →
-      written client words names mode lines m step ≡ lag_line client (length lines + 1) (next client m step)
-  written-lag words names Serial lines m step h lags = absurd (false-true lags)
-  written-lag words names Check lines m step h lags =
+      text_of_step client words names mode lines m step ≡ lag_line client (length lines + 1) (next client m step)
+  text_of_step-lag words names Serial lines m step h lags = absurd (false-true lags)
+  text_of_step-lag words names Check lines m step h lags =
       ap (λ (t : List ℕ). t ++ cond (is_note step) [] (lag_line client (length lines + 1) (next client m step))) (told_text-none words names lines m step h)
       ∙ unless_note (is_note step) lags
     where
@@ -197,7 +197,7 @@ module _ {C M : Type 0} (client : Ghosts C M) where
           cond b [] (lag_line client (length lines + 1) (next client m step)) ≡ lag_line client (length lines + 1) (next client m step)
       unless_note true lags = absurd (false-true lags)
       unless_note false lags = refl
-  written-lag words names Gen lines m step h lags = absurd (false-true lags)
+  text_of_step-lag words names Gen lines m step h lags = absurd (false-true lags)
 
   -- ---- a step that is added, and then written
 
@@ -226,7 +226,7 @@ module _ {C M : Type 0} (client : Ghosts C M) where
         ∙ ap (λ (n : ℕ). lag_line client n (state client v.stage)) (length_push a.stage.journal line)
         ∙ ap (λ (s : State C M). lag_line client (length a.stage.journal + 1) s)
         (state_made a.stage v.stage actor (stated step) step added.opening added.journal)
-        ∙ sym (written-lag words a.names a.mode a.stage.journal (state client a.stage) step other lags));
+        ∙ sym (text_of_step-lag words a.names a.mode a.stage.journal (state client a.stage) step other lags));
     sum = added.sum ∙ sym (sum_after-other a.mode (state client a.stage) a.sum step other);
   })
     where

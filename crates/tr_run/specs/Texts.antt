@@ -75,16 +75,16 @@ module _ {C M : Type 0} (client : Ghosts C M) where
     told_text lines m step = []
 
     -- the text of a step that is made in a state after these lines
-    abbrev pub written : Mode → List (JournalLine M) → State C M → Step M → List ℕ
-    written Serial lines m step = told_text lines m step
-    written Check lines m step = told_text lines m step ++ lag_text (length lines + 1) (next client m step) step
-    written Gen lines m step = []
+    abbrev pub text_of_step : Mode → List (JournalLine M) → State C M → Step M → List ℕ
+    text_of_step Serial lines m step = told_text lines m step
+    text_of_step Check lines m step = told_text lines m step ++ lag_text (length lines + 1) (next client m step) step
+    text_of_step Gen lines m step = []
 
     -- the text of later lines of a journal, in the state after the earlier ones
     abbrev pub texts_from : Mode → List (JournalLine M) → State C M → List (JournalLine M) → List ℕ
     texts_from mode earlier m [] = []
     texts_from mode earlier m (line ∷ later) =
-        written mode earlier m line.entry.step ++ texts_from mode (earlier ++ line ∷ []) (next client m line.entry.step) later
+        text_of_step mode earlier m line.entry.step ++ texts_from mode (earlier ++ line ∷ []) (next client m line.entry.step) later
 
   -- the sum of the pixels of the last dump
   abbrev pub sum_after : Mode → State C M → ℕ → Step M → ℕ

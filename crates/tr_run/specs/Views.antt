@@ -12,7 +12,7 @@ use Rattle.tr_dump.specs.Names.{IsNamedLine}
 use Rattle.tr_stage.specs.Stages.{StageView, is_note, state}
 use Rattle.tr_run.specs.declared.modes.Mode.{Mode}
 use Rattle.tr_run.specs.Runs.{Cue, run_lines}
-use Rattle.tr_run.specs.Texts.{is_check, sum_after, sum_from, texts_from, written}
+use Rattle.tr_run.specs.Texts.{is_check, sum_after, sum_from, texts_from, text_of_step}
 
 -- each node and each leaf has a name
 pub record AreNamed (names : Names) (t : Nodes) : Type 0 where
@@ -87,7 +87,7 @@ module _ {C M : Type 0} (client : Ghosts C M) (words : M → List ℕ) where
   pub record TellsUnmade (old new : RunView C M) (line : JournalLine M) : Type 0 where
     pub report : is_report line.entry.step ≡ true
     pub told : IsUnchanged (record old {
-      text = old.text ++ written client words old.names old.mode old.stage.journal (state client old.stage) line.entry.step;
+      text = old.text ++ text_of_step client words old.names old.mode old.stage.journal (state client old.stage) line.entry.step;
       sum = sum_after client old.mode (state client old.stage) old.sum line.entry.step;
     }) new
 

@@ -15,7 +15,7 @@ ghost use Rattle.tr_machine.specs.SettleSteps.{settling_lines};
 ghost use Rattle.tr_stage.specs.Making.{MakesWithoutReply};
 ghost use Rattle.tr_stage.specs.Stages.{IsPainters, is_note, state};
 ghost use Rattle.tr_run.specs.Runs.{makes, reporting};
-ghost use Rattle.tr_run.specs.Texts.{is_check, sum_after, written};
+ghost use Rattle.tr_run.specs.Texts.{is_check, sum_after, text_of_step};
 ghost use Rattle.tr_run.specs.Views.{
   AreNamed,
   IsNamed,
@@ -309,7 +309,7 @@ impl<'a, C: Client, N: NameOf> Run<'a, C, N> {
         ensures stage { self.new.stage ≡ self.old.stage }
         ensures names { self.new.names ≡ self.old.names }
         ensures mode { self.new.mode ≡ self.old.mode }
-        ensures text { OnOk result (self.new.text ≡ self.old.text ++ written C.Client C.Cmd.words
+        ensures text { OnOk result (self.new.text ≡ self.old.text ++ text_of_step C.Client C.Cmd.words
             self.old.names self.old.mode self.old.stage.journal (state C.Client self.old.stage)
             (Report query.now)) }
         ensures sum { OnOk result (self.new.sum ≡ sum_after C.Client
