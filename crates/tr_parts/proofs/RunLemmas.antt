@@ -1,19 +1,16 @@
--- Steps that are made one after another, and reports.
-use Rattle.std.proofs.Common.{◌≡◌, ◌+◌, Bool, true, false, List, [], ◌∷◌, ◌++◌, length, refl, sym, ap, subst, ◌∙◌}
+-- Reports of a stage.
+use Rattle.std.proofs.Common.{◌≡◌, Bool, true, false, List, [], ◌∷◌, length, refl, sym, ap, subst, ◌∙◌}
 use Rattle.tr_base.proofs.RectLemmas.{false-true}
 use Rattle.tr_client.specs.declared.clients.Client.{Ghosts}
 use Rattle.tr_forest.specs.Nodes.{leaf_count}
 use Rattle.tr_levels.specs.declared.Level.{Level}
 use Rattle.tr_levels.specs.declared.Level.TheVariants.{Mu}
-use Rattle.tr_journal.specs.declared.steps.Actor.{Actor}
 use Rattle.tr_journal.specs.declared.steps.Actor.TheVariants as actors
 use Rattle.tr_journal.specs.declared.steps.Query.{Query}
 use Rattle.tr_journal.specs.declared.steps.Query.TheVariants as queries
 use Rattle.tr_journal.specs.declared.steps.Step.{Step}
 use Rattle.tr_journal.specs.declared.steps.Step.TheVariants as steps
-use Rattle.tr_journal.specs.Actors.{is_maker, steps_of}
 use Rattle.tr_journal.specs.Journals.{JournalLine}
-use Rattle.tr_journal.specs.Steps.{stated}
 use Rattle.tr_machine.specs.States.{State}
 use Rattle.tr_machine.specs.Replays.{line_of_step, lines_of_steps, next, replay_from}
 use Rattle.tr_machine.specs.SettleSteps.{settling, settling_lines}
@@ -27,29 +24,12 @@ use Rattle.tr_stage.specs.Stages.{StageView, state}
 use Rattle.tr_stage.specs.Standings.{Stands}
 use Rattle.tr_run.specs.Runs.{reporting, run_lines}
 
--- ---- one step more
-
--- a leaf's actor or the desk isn't the player
-no_player : {M : Type 0} (actor : Actor) (step : Step M) → is_maker actor ≡ true → steps_of actors.Player ((actor, step) ∷ []) ≡ []
-no_player (actors.Leaf leaf) step is = refl
-no_player actors.Desk step is = refl
-no_player actors.Painter step is = absurd (false-true is)
-no_player actors.Player step is = absurd (false-true is)
-
 -- the step is a dump
 abbrev is_dump : {M : Type 0} → Step M → Bool
 is_dump (steps.Report queries.Dump) = true
 is_dump step = false
 
 module _ {C M : Type 0} (client : Ghosts C M) where
-  -- from one stage to the next a step was made, by a leaf's actor or the desk
-  pub record HasMade (now new : StageView C M) (made : Actor × Step M) : Type 0 where
-    pub maker : is_maker made.0 ≡ true
-    pub opening : new.opening ≡ now.opening
-    pub journal : new.journal ≡ now.journal ++ line_of_step client (state client now) made.0 (stated made.1) made.1 ∷ []
-
-  -- ---- reports
-
   -- the painter's lines are no leaf's and not the desk's
   painters_lines : (held : List Level) (m : State C M) (xs : List (Step M)) → HasNoMaker (lines_of_steps client actors.Painter held m xs)
   painters_lines held m [] = tt
