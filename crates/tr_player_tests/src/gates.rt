@@ -1,7 +1,7 @@
 //! A script that threads play, and a gate that lets one client wait for another.
 use crate::ends::made;
 use crate::faults::words_of;
-use std::hint;
+use crate::waits::came;
 use std::process::Abort;
 use std::sync::Wait;
 use std::sync::atomic::{AtomicU32, Ordering};
@@ -66,9 +66,6 @@ sync
 end
 ";
 
-/// How often a client looks whether the other one has come so far.
-const TRIES: u32 = 100_000_000;
-
 /// How far the client of a window has come, and how long its first step waits.
 #[derive(Drop)]
 struct Progress {
@@ -82,19 +79,8 @@ impl Progress {
     /// Whether a step is the next one, and the other client came as far as this one waits for.
     fn begins(&self, other: &Progress, k: u32) -> bool {
         let is_next = self.begun.swap(k, Ordering::SeqCst) == k.wrapping_sub(1);
-        is_next && (k != 1 || came(other, self.awaits))
+        is_next && (k != 1 || came(&other.begun, self.awaits))
     }
-}
-
-/// Waits until a client has begun so many steps, and says whether it did.
-fn came(progress: &Progress, steps: u32) -> bool {
-    for _ in 0..TRIES {
-        if steps <= progress.begun.load(Ordering::SeqCst) {
-            return true;
-        }
-        hint::spin_loop();
-    }
-    false
 }
 
 /// Two clients, those of the two windows, of which one may wait for the other.
@@ -170,12 +156,12 @@ enum Order {
     SecondFirst,
 }
 
-/// The order in which a script is played at a gate.
-fn played<R: Threads + Wait + Sync + Abort + AllocGlobal, G: Gate + Sync>(
+/// The stage of a script that is played at a gate, if the text says that threads played it.
+pub fn played_at<R: Threads + Wait + Sync + Abort + AllocGlobal, G: Gate + Sync>(
     rt: &R,
     script: &[u8],
     gate: &G,
-) -> Order {
+) -> Option<Stage<Widget>> {
     let alloc = rt.alloc();
     let words = words_of(rt, &["play"]);
     let mut source = SteadySource::new(made(rt, Vec::from_slice(alloc, script)));
@@ -189,20 +175,34 @@ fn played<R: Threads + Wait + Sync + Abort + AllocGlobal, G: Gate + Sync>(
         gate,
     ).into_stage();
     let is_told = status == 0 && sink.written().ends_with(b"played threads\n");
-    order_of(is_told, stage)
+    if_told(is_told, stage)
 }
 
-/// The order of the marks on a stage, where the text says that threads made it.
-fn order_of(is_told: bool, stage: Option<Stage<Widget>>) -> Order {
-    let Some(stage) = stage else {
+/// A stage, if it is told that threads made it.
+fn if_told(is_told: bool, stage: Option<Stage<Widget>>) -> Option<Stage<Widget>> {
+    if is_told {
+        stage
+    } else {
+        drop(stage);
+        None
+    }
+}
+
+/// The order in which a script is played at a gate.
+fn order_of<R: Threads + Wait + Sync + Abort + AllocGlobal, G: Gate + Sync>(
+    rt: &R,
+    script: &[u8],
+    gate: &G,
+) -> Order {
+    let Some(stage) = played_at(rt, script, gate) else {
         return Order::Untold;
     };
     let is_second_first = is_second_first(&stage);
     drop(stage);
-    match (is_told, is_second_first) {
-        (false, _) => Order::Untold,
-        (true, false) => Order::FirstFirst,
-        (true, true) => Order::SecondFirst,
+    if is_second_first {
+        Order::SecondFirst
+    } else {
+        Order::FirstFirst
     }
 }
 
@@ -210,7 +210,7 @@ fn order_of(is_told: bool, stage: Option<Stage<Widget>>) -> Order {
 fn the_gate_is_asked_before_each_step(rt: HostRuntime) {
     for (first, second) in MEETINGS {
         let gate = Meeting::new((first, second), false);
-        let played = played(&rt, MARKS, &gate);
+        let played = order_of(&rt, MARKS, &gate);
         let is_due = played == Order::SecondFirst || first != 2 && played != Order::Untold;
         assert!(rt;
             is_due && gate.asked.load(Ordering::SeqCst) == 20,
@@ -223,7 +223,7 @@ fn the_gate_is_asked_before_each_step(rt: HostRuntime) {
 fn an_open_gate_is_asked_before_each_command(rt: HostRuntime) {
     for (first, second) in MEETINGS {
         let open = Meeting::new((first, second), true);
-        let is_told = played(&rt, TINTS, &open) != Order::Untold;
+        let is_told = order_of(&rt, TINTS, &open) != Order::Untold;
         assert!(rt;
             is_told && open.asked.load(Ordering::SeqCst) == 3,
             "{first} {second}"
