@@ -8,9 +8,11 @@
 #    programs at once;
 # 3. COUNT scripts (2,000 if left out) that are drawn from SEED, cut, joined and bent: which is refused and why is
 #    compared with a second reader, and what some of them print with a plain model, which know nothing of the program;
-# 4. the dearest scripts and streams that are allowed, at a hundredth of their size and at twice that: time, memory.
+# 4. the dearest scripts and streams that are allowed, at a hundredth of their size and at twice that: time, memory;
+# 5. a session that differs, which no script brings about: an unproved program with a fault is compiled, in minutes.
 #
-# PROGRAM is a built trestle; where it is left out, the launcher proves and builds it. It wants Python 3.8 and cc.
+# PROGRAM is a built trestle; where it is left out, the launcher proves and builds it. It wants Python 3.8 and cc, and
+# for the last the toolchain's rt; without it that is left out, and said so.
 set -eu
 case ${1-} in
     -h | --help) sed -n '2,/^[^#]/s/^# \{0,1\}//p' "$0"; exit ;;
@@ -37,4 +39,13 @@ try limits
 try streams
 try fuzz "$count" "$seed"
 try worst
+
+if command -v rt >/dev/null; then
+    folder=$(mktemp -d)
+    trap 'rm -rf "$folder"' EXIT
+    trap 'exit 1' HUP INT TERM
+    "$top/judges/differing.py" "$folder" || failed=1
+else
+    echo "differing: left out, since no rt is on the PATH"
+fi
 exit "$failed"
