@@ -288,10 +288,16 @@ pub fn glyph<C: Client>(stage: &Stage<C>) -> [u8; 8] {
 }
 
 pub fn is_bad<C: Client>(stage: &Stage<C>, p: Point) -> bool {
-    match stage.bad() {
-        Ok(bad) => bad.has(p),
-        Err(NoMemory) => false,
+    match bad_has(stage, p) {
+        Ok(is_bad) => is_bad,
+        // A run that refuses one growth gives the memory when it is asked for again.
+        Err(NoMemory) => matches!(bad_has(stage, p), Ok(true)),
     }
+}
+
+/// Whether the point is bad.
+fn bad_has<C: Client>(stage: &Stage<C>, p: Point) -> Result<bool, NoMemory> {
+    Ok(stage.bad()?.has(p))
 }
 
 pub fn cursor<C: Client>(stage: &Stage<C>) -> Point {
